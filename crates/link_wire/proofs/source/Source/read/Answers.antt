@@ -1,0 +1,20 @@
+use Rattle.std.proofs.Common.{◌<◌, ◌≡◌, ◌+◌, length, take, arith, length-take, rules, sym, ap, ◌∙◌}
+use Rattle.link_wire.specs.Source.{GaveSome}
+use Rattle.link_wire.specs.Bytes.{AreBytes-from_index, AreBytes-take}
+use Rattle.link_wire.proofs.source.Source.read.Goals as goal
+
+-- the bytes read are the next ones, at most as many as there is room for
+pub returns-in-Ok : goal.returns-in-Ok
+returns-in-Ok g c =
+    let given : length (take c.in-Ok.n c.read.new.buffer) ≡ c.in-Ok.n = omega (arith, length-take c.in-Ok.n c.read.new.buffer, c.in-Ok.ensures.bound) in
+    record {
+      room = c.in-Ok.ensures.bound;
+      takes = record {
+        bytes_fit = AreBytes-take _ _ (AreBytes-from_index _ (λ k. omega (arith, c.type_inv.buffer k)));
+        next = c.in-Ok.ensures.bytes.0;
+        count = ap (λ n. c.args.self.now.taken + n) (sym given);
+        device = c.in-Ok.ensures.failed;
+      };
+      live = rw c.requires.open tt;
+      over = λ none some. absurd (c.in-Ok.n-test.1 none);
+    }

@@ -1,0 +1,13 @@
+use Rattle.std.proofs.Common.{◌≡◌, length, ◌-◌, ◌≤◌, take}
+use Rattle.link_wire.specs.Writing.{Wrote}
+use Rattle.link_wire.proofs.writing.write_whole.Given as goal
+
+-- what stands in front of `at` was written
+abbrev pub invariant-loop-at : goal.invariant-loop-at
+invariant-loop-at g l = record {
+  place : l.at ≤ length l.bytes;
+  written : Wrote g.W.OutDevice.state l.fn.out l.out (take l.at l.bytes);
+}
+
+abbrev pub decreases-loop-at : goal.decreases-loop-at
+decreases-loop-at g l = length l.initial.bytes - l.at

@@ -1,0 +1,20 @@
+-- What is written in turn is written in one.
+use Rattle.std.proofs.Common.{ℕ, ◌+◌, List, [], ◌++◌, take, drop, ◌∙◌, refl}
+use Rattle.std.proofs.Math.Seq.{take-add}
+use Rattle.std.proofs.KnownBytes.{Appends-nil, Appends-trans}
+use Rattle.link_wire.specs.Device.{Output}
+use Rattle.link_wire.specs.Writing.{Wrote}
+
+module _ {W : Type 0} (look : W → Output) where
+  pub Wrote-none : (w : W) → Wrote look w w []
+  Wrote-none w = record { written = Appends-nil (look w).written; device = refl }
+
+  pub Wrote-then : (old mid new : W) (xs ys : List ℕ) → Wrote look old mid xs → Wrote look mid new ys → Wrote look old new (xs ++ ys)
+  Wrote-then old mid new xs ys p q = record {
+    written = Appends-trans (look old).written (look mid).written (look new).written xs ys p.written q.written;
+    device = q.device ∙ p.device;
+  }
+
+  -- a front that was written, and the next n bytes
+  pub Wrote-more : (old mid new : W) (bytes : List ℕ) (at n : ℕ) → Wrote look old mid (take at bytes) → Wrote look mid new (take n (drop at bytes)) → Wrote look old new (take (at + n) bytes)
+  Wrote-more old mid new bytes at n p q = rw take-add (Wrote-then old mid new _ _ p q)

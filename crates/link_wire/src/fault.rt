@@ -1,0 +1,61 @@
+//! What stops the reading of a stream, or the writing of a text.
+
+use thiserror::Error;
+
+/// A failure of a device or of memory, or an input past its limit.
+#[derive(Clone, Copy, Debug, PartialEq, Eq, Error)]
+pub enum IoFault {
+    /// The reader failed.
+    #[error("read failed")]
+    Read,
+    /// The reader gave a byte past 2^63 - 1 bytes.
+    #[error("input too long")]
+    InputTooLong,
+    /// A writer failed.
+    #[error("write failed")]
+    Write,
+    /// A request for memory was refused.
+    #[error("out of memory")]
+    Memory,
+}
+
+/// The first fault of a byte stream that is no recorded session (RFC 9174 sections 4.1 to 4.8 and 5.2).
+#[derive(Clone, Copy, Debug, PartialEq, Eq, Error)]
+pub enum WireFault {
+    /// The stream ends inside the contact header, a message's head or a segment's data.
+    #[error("truncated")]
+    Truncated,
+    /// The stream does not begin with `dtn!`.
+    #[error("not a contact header")]
+    BadMagic,
+    /// The contact header has this version, and not 4.
+    #[error("unsupported version {0}")]
+    BadVersion(u8),
+    /// No message has this type byte.
+    #[error("unknown message type {0:02x}")]
+    UnknownType(u8),
+    /// A node ID of this many bytes, more than `MAX_NODE_ID`.
+    #[error("node id too long: {0}")]
+    NodeIdTooLong(u16),
+    /// An extension list of this many bytes, more than `MAX_LIST_LENGTH`.
+    #[error("extension list too long: {0}")]
+    ListTooLong(u32),
+    /// An extension list with more than `MAX_ITEMS` items.
+    #[error("too many extension items")]
+    TooManyItems,
+    /// An extension item that goes past the end of its list.
+    #[error("extension items overrun their list")]
+    ItemsOverrun,
+}
+
+/// Why a session gives nothing more.
+#[derive(Clone, Copy, Debug, PartialEq, Eq, Error)]
+pub enum Stop {
+    /// A device failed, or the input passed its limit.
+    #[error("{0}")]
+    Io(IoFault),
+    /// The fault, and the offset of the first byte of the message in which it stands; 0 for the
+    /// contact header.
+    #[error("byte {0}: {1}")]
+    Wire(u64, WireFault),
+}

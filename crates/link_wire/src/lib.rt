@@ -1,0 +1,17 @@
+//! The wire of a recorded TCPCLv4 session (RFC 9174, without TLS): devices, the input source, whole
+//! writes, and the messages of one entity's byte stream.
+#![tactic(auto)]
+
+mod device;
+mod fault;
+mod message;
+mod source;
+mod writing;
+
+pub use device::{DeviceFault, InDevice, OutDevice, Reader, Writer};
+pub use fault::{IoFault, Stop, WireFault};
+pub use message::{
+    Contact, Item, Items, MAX_ITEMS, MAX_LIST_LENGTH, MAX_NODE_ID, Message, NodeId, SegmentHead,
+};
+pub use source::{Filled, INPUT_LIMIT, Source};
+pub use writing::write_whole;

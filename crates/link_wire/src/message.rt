@@ -1,0 +1,91 @@
+//! The contact header and the messages of TCPCLv4 (RFC 9174 sections 4.1 to 5.2).
+
+use arrayvec::ArrayVec;
+
+/// The longest node ID that is read, in bytes: the longest that a report line shows.
+pub const MAX_NODE_ID: usize = 1024;
+
+/// The longest extension list that is read, in bytes.
+pub const MAX_LIST_LENGTH: u32 = 4096;
+
+/// The most items that one extension list may have.
+pub const MAX_ITEMS: usize = 16;
+
+/// The items of one extension list, in order.
+pub type Items = ArrayVec<Item, MAX_ITEMS>;
+
+/// A node ID: the bytes of its text, none where no node ID is given.
+pub type NodeId = ArrayVec<u8, MAX_NODE_ID>;
+
+/// A contact header of version 4 (RFC 9174 section 4.2).
+#[derive(Clone, Copy, Debug, PartialEq, Eq)]
+pub struct Contact {
+    /// CAN_TLS is 01. Reserved flags are kept as they stand.
+    pub flags: u8,
+}
+
+/// An extension item of a session or a transfer (RFC 9174 sections 4.8 and 5.2.5), less its value.
+#[derive(Clone, Copy, Debug, PartialEq, Eq)]
+pub struct Item {
+    /// CRITICAL is 01.
+    pub flags: u8,
+    /// The item's type.
+    pub kind: u16,
+    /// How many bytes the value has.
+    pub length: u16,
+    /// The transfer's total length in bytes: the value of a Transfer Length item (RFC 9174
+    /// section 5.2.5.1), which stands in a transfer's list, has type 0001 and a value of 8 bytes.
+    pub total: Option<u64>,
+}
+
+/// An XFER_SEGMENT less its data (RFC 9174 section 5.2.2).
+#[derive(Debug, PartialEq, Eq, Drop)]
+pub struct SegmentHead {
+    /// END is 01, START is 02.
+    pub flags: u8,
+    /// The transfer ID.
+    pub id: u64,
+    /// The transfer extension items; none without START.
+    pub items: Items,
+    /// How many bytes of data the segment has.
+    pub length: u64,
+}
+
+/// A message of TCPCLv4; of a segment its head alone.
+#[derive(Debug, PartialEq, Eq, Drop)]
+pub enum Message {
+    /// RFC 9174 section 4.6: the keepalive interval in seconds, the longest segment and the longest
+    /// transfer in bytes that the sender will receive, its node ID and its session extension items.
+    SessInit {
+        keepalive: u16,
+        segment_mru: u64,
+        transfer_mru: u64,
+        node: NodeId,
+        items: Items,
+    },
+    /// RFC 9174 section 5.2.2.
+    Segment(SegmentHead),
+    /// RFC 9174 section 5.2.3: how many bytes of the transfer have been received.
+    Ack {
+        flags: u8,
+        id: u64,
+        length: u64,
+    },
+    /// RFC 9174 section 5.2.4.
+    Refuse {
+        reason: u8,
+        id: u64,
+    },
+    /// RFC 9174 section 5.1.1.
+    Keepalive,
+    /// RFC 9174 section 6.1.
+    SessTerm {
+        flags: u8,
+        reason: u8,
+    },
+    /// RFC 9174 section 5.1.2: why, and the type byte of the message that was rejected.
+    MsgReject {
+        reason: u8,
+        header: u8,
+    },
+}
