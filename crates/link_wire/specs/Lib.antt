@@ -6,3 +6,7 @@ pub mod Writing
 pub mod WritingLaws
 pub mod Part
 pub mod Message
+pub mod Halt
+pub mod Getting
+pub mod GettingLaws
+pub mod PartLaws

@@ -4,7 +4,9 @@
 
 mod device;
 mod fault;
+mod halt;
 mod message;
+mod parts;
 mod source;
 mod writing;
 

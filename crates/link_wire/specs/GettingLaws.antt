@@ -1,0 +1,126 @@
+-- A part that was read, and then what depends on it.
+use Rattle.std.proofs.Common.{◌≡◌, ◌≢◌, ℕ, Bool, true, false, List, [], ◌++◌, length, Result, Ok, Err, if◌then◌else◌, cond, ap, sym, ◌∙◌, subst, refl, append_assoc, slice_index, arith}
+use Rattle.byteorder.specs.Endian.{big_number}
+use Rattle.link_wire.specs.Device.{Input}
+use Rattle.link_wire.specs.Part.{Part, ◌>>=◌, bytes_at, number_at}
+use Rattle.link_wire.specs.Source.{IsLive, IsOver, Takes, StopsAfter}
+use Rattle.link_wire.specs.SourceLaws.{Takes-none, Takes-then, StopsAfter-then}
+use Rattle.link_wire.specs.Getting.{IsFaultOf, IsOverAt, GotPart, MetFault, MetStop, Gets}
+use Rattle.link_wire.specs.declared.fault.IoFault.{IoFault}
+use Rattle.link_wire.specs.declared.fault.WireFault.{WireFault}
+use Rattle.link_wire.specs.declared.fault.WireFault.TheVariants as wire
+use Rattle.link_wire.specs.declared.halt.Halt.{Halt}
+use Rattle.link_wire.specs.declared.halt.Halt.TheVariants as halt
+use Rattle.link_wire.specs.declared.source.Source.{Source}
+
+module _ {A B : Type 0} (part : List ℕ → Part A) (next : A × List ℕ → Part B) where
+  -- what a part's bytes show of it, they show of what goes on from it
+  pub IsFaultOf-exit : (taken : List ℕ) (fault : WireFault) → IsFaultOf part taken fault → IsFaultOf (λ bytes. part bytes >>= next) taken fault
+  IsFaultOf-exit taken wire.Truncated h = ap (λ r. r >>= next) h
+  IsFaultOf-exit taken wire.BadMagic h = λ more. ap (λ r. r >>= next) (h more)
+  IsFaultOf-exit taken (wire.BadVersion n) h = λ more. ap (λ r. r >>= next) (h more)
+  IsFaultOf-exit taken (wire.UnknownType n) h = λ more. ap (λ r. r >>= next) (h more)
+  IsFaultOf-exit taken (wire.NodeIdTooLong n) h = λ more. ap (λ r. r >>= next) (h more)
+  IsFaultOf-exit taken (wire.ListTooLong n) h = λ more. ap (λ r. r >>= next) (h more)
+  IsFaultOf-exit taken wire.TooManyItems h = λ more. ap (λ r. r >>= next) (h more)
+  IsFaultOf-exit taken wire.ItemsOverrun h = λ more. ap (λ r. r >>= next) (h more)
+
+  module _ (value : A) (first second : List ℕ) (is_part : (more : List ℕ) → part (first ++ more) ≡ Ok (value, more)) where
+    pub part_then : part (first ++ second) >>= next ≡ next (value, second)
+    part_then = ap (λ r. r >>= next) (is_part second)
+
+    pub part_then_more : (more : List ℕ) → part ((first ++ second) ++ more) >>= next ≡ next (value, second ++ more)
+    part_then_more more = rw append_assoc (ap (λ r. r >>= next) (is_part (second ++ more)))
+
+    -- the bytes of a part and those behind it that show a fault show it of both
+    pub IsFaultOf-then : (fault : WireFault) → IsFaultOf (λ bytes. next (value, bytes)) second fault → IsFaultOf (λ bytes. part bytes >>= next) (first ++ second) fault
+    IsFaultOf-then wire.Truncated h = part_then ∙ h
+    IsFaultOf-then wire.BadMagic h = λ more. part_then_more more ∙ h more
+    IsFaultOf-then (wire.BadVersion n) h = λ more. part_then_more more ∙ h more
+    IsFaultOf-then (wire.UnknownType n) h = λ more. part_then_more more ∙ h more
+    IsFaultOf-then (wire.NodeIdTooLong n) h = λ more. part_then_more more ∙ h more
+    IsFaultOf-then (wire.ListTooLong n) h = λ more. part_then_more more ∙ h more
+    IsFaultOf-then wire.TooManyItems h = λ more. part_then_more more ∙ h more
+    IsFaultOf-then wire.ItemsOverrun h = λ more. part_then_more more ∙ h more
+
+module _ {R A B : Type 0} {look : R → Input} {part : List ℕ → Part A} (next : A × List ℕ → Part B) where
+  -- a part that was not read: nothing that goes on from it was
+  pub exit : {old new : Source R} {stop : Halt} → Gets look part old new (Err stop) → Gets look (λ bytes. part bytes >>= next) old new (Err stop)
+  exit {stop = halt.Wire fault} met = record { by = record {
+    taken = met.by.taken;
+    takes = met.by.takes;
+    is_fault = IsFaultOf-exit part next met.by.taken fault met.by.is_fault;
+    over = met.by.over;
+  } }
+  exit {stop = halt.Io fault} met = record { by = record {
+    taken = met.by.taken;
+    stops = met.by.stops;
+    is_cut = ap (λ r. r >>= next) met.by.is_cut;
+  } }
+
+  -- a part that was read, and what goes on from it
+  pub after : {old mid new : Source R} {value : A} {answer : Result B Halt} → Gets look part old mid (Ok value) → Gets look (λ bytes. next (value, bytes)) mid new answer → Gets look (λ bytes. part bytes >>= next) old new answer
+  after {old} {mid} {new} {value} {answer = Ok given} got more = record { by = record {
+    taken = got.by.taken ++ more.by.taken;
+    takes = Takes-then look old mid new got.by.taken more.by.taken got.by.takes more.by.takes;
+    live = more.by.live;
+    is_part = λ rest. part_then_more part next value got.by.taken more.by.taken got.by.is_part rest ∙ more.by.is_part rest;
+  } }
+  after {old} {mid} {new} {value} {answer = Err (halt.Wire fault)} got more = record { by = record {
+    taken = got.by.taken ++ more.by.taken;
+    takes = Takes-then look old mid new got.by.taken more.by.taken got.by.takes more.by.takes;
+    is_fault = IsFaultOf-then part next value got.by.taken more.by.taken got.by.is_part fault more.by.is_fault;
+    over = more.by.over;
+  } }
+  after {old} {mid} {new} {value} {answer = Err (halt.Io fault)} got more = record { by = record {
+    taken = got.by.taken ++ more.by.taken;
+    stops = StopsAfter-then look old mid new got.by.taken more.by.taken fault got.by.takes more.by.stops;
+    is_cut = part_then part next value got.by.taken more.by.taken got.by.is_part ∙ more.by.is_cut;
+  } }
+
+module _ {R A : Type 0} {look : R → Input} where
+  -- a part that was read leaves the source as it was before
+  pub is_live : {part : List ℕ → Part A} {old new : Source R} {value : A} → Gets look part old new (Ok value) → IsLive look new
+  is_live got = got.by.live
+
+  -- no byte is needed
+  pub pure : {source : Source R} {value : A} → IsLive look source → Gets look (λ bytes. Ok (value, bytes)) source source (Ok value)
+  pure {source} live = record { by = record { taken = []; takes = Takes-none look source; live = live; is_part = λ more. refl } }
+
+  -- a value that what was read before refuses
+  pub refuse : {source : Source R} {fault : WireFault} → fault ≢ wire.Truncated → Gets look (λ bytes. let answer : Part A = Err fault in answer) source source (Err (halt.Wire fault))
+  refuse {fault = wire.Truncated} not = absurd (not refl)
+  refuse {source} {fault = wire.BadMagic} not = record { by = record { taken = []; takes = Takes-none look source; is_fault = λ more. refl; over = tt } }
+  refuse {source} {fault = wire.BadVersion n} not = record { by = record { taken = []; takes = Takes-none look source; is_fault = λ more. refl; over = tt } }
+  refuse {source} {fault = wire.UnknownType n} not = record { by = record { taken = []; takes = Takes-none look source; is_fault = λ more. refl; over = tt } }
+  refuse {source} {fault = wire.NodeIdTooLong n} not = record { by = record { taken = []; takes = Takes-none look source; is_fault = λ more. refl; over = tt } }
+  refuse {source} {fault = wire.ListTooLong n} not = record { by = record { taken = []; takes = Takes-none look source; is_fault = λ more. refl; over = tt } }
+  refuse {source} {fault = wire.TooManyItems} not = record { by = record { taken = []; takes = Takes-none look source; is_fault = λ more. refl; over = tt } }
+  refuse {source} {fault = wire.ItemsOverrun} not = record { by = record { taken = []; takes = Takes-none look source; is_fault = λ more. refl; over = tt } }
+
+  -- the part is chosen by what was read before
+  module _ (part other : List ℕ → Part A) {old new : Source R} {test : Bool} {answer : Result A Halt} where
+    pub if_true : test ≡ true → Gets look part old new answer → Gets look (λ bytes. if test then part bytes else other bytes) old new answer
+    if_true is h =
+        let P : Bool → Type 0 = λ b. Gets look (λ bytes. if b then part bytes else other bytes) old new answer in
+        subst P (sym is) h
+
+    pub if_false : test ≡ false → Gets look other old new answer → Gets look (λ bytes. if test then part bytes else other bytes) old new answer
+    if_false is h =
+        let P : Bool → Type 0 = λ b. Gets look (λ bytes. if b then part bytes else other bytes) old new answer in
+        subst P (sym is) h
+
+module _ {R : Type 0} {look : R → Input} {old new : Source R} where
+  -- a number is its field's bytes
+  pub number_read : (n : ℕ) (field : List ℕ) → Gets look (bytes_at n) old new (Ok field) → Gets look (number_at n) old new (Ok (big_number n field))
+  unfolding number_at
+  number_read n field got = after _ got (pure (is_live got))
+
+  pub byte_read : (field : List ℕ) → Gets look (bytes_at 1) old new (Ok field) → Gets look (number_at 1) old new (Ok (slice_index field 0))
+  byte_read field got =
+      let same : big_number 1 field ≡ slice_index field 0 = omega arith in
+      rw (← same) (number_read 1 field got)
+
+  pub number_exit : (n : ℕ) {stop : Halt} → Gets look (bytes_at n) old new (Err stop) → Gets look (number_at n) old new (Err stop)
+  unfolding number_at
+  number_exit n got = exit _ got

@@ -1,0 +1,10 @@
+use Rattle.std.specs.Prelude.{ℕ}
+use Rattle.link_wire.specs.declared.fault.Stop.{Stop}
+use Rattle.link_wire.specs.declared.fault.Stop.TheVariants as stop
+use Rattle.link_wire.specs.declared.halt.Halt.{Halt}
+use Rattle.link_wire.specs.declared.halt.Halt.TheVariants as halt
+
+-- the stop of the message that begins at the offset
+abbrev pub stop_at : ℕ → Halt → Stop
+stop_at offset (halt.Io fault) = stop.Io fault
+stop_at offset (halt.Wire fault) = stop.Wire offset fault

@@ -1,0 +1,18 @@
+-- Fields that are there, and fields that are missing.
+use Rattle.std.proofs.Common.{◌≡◌, ℕ, ◌+◌, ◌<◌, ◌≤◌, List, [], ◌++◌, length, take, drop, Result, Ok, Err, nat_lt, arith, refl, ap, sym, ◌∙◌, length-append}
+use Rattle.std.proofs.lemmas.Bool.{lt-ltb, le-ltb}
+use Rattle.std.proofs.Math.Seq.{take-append_seam, drop-append_seam}
+use Rattle.byteorder.specs.Endian.{big_number}
+use Rattle.link_wire.specs.Part.{Part, ◌>>=◌, bytes_at, number_at}
+use Rattle.link_wire.specs.declared.fault.WireFault.{WireFault}
+use Rattle.link_wire.specs.declared.fault.WireFault.TheVariants.{Truncated}
+
+pub bytes_at-short : (n : ℕ) (bytes : List ℕ) → length bytes < n → bytes_at n bytes ≡ Err Truncated
+unfolding bytes_at
+bytes_at-short n bytes short = rw (lt-ltb (length bytes) n short) refl
+
+pub bytes_at-there : (field more : List ℕ) → bytes_at (length field) (field ++ more) ≡ Ok (field, more)
+unfolding bytes_at
+bytes_at-there field more =
+    let there : length field ≤ length (field ++ more) = omega (arith, length-append field more) in
+    rw (le-ltb (length (field ++ more)) (length field) there, take-append_seam, drop-append_seam) refl

@@ -1,0 +1,25 @@
+//! What stops the reading of a part of a message.
+
+use crate::fault::{IoFault, Stop, WireFault};
+
+/// A `Stop` that does not know the offset of its message yet.
+#[derive(Clone, Copy, Debug, PartialEq, Eq)]
+pub enum Halt {
+    Io(IoFault),
+    Wire(WireFault),
+}
+
+impl Halt {
+    ghost use Rattle.std.specs.Prelude.{◌≡◌};
+    ghost use Rattle.link_wire.specs.Halt.{stop_at};
+
+    /// The stop of the message that begins at the offset.
+    pub fn at(self, offset: u64) -> Stop
+        ensures { result ≡ stop_at offset self }
+    {
+        match self {
+            Halt::Io(fault) => Stop::Io(fault),
+            Halt::Wire(fault) => Stop::Wire(offset, fault),
+        }
+    }
+}

@@ -1,0 +1,60 @@
+//! The fields of a message: bytes, and unsigned numbers in big-endian order.
+
+ghost use Rattle.std.specs.Prelude.{◌≡◌, ◌<◌, length, MatchResult};
+ghost use Rattle.link_wire.specs.Source.{IsLive};
+ghost use Rattle.link_wire.specs.Part.{bytes_at, number_at};
+ghost use Rattle.link_wire.specs.Getting.{Gets, with_bytes};
+
+use crate::device::InDevice;
+use crate::fault::WireFault;
+use crate::halt::Halt;
+use crate::source::{Filled, Source};
+use byteorder::{BigEndian, ByteOrder};
+
+/// The next bytes, as many as the slice has room for.
+pub fn bytes<R: InDevice>(source: &mut Source<R>, field: &mut [u8]) -> Result<(), Halt>
+    ensures { IsLive R.state source.old → Gets R.state (bytes_at (length field.new)) source.old source.new (with_bytes field.new result) }
+{
+    match source.fill(field) {
+        Ok(Filled::Whole) => Ok(()),
+        Ok(Filled::Ended(_)) => Err(Halt::Wire(WireFault::Truncated)),
+        Err(fault) => Err(Halt::Io(fault)),
+    }
+}
+
+/// The next bytes, as many as the array has.
+pub fn field<const N: usize, R: InDevice>(source: &mut Source<R>) -> Result<[u8; N], Halt>
+    ensures { IsLive R.state source.old → Gets R.state (bytes_at N) source.old source.new result }
+{
+    let mut field = [0; N];
+    bytes(source, &mut field)?;
+    Ok(field)
+}
+
+/// The next byte.
+pub fn number8<R: InDevice>(source: &mut Source<R>) -> Result<u8, Halt>
+    ensures { IsLive R.state source.old → Gets R.state (number_at 1) source.old source.new result }
+{
+    Ok(field::<1, R>(source)?[0])
+}
+
+/// The next two bytes, as a number.
+pub fn number16<R: InDevice>(source: &mut Source<R>) -> Result<u16, Halt>
+    ensures { IsLive R.state source.old → Gets R.state (number_at 2) source.old source.new result }
+{
+    Ok(BigEndian::read_u16(&field::<2, R>(source)?))
+}
+
+/// The next four bytes, as a number.
+pub fn number32<R: InDevice>(source: &mut Source<R>) -> Result<u32, Halt>
+    ensures { IsLive R.state source.old → Gets R.state (number_at 4) source.old source.new result }
+{
+    Ok(BigEndian::read_u32(&field::<4, R>(source)?))
+}
+
+/// The next eight bytes, as a number.
+pub fn number64<R: InDevice>(source: &mut Source<R>) -> Result<u64, Halt>
+    ensures { IsLive R.state source.old → Gets R.state (number_at 8) source.old source.new result }
+{
+    Ok(BigEndian::read_u64(&field::<8, R>(source)?))
+}
