@@ -1,8 +1,12 @@
 -- A part that was read, and then what depends on it.
-use Rattle.std.proofs.Common.{◌≡◌, ◌≢◌, ℕ, Bool, true, false, List, [], ◌++◌, length, Result, Ok, Err, if◌then◌else◌, cond, ap, sym, ◌∙◌, subst, refl, append_assoc, slice_index, arith}
+use Rattle.std.proofs.Common.{◌≡◌, ◌≢◌, ◌+◌, ◌-◌, ◌≤◌, ℕ, Bool, true, false, List, [], ◌++◌, length, Result, Ok, Err, if◌then◌else◌, cond, ap, sym, ◌∙◌, subst, refl, append_assoc, slice_index, arith}
+use mathlib.Core.Path.{fun_ext}
+use Rattle.std.specs.Prelude.{IsErrAnd}
 use Rattle.byteorder.specs.Endian.{big_number}
 use Rattle.link_wire.specs.Device.{Input}
 use Rattle.link_wire.specs.Part.{Part, ◌>>=◌, bytes_at, number_at}
+use Rattle.link_wire.specs.Message.{skipped_at}
+use Rattle.link_wire.specs.ListLaws.{skipped_at-there, skipped_at-add}
 use Rattle.link_wire.specs.Source.{IsLive, IsOver, Takes, StopsAfter}
 use Rattle.link_wire.specs.SourceLaws.{Takes-none, Takes-then, StopsAfter-then}
 use Rattle.link_wire.specs.Getting.{IsFaultOf, IsOverAt, GotPart, MetFault, MetStop, Gets}
@@ -83,6 +87,17 @@ module _ {R A : Type 0} {look : R → Input} where
   pub is_live : {part : List ℕ → Part A} {old new : Source R} {value : A} → Gets look part old new (Ok value) → IsLive look new
   is_live got = got.by.live
 
+  -- the same part, in other words
+  pub same_part : {part other : List ℕ → Part A} {old new : Source R} {answer : Result A Halt} → ((bytes : List ℕ) → part bytes ≡ other bytes) → Gets look part old new answer → Gets look other old new answer
+  same_part {old} {new} {answer} same got =
+      let P : (List ℕ → Part A) → Type 0 = λ p. Gets look p old new answer in
+      subst P (fun_ext same) got
+
+  -- the exit of a `?`
+  pub exiting : {part : List ℕ → Part A} {old new : Source R} {stop : Halt} (answer : Result A Halt) → IsErrAnd answer (λ e. e ≡ stop) → Gets look part old new (Err stop) → Gets look part old new answer
+  exiting (Ok value) is met = absurd is
+  exiting (Err e) is met = rw is met
+
   -- no byte is needed
   pub pure : {source : Source R} {value : A} → IsLive look source → Gets look (λ bytes. Ok (value, bytes)) source source (Ok value)
   pure {source} live = record { by = record { taken = []; takes = Takes-none look source; live = live; is_part = λ more. refl } }
@@ -124,3 +139,19 @@ module _ {R : Type 0} {look : R → Input} {old new : Source R} where
   pub number_exit : (n : ℕ) {stop : Halt} → Gets look (bytes_at n) old new (Err stop) → Gets look (number_at n) old new (Err stop)
   unfolding number_at
   number_exit n got = exit _ got
+
+module _ {R : Type 0} {look : R → Input} where
+  -- bytes that were passed over
+  pub skip_none : {source : Source R} → IsLive look source → Gets look (skipped_at 0) source source (Ok tt)
+  skip_none {source} live = record { by = record { taken = []; takes = Takes-none look source; live = live; is_part = λ more. skipped_at-there 0 more (omega arith) } }
+
+  module _ {old mid new : Source R} (a b : ℕ) where
+    pub skip_more : (n : ℕ) {piece : List ℕ} → a + b ≡ n → Gets look (skipped_at a) old mid (Ok tt) → Gets look (bytes_at b) mid new (Ok piece) → Gets look (skipped_at n) old new (Ok tt)
+    unfolding skipped_at
+    skip_more n is passed piece = rw (← is) (same_part (skipped_at-add a b) (after _ passed (after _ piece (pure (is_live piece)))))
+
+    pub skip_exit : (n : ℕ) {stop : Halt} → a + b ≤ n → Gets look (skipped_at a) old mid (Ok tt) → Gets look (bytes_at b) mid new (Err stop) → Gets look (skipped_at n) old new (Err stop)
+    unfolding skipped_at
+    skip_exit n within passed met =
+        let parts : a + (b + (n - (a + b))) ≡ n = omega arith in
+        rw (← parts) (same_part (skipped_at-add a (b + (n - (a + b)))) (after _ passed (same_part (skipped_at-add b (n - (a + b))) (exit _ (exit _ met)))))

@@ -10,3 +10,5 @@ pub mod Halt
 pub mod Getting
 pub mod GettingLaws
 pub mod PartLaws
+pub mod ListLaws
+pub mod ItemsLaws

@@ -9,6 +9,7 @@ use Rattle.link_wire.specs.declared.fault.WireFault.{WireFault}
 use Rattle.link_wire.specs.declared.fault.WireFault.TheVariants.{BadMagic, BadVersion, UnknownType, NodeIdTooLong, ListTooLong, TooManyItems, ItemsOverrun}
 use Rattle.link_wire.specs.declared.message.Contact.{Contact}
 use Rattle.link_wire.specs.declared.message.Item.{Item}
+use Rattle.link_wire.specs.declared.list.ItemHead.{ItemHead}
 use Rattle.link_wire.specs.declared.message.SegmentHead.{SegmentHead}
 use Rattle.link_wire.specs.declared.message.Message.{Message}
 use Rattle.link_wire.specs.declared.message.Message.TheVariants.{SessInit, Segment, Ack, Refuse, Keepalive, SessTerm, MsgReject}
@@ -33,29 +34,40 @@ node_at bytes = do
         node ← bytes_at size.0 size.1
         Ok (record { items = node.0 }, node.1))
 
--- an extension item's value (section 5.2.5.1): the total length, of a Transfer Length item
+-- the next n bytes, whatever they are
+unfoldable pub skipped_at : ℕ → List ℕ → Part (Unit {0})
+skipped_at n bytes = do
+  skipped ← bytes_at n bytes
+  Ok (tt, skipped.1)
+
+-- a Transfer Length item (section 5.2.5.1) stands in a transfer's list, has type 1 and 8 bytes
+abbrev pub gives_total : Bool → ℕ → ℕ → Bool
+gives_total is_transfer kind size = is_transfer && (kind == 1 && size == 8)
+
+-- an extension item's value: the total length, of a Transfer Length item
 unfoldable pub total_at : Bool → ℕ → ℕ → List ℕ → Part (Option ℕ)
-total_at is_transfer kind size bytes = do
-  value ← bytes_at size bytes
-  Ok ((if is_transfer && (kind == 1 && size == 8) then Some (big_number 8 value.0) else None), value.1)
+total_at is_transfer kind size bytes =
+  if gives_total is_transfer kind size
+    then (do
+      total ← number_at 8 bytes
+      Ok (Some total.0, total.1))
+    else (do
+      value ← skipped_at size bytes
+      Ok (None, value.1))
 
--- The head of the next extension item (section 4.8) in the part of a list that is not covered yet, of `left` bytes: its
--- flags, type and length. The item has to end within the list.
-pub record ItemHead : Type 0 where
-  pub flags : ℕ
-  pub kind : ℕ
-  pub length : ℕ
-
+-- The head of the next extension item (section 4.8), where `left` bytes of its list are not covered yet: its flags,
+-- type and length. The item has to end within the list.
 unfoldable pub item_head_at : ℕ → List ℕ → Part ItemHead
 item_head_at left bytes =
-    if nat_lt left 5
+  if nat_lt left 5
     then Err ItemsOverrun
     else (do
-      fixed ← bytes_at 5 bytes
-      let size = big_number 2 (drop 3 fixed.0)
-      if nat_lt (left - 5) size
-          then Err ItemsOverrun
-          else Ok (record { flags = slice_index fixed.0 0; kind = big_number 2 (drop 1 fixed.0); length = size }, fixed.1))
+      flags ← number_at 1 bytes
+      kind ← number_at 2 flags.1
+      size ← number_at 2 kind.1
+      if nat_lt (left - 5) size.0
+        then Err ItemsOverrun
+        else Ok (record { flags = flags.0; kind = kind.0; length = size.0 }, size.1))
 
 -- The items of a list's next `left` bytes, of which at most `room` more may come. They fill those bytes exactly.
 unfoldable pub items_at : Bool → ℕ → ℕ → List ℕ → Part (List Item)
@@ -63,7 +75,7 @@ items_at is_transfer zero left bytes =
     if left == 0
     then Ok ([], bytes)
     else (do
-      head ← item_head_at left bytes
+      _ ← item_head_at left bytes
       Err TooManyItems)
 items_at is_transfer (suc room) left bytes =
     if left == 0
@@ -74,15 +86,17 @@ items_at is_transfer (suc room) left bytes =
       others ← items_at is_transfer room (left - (5 + head.0.length)) total.1
       Ok (record { flags = head.0.flags; kind = head.0.kind; length = head.0.length; total = total.0 } ∷ others.0, others.1))
 
--- an extension list (section 4.8): its length in bytes, at most MAX_LIST_LENGTH, and at most MAX_ITEMS items
+-- the items of a list of `size` bytes, at most MAX_ITEMS
+unfoldable pub items_of : Bool → ℕ → List ℕ → Part (ArrayVec Item)
+items_of is_transfer size bytes = do
+  items ← items_at is_transfer MAX_ITEMS size bytes
+  Ok (record { items = items.0 }, items.1)
+
+-- an extension list (section 4.8): its length in bytes, at most MAX_LIST_LENGTH, and its items
 unfoldable pub list_at : Bool → List ℕ → Part (ArrayVec Item)
 list_at is_transfer bytes = do
   size ← number_at 4 bytes
-  if nat_lt MAX_LIST_LENGTH size.0
-      then Err (ListTooLong size.0)
-      else (do
-        items ← items_at is_transfer MAX_ITEMS size.0 size.1
-        Ok (record { items = items.0 }, items.1))
+  if nat_lt MAX_LIST_LENGTH size.0 then Err (ListTooLong size.0) else items_of is_transfer size.0 size.1
 
 -- flag 01 of XFER_SEGMENT (section 5.2.2): the transfer's last segment
 abbrev pub has_end : ℕ → Bool

@@ -25,7 +25,7 @@ pub struct Contact {
 }
 
 /// An extension item of a session or a transfer (RFC 9174 sections 4.8 and 5.2.5), less its value.
-#[derive(Clone, Copy, Debug, PartialEq, Eq)]
+#[derive(Clone, Copy, Debug, Default, PartialEq, Eq)]
 pub struct Item {
     /// CRITICAL is 01.
     pub flags: u8,

@@ -1,0 +1,15 @@
+use Rattle.std.proofs.Common.{◌-◌, ◌≤◌, length, ◌≡◌, Ok}
+use Rattle.link_wire.specs.Source.{IsLive}
+use Rattle.link_wire.specs.Message.{skipped_at}
+use Rattle.link_wire.specs.Getting.{Gets}
+use Rattle.link_wire.proofs.list.skip.Given as goal
+
+-- all but the bytes left have been passed over
+abbrev pub invariant-loop-left : goal.invariant-loop-left
+invariant-loop-left g l = record {
+  within : l.left ≤ l.count;
+  passed : IsLive g.R.InDevice.state l.fn.source → Gets g.R.InDevice.state (skipped_at (l.count - l.left)) l.fn.source l.source (Ok tt);
+}
+
+abbrev pub decreases-loop-left : goal.decreases-loop-left
+decreases-loop-left g l = l.left

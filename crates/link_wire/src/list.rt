@@ -1,0 +1,126 @@
+//! Extension lists (RFC 9174 sections 4.8 and 5.2.5), item by item.
+
+ghost use Rattle.std.specs.Prelude.{◌≡◌, ◌≤◌, ◌<◌, ◌+◌, length, IfOk};
+ghost use Rattle.link_wire.specs.Source.{IsLive};
+ghost use Rattle.link_wire.specs.Message.{gives_total, skipped_at, total_at, item_head_at, items_of, list_at};
+ghost use Rattle.link_wire.specs.Getting.{Gets};
+
+use crate::device::InDevice;
+use crate::fault::WireFault;
+use crate::halt::Halt;
+use crate::message::{Item, Items, MAX_LIST_LENGTH};
+use crate::parts::{bytes, number8, number16, number32, number64};
+use crate::source::Source;
+
+/// Values that nobody asks for are passed over in pieces of this many bytes.
+const PIECE: usize = 256;
+
+/// The type of a Transfer Length item (RFC 9174 section 5.2.5.1).
+const TRANSFER_LENGTH: u16 = 1;
+
+/// What stands in front of an extension item's value.
+#[derive(Clone, Copy, Debug, PartialEq, Eq)]
+pub struct ItemHead {
+    flags: u8,
+    kind: u16,
+    length: u16,
+}
+
+impl ItemHead {
+    /// Whether the item is a Transfer Length item.
+    fn has_total(&self, is_transfer: bool) -> bool
+        ensures { result ≡ gives_total is_transfer self.now.kind self.now.length }
+    {
+        is_transfer && self.kind == TRANSFER_LENGTH && self.length == 8
+    }
+}
+
+/// Passes over the next bytes.
+fn skip<R: InDevice>(source: &mut Source<R>, count: u16) -> Result<(), Halt>
+    ensures { IsLive R.state source.old → Gets R.state (skipped_at count) source.old source.new result }
+{
+    let mut piece = [0; PIECE];
+    let mut left = usize::from(count);
+    while left > 0 {
+        let size = left.min(PIECE);
+        bytes(source, &mut piece[..size])?;
+        left -= size;
+    }
+    Ok(())
+}
+
+/// The value of an item: the total length, of a Transfer Length item, which stands in a transfer's
+/// list and has 8 bytes.
+fn total<R: InDevice>(
+    source: &mut Source<R>,
+    is_transfer: bool,
+    head: &ItemHead,
+) -> Result<Option<u64>, Halt>
+    ensures { IsLive R.state source.old → Gets R.state (total_at is_transfer head.now.kind head.now.length) source.old source.new result }
+{
+    if head.has_total(is_transfer) {
+        Ok(Some(number64(source)?))
+    } else {
+        skip(source, head.length)?;
+        Ok(None)
+    }
+}
+
+/// The head of the next item, where so many bytes of the list are left.
+fn item_head<R: InDevice>(source: &mut Source<R>, left: u32) -> Result<ItemHead, Halt>
+    ensures gets { IsLive R.state source.old → Gets R.state (item_head_at left) source.old source.new result }
+    ensures within { IfOk result (λ head. 5 + head.length ≤ left) }
+{
+    if left < 5 {
+        return Err(Halt::Wire(WireFault::ItemsOverrun));
+    }
+    let flags = number8(source)?;
+    let kind = number16(source)?;
+    let length = number16(source)?;
+    if u32::from(length) > left - 5 {
+        return Err(Halt::Wire(WireFault::ItemsOverrun));
+    }
+    Ok(ItemHead {
+        flags,
+        kind,
+        length,
+    })
+}
+
+/// The items of a list of so many bytes.
+fn items<R: InDevice>(
+    source: &mut Source<R>,
+    is_transfer: bool,
+    length: u32,
+) -> Result<Items, Halt>
+    ensures { IsLive R.state source.old → Gets R.state (items_of is_transfer length) source.old source.new result }
+{
+    let mut items = Items::new();
+    let mut left = length;
+    while left > 0 {
+        let head = item_head(source, left)?;
+        if items.is_full() {
+            return Err(Halt::Wire(WireFault::TooManyItems));
+        }
+        let total = total(source, is_transfer, &head)?;
+        items.push(Item {
+            flags: head.flags,
+            kind: head.kind,
+            length: head.length,
+            total,
+        });
+        left -= 5 + u32::from(head.length);
+    }
+    Ok(items)
+}
+
+/// An extension list: its length, and its items.
+pub fn list<R: InDevice>(source: &mut Source<R>, is_transfer: bool) -> Result<Items, Halt>
+    ensures { IsLive R.state source.old → Gets R.state (list_at is_transfer) source.old source.new result }
+{
+    let length = number32(source)?;
+    if length > MAX_LIST_LENGTH {
+        return Err(Halt::Wire(WireFault::ListTooLong(length)));
+    }
+    items(source, is_transfer, length)
+}
