@@ -24,15 +24,17 @@ contact_at bytes = do
       else Err (BadVersion (slice_index header.0 4)))
       else Err BadMagic
 
+-- the bytes of a node ID
+unfoldable pub node_bytes_at : ℕ → List ℕ → Part (ArrayVec ℕ)
+node_bytes_at size bytes = do
+  node ← bytes_at size bytes
+  Ok (record { items = node.0 }, node.1)
+
 -- a node ID (section 4.6): its length, at most MAX_NODE_ID, and its bytes
 unfoldable pub node_at : List ℕ → Part (ArrayVec ℕ)
 node_at bytes = do
   size ← number_at 2 bytes
-  if nat_lt MAX_NODE_ID size.0
-      then Err (NodeIdTooLong size.0)
-      else (do
-        node ← bytes_at size.0 size.1
-        Ok (record { items = node.0 }, node.1))
+  if nat_lt MAX_NODE_ID size.0 then Err (NodeIdTooLong size.0) else node_bytes_at size.0 size.1
 
 -- the next n bytes, whatever they are
 unfoldable pub skipped_at : ℕ → List ℕ → Part (Unit {0})

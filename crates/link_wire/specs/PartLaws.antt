@@ -2,6 +2,7 @@
 use Rattle.std.proofs.Common.{◌≡◌, ℕ, ◌+◌, ◌<◌, ◌≤◌, List, [], ◌++◌, length, take, drop, Result, Ok, Err, nat_lt, arith, refl, ap, sym, ◌∙◌, length-append}
 use Rattle.std.proofs.lemmas.Bool.{lt-ltb, le-ltb}
 use Rattle.std.proofs.Math.Seq.{take-append_seam, drop-append_seam}
+use Rattle.arrayvec.specs.ArrayVec.{ArrayVec}
 use Rattle.byteorder.specs.Endian.{big_number}
 use Rattle.link_wire.specs.Part.{Part, ◌>>=◌, bytes_at, number_at}
 use Rattle.link_wire.specs.declared.fault.WireFault.{WireFault}
@@ -16,3 +17,9 @@ unfolding bytes_at
 bytes_at-there field more =
     let there : length field ≤ length (field ++ more) = omega (arith, length-append field more) in
     rw (le-ltb (length (field ++ more)) (length field) there, take-append_seam, drop-append_seam) refl
+
+-- a vector is the list of its elements
+pub array_vec_of : {T : Type 0} (v : ArrayVec T) (xs : List T) → v.items ≡ xs → v ≡ record { items = xs }
+array_vec_of {T} v xs same =
+    let from : List T → ArrayVec T = λ ys. record { items = ys } in
+    ap from same

@@ -5,6 +5,7 @@
 mod device;
 mod fault;
 mod halt;
+mod head;
 mod list;
 mod message;
 mod parts;

@@ -1,0 +1,158 @@
+//! The contact header and the heads of messages, field by field (RFC 9174 sections 4.2 to 6.1).
+
+ghost use Rattle.std.specs.Prelude.{◌≤◌};
+ghost use Rattle.link_wire.specs.Source.{IsLive};
+ghost use Rattle.link_wire.specs.Message.{contact_at, node_at, node_bytes_at, segment_items_at, segment_at, ack_at, refuse_at, sess_term_at, msg_reject_at, sess_init_at, fields_at};
+ghost use Rattle.link_wire.specs.Getting.{Gets};
+
+use crate::device::InDevice;
+use crate::fault::WireFault;
+use crate::halt::Halt;
+use crate::list::list;
+use crate::message::{Contact, Items, MAX_NODE_ID, Message, NodeId, SegmentHead};
+use crate::parts::{bytes, field, number8, number16, number64};
+use crate::source::Source;
+use byteorder::{BigEndian, ByteOrder};
+
+/// The first four bytes of a contact header: `dtn!`.
+const MAGIC: u32 = 0x6474_6e21;
+
+/// The version that is read.
+const VERSION: u8 = 4;
+
+/// Flag START of a segment: a transfer begins.
+const START: u8 = 2;
+
+/// The contact header: six bytes, of which the first four are `dtn!` and the next is the version.
+pub fn contact<R: InDevice>(source: &mut Source<R>) -> Result<Contact, Halt>
+    ensures { IsLive R.state source.old → Gets R.state contact_at source.old source.new result }
+{
+    let header = field::<6, R>(source)?;
+    if BigEndian::read_u32(&header) != MAGIC {
+        return Err(Halt::Wire(WireFault::BadMagic));
+    }
+    if header[4] != VERSION {
+        return Err(Halt::Wire(WireFault::BadVersion(header[4])));
+    }
+    Ok(Contact { flags: header[5] })
+}
+
+/// A node ID: its length, and its bytes.
+fn node<R: InDevice>(source: &mut Source<R>) -> Result<NodeId, Halt>
+    ensures { IsLive R.state source.old → Gets R.state node_at source.old source.new result }
+{
+    let length = number16(source)?;
+    if usize::from(length) > MAX_NODE_ID {
+        return Err(Halt::Wire(WireFault::NodeIdTooLong(length)));
+    }
+    node_bytes(source, length)
+}
+
+/// The bytes of a node ID.
+fn node_bytes<R: InDevice>(source: &mut Source<R>, length: u16) -> Result<NodeId, Halt>
+    requires { length ≤ MAX_NODE_ID }
+    ensures { IsLive R.state source.old → Gets R.state (node_bytes_at length) source.old source.new result }
+{
+    let mut node = NodeId::from([0; MAX_NODE_ID]);
+    node.truncate(usize::from(length));
+    bytes(source, node.as_mut_slice())?;
+    Ok(node)
+}
+
+/// The extension list of a segment, which stands there only with START.
+fn segment_items<R: InDevice>(source: &mut Source<R>, flags: u8) -> Result<Items, Halt>
+    ensures { IsLive R.state source.old → Gets R.state (segment_items_at flags) source.old source.new result }
+{
+    if flags & START == START {
+        list(source, true)
+    } else {
+        Ok(Items::new())
+    }
+}
+
+/// XFER_SEGMENT, less its data.
+fn segment<R: InDevice>(source: &mut Source<R>) -> Result<Message, Halt>
+    ensures { IsLive R.state source.old → Gets R.state segment_at source.old source.new result }
+{
+    let flags = number8(source)?;
+    let id = number64(source)?;
+    let items = segment_items(source, flags)?;
+    let length = number64(source)?;
+    Ok(Message::Segment(SegmentHead {
+        flags,
+        id,
+        items,
+        length,
+    }))
+}
+
+/// XFER_ACK.
+fn ack<R: InDevice>(source: &mut Source<R>) -> Result<Message, Halt>
+    ensures { IsLive R.state source.old → Gets R.state ack_at source.old source.new result }
+{
+    let flags = number8(source)?;
+    let id = number64(source)?;
+    let length = number64(source)?;
+    Ok(Message::Ack { flags, id, length })
+}
+
+/// XFER_REFUSE.
+fn refuse<R: InDevice>(source: &mut Source<R>) -> Result<Message, Halt>
+    ensures { IsLive R.state source.old → Gets R.state refuse_at source.old source.new result }
+{
+    let reason = number8(source)?;
+    let id = number64(source)?;
+    Ok(Message::Refuse { reason, id })
+}
+
+/// SESS_TERM.
+fn sess_term<R: InDevice>(source: &mut Source<R>) -> Result<Message, Halt>
+    ensures { IsLive R.state source.old → Gets R.state sess_term_at source.old source.new result }
+{
+    let flags = number8(source)?;
+    let reason = number8(source)?;
+    Ok(Message::SessTerm { flags, reason })
+}
+
+/// MSG_REJECT.
+fn msg_reject<R: InDevice>(source: &mut Source<R>) -> Result<Message, Halt>
+    ensures { IsLive R.state source.old → Gets R.state msg_reject_at source.old source.new result }
+{
+    let reason = number8(source)?;
+    let header = number8(source)?;
+    Ok(Message::MsgReject { reason, header })
+}
+
+/// SESS_INIT.
+fn sess_init<R: InDevice>(source: &mut Source<R>) -> Result<Message, Halt>
+    ensures { IsLive R.state source.old → Gets R.state sess_init_at source.old source.new result }
+{
+    let keepalive = number16(source)?;
+    let segment_mru = number64(source)?;
+    let transfer_mru = number64(source)?;
+    let node = node(source)?;
+    let items = list(source, false)?;
+    Ok(Message::SessInit {
+        keepalive,
+        segment_mru,
+        transfer_mru,
+        node,
+        items,
+    })
+}
+
+/// What follows a message's type byte.
+pub fn fields<R: InDevice>(source: &mut Source<R>, kind: u8) -> Result<Message, Halt>
+    ensures { IsLive R.state source.old → Gets R.state (fields_at kind) source.old source.new result }
+{
+    match kind {
+        1 => segment(source),
+        2 => ack(source),
+        3 => refuse(source),
+        4 => Ok(Message::Keepalive),
+        5 => sess_term(source),
+        6 => msg_reject(source),
+        7 => sess_init(source),
+        _ => Err(Halt::Wire(WireFault::UnknownType(kind))),
+    }
+}
