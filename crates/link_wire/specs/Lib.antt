@@ -12,3 +12,7 @@ pub mod GettingLaws
 pub mod PartLaws
 pub mod ListLaws
 pub mod ItemsLaws
+pub mod Stream
+pub mod Session
+pub mod PartSizes
+pub mod StreamLaws

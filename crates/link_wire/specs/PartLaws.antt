@@ -12,6 +12,10 @@ pub bytes_at-short : (n : ℕ) (bytes : List ℕ) → length bytes < n → bytes
 unfolding bytes_at
 bytes_at-short n bytes short = rw (lt-ltb (length bytes) n short) refl
 
+pub bytes_at-enough : (n : ℕ) (bytes : List ℕ) → n ≤ length bytes → bytes_at n bytes ≡ Ok (take n bytes, drop n bytes)
+unfolding bytes_at
+bytes_at-enough n bytes enough = rw (le-ltb (length bytes) n enough) refl
+
 pub bytes_at-there : (field more : List ℕ) → bytes_at (length field) (field ++ more) ≡ Ok (field, more)
 unfolding bytes_at
 bytes_at-there field more =

@@ -9,6 +9,7 @@ mod head;
 mod list;
 mod message;
 mod parts;
+mod session;
 mod source;
 mod writing;
 
@@ -17,5 +18,6 @@ pub use fault::{IoFault, Stop, WireFault};
 pub use message::{
     Contact, Item, Items, MAX_ITEMS, MAX_LIST_LENGTH, MAX_NODE_ID, Message, NodeId, SegmentHead,
 };
+pub use session::Session;
 pub use source::{Filled, INPUT_LIMIT, Source};
 pub use writing::write_whole;

@@ -1,0 +1,66 @@
+-- The reading of a whole recorded stream (RFC 9174 section 4): a contact header, and then messages one after another.
+use Rattle.std.specs.Prelude.{ℕ, zero, suc, ◌+◌, ◌-◌, List, [], ◌∷◌, ◌++◌, length, take, drop, Option, Some, None, Result, Ok, Err, nat_lt, if◌then◌else◌}
+use Rattle.link_wire.specs.Part.{Part}
+use Rattle.link_wire.specs.Message.{contact_at, message_at, data_length}
+use Rattle.link_wire.specs.declared.fault.WireFault.{WireFault}
+use Rattle.link_wire.specs.declared.message.Contact.{Contact}
+use Rattle.link_wire.specs.declared.message.Message.{Message}
+
+-- a whole message: the offset of its type byte, and its data, none but in a segment
+pub record Entry : Type 0 where
+  pub offset : ℕ
+  pub message : Message
+  pub content : List ℕ
+
+-- how a stream ends: between two messages, inside the data of the segment at an offset, or at the first fault, which
+-- stands in the message at an offset
+pub data End : Type 0 where
+  Clean : End
+  Cut : (offset : ℕ) (message : Message) (content : List ℕ) → End
+  Fault : (offset : ℕ) (fault : WireFault) → End
+
+pub record Stream : Type 0 where
+  pub entries : List Entry
+  pub end : End
+
+abbrev pub ended : End → Stream
+ended end = record { entries = []; end = end }
+
+abbrev pub with_entry : Entry → Stream → Stream
+with_entry entry rest = record { entries = entry ∷ rest.entries; end = rest.end }
+
+-- a message whose data begins the bytes, and what reads the bytes behind its data
+abbrev pub with_data_of : ℕ → Message → List ℕ → Stream → Stream
+with_data_of offset message bytes rest =
+  if nat_lt (length bytes) (data_length message)
+    then ended (Cut offset message bytes)
+    else with_entry (record { offset = offset; message = message; content = take (data_length message) bytes }) rest
+
+-- `size` bytes stand at the offset; `next` reads what stands at a later offset
+abbrev pub stream_by : (ℕ → List ℕ → Stream) → ℕ → ℕ → Result (Message × List ℕ) WireFault → Stream
+stream_by next offset size (Err fault) = ended (Fault offset fault)
+stream_by next offset size (Ok (message, bytes)) =
+  with_data_of offset message bytes (next (offset + (size - length bytes) + data_length message) (drop (data_length message) bytes))
+
+-- the messages from an offset on, `count` at most
+unfoldable pub messages_at : ℕ → ℕ → List ℕ → Stream
+messages_at count offset [] = ended Clean
+messages_at zero offset (b ∷ bytes) = ended Clean
+messages_at (suc count) offset (b ∷ bytes) = stream_by (messages_at count) offset (length (b ∷ bytes)) (message_at (b ∷ bytes))
+
+-- the messages from an offset on: each has at least one byte, so there are no more than bytes
+unfoldable pub stream_at : ℕ → List ℕ → Stream
+stream_at offset bytes = messages_at (length bytes) offset bytes
+
+-- what a recorded stream is read as
+pub record Reading : Type 0 where
+  pub contact : Option Contact
+  pub entries : List Entry
+  pub end : End
+
+abbrev pub reading_by : Result (Contact × List ℕ) WireFault → Reading
+reading_by (Err fault) = record { contact = None; entries = []; end = Fault 0 fault }
+reading_by (Ok (contact, bytes)) = let rest = stream_at 6 bytes in record { contact = Some contact; entries = rest.entries; end = rest.end }
+
+unfoldable pub reading_of : List ℕ → Reading
+reading_of bytes = reading_by (contact_at bytes)
