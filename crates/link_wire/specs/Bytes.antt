@@ -1,5 +1,5 @@
 -- Lists of bytes.
-use Rattle.std.proofs.Common.{ℕ, zero, suc, ◌<◌, List, [], ◌∷◌, ◌++◌, get_or, take, drop, length, ◌-◌, ◌≡◌, arith}
+use Rattle.std.proofs.Common.{ℕ, zero, suc, ◌<◌, List, [], ◌∷◌, ◌++◌, get_or, take, drop, length, ◌-◌, ◌≡◌, arith, refl}
 use Rattle.std.proofs.lemmas.Grind.{common_steps}
 
 -- a byte list: each member is a number from 0 to 255
@@ -23,3 +23,8 @@ AreBytes-take (suc n) (x ∷ xs) h = (h.0, AreBytes-take n xs h.1)
 -- all that stands behind a place
 pub take-all_behind : (at : ℕ) (xs : List ℕ) → take (length xs - at) (drop at xs) ≡ drop at xs
 take-all_behind at xs = grind (arith, common_steps)
+
+pub one_byte : (xs : List ℕ) → length xs ≡ 1 → xs ≡ get_or xs 0 0 ∷ []
+one_byte [] one = absurd (omega arith)
+one_byte (x ∷ []) one = refl
+one_byte (x ∷ y ∷ xs) one = absurd (omega arith)

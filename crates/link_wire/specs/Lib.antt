@@ -16,3 +16,6 @@ pub mod Stream
 pub mod Session
 pub mod PartSizes
 pub mod StreamLaws
+pub mod SessionLaws
+pub mod MessageLaws
+pub mod NextLaws

@@ -1,5 +1,5 @@
 -- Fields that are there, and fields that are missing.
-use Rattle.std.proofs.Common.{◌≡◌, ℕ, ◌+◌, ◌<◌, ◌≤◌, List, [], ◌++◌, length, take, drop, Result, Ok, Err, nat_lt, arith, refl, ap, sym, ◌∙◌, length-append}
+use Rattle.std.proofs.Common.{◌≡◌, ℕ, ◌+◌, ◌*◌, ◌<◌, ◌≤◌, List, [], ◌∷◌, ◌++◌, length, take, drop, Result, Ok, Err, nat_lt, arith, refl, ap, sym, ◌∙◌, length-append}
 use Rattle.std.proofs.lemmas.Bool.{lt-ltb, le-ltb}
 use Rattle.std.proofs.Math.Seq.{take-append_seam, drop-append_seam}
 use Rattle.arrayvec.specs.ArrayVec.{ArrayVec}
@@ -27,3 +27,10 @@ pub array_vec_of : {T : Type 0} (v : ArrayVec T) (xs : List T) → v.items ≡ x
 array_vec_of {T} v xs same =
     let from : List T → ArrayVec T = λ ys. record { items = ys } in
     ap from same
+
+-- a byte, as a number
+pub number_at-byte : (b : ℕ) (rest : List ℕ) → number_at 1 (b ∷ rest) ≡ Ok (b, rest)
+unfolding number_at
+number_at-byte b rest =
+    let one : b * 1 + 0 ≡ b = omega arith in
+    ap (λ read. read >>= λ field. Ok (big_number 1 field.0, field.1)) (bytes_at-there (b ∷ []) rest) ∙ ap (λ n. Ok (n, rest)) one

@@ -1,7 +1,8 @@
 -- Where a session stands in the reading of the bytes that it has taken.
 use Rattle.std.specs.Prelude.{◌≡◌, ℕ, ◌+◌, ◌<◌, Bool, true, false, List, [], ◌∷◌, ◌++◌, length, take, drop, Option, Some, None, Result, Ok, Err, nat_lt, ◌==◌, if◌then◌else◌}
 use Rattle.link_wire.specs.Device.{Input}
-use Rattle.link_wire.specs.Message.{data_length}
+use Rattle.link_wire.specs.Getting.{GotPart, MetFault}
+use Rattle.link_wire.specs.Message.{data_length, fields_at, message_at}
 use Rattle.link_wire.specs.Source.{IsSourceAt, IsLive, IsOver, Takes, StopsAfter}
 use Rattle.link_wire.specs.Stream.{Entry, End, Clean, Cut, Fault, Stream, ended, with_entry, stream_at, Reading, reading_of}
 use Rattle.link_wire.specs.declared.fault.IoFault.{IoFault}
@@ -9,6 +10,8 @@ use Rattle.link_wire.specs.declared.fault.Stop.{Stop}
 use Rattle.link_wire.specs.declared.fault.Stop.TheVariants as stop
 use Rattle.link_wire.specs.declared.fault.WireFault.{WireFault}
 use Rattle.link_wire.specs.declared.fault.WireFault.TheVariants as wire
+use Rattle.link_wire.specs.declared.halt.Halt.{Halt}
+use Rattle.link_wire.specs.declared.halt.Halt.TheVariants as halt
 use Rattle.link_wire.specs.declared.message.Contact.{Contact}
 use Rattle.link_wire.specs.declared.message.Message.{Message}
 use Rattle.link_wire.specs.declared.session.Session.{Session}
@@ -52,6 +55,11 @@ IsLeft offset left Clean = left ≡ 0
 IsLeft offset left (Cut from message content) = (0 < left) × (from ≡ offset) × (data_length message ≡ length content + left)
 IsLeft offset left (Fault from fault) = ⊥
 
+-- the readings of both have the same messages
+pub record SameMessages (first second : Reading) : Type 0 where
+  pub contact : second.contact ≡ first.contact
+  pub entries : second.entries ≡ first.entries
+
 module _ {R : Type 0} where
   -- the session is new: nothing was taken
   pub record IsNew (look : R → Input) (s : Session R) : Type 0 where
@@ -80,3 +88,37 @@ module _ {R : Type 0} where
   IsRead look source history (wire.ListTooLong n) reading = (more : List ℕ) → reading_of (history ++ more) ≡ reading
   IsRead look source history wire.TooManyItems reading = (more : List ℕ) → reading_of (history ++ more) ≡ reading
   IsRead look source history wire.ItemsOverrun reading = (more : List ℕ) → reading_of (history ++ more) ≡ reading
+
+-- What a message that is asked for gives: nothing at the end of the input; the message; or what its type byte and the
+-- bytes behind it show.
+module _ {R : Type 0} where
+  pub record GotNone (look : R → Input) (old new : Source R) : Type 0 where
+    pub takes : Takes look old new []
+    pub live : IsLive look new
+    pub over : IsOver look new
+
+  pub record GotKind (look : R → Input) (old new : Source R) (kind : ℕ) : Type 0 where
+    pub takes : Takes look old new (kind ∷ [])
+    pub live : IsLive look new
+
+  abbrev pub GetsKind : (R → Input) → Source R → Source R → Result (Option ℕ) IoFault → Type 0
+  GetsKind look old new (Ok None) = GotNone look old new
+  GetsKind look old new (Ok (Some kind)) = GotKind look old new kind
+  GetsKind look old new (Err fault) = StopsAfter look old new [] fault
+
+  pub record MetNext (look : R → Input) (old new : Source R) (fault : WireFault) : Type 0 where
+    pub kind : ℕ
+    pub mid : Source R
+    pub takes : Takes look old mid (kind ∷ [])
+    pub fields : MetFault look (fields_at kind) mid new fault
+
+  pub record StopNext (look : R → Input) (old new : Source R) (fault : IoFault) : Type 0 where
+    pub taken : List ℕ
+    pub stops : StopsAfter look old new taken fault
+    pub is_cut : message_at taken ≡ Err wire.Truncated
+
+  abbrev pub GetsNext : (R → Input) → Source R → Source R → Result (Option Message) Halt → Type 0
+  GetsNext look old new (Ok None) = GotNone look old new
+  GetsNext look old new (Ok (Some message)) = GotPart look message_at old new message
+  GetsNext look old new (Err (halt.Wire fault)) = MetNext look old new fault
+  GetsNext look old new (Err (halt.Io fault)) = StopNext look old new fault

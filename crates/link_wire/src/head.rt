@@ -4,14 +4,15 @@ ghost use Rattle.std.specs.Prelude.{◌≤◌};
 ghost use Rattle.link_wire.specs.Source.{IsLive};
 ghost use Rattle.link_wire.specs.Message.{contact_at, node_at, node_bytes_at, segment_items_at, segment_at, ack_at, refuse_at, sess_term_at, msg_reject_at, sess_init_at, fields_at};
 ghost use Rattle.link_wire.specs.Getting.{Gets};
+ghost use Rattle.link_wire.specs.Session.{GetsKind, GetsNext};
 
 use crate::device::InDevice;
-use crate::fault::WireFault;
+use crate::fault::{IoFault, WireFault};
 use crate::halt::Halt;
 use crate::list::list;
 use crate::message::{Contact, Items, MAX_NODE_ID, Message, NodeId, SegmentHead};
 use crate::parts::{bytes, field, number8, number16, number64};
-use crate::source::Source;
+use crate::source::{Filled, Source};
 use byteorder::{BigEndian, ByteOrder};
 
 /// The first four bytes of a contact header: `dtn!`.
@@ -154,5 +155,27 @@ pub fn fields<R: InDevice>(source: &mut Source<R>, kind: u8) -> Result<Message, 
         6 => msg_reject(source),
         7 => sess_init(source),
         _ => Err(Halt::Wire(WireFault::UnknownType(kind))),
+    }
+}
+
+/// The type byte of the next message, or `None` where the input ends in front of it.
+fn kind<R: InDevice>(source: &mut Source<R>) -> Result<Option<u8>, IoFault>
+    ensures { IsLive R.state source.old → GetsKind R.state source.old source.new result }
+{
+    let mut kind = [0; 1];
+    match source.fill(&mut kind)? {
+        Filled::Whole => Ok(Some(kind[0])),
+        Filled::Ended(_) => Ok(None),
+    }
+}
+
+/// The next message, or `None` where the input ends in front of it.
+pub fn message<R: InDevice>(source: &mut Source<R>) -> Result<Option<Message>, Halt>
+    ensures { IsLive R.state source.old → GetsNext R.state source.old source.new result }
+{
+    match kind(source) {
+        Ok(Some(kind)) => Ok(Some(fields(source, kind)?)),
+        Ok(None) => Ok(None),
+        Err(fault) => Err(Halt::Io(fault)),
     }
 }

@@ -1,0 +1,41 @@
+-- The lines of faults.
+use Rattle.std.specs.Prelude.{ℕ, List, ◌++◌, codes}
+use Rattle.link_wire.specs.declared.fault.WireFault.{WireFault}
+use Rattle.link_wire.specs.declared.fault.WireFault.TheVariants as wire
+use Rattle.link_transfer.specs.declared.fault.OrderFault.{OrderFault}
+use Rattle.link_transfer.specs.declared.fault.OrderFault.TheVariants as order
+use Rattle.link_report.specs.declared.fault.Fault.{Fault}
+use Rattle.link_report.specs.declared.fault.Fault.TheVariants.{Wire, Order}
+use Rattle.link_report.specs.Text.{hex2, number_text, newline}
+
+-- a fault of the wire (RFC 9174 sections 4.1 to 4.8 and 5.2)
+unfoldable pub wire_text : WireFault → List ℕ
+wire_text wire.Truncated = codes "truncated"
+wire_text wire.BadMagic = codes "not a contact header"
+wire_text (wire.BadVersion version) = number_text (codes "unsupported version ") version
+wire_text (wire.UnknownType kind) = codes "unknown message type " ++ hex2 kind
+wire_text (wire.NodeIdTooLong size) = number_text (codes "node id too long: ") size
+wire_text (wire.ListTooLong size) = number_text (codes "extension list too long: ") size
+wire_text wire.TooManyItems = codes "too many extension items"
+wire_text wire.ItemsOverrun = codes "extension items overrun their list"
+
+-- a fault of the order of messages (RFC 9174 sections 4.6, 5.2 and 6.1)
+unfoldable pub order_text : OrderFault → List ℕ
+order_text order.SecondSessInit = codes "second session initiation"
+order_text order.SegmentBeforeSessInit = codes "segment before session initiation"
+order_text order.NoSuchOpenTransfer = codes "no such open transfer"
+order_text order.StartRepeatsOpenId = codes "start repeats the open transfer"
+order_text order.StartAfterSessTerm = codes "start after session termination"
+
+-- the offset of the message in which a fault stands
+unfoldable pub offset_text : ℕ → List ℕ
+offset_text offset = number_text (codes "byte ") offset ++ codes ": "
+
+-- where a fault stands, and what it is
+unfoldable pub place_text : Fault → List ℕ
+place_text (Wire offset fault) = offset_text offset ++ wire_text fault
+place_text (Order offset fault) = offset_text offset ++ order_text fault
+
+-- the line of a fault
+unfoldable pub fault_text : Fault → List ℕ
+fault_text fault = codes "tcpclkit: " ++ place_text fault ++ newline

@@ -1,0 +1,4 @@
+pub mod Text
+pub mod Reason
+pub mod Message
+pub mod Fault

@@ -1,0 +1,68 @@
+-- The lines of the contact header and of the messages.
+use Rattle.std.specs.Prelude.{ℕ, ◌==◌, Bool, if◌then◌else◌, List, [], ◌++◌, length, codes, decimal, bit_and}
+use Rattle.std.specs.List.{flat_map}
+use Rattle.link_wire.specs.declared.message.Contact.{Contact}
+use Rattle.link_wire.specs.declared.message.Item.{Item}
+use Rattle.link_wire.specs.declared.message.SegmentHead.{SegmentHead}
+use Rattle.link_wire.specs.declared.message.Message.{Message}
+use Rattle.link_wire.specs.declared.message.Message.TheVariants.{SessInit, Segment, Ack, Refuse, Keepalive, SessTerm, MsgReject}
+use Rattle.link_report.specs.Reason.{refuse_names, term_names, reject_names, name_in}
+use Rattle.link_report.specs.Text.{hex2, hex4, escaped, number_text, newline}
+
+unfoldable pub flags_text : ℕ → List ℕ
+flags_text flags = codes " flags=" ++ hex2 flags
+
+-- the code of a reason, and its name
+unfoldable pub reason_text : ℕ → List ℕ → List ℕ
+reason_text reason name = codes " reason=" ++ hex2 reason ++ codes "/" ++ name
+
+-- an extension item: its flags, its type and how many bytes its value has (RFC 9174 section 4.8)
+unfoldable pub item_text : Item → List ℕ
+item_text item = codes " item=" ++ hex2 item.flags ++ codes ":" ++ hex4 item.kind ++ number_text (codes ":") item.length
+
+-- an extension list: how many items there are, and each of them
+unfoldable pub items_text : List Item → List ℕ
+items_text items = number_text (codes " items=") (length items) ++ flat_map item_text items
+
+-- RFC 9174 section 4.6, before the session extension items
+unfoldable pub parameters_text : ℕ → ℕ → ℕ → List ℕ → List ℕ
+parameters_text keepalive segment_mru transfer_mru node =
+    number_text (codes " sess-init keepalive=") keepalive ++ number_text (codes " segment-mru=") segment_mru
+    ++ number_text (codes " transfer-mru=") transfer_mru ++ codes " node=" ++ escaped node
+
+-- whether a segment begins its transfer: its flag 02 (RFC 9174 section 5.2.2)
+abbrev pub is_start : ℕ → Bool
+is_start flags = bit_and flags 0x02 == 0x02
+
+-- the items of a segment, where it begins its transfer (RFC 9174 section 5.2.5)
+unfoldable pub start_items_text : SegmentHead → List ℕ
+start_items_text head = if is_start head.flags then items_text head.items.items else []
+
+-- RFC 9174 section 5.2.2
+unfoldable pub segment_text : SegmentHead → List ℕ
+segment_text head =
+    codes " xfer-segment" ++ flags_text head.flags ++ number_text (codes " id=") head.id
+    ++ start_items_text head ++ number_text (codes " length=") head.length
+
+-- what the line of a message says after its offset (RFC 9174 sections 4.6 and 5.1.1 to 6.1)
+unfoldable pub body_text : Message → List ℕ
+body_text (SessInit keepalive segment_mru transfer_mru node items) =
+    parameters_text keepalive segment_mru transfer_mru node.items ++ items_text items.items
+body_text (Segment head) = segment_text head
+body_text (Ack flags id length) =
+    codes " xfer-ack" ++ flags_text flags ++ number_text (codes " id=") id ++ number_text (codes " length=") length
+body_text (Refuse reason id) =
+    codes " xfer-refuse" ++ reason_text reason (name_in refuse_names reason) ++ number_text (codes " id=") id
+body_text Keepalive = codes " keepalive"
+body_text (SessTerm flags reason) =
+    codes " sess-term" ++ flags_text flags ++ reason_text reason (name_in term_names reason)
+body_text (MsgReject reason header) =
+    codes " msg-reject" ++ reason_text reason (name_in reject_names reason) ++ codes " header=" ++ hex2 header
+
+-- the line of the contact header (RFC 9174 section 4.2)
+unfoldable pub contact_text : Contact → List ℕ
+contact_text contact = codes "0 contact version=4" ++ flags_text contact.flags ++ newline
+
+-- the line of the message at an offset, that of its type byte
+unfoldable pub message_text : ℕ → Message → List ℕ
+message_text offset message = decimal offset ++ body_text message ++ newline

@@ -1,0 +1,104 @@
+//! The lines of faults.
+
+ghost use Rattle.std.specs.Prelude.{◌≡◌, ◌+◌, ◌<◌, ◌≤◌, [], ◌++◌, length};
+ghost use Rattle.arrayvec.specs.ArrayVec.{array_vec_len};
+ghost use Rattle.link_report.specs.Fault.{offset_text, wire_text, place_text, order_text, fault_text};
+
+use crate::put::{LINE_MAX, Line, put_hex2, put_number, put_text};
+use link_transfer::OrderFault;
+use link_wire::WireFault;
+
+/// A fault that ends a run, with the offset of the message in which it stands.
+#[derive(Clone, Copy, Debug, PartialEq, Eq)]
+pub enum Fault {
+    /// The stream is no recorded session.
+    Wire(u64, WireFault),
+    /// The message may not stand where it stands.
+    Order(u64, OrderFault),
+}
+
+/// What a fault of the order says.
+#[tactic(auto, unfolding(crate::specs::Fault::order_text))]
+fn order_words(fault: OrderFault) -> &'static str
+    ensures words { result.now ≡ order_text fault }
+    ensures short { length result.now ≤ 40 }
+{
+    match fault {
+        OrderFault::SecondSessInit => "second session initiation",
+        OrderFault::SegmentBeforeSessInit => "segment before session initiation",
+        OrderFault::NoSuchOpenTransfer => "no such open transfer",
+        OrderFault::StartRepeatsOpenId => "start repeats the open transfer",
+        OrderFault::StartAfterSessTerm => "start after session termination",
+    }
+}
+
+/// Appends what a fault of the wire says, after `tcpclkit: ` and an offset.
+#[tactic(auto, unfolding(crate::specs::Fault::wire_text))]
+fn put_wire(line: &mut Line, fault: WireFault)
+    requires { array_vec_len line.old ≤ 37 }
+    ensures items { line.new.items ≡ line.old.items ++ wire_text fault }
+    ensures len { array_vec_len line.new < LINE_MAX }
+{
+    match fault {
+        WireFault::Truncated => put_text(line, "truncated"),
+        WireFault::BadMagic => put_text(line, "not a contact header"),
+        WireFault::BadVersion(version) => put_number(
+            line,
+            "unsupported version ",
+            u64::from(version),
+        ),
+        WireFault::UnknownType(kind) => {
+            put_text(line, "unknown message type ");
+            put_hex2(line, kind);
+        }
+        WireFault::NodeIdTooLong(size) => put_number(line, "node id too long: ", u64::from(size)),
+        WireFault::ListTooLong(size) => put_number(
+            line,
+            "extension list too long: ",
+            u64::from(size),
+        ),
+        WireFault::TooManyItems => put_text(line, "too many extension items"),
+        WireFault::ItemsOverrun => put_text(line, "extension items overrun their list"),
+    }
+}
+
+/// Appends `byte `, the offset and `: `, after `tcpclkit: `.
+#[tactic(auto, unfolding(crate::specs::Fault::offset_text))]
+fn put_offset(line: &mut Line, offset: u64)
+    requires { array_vec_len line.old ≤ 10 }
+    ensures items { line.new.items ≡ line.old.items ++ offset_text offset }
+    ensures len { array_vec_len line.new ≤ 37 }
+{
+    put_number(line, "byte ", offset);
+    put_text(line, ": ");
+}
+
+/// Appends where the fault stands and what it is, after `tcpclkit: `.
+#[tactic(auto, unfolding(crate::specs::Fault::place_text))]
+fn put_place(line: &mut Line, fault: &Fault)
+    requires { array_vec_len line.old ≤ 10 }
+    ensures items { line.new.items ≡ line.old.items ++ place_text fault.now }
+    ensures len { array_vec_len line.new < LINE_MAX }
+{
+    match *fault {
+        Fault::Wire(offset, fault) => {
+            put_offset(line, offset);
+            put_wire(line, fault);
+        }
+        Fault::Order(offset, fault) => {
+            put_offset(line, offset);
+            put_text(line, order_words(fault));
+        }
+    }
+}
+
+/// Makes an empty line that of a fault.
+#[tactic(auto, unfolding(crate::specs::Fault::fault_text))]
+pub fn fault_line(line: &mut Line, fault: &Fault)
+    requires { line.old.items ≡ [] }
+    ensures { line.new.items ≡ fault_text fault.now }
+{
+    put_text(line, "tcpclkit: ");
+    put_place(line, fault);
+    put_text(line, "\n");
+}

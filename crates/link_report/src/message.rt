@@ -1,0 +1,177 @@
+//! The lines of the contact header and of the messages (RFC 9174 sections 4.2 to 6.1).
+
+ghost use Rattle.std.specs.Prelude.{◌≡◌, ◌+◌, ◌*◌, ◌<◌, ◌≤◌, [], ◌++◌, length};
+ghost use Rattle.std.specs.List.{flat_map};
+ghost use Rattle.arrayvec.specs.ArrayVec.{array_vec_len};
+ghost use Rattle.link_report.specs.Text.{escaped};
+ghost use Rattle.link_report.specs.Message.{flags_text, reason_text, item_text, items_text, parameters_text, start_items_text, segment_text, body_text, contact_text, message_text};
+
+use crate::put::{
+    LINE_MAX, Line, put_decimal, put_escaped, put_hex2, put_hex4, put_number, put_text,
+};
+use crate::reason::{refuse_name, reject_name, term_name};
+use link_wire::{Contact, Item, Message, SegmentHead};
+
+/// The flag START of an XFER_SEGMENT (RFC 9174 section 5.2.2).
+const START: u8 = 0x02;
+
+/// Appends ` flags=` and the flags.
+#[tactic(auto, unfolding(crate::specs::Message::flags_text))]
+fn put_flags(line: &mut Line, flags: u8)
+    requires { array_vec_len line.old + 9 ≤ LINE_MAX }
+    ensures items { line.new.items ≡ line.old.items ++ flags_text flags }
+    ensures len { array_vec_len line.new ≡ array_vec_len line.old + 9 }
+{
+    put_text(line, " flags=");
+    put_hex2(line, flags);
+}
+
+/// Appends ` reason=`, the code of a reason and its name.
+#[tactic(auto, unfolding(crate::specs::Message::reason_text))]
+fn put_reason(line: &mut Line, reason: u8, name: &str)
+    requires { array_vec_len line.old + 11 + length name.now ≤ LINE_MAX }
+    ensures items { line.new.items ≡ line.old.items ++ reason_text reason name.now }
+    ensures len { array_vec_len line.new ≡ array_vec_len line.old + 11 + length name.now }
+{
+    put_text(line, " reason=");
+    put_hex2(line, reason);
+    put_text(line, "/");
+    put_text(line, name);
+}
+
+/// Appends ` item=`, the flags, the type and the length of an extension item: 14 bytes and a number
+/// of at most 20 digits.
+#[tactic(auto, unfolding(crate::specs::Message::item_text))]
+fn put_item(line: &mut Line, item: &Item)
+    requires { array_vec_len line.old + 34 ≤ LINE_MAX }
+    ensures items { line.new.items ≡ line.old.items ++ item_text item.now }
+    ensures len { array_vec_len line.new ≤ array_vec_len line.old + 34 }
+{
+    put_text(line, " item=");
+    put_hex2(line, item.flags);
+    put_text(line, ":");
+    put_hex4(line, item.kind);
+    put_number(line, ":", u64::from(item.length));
+}
+
+/// Appends ` items=`, how many there are, and each item: 7 bytes and a number, and the items.
+#[tactic(auto, unfolding(crate::specs::Message::items_text))]
+fn put_items(line: &mut Line, items: &[Item])
+    requires { array_vec_len line.old + 27 + 34 * length items.now ≤ LINE_MAX }
+    ensures items { line.new.items ≡ line.old.items ++ items_text items.now }
+    ensures len { array_vec_len line.new ≤ array_vec_len line.old + 27 + 34 * length items.now }
+{
+    put_number(line, " items=", items.len() as u64);
+    for item in items {
+        put_item(line, item);
+    }
+}
+
+/// Appends what the line of a SESS_INIT says of its parameters: 54 bytes, three numbers and the node
+/// ID.
+#[tactic(auto, unfolding(crate::specs::Message::parameters_text))]
+fn put_parameters(line: &mut Line, keepalive: u16, segment_mru: u64, transfer_mru: u64, node: &[u8])
+    requires { array_vec_len line.old + 114 + length (escaped node.now) ≤ LINE_MAX }
+    ensures items { line.new.items ≡ line.old.items ++ parameters_text keepalive segment_mru transfer_mru node.now }
+    ensures len { array_vec_len line.new ≤ array_vec_len line.old + 114 + length (escaped node.now) }
+{
+    put_number(line, " sess-init keepalive=", u64::from(keepalive));
+    put_number(line, " segment-mru=", segment_mru);
+    put_number(line, " transfer-mru=", transfer_mru);
+    put_text(line, " node=");
+    put_escaped(line, node);
+}
+
+/// Appends the items of a segment that begins its transfer, and nothing of another. Two numbers, the
+/// flags and 17 bytes stand before them, and room for the length must be left.
+#[tactic(auto, unfolding(crate::specs::Message::start_items_text))]
+fn put_start_items(line: &mut Line, head: &SegmentHead)
+    requires { array_vec_len line.old ≤ 66 }
+    ensures items { line.new.items ≡ line.old.items ++ start_items_text head.now }
+    ensures len { array_vec_len line.new + 30 ≤ LINE_MAX }
+{
+    if head.flags & START == START {
+        put_items(line, &head.items);
+    }
+}
+
+/// Appends what the line of a segment says after its offset.
+#[tactic(auto, unfolding(crate::specs::Message::segment_text))]
+fn put_segment(line: &mut Line, head: &SegmentHead)
+    requires { array_vec_len line.old ≤ 20 }
+    ensures items { line.new.items ≡ line.old.items ++ segment_text head.now }
+    ensures len { array_vec_len line.new < LINE_MAX }
+{
+    put_text(line, " xfer-segment");
+    put_flags(line, head.flags);
+    put_number(line, " id=", head.id);
+    put_start_items(line, head);
+    put_number(line, " length=", head.length);
+}
+
+/// Appends what the line of a message says after its offset.
+#[tactic(auto, using(crate::proofs::Escapes::length_of_escaped), unfolding(crate::specs::Message::body_text))]
+fn put_body(line: &mut Line, message: &Message)
+    requires { array_vec_len line.old ≤ 20 }
+    ensures items { line.new.items ≡ line.old.items ++ body_text message.now }
+    ensures len { array_vec_len line.new < LINE_MAX }
+{
+    match message {
+        Message::SessInit {
+            keepalive,
+            segment_mru,
+            transfer_mru,
+            node,
+            items,
+        } => {
+            put_parameters(line, *keepalive, *segment_mru, *transfer_mru, node);
+            put_items(line, items);
+        }
+        Message::Segment(head) => put_segment(line, head),
+        Message::Ack { flags, id, length } => {
+            put_text(line, " xfer-ack");
+            put_flags(line, *flags);
+            put_number(line, " id=", *id);
+            put_number(line, " length=", *length);
+        }
+        Message::Refuse { reason, id } => {
+            put_text(line, " xfer-refuse");
+            put_reason(line, *reason, refuse_name(*reason));
+            put_number(line, " id=", *id);
+        }
+        Message::Keepalive => put_text(line, " keepalive"),
+        Message::SessTerm { flags, reason } => {
+            put_text(line, " sess-term");
+            put_flags(line, *flags);
+            put_reason(line, *reason, term_name(*reason));
+        }
+        Message::MsgReject { reason, header } => {
+            put_text(line, " msg-reject");
+            put_reason(line, *reason, reject_name(*reason));
+            put_text(line, " header=");
+            put_hex2(line, *header);
+        }
+    }
+}
+
+/// Makes an empty line that of the contact header.
+#[tactic(auto, unfolding(crate::specs::Message::contact_text))]
+pub fn contact_line(line: &mut Line, contact: &Contact)
+    requires { line.old.items ≡ [] }
+    ensures { line.new.items ≡ contact_text contact.now }
+{
+    put_text(line, "0 contact version=4");
+    put_flags(line, contact.flags);
+    put_text(line, "\n");
+}
+
+/// Makes an empty line that of the message whose type byte stands at `offset`.
+#[tactic(auto, using(crate::proofs::Lengths::length_of_decimal), unfolding(crate::specs::Message::message_text))]
+pub fn message_line(line: &mut Line, offset: u64, message: &Message)
+    requires { line.old.items ≡ [] }
+    ensures { line.new.items ≡ message_text offset message.now }
+{
+    put_decimal(line, offset);
+    put_body(line, message);
+    put_text(line, "\n");
+}

@@ -1,0 +1,116 @@
+//! Pieces of text, each appended to a line.
+
+ghost use Rattle.std.specs.Prelude.{◌≡◌, ◌+◌, ◌≤◌, ◌++◌, length, decimal, codes, not};
+ghost use Rattle.std.specs.List.{position};
+ghost use Rattle.arrayvec.specs.ArrayVec.{array_vec_len};
+ghost use Rattle.link_report.specs.Text.{hex2, hex4, escaped, is_plain, number_text};
+
+use arrayvec::ArrayVec;
+use itoa::Buffer;
+
+/// The most bytes that a line holds, its newline among them.
+pub const LINE_MAX: usize = 9216;
+
+/// A report line as it is written, in bytes.
+pub type Line = ArrayVec<u8, LINE_MAX>;
+
+/// Appends `bytes` as they stand.
+fn put_bytes(line: &mut Line, bytes: &[u8])
+    requires { array_vec_len line.old + length bytes.now ≤ LINE_MAX }
+    ensures items { line.new.items ≡ line.old.items ++ bytes.now }
+    ensures len { array_vec_len line.new ≡ array_vec_len line.old + length bytes.now }
+{
+    line.try_extend_from_slice(bytes).unwrap();
+}
+
+/// Appends `text`.
+pub fn put_text(line: &mut Line, text: &str)
+    requires { array_vec_len line.old + length text.now ≤ LINE_MAX }
+    ensures items { line.new.items ≡ line.old.items ++ text.now }
+    ensures len { array_vec_len line.new ≡ array_vec_len line.old + length text.now }
+{
+    put_bytes(line, text.as_bytes());
+}
+
+/// Appends `number` in decimal, without leading zeros.
+pub fn put_decimal(line: &mut Line, number: u64)
+    requires { array_vec_len line.old + length (decimal number) ≤ LINE_MAX }
+    ensures items { line.new.items ≡ line.old.items ++ decimal number }
+    ensures len { array_vec_len line.new ≡ array_vec_len line.old + length (decimal number) }
+{
+    put_text(line, Buffer::new().format(number));
+}
+
+/// Appends `byte` as two lower-case hexadecimal digits.
+#[tactic(auto, unfolding(crate::specs::Text::hex2, hex::specs::Hex::encode_with))]
+pub fn put_hex2(line: &mut Line, byte: u8)
+    requires { array_vec_len line.old + 2 ≤ LINE_MAX }
+    ensures items { line.new.items ≡ line.old.items ++ hex2 byte }
+    ensures len { array_vec_len line.new ≡ array_vec_len line.old + 2 }
+{
+    let mut digits = [0; 2];
+    hex::encode_to_slice([byte], &mut digits).unwrap();
+    put_bytes(line, &digits);
+}
+
+/// Appends `number` as four lower-case hexadecimal digits.
+#[tactic(auto, unfolding(crate::specs::Text::hex4, crate::specs::Text::hex2, hex::specs::Hex::encode_with))]
+pub fn put_hex4(line: &mut Line, number: u16)
+    requires { array_vec_len line.old + 4 ≤ LINE_MAX }
+    ensures items { line.new.items ≡ line.old.items ++ hex4 number }
+    ensures len { array_vec_len line.new ≡ array_vec_len line.old + 4 }
+{
+    let mut digits = [0; 4];
+    hex::encode_to_slice(number.to_be_bytes(), &mut digits).unwrap();
+    put_bytes(line, &digits);
+}
+
+/// Whether a byte of an escaped text stands for itself: 21 to 7e, but not the backslash.
+#[tactic(auto, unfolding(crate::specs::Text::is_plain))]
+fn is_plain(byte: u8) -> bool
+    ensures { result ≡ is_plain byte }
+{
+    byte.is_ascii_graphic() && byte != b'\\'
+}
+
+/// Where the first byte of `bytes` stands that does not stand for itself.
+fn first_escaped(bytes: &[u8]) -> Option<usize>
+    ensures { result ≡ position (λ byte. not (is_plain byte)) bytes.now }
+{
+    bytes.iter().position(|byte| !is_plain(*byte))
+}
+
+/// Appends a run of bytes that stand, and then `byte` as an escape.
+fn put_escape(line: &mut Line, run: &[u8], byte: u8)
+    requires { array_vec_len line.old + length run.now + 4 ≤ LINE_MAX }
+    ensures { line.new.items ≡ line.old.items ++ run.now ++ codes "\\x" ++ hex2 byte }
+{
+    put_bytes(line, run);
+    put_text(line, "\\x");
+    put_hex2(line, byte);
+}
+
+/// Appends `bytes` with each byte that is not plain as `\x` and its two hexadecimal digits.
+pub fn put_escaped(line: &mut Line, bytes: &[u8])
+    requires { array_vec_len line.old + length (escaped bytes.now) ≤ LINE_MAX }
+    ensures items { line.new.items ≡ line.old.items ++ escaped bytes.now }
+    ensures len { array_vec_len line.new ≡ array_vec_len line.old + length (escaped bytes.now) }
+{
+    let mut rest = bytes;
+    while let Some(run) = first_escaped(rest) {
+        put_escape(line, &rest[..run], rest[run]);
+        rest = &rest[run + 1..];
+    }
+    put_bytes(line, rest);
+}
+
+/// Appends `label` and `number` in decimal.
+#[tactic(auto, using(crate::proofs::Lengths::length_of_decimal), unfolding(crate::specs::Text::number_text))]
+pub(crate) fn put_number(line: &mut Line, label: &str, number: u64)
+    requires { array_vec_len line.old + length label.now + 20 ≤ LINE_MAX }
+    ensures items { line.new.items ≡ line.old.items ++ number_text label.now number }
+    ensures len { array_vec_len line.new ≤ array_vec_len line.old + length label.now + 20 }
+{
+    put_text(line, label);
+    put_decimal(line, number);
+}

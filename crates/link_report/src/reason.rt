@@ -1,0 +1,53 @@
+//! The names of reason codes.
+
+ghost use Rattle.std.specs.Prelude.{◌≡◌, ◌≤◌, length};
+ghost use Rattle.link_report.specs.Reason.{refuse_names, term_names, reject_names, name_in};
+
+/// The name of an XFER_REFUSE reason (RFC 9174 section 5.2.4).
+#[tactic(auto, unfolding(crate::specs::Reason::name_in))]
+pub(crate) fn refuse_name(reason: u8) -> &'static str
+    ensures name { result.now ≡ name_in refuse_names reason }
+    ensures short { length result.now ≤ 20 }
+{
+    match reason {
+        0x00 => "unknown",
+        0x01 => "completed",
+        0x02 => "no-resources",
+        0x03 => "retransmit",
+        0x04 => "not-acceptable",
+        0x05 => "extension-failure",
+        0x06 => "session-terminating",
+        _ => "?",
+    }
+}
+
+/// The name of a SESS_TERM reason (RFC 9174 section 6.1).
+#[tactic(auto, unfolding(crate::specs::Reason::name_in))]
+pub(crate) fn term_name(reason: u8) -> &'static str
+    ensures name { result.now ≡ name_in term_names reason }
+    ensures short { length result.now ≤ 20 }
+{
+    match reason {
+        0x00 => "unknown",
+        0x01 => "idle-timeout",
+        0x02 => "version-mismatch",
+        0x03 => "busy",
+        0x04 => "contact-failure",
+        0x05 => "resource-exhaustion",
+        _ => "?",
+    }
+}
+
+/// The name of a MSG_REJECT reason (RFC 9174 section 5.1.2).
+#[tactic(auto, unfolding(crate::specs::Reason::name_in))]
+pub(crate) fn reject_name(reason: u8) -> &'static str
+    ensures name { result.now ≡ name_in reject_names reason }
+    ensures short { length result.now ≤ 20 }
+{
+    match reason {
+        0x01 => "message-type-unknown",
+        0x02 => "message-unsupported",
+        0x03 => "message-unexpected",
+        _ => "?",
+    }
+}

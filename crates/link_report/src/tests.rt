@@ -1,0 +1,273 @@
+use crate::{
+    Fault, Line, contact_line, fault_line, message_line, put_decimal, put_escaped, put_hex2,
+    put_hex4, put_text,
+};
+use link_transfer::OrderFault;
+use link_wire::{Contact, Item, Items, Message, NodeId, SegmentHead, WireFault};
+use std::test::Fail;
+
+const WITH_TOTAL: Item = Item {
+    flags: 0x00,
+    kind: 0x0001,
+    length: 8,
+    total: Some(35),
+};
+
+fn item(flags: u8, kind: u16, length: u16) -> Item {
+    Item {
+        flags,
+        kind,
+        length,
+        total: None,
+    }
+}
+
+fn segment(flags: u8, list: &[Item], length: u64) -> Result<Message, Fail> {
+    Ok(Message::Segment(SegmentHead {
+        flags,
+        id: 0,
+        items: Items::try_from(list)?,
+        length,
+    }))
+}
+
+fn session(node: &[u8], list: &[Item]) -> Result<Message, Fail> {
+    Ok(Message::SessInit {
+        keepalive: 60,
+        segment_mru: 65536,
+        transfer_mru: 1048576,
+        node: NodeId::try_from(node)?,
+        items: Items::try_from(list)?,
+    })
+}
+
+#[test]
+#[tactic(auto, using(crate::proofs::Lengths::length_of_decimal, crate::proofs::Escapes::length_of_escaped))]
+fn pieces_of_text(rt: HostRuntime) {
+    let mut line = Line::new();
+    put_text(&mut line, "~ ");
+    put_decimal(&mut line, 0);
+    put_text(&mut line, " ");
+    put_decimal(&mut line, u64::MAX);
+    put_hex2(&mut line, 0x0a);
+    put_hex4(&mut line, 0x0fe9);
+    put_escaped(&mut line, b"!~ \\\x7f\x00a");
+    let want = "~ 0 184467440737095516150a0fe9!~\\x20\\x5c\\x7f\\x00a";
+    assert_eq!(rt; line.as_slice(), want.as_bytes());
+}
+
+#[test]
+fn lines_of_messages(rt: HostRuntime) -> Result<(), Fail> {
+    let two = [item(0x01, 0x1234, 1), item(0x00, 0xabcd, 0)];
+    let rows = [
+        (
+            6,
+            session(b"ipn:1.0", &[])?,
+            "6 sess-init keepalive=60 segment-mru=65536 transfer-mru=1048576 node=ipn:1.0 items=0\n",
+        ),
+        (
+            6,
+            session(b"ipn:1.0", &two)?,
+            "6 sess-init keepalive=60 segment-mru=65536 transfer-mru=1048576 node=ipn:1.0 items=2 item=01:1234:1 item=00:abcd:0\n",
+        ),
+        (
+            6,
+            session(b"\x20\x5c\xff", &[])?,
+            "6 sess-init keepalive=60 segment-mru=65536 transfer-mru=1048576 node=\\x20\\x5c\\xff items=0\n",
+        ),
+        (
+            6,
+            session(b"", &[])?,
+            "6 sess-init keepalive=60 segment-mru=65536 transfer-mru=1048576 node= items=0\n",
+        ),
+        (
+            38,
+            segment(0x03, &[], 34)?,
+            "38 xfer-segment flags=03 id=0 items=0 length=34\n",
+        ),
+        (
+            38,
+            segment(0x02, &[WITH_TOTAL], 17)?,
+            "38 xfer-segment flags=02 id=0 items=1 item=00:0001:8 length=17\n",
+        ),
+        (
+            90,
+            segment(0x01, &[], 17)?,
+            "90 xfer-segment flags=01 id=0 length=17\n",
+        ),
+        (
+            38,
+            Message::Ack {
+                flags: 0x01,
+                id: 0,
+                length: 34,
+            },
+            "38 xfer-ack flags=01 id=0 length=34\n",
+        ),
+        (66, Message::Keepalive, "66 keepalive\n"),
+    ];
+    let mut line = Line::new();
+    for (offset, message, want) in &rows {
+        line.clear();
+        message_line(&mut line, *offset, message);
+        assert_eq!(rt; line.as_slice(), want.as_bytes(), "{want}");
+    }
+    line.clear();
+    contact_line(&mut line, &Contact { flags: 0x00 });
+    assert_eq!(rt;
+        line.as_slice(),
+        b"0 contact version=4 flags=00\n".as_slice()
+    );
+    Ok(())
+}
+
+#[test]
+fn longest_node(rt: HostRuntime) -> Result<(), Fail> {
+    let mut line = Line::new();
+    message_line(&mut line, 6, &session(&[0xff; 1024], &[])?);
+    assert_eq!(rt; line.len(), 4174);
+    assert!(rt; line.ends_with(b"\\xff\\xff items=0\n"));
+    Ok(())
+}
+
+/// The codes of RFC 9174, tables 6 (XFER_REFUSE), 10 (SESS_TERM) and 4 (MSG_REJECT), and the first
+/// codes past them.
+#[test]
+fn names_of_reasons(rt: HostRuntime) {
+    let refuse = |reason| Message::Refuse { reason, id: 0 };
+    let term = |reason| Message::SessTerm {
+        flags: 0x01,
+        reason,
+    };
+    let reject = |reason| Message::MsgReject {
+        reason,
+        header: 0x16,
+    };
+    let rows = [
+        (refuse(0x00), "56 xfer-refuse reason=00/unknown id=0\n"),
+        (refuse(0x01), "56 xfer-refuse reason=01/completed id=0\n"),
+        (refuse(0x02), "56 xfer-refuse reason=02/no-resources id=0\n"),
+        (refuse(0x03), "56 xfer-refuse reason=03/retransmit id=0\n"),
+        (
+            refuse(0x04),
+            "56 xfer-refuse reason=04/not-acceptable id=0\n",
+        ),
+        (
+            refuse(0x05),
+            "56 xfer-refuse reason=05/extension-failure id=0\n",
+        ),
+        (
+            refuse(0x06),
+            "56 xfer-refuse reason=06/session-terminating id=0\n",
+        ),
+        (refuse(0x07), "56 xfer-refuse reason=07/? id=0\n"),
+        (term(0x00), "56 sess-term flags=01 reason=00/unknown\n"),
+        (term(0x01), "56 sess-term flags=01 reason=01/idle-timeout\n"),
+        (
+            term(0x02),
+            "56 sess-term flags=01 reason=02/version-mismatch\n",
+        ),
+        (term(0x03), "56 sess-term flags=01 reason=03/busy\n"),
+        (
+            term(0x04),
+            "56 sess-term flags=01 reason=04/contact-failure\n",
+        ),
+        (
+            term(0x05),
+            "56 sess-term flags=01 reason=05/resource-exhaustion\n",
+        ),
+        (term(0x06), "56 sess-term flags=01 reason=06/?\n"),
+        (term(0x7f), "56 sess-term flags=01 reason=7f/?\n"),
+        (reject(0x00), "56 msg-reject reason=00/? header=16\n"),
+        (
+            reject(0x01),
+            "56 msg-reject reason=01/message-type-unknown header=16\n",
+        ),
+        (
+            reject(0x02),
+            "56 msg-reject reason=02/message-unsupported header=16\n",
+        ),
+        (
+            reject(0x03),
+            "56 msg-reject reason=03/message-unexpected header=16\n",
+        ),
+        (reject(0x04), "56 msg-reject reason=04/? header=16\n"),
+    ];
+    let mut line = Line::new();
+    for (message, want) in &rows {
+        line.clear();
+        message_line(&mut line, 56, message);
+        assert_eq!(rt; line.as_slice(), want.as_bytes(), "{want}");
+    }
+}
+
+#[test]
+fn lines_of_faults(rt: HostRuntime) -> Result<(), Fail> {
+    let rows = [
+        (
+            Fault::Wire(0, WireFault::Truncated),
+            "tcpclkit: byte 0: truncated\n",
+        ),
+        (
+            Fault::Wire(0, WireFault::BadMagic),
+            "tcpclkit: byte 0: not a contact header\n",
+        ),
+        (
+            Fault::Wire(0, WireFault::BadVersion(3)),
+            "tcpclkit: byte 0: unsupported version 3\n",
+        ),
+        (
+            Fault::Wire(38, WireFault::UnknownType(0x16)),
+            "tcpclkit: byte 38: unknown message type 16\n",
+        ),
+        (
+            Fault::Wire(6, WireFault::NodeIdTooLong(1025)),
+            "tcpclkit: byte 6: node id too long: 1025\n",
+        ),
+        (
+            Fault::Wire(6, WireFault::ListTooLong(4097)),
+            "tcpclkit: byte 6: extension list too long: 4097\n",
+        ),
+        (
+            Fault::Wire(6, WireFault::TooManyItems),
+            "tcpclkit: byte 6: too many extension items\n",
+        ),
+        (
+            Fault::Wire(6, WireFault::ItemsOverrun),
+            "tcpclkit: byte 6: extension items overrun their list\n",
+        ),
+        (
+            Fault::Order(38, OrderFault::SecondSessInit),
+            "tcpclkit: byte 38: second session initiation\n",
+        ),
+        (
+            Fault::Order(6, OrderFault::SegmentBeforeSessInit),
+            "tcpclkit: byte 6: segment before session initiation\n",
+        ),
+        (
+            Fault::Order(38, OrderFault::NoSuchOpenTransfer),
+            "tcpclkit: byte 38: no such open transfer\n",
+        ),
+        (
+            Fault::Order(70, OrderFault::StartRepeatsOpenId),
+            "tcpclkit: byte 70: start repeats the open transfer\n",
+        ),
+        (
+            Fault::Order(115, OrderFault::StartAfterSessTerm),
+            "tcpclkit: byte 115: start after session termination\n",
+        ),
+    ];
+    let mut line = Line::new();
+    for (fault, want) in &rows {
+        line.clear();
+        fault_line(&mut line, fault);
+        assert_eq!(rt; line.as_slice(), want.as_bytes(), "{want}");
+        // the error types say the same
+        let shown = match fault {
+            Fault::Wire(offset, fault) => format!(in rt.alloc(); "{offset}: {fault}\n")?,
+            Fault::Order(offset, fault) => format!(in rt.alloc(); "{offset}: {fault}\n")?,
+        };
+        assert_eq!(rt; want.strip_prefix("tcpclkit: byte "), Some(shown.as_str()));
+    }
+    Ok(())
+}
