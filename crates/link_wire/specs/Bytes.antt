@@ -28,3 +28,7 @@ pub one_byte : (xs : List ℕ) → length xs ≡ 1 → xs ≡ get_or xs 0 0 ∷ 
 one_byte [] one = absurd (omega arith)
 one_byte (x ∷ []) one = refl
 one_byte (x ∷ y ∷ xs) one = absurd (omega arith)
+
+pub no_bytes : (xs : List ℕ) → length xs ≡ 0 → xs ≡ []
+no_bytes [] none = refl
+no_bytes (x ∷ xs) none = absurd (omega arith)

@@ -19,3 +19,5 @@ pub mod StreamLaws
 pub mod SessionLaws
 pub mod MessageLaws
 pub mod NextLaws
+pub mod ContactLaws
+pub mod SessionSteps

@@ -17,7 +17,7 @@ pub record Shrinks {A : Type 0} (less : ℕ) (part : List ℕ → Part A) : Type
   pub by : (bytes : List ℕ) (value : A) (rest : List ℕ) → part bytes ≡ Ok (value, rest) → length rest + less ≤ length bytes
 
 -- the bytes behind two parts that are one
-same_rest : {A : Type 0} {first second : A × List ℕ} → (let read : Result (A × List ℕ) WireFault = Ok first in read) ≡ Ok second → first.1 ≡ second.1
+pub same_rest : {A : Type 0} {first second : A × List ℕ} → (let read : Result (A × List ℕ) WireFault = Ok first in read) ≡ Ok second → first.1 ≡ second.1
 same_rest {A} {first} {second} is = let pair : first ≡ second = cc in ap (λ (p : A × List ℕ). p.1) pair
 
 pub shrinks_pure : {A : Type 0} (value : A) → Shrinks 0 (λ bytes. Ok (value, bytes))

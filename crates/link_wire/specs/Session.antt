@@ -1,5 +1,5 @@
 -- Where a session stands in the reading of the bytes that it has taken.
-use Rattle.std.specs.Prelude.{◌≡◌, ℕ, ◌+◌, ◌<◌, Bool, true, false, List, [], ◌∷◌, ◌++◌, length, take, drop, Option, Some, None, Result, Ok, Err, nat_lt, ◌==◌, if◌then◌else◌}
+use Rattle.std.specs.Prelude.{◌≡◌, ℕ, ◌+◌, ◌<◌, ◌≤◌, Bool, true, false, List, [], ◌∷◌, ◌++◌, length, take, drop, Option, Some, None, Result, Ok, Err, nat_lt, ◌==◌, if◌then◌else◌}
 use Rattle.link_wire.specs.Device.{Input}
 use Rattle.link_wire.specs.Getting.{GotPart, MetFault}
 use Rattle.link_wire.specs.Message.{data_length, fields_at, message_at}
@@ -66,6 +66,7 @@ module _ {R : Type 0} where
     pub at : IsSourceAt s.source []
     pub live : IsLive look s.source
     pub going : s.stop ≡ None
+    pub left : s.left ≡ 0
 
   -- The session has taken exactly these bytes, and no fault: it stands where their reading ends, and however the bytes
   -- go on, what follows is read from there.
@@ -88,6 +89,112 @@ module _ {R : Type 0} where
   IsRead look source history (wire.ListTooLong n) reading = (more : List ℕ) → reading_of (history ++ more) ≡ reading
   IsRead look source history wire.TooManyItems reading = (more : List ℕ) → reading_of (history ++ more) ≡ reading
   IsRead look source history wire.ItemsOverrun reading = (more : List ℕ) → reading_of (history ++ more) ≡ reading
+
+module _ {R : Type 0} where
+  -- What a session gives, with the history that it has taken.
+
+  -- the contact header
+  pub record GaveContact (look : R → Input) (old new : Session R) (contact : Contact) : Type 0 where
+    pub taken : List ℕ
+    pub takes : Takes look old.source new.source taken
+    pub reading : reading_of taken ≡ record { contact = Some contact; entries = []; end = Clean }
+    pub at : IsSessionAt look new taken
+    pub between : new.left ≡ 0
+
+  pub record RefusedContact (look : R → Input) (old new : Session R) (offset : ℕ) (fault : WireFault) : Type 0 where
+    pub taken : List ℕ
+    pub takes : Takes look old.source new.source taken
+    pub place : offset ≡ 0
+    pub is_read : IsRead look new.source taken fault (record { contact = None; entries = []; end = Fault 0 fault })
+    pub stopped : new.stop ≡ Some (stop.Wire offset fault)
+
+  pub record StoppedContact (look : R → Input) (old new : Session R) (fault : IoFault) : Type 0 where
+    pub taken : List ℕ
+    pub stops : StopsAfter look old.source new.source taken fault
+    pub reading : reading_of taken ≡ record { contact = None; entries = []; end = Fault 0 wire.Truncated }
+    pub stopped : new.stop ≡ Some (stop.Io fault)
+
+  abbrev pub GivesContact : (R → Input) → Session R → Session R → Result Contact Stop → Type 0
+  GivesContact look old new (Ok contact) = GaveContact look old new contact
+  GivesContact look old new (Err (stop.Wire offset fault)) = RefusedContact look old new offset fault
+  GivesContact look old new (Err (stop.Io fault)) = StoppedContact look old new fault
+
+  -- the head of a message
+  pub record GaveMessage (look : R → Input) (old new : Session R) (history : List ℕ) (offset : ℕ) (message : Message) : Type 0 where
+    pub taken : List ℕ
+    pub takes : Takes look old.source new.source taken
+    pub place : offset ≡ length history
+    pub left : new.left ≡ data_length message
+    pub reading : reading_of (history ++ taken) ≡ with_message offset message (reading_of history)
+    pub at : IsSessionAt look new (history ++ taken)
+
+  -- nothing: the stream ends between two messages
+  pub record GaveEnd (look : R → Input) (old new : Session R) (history : List ℕ) : Type 0 where
+    pub takes : Takes look old.source new.source []
+    pub over : IsOver look new.source
+    pub clean : (reading_of history).end ≡ Clean
+    pub at : IsSessionAt look new history
+
+  -- the first fault, which stands in the message behind the history
+  pub record GaveFault (look : R → Input) (old new : Session R) (history : List ℕ) (offset : ℕ) (fault : WireFault) : Type 0 where
+    pub taken : List ℕ
+    pub takes : Takes look old.source new.source taken
+    pub place : offset ≡ length history
+    pub is_read : IsRead look new.source (history ++ taken) fault (joined (reading_of history) (ended (Fault offset fault)))
+    pub stopped : new.stop ≡ Some (stop.Wire offset fault)
+
+  -- a failure inside a message: what was taken of it makes no message
+  pub record GaveStop (look : R → Input) (old new : Session R) (history : List ℕ) (fault : IoFault) : Type 0 where
+    pub taken : List ℕ
+    pub stops : StopsAfter look old.source new.source taken fault
+    pub same : SameMessages (reading_of history) (reading_of (history ++ taken))
+    pub stopped : new.stop ≡ Some (stop.Io fault)
+
+  abbrev pub GivesNext : (R → Input) → Session R → Session R → List ℕ → Result (Option (ℕ × Message)) Stop → Type 0
+  GivesNext look old new history (Ok None) = GaveEnd look old new history
+  GivesNext look old new history (Ok (Some (offset, message))) = GaveMessage look old new history offset message
+  GivesNext look old new history (Err (stop.Wire offset fault)) = GaveFault look old new history offset fault
+  GivesNext look old new history (Err (stop.Io fault)) = GaveStop look old new history fault
+
+  -- data of the open segment
+  pub record GaveData (look : R → Input) (old new : Session R) (history buffer : List ℕ) (n : ℕ) : Type 0 where
+    pub room : n ≤ length buffer
+    pub takes : Takes look old.source new.source (take n buffer)
+    pub left : old.left ≡ n + new.left
+    pub some : 0 < old.left → 0 < length buffer → 0 < n
+    pub reading : reading_of (history ++ take n buffer) ≡ with_data new.left (take n buffer) (reading_of history)
+    pub at : IsSessionAt look new (history ++ take n buffer)
+
+  -- the input has ended inside the data of the segment at the offset
+  pub record GaveCut (look : R → Input) (old new : Session R) (history : List ℕ) (offset : ℕ) (fault : WireFault) : Type 0 where
+    pub kind : fault ≡ wire.Truncated
+    pub takes : Takes look old.source new.source []
+    pub over : IsOver look new.source
+    pub message : Message
+    pub content : List ℕ
+    pub cut : (reading_of history).end ≡ Cut offset message content
+    pub stopped : new.stop ≡ Some (stop.Wire offset fault)
+
+  abbrev pub GivesData : (R → Input) → Session R → Session R → List ℕ → List ℕ → Result ℕ Stop → Type 0
+  GivesData look old new history buffer (Ok n) = GaveData look old new history buffer n
+  GivesData look old new history buffer (Err (stop.Wire offset fault)) = GaveCut look old new history offset fault
+  GivesData look old new history buffer (Err (stop.Io fault)) = GaveStop look old new history fault
+
+  -- how many bytes of data are to come
+  abbrev pub left_of : Session R → ℕ
+  left_of s = s.left
+
+  -- the contact header was asked for
+  abbrev pub IsOpened : Session R → Type 0
+  IsOpened s = s.opened ≡ true
+
+  -- the session has stopped
+  abbrev pub HasStopped : Session R → Stop → Type 0
+  HasStopped s why = s.stop ≡ Some why
+
+  -- a message may be asked for: no data is to come, or the session has stopped
+  abbrev pub IsBetween : Session R → Type 0
+  IsBetween s = s.stop ≡ None → s.left ≡ 0
 
 -- What a message that is asked for gives: nothing at the end of the input; the message; or what its type byte and the
 -- bytes behind it show.

@@ -6,7 +6,7 @@ use Rattle.std.proofs.Math.Seq.{take-append_seam, drop-append_seam, take-append-
 use Rattle.link_wire.specs.Message.{message_at, contact_at, data_length}
 use Rattle.link_wire.specs.Stream.{Entry, End, Clean, Cut, Fault, Stream, ended, with_entry, with_data_of, stream_at, Reading, reading_of}
 use Rattle.link_wire.specs.StreamLaws.{stream_at-nil, stream_at-head}
-use Rattle.link_wire.specs.Session.{joined, with_message, data_after, with_data, rest_after}
+use Rattle.link_wire.specs.Session.{joined, with_message, data_after, with_data, rest_after, IsLeft}
 use Rattle.link_wire.specs.declared.message.Message.{Message}
 
 -- one stream behind another
@@ -20,7 +20,7 @@ joined-joined reading first second = ap (λ entries. joined (record { contact = 
 abbrev pub begun : ℕ → Message → Stream
 begun offset message = if nat_lt 0 (data_length message) then ended (Cut offset message []) else with_entry (record { offset = offset; message = message; content = [] }) (ended Clean)
 
-begun_by : (size offset place : ℕ) (message : Message) (more : List ℕ) → data_length message ≡ size
+pub begun_by : (size offset place : ℕ) (message : Message) (more : List ℕ) → data_length message ≡ size
     → with_data_of offset message more (stream_at (place + size) (drop size more)) ≡ appended (begun offset message) (rest_after place size (begun offset message).end more)
 begun_by zero offset place message more is =
     let all : nat_lt (length more) 0 ≡ false = le-ltb (length more) 0 (omega arith) in
@@ -34,7 +34,7 @@ begun_by (suc size) offset place message more is =
 
 -- what data of the open segment leaves to read
 module _ (place n offset : ℕ) (message : Message) (content bytes more : List ℕ) where
-  data_by : (left : ℕ) → n ≡ length bytes + left
+  pub data_by : (left : ℕ) → n ≡ length bytes + left
       → rest_after place n (Cut offset message content) (bytes ++ more)
       ≡ appended (data_after left bytes (Cut offset message content)) (rest_after (place + length bytes) left (data_after left bytes (Cut offset message content)).end more)
   data_by zero is =
@@ -53,3 +53,43 @@ module _ (place n offset : ℕ) (message : Message) (content bytes more : List �
         let before : nat_lt (length (bytes ++ more)) n ≡ false = le-ltb (length (bytes ++ more)) n (omega (arith, length-append bytes more)) in
         rw (before, some, whole, is, take-append-add, drop-append-add, append_assoc, add_assoc) refl)
       (cases_lt (length more) (suc left))
+
+-- nothing more to read
+rest_none : (place offset left : ℕ) (end : End) → IsLeft offset left end → rest_after place left end [] ≡ ended end
+rest_none place offset left Clean is = stream_at-nil place
+rest_none place offset left (Cut from message content) is =
+    let some : nat_lt 0 left ≡ true = lt-ltb 0 left is.0 in
+    rw (some, append-nil) refl
+rest_none place offset left (Fault from fault) is = absurd is
+
+-- what is read behind a history that has gone on by a part of what is left
+module _ (reading : Reading) (history : List ℕ) (part : Stream) (offset left place : ℕ) (is : IsLeft offset left part.end)
+    (reads : (more : List ℕ) → reading_of (history ++ more) ≡ joined reading (appended part (rest_after place left part.end more))) where
+  pub settled : reading_of history ≡ joined reading part
+  settled =
+      ap reading_of (sym (append-nil history)) ∙ reads []
+      ∙ ap (λ rest. joined reading (appended part rest)) (rest_none place offset left part.end is)
+      ∙ ap (λ entries. joined reading (record { entries = entries; end = part.end })) (append-nil part.entries)
+
+  pub goes_on_from : (more : List ℕ) → reading_of (history ++ more) ≡ joined (reading_of history) (rest_after place left (reading_of history).end more)
+  goes_on_from more =
+      reads more ∙ sym (joined-joined reading part (rest_after place left part.end more))
+      ∙ ap (λ r. joined r (rest_after place left r.end more)) (sym settled)
+
+-- between two messages a stream ends clean
+pub clean_end : (offset left : ℕ) (end : End) → IsLeft offset left end → left ≡ 0 → end ≡ Clean
+clean_end offset left Clean is none = refl
+clean_end offset left (Cut from message content) is none = let some = is.0 in absurd (omega arith)
+clean_end offset left (Fault from fault) is none = absurd is
+
+pub begun_left : (size offset : ℕ) (message : Message) → data_length message ≡ size → IsLeft offset size (begun offset message).end
+begun_left zero offset message is = rw is refl
+begun_left (suc size) offset message is =
+    let some : nat_lt 0 (suc size) ≡ true = lt-ltb 0 (suc size) (omega arith) in
+    rw (is, some) (omega arith, refl, omega arith)
+
+pub data_left : (offset from : ℕ) (message : Message) (content bytes : List ℕ) (left n : ℕ) → from ≡ offset → data_length message ≡ length content + n → n ≡ length bytes + left → IsLeft offset left (data_after left bytes (Cut from message content)).end
+data_left offset from message content bytes zero n is whole parts = refl
+data_left offset from message content bytes (suc left) n is whole parts =
+    let some : nat_lt 0 (suc left) ≡ true = lt-ltb 0 (suc left) (omega arith) in
+    rw some (omega arith, is, omega (arith, length-append content bytes))

@@ -27,6 +27,11 @@ module _ {R : Type 0} where
     pub bytes : AreBytes history
     pub taken : s.taken ≡ length history
 
+  -- nothing was taken, and more may come
+  pub record IsFresh (s : Source R) : Type 0 where
+    pub taken : s.taken ≡ 0
+    pub going : s.flow ≡ flow.Open
+
   -- the input has ended: nothing more is read
   abbrev pub HasEnded : Source R → Type 0
   HasEnded s = s.flow ≡ flow.Ended
@@ -77,6 +82,22 @@ module _ {R : Type 0} where
   abbrev pub GivesSome : (R → Input) → Source R → Source R → List ℕ → Result ℕ IoFault → Type 0
   GivesSome look old new buffer (Ok n) = GaveSome look old new buffer n
   GivesSome look old new buffer (Err fault) = StopsAfter look old new [] fault
+
+  -- What one call of `some` gives where no more than `left` bytes are wanted: some of them, or the end of the input.
+  pub record GaveSomeOf (look : R → Input) (old new : Source R) (left : ℕ) (buffer : List ℕ) (n : ℕ) : Type 0 where
+    pub takes : Takes look old new (take n buffer)
+    pub live : IsLive look new
+    pub some : 0 < left → 0 < length buffer → 0 < n
+
+  pub record GaveNoneOf (look : R → Input) (old new : Source R) (left : ℕ) : Type 0 where
+    pub takes : Takes look old new []
+    pub over : IsOver look new
+    pub missing : 0 < left
+
+  abbrev pub GivesSomeOf : (R → Input) → Source R → Source R → ℕ → List ℕ → Result (Option ℕ) IoFault → Type 0
+  GivesSomeOf look old new left buffer (Ok (Some n)) = GaveSomeOf look old new left buffer n
+  GivesSomeOf look old new left buffer (Ok None) = GaveNoneOf look old new left
+  GivesSomeOf look old new left buffer (Err fault) = StopsAfter look old new [] fault
 
   -- What a `fill` gives: the whole slice, or what the input still had, or what came before a fault.
   pub record GaveWhole (look : R → Input) (old new : Source R) (buffer : List ℕ) : Type 0 where

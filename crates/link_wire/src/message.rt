@@ -89,3 +89,18 @@ pub enum Message {
         header: u8,
     },
 }
+
+impl Message {
+    ghost use Rattle.std.specs.Prelude.{◌≡◌};
+    ghost use Rattle.link_wire.specs.Message.{data_length};
+
+    /// How many bytes of data follow the head: none but in a segment.
+    pub fn data_length(&self) -> u64
+        ensures { result ≡ data_length self.now }
+    {
+        match self {
+            Message::Segment(head) => head.length,
+            _ => 0,
+        }
+    }
+}

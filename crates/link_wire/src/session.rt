@@ -1,6 +1,13 @@
 //! A recorded session: the contact header, then messages, and the data of segments.
 
-use crate::fault::Stop;
+ghost use Rattle.std.specs.Prelude.{◌≤◌, length, IfOk, IfSome};
+ghost use Rattle.link_wire.specs.Source.{IsLive, GivesSomeOf};
+
+use crate::device::InDevice;
+use crate::fault::{IoFault, Stop, WireFault};
+use crate::halt::Halt;
+use crate::head::{contact, message};
+use crate::message::{Contact, Message};
 use crate::source::Source;
 
 /// The reading of a recorded session, message by message.
@@ -15,4 +22,134 @@ pub struct Session<R> {
     left: u64,
     /// What stopped the session.
     stop: Option<Stop>,
+}
+
+/// The next bytes, at most as many as are left of the data, and how many they are; `None` where the
+/// input has ended and some are left.
+fn data_of<R: InDevice>(
+    source: &mut Source<R>,
+    buffer: &mut [u8],
+    left: u64,
+) -> Result<Option<usize>, IoFault>
+    ensures bound { IfOk result (λ given. IfSome given (λ n. (n ≤ length buffer.new) × (n ≤ left))) }
+    ensures gives { IsLive R.state source.old → GivesSomeOf R.state source.old source.new left buffer.new result }
+{
+    let most = left.min(buffer.len() as u64) as usize;
+    let n = source.some(&mut buffer[..most])?;
+    if n == 0 && most > 0 {
+        return Ok(None);
+    }
+    Ok(Some(n))
+}
+
+impl<R: InDevice> Session<R> {
+    ghost use Rattle.std.specs.Prelude.{◌≡◌, ◌≤◌, ◌<◌, true, false, length, take, List, ℕ, IfOk, Some, None, Err};
+    ghost use Rattle.link_wire.specs.Halt.{stop_at};
+    ghost use Rattle.link_wire.specs.Source.{IsFresh};
+    ghost use Rattle.link_wire.specs.Session.{IsNew, IsSessionAt, IsOpened, IsBetween, HasStopped, left_of, GivesContact, GivesNext, GivesData};
+
+    /// A session over a source that has taken nothing.
+    pub fn new(source: Source<R>) -> Session<R>
+        requires { IsFresh source }
+        ensures fresh { IsNew R.state result }
+        ensures source { result.source ≡ source }
+    {
+        Session {
+            source,
+            opened: false,
+            offset: 0,
+            left: 0,
+            stop: None,
+        }
+    }
+
+    /// The source, as it stands.
+    pub fn into_source(self) -> Source<R>
+        ensures { result ≡ self.source }
+    {
+        let Session {
+            source,
+            opened: _,
+            offset: _,
+            left: _,
+            stop: _,
+        } = self;
+        source
+    }
+
+    /// How many bytes of the segment's data have not come.
+    pub fn left(&self) -> u64
+        ensures { result ≡ left_of self.now }
+    {
+        self.left
+    }
+
+    /// Reads the contact header: once, first.
+    pub fn open(&mut self) -> Result<Contact, Stop>
+        requires { self.old.opened ≡ false }
+        ensures opened { IsOpened self.new }
+        ensures gives { IsNew R.state self.old → GivesContact R.state self.old self.new result }
+    {
+        self.opened = true;
+        match contact(&mut self.source) {
+            Ok(contact) => Ok(contact),
+            Err(halt) => Err(self.stop_at(0, halt)),
+        }
+    }
+
+    /// The next message and the offset of its type byte, of a segment its head alone; `None` at the
+    /// end of a stream that ends between two messages, and again on each later call. After a stop it
+    /// answers that stop again, and reads nothing.
+    pub fn next(&mut self) -> Result<Option<(u64, Message)>, Stop>
+        requires opened { IsOpened self.old }
+        requires between { IsBetween self.old }
+        ensures opened { IsOpened self.new }
+        ensures gives { (history : List ℕ) → IsSessionAt R.state self.old history → GivesNext R.state self.old self.new history result }
+        ensures stopped { (stop : _) → HasStopped self.old stop → (self.new ≡ self.old) × (result ≡ Err stop) }
+    {
+        if let Some(stop) = self.stop {
+            return Err(stop);
+        }
+        let offset = self.source.taken();
+        match message(&mut self.source) {
+            Ok(Some(message)) => {
+                self.offset = offset;
+                self.left = message.data_length();
+                Ok(Some((offset, message)))
+            }
+            Ok(None) => Ok(None),
+            Err(halt) => Err(self.stop_at(offset, halt)),
+        }
+    }
+
+    /// The session stops in the message that begins at the offset.
+    fn stop_at(&mut self, offset: u64, halt: Halt) -> Stop
+        ensures stop { result ≡ stop_at offset halt }
+        ensures state { self.new ≡ record self.old { stop = Some result } }
+    {
+        let stop = halt.at(offset);
+        self.stop = Some(stop);
+        stop
+    }
+
+    /// The next bytes of the segment's data, by one read, and how many they are: 0 only where none are
+    /// left, or for an empty slice. After a stop it answers that stop again, and reads nothing.
+    pub fn data(&mut self, buffer: &mut [u8]) -> Result<usize, Stop>
+        ensures bound { IfOk result (λ n. n ≤ length buffer.new) }
+        ensures opened { IsOpened self.old → IsOpened self.new }
+        ensures gives { (history : List ℕ) → IsSessionAt R.state self.old history → GivesData R.state self.old self.new history buffer.new result }
+        ensures stopped { (stop : _) → HasStopped self.old stop → (self.new ≡ self.old) × (result ≡ Err stop) }
+    {
+        if let Some(stop) = self.stop {
+            return Err(stop);
+        }
+        match data_of(&mut self.source, buffer, self.left) {
+            Ok(Some(n)) => {
+                self.left -= n as u64;
+                Ok(n)
+            }
+            Ok(None) => Err(self.stop_at(self.offset, Halt::Wire(WireFault::Truncated))),
+            Err(fault) => Err(self.stop_at(self.offset, Halt::Io(fault))),
+        }
+    }
 }

@@ -37,14 +37,14 @@ pub struct Source<R> {
 
 impl<R: InDevice> Source<R> {
     ghost use Rattle.std.specs.Prelude.{◌≡◌, ◌+◌, ◌-◌, ◌<◌, ◌≤◌, ◌==◌, false, [], length, take, drop, IfOk, IfErr, OnOk, MatchResult};
-    ghost use Rattle.link_wire.specs.Source.{IsSourceAt, IsLive, IsOver, HasEnded, HasFailed, StopsAfter, GivesSome, GivesFill, filled_at_end};
+    ghost use Rattle.link_wire.specs.Source.{IsSourceAt, IsFresh, IsLive, IsOver, HasEnded, HasFailed, StopsAfter, GivesSome, GivesFill, filled_at_end};
 
     /// A source that has taken nothing.
     pub fn new(reader: R) -> Source<R>
         requires { (R.state reader).failed ≡ false }
         ensures reader { result.reader ≡ reader }
         ensures start { IsSourceAt result [] }
-        ensures live { IsLive R.state result }
+        ensures fresh { IsFresh result }
     {
         Source {
             reader,

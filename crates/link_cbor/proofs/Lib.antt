@@ -1,0 +1,4 @@
+mod Feeding
+mod Joins
+mod Pushes
+mod Stages

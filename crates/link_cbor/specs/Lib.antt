@@ -1,0 +1,9 @@
+pub mod Crc
+pub mod CrcLaws
+pub mod Head
+pub mod HeadLaws
+pub mod HeadScan
+pub mod PieceLaws
+pub mod Pieces
+pub mod Pushed
+pub mod Stage

@@ -1,0 +1,13 @@
+-- what a check has been given
+
+use Rattle.std.specs.Prelude.{◌≡◌, ℕ, List}
+use Rattle.link_cbor.specs.declared.check.Check.{Check}
+use Rattle.link_cbor.specs.declared.check.CheckKind.{CheckKind}
+use Rattle.link_cbor.specs.Crc.{all_ones, register_after}
+use Rattle.link_cbor.specs.Head.{AreBytes}
+
+-- the check is of this kind, and was given exactly these bytes
+pub record HasPushed (kind : CheckKind) (check : Check) (bytes : List ℕ) : Type 0 where
+  pub all_bytes : AreBytes bytes
+  pub same_kind : check.kind ≡ kind
+  pub register : check.register ≡ register_after kind (all_ones kind) bytes

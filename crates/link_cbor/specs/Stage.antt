@@ -1,0 +1,48 @@
+-- what a stage of a scan says of the head whose first bytes it has seen
+
+use Rattle.std.specs.Prelude.{◌≡◌, IsTrue, ℕ, ◌+◌, ◌-◌, ◌*◌, ◌^◌, Bool, true, false, ◌&&◌, ◌==◌, nat_lt, nat_le, List, length, take, Some, if◌then◌else◌}
+use Rattle.link_cbor.specs.declared.head.HeadStep.{HeadStep}
+use Rattle.link_cbor.specs.declared.head.HeadStep.TheVariants.{More, Done, Bad}
+use Rattle.link_cbor.specs.declared.head_scan.Stage.{Stage}
+use Rattle.link_cbor.specs.declared.head_scan.Stage.TheVariants.{Start, Argument, Simple, Whole as WholeHead, IllFormed as NoHead}
+use Rattle.link_cbor.specs.Head.{HeadFront, Cut, IllFormed, Whole, big_endian, head_front, argument_front}
+
+-- however the bytes go on, this is what is left to be read, where `count` bytes were seen
+unfoldable pub front_from : ℕ → Stage → List ℕ → HeadFront
+front_from count Start more = head_front more
+front_from count (Argument major left value) more =
+    if nat_lt (length more) left then Cut else
+    Whole (record { major = major; value = Some (value * 256 ^ left + big_endian (take left more)) }) (count + left)
+front_from count Simple more = argument_front 7 1 more
+front_from count (WholeHead head) more = Whole head count
+front_from count NoHead more = IllFormed
+
+-- more bytes are wanted
+abbrev pub wants_more : Stage → Bool
+wants_more Start = true
+wants_more (Argument major left value) = true
+wants_more Simple = true
+wants_more (WholeHead head) = false
+wants_more NoHead = false
+
+-- what the bytes that were seen say of the head
+abbrev pub told_at : Stage → HeadStep
+told_at Start = More
+told_at (Argument major left value) = More
+told_at Simple = More
+told_at (WholeHead head) = Done head
+told_at NoHead = Bad
+
+-- what keeps the argument in 64 bits: its bytes are at most eight, of which those that were seen spell `value`
+unfoldable pub stage_fits : ℕ → Stage → Bool
+stage_fits count Start = count == 0
+stage_fits count (Argument major left value) =
+    nat_lt 0 left && (nat_le left 8 && (nat_le (count + left) 9 && nat_lt value (256 ^ (8 - left))))
+stage_fits count Simple = count == 1
+stage_fits count (WholeHead head) = nat_le count 9
+stage_fits count NoHead = nat_le count 9
+
+-- a scan that has seen `count` bytes stands at this stage, where `reading` is what is left to be read
+pub record StandsAt (count : ℕ) (stage : Stage) (reading : List ℕ → HeadFront) : Type 0 where
+  pub fits : IsTrue (stage_fits count stage)
+  pub reads : (more : List ℕ) → reading more ≡ front_from count stage more

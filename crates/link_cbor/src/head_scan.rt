@@ -1,0 +1,179 @@
+ghost use Rattle.std.specs.Prelude.{◌≡◌, ℕ, ◌+◌, ◌<◌, ◌≤◌, ◌↔◌, List, [], ◌∷◌, ◌++◌, length, IsTrue};
+ghost use Rattle.link_cbor.specs.Stage.{stage_fits};
+
+use crate::head::{Head, HeadStep};
+use crate::piecewise::Piecewise;
+
+/// Where a scan stands in its head.
+#[derive(Clone, Copy, PartialEq, Eq, Debug)]
+enum Stage {
+    /// No byte was seen.
+    Start,
+    /// The bytes of the argument that were seen spell `value`, and `left` more are wanted.
+    Argument { major: u8, left: u8, value: u64 },
+    /// `f8` was seen: a simple value from 32 up is wanted.
+    Simple,
+    Whole(Head),
+    IllFormed,
+}
+
+/// Major type 7 with additional information 24: a simple value in the next byte.
+const SIMPLE_IN_NEXT_BYTE: u8 = 0xf8;
+
+/// A smaller simple value is ill-formed in two bytes, RFC 8949 section 3.3.
+const LEAST_IN_NEXT_BYTE: u8 = 32;
+
+impl Stage {
+    ghost use Rattle.link_cbor.specs.Head.{head_front, no_argument};
+    ghost use Rattle.link_cbor.specs.Stage.{told_at, StandsAt};
+
+    /// What the bytes seen say of the head.
+    fn told(self) -> HeadStep
+        ensures { result ≡ told_at self }
+    {
+        match self {
+            Stage::Whole(head) => HeadStep::Done(head),
+            Stage::IllFormed => HeadStep::Bad,
+            _ => HeadStep::More,
+        }
+    }
+
+    /// The stage behind the first byte: its top three bits are the major type, its low five the additional information.
+    fn begin(first: u8) -> Stage
+        ensures { StandsAt 1 result (λ more. head_front (first ∷ more)) }
+    {
+        let major = first >> 5;
+        let information = first & 0x1f;
+        match information {
+            0..=23 => Stage::Whole(Head {
+                major,
+                value: Some(u64::from(information)),
+            }),
+            24..=27 if first == SIMPLE_IN_NEXT_BYTE => Stage::Simple,
+            24..=27 => Stage::Argument {
+                major,
+                left: 1 << (information - 24),
+                value: 0,
+            },
+            31 => Stage::without_argument(major),
+            _ => Stage::IllFormed,
+        }
+    }
+
+    /// Additional information 31: an indefinite length or the break, ill-formed for major types 0, 1 and 6.
+    fn without_argument(major: u8) -> Stage
+        ensures { StandsAt 1 result (λ _. no_argument major) }
+    {
+        match major {
+            0 | 1 | 6 => Stage::IllFormed,
+            _ => Stage::Whole(Head { major, value: None }),
+        }
+    }
+}
+
+/// Reads one head, byte by byte. It is going until the head is told, whole or ill-formed, and takes at most nine bytes.
+#[derive(Clone, Copy, Debug)]
+pub struct HeadScan {
+    count: u8,
+    stage: Stage,
+    ghost fits: { IsTrue (stage_fits count stage) },
+}
+
+impl HeadScan {
+    ghost use Rattle.link_cbor.specs.Head.{head_front, step_of, front_of};
+    ghost use Rattle.link_cbor.specs.HeadScan.{HasScanned, scan_size, may_scan};
+    ghost use Rattle.link_cbor.specs.Stage.{front_from, StandsAt};
+    ghost use Rattle.link_cbor.specs.declared.head.HeadStep.TheVariants.{More};
+
+    /// A scan that has seen nothing.
+    pub fn new() -> HeadScan
+        ensures seen { HasScanned result [] }
+        ensures size { scan_size result ≡ 0 }
+        ensures may_step { IsTrue (may_scan result) }
+    {
+        HeadScan {
+            count: 0,
+            stage: Stage::Start,
+        }
+    }
+
+    /// What the bytes seen so far say of the head.
+    pub fn outcome(&self) -> HeadStep
+        ensures seen { (seen : List ℕ) → HasScanned self.now seen → result ≡ step_of seen }
+        ensures front { (seen : List ℕ) → HasScanned self.now seen → head_front seen ≡ front_of result (length seen) }
+        ensures may_step { IsTrue (may_scan self.now) ↔ (result ≡ More) }
+    {
+        self.stage.told()
+    }
+
+    /// The stage one byte further.
+    fn next_stage(&self, byte: u8) -> Stage
+        requires { IsTrue (may_scan self.now) }
+        ensures { StandsAt (self.now.count + 1) result
+            (λ more. front_from self.now.count self.now.stage (byte ∷ more)) }
+    {
+        match self.stage {
+            Stage::Start => Stage::begin(byte),
+            Stage::Argument { major, left, value } => {
+                let value = value * 256 + u64::from(byte);
+                if left == 1 {
+                    Stage::Whole(Head {
+                        major,
+                        value: Some(value),
+                    })
+                } else {
+                    Stage::Argument {
+                        major,
+                        left: left - 1,
+                        value,
+                    }
+                }
+            }
+            Stage::Simple if byte < LEAST_IN_NEXT_BYTE => Stage::IllFormed,
+            Stage::Simple => Stage::Whole(Head {
+                major: 7,
+                value: Some(u64::from(byte)),
+            }),
+            told => told,
+        }
+    }
+}
+
+impl Piecewise for HeadScan {
+    ghost use Rattle.link_cbor.specs.HeadScan.{HasScanned, scan_size, may_scan, head_goes};
+
+    ghost has_seen = { HasScanned };
+
+    ghost size = { scan_size };
+
+    ghost goes = { head_goes };
+
+    ghost may_step = { may_scan };
+
+    fn going(&self) -> bool
+        ensures seen { (seen : List ℕ) → HasScanned self.now seen → result ≡ head_goes seen }
+        ensures may_step { result ≡ may_scan self.now }
+    {
+        self.outcome() == HeadStep::More
+    }
+
+    fn count(&self) -> u64
+        ensures size { result ≡ scan_size self.now }
+        ensures seen { (seen : List ℕ) → HasScanned self.now seen → result ≡ length seen }
+        ensures small { result ≤ 9 }
+    {
+        u64::from(self.count)
+    }
+
+    fn step(&mut self, byte: u8)
+        requires may_step { IsTrue (may_scan self.old) }
+        ensures size { scan_size self.new ≡ scan_size self.old + 1 }
+        ensures seen { (seen : List ℕ) → HasScanned self.old seen → HasScanned self.new (seen ++ byte ∷ []) }
+    {
+        self.stage = self.next_stage(byte);
+        self.count += 1;
+    }
+}
+
+#[cfg(test)]
+mod tests;

@@ -1,0 +1,45 @@
+-- A stream begins with the six bytes of its contact header.
+use Rattle.std.proofs.Common.{◌≡◌, ℕ, ◌+◌, ◌<◌, ◌≤◌, Bool, true, false, List, [], ◌++◌, length, take, drop, Some, None, Result, Ok, Err, if◌then◌else◌, eqb, slice_index, arith, refl, ap, sym, ◌∙◌, length-append, length-drop, ◌⊎◌, ⊎_elim}
+use Rattle.std.proofs.lemmas.Bool.{cases_lt}
+use Rattle.byteorder.specs.Endian.{big_number}
+use Rattle.link_wire.specs.Part.{Part, ◌>>=◌, bytes_at}
+use Rattle.link_wire.specs.PartLaws.{bytes_at-short, bytes_at-enough}
+use Rattle.link_wire.specs.PartSizes.{both_read, same_rest}
+use Rattle.link_wire.specs.Message.{contact_at}
+use Rattle.link_wire.specs.Stream.{Entry, Clean, Fault, stream_at, ended, Reading, reading_of, reading_by}
+use Rattle.link_wire.specs.StreamLaws.{stream_at-nil}
+use Rattle.link_wire.specs.declared.fault.WireFault.{WireFault}
+use Rattle.link_wire.specs.declared.message.Contact.{Contact}
+
+-- both tests were passed
+passed : {A : Type 0} (first second : Bool) (x y : A) (e f : WireFault) → (if first then (if second then Ok x else Err e) else Err f) ≡ Ok y → x ≡ y
+passed true true x y e f is = cc
+passed true false x y e f is = absurd (cc)
+passed false second x y e f is = absurd (cc)
+
+pub contact_size : (bytes : List ℕ) (contact : Contact) (rest : List ℕ) → contact_at bytes ≡ Ok (contact, rest) → length bytes ≡ 6 + length rest
+unfolding contact_at
+contact_size bytes contact rest is =
+    let read = both_read (bytes_at 6 bytes) _ (contact, rest) is in
+    let header = read.0 in
+    ⊎_elim
+    (λ short. let none = sym (bytes_at-short 6 bytes short) ∙ read.1 in absurd (cc))
+    (λ enough.
+      let found = sym (bytes_at-enough 6 bytes enough) ∙ read.1 in
+      let pair = passed (eqb (big_number 4 header.0) 0x64746e21) (eqb (slice_index header.0 4) 4) _ (contact, rest) _ _ read.2 in
+      let behind : header.1 ≡ rest = ap (λ (p : Contact × List ℕ). p.1) pair in
+      omega (arith, ap length behind, ap length (same_rest found), length-drop 6 bytes))
+    (cases_lt (length bytes) 6)
+
+module _ (taken : List ℕ) (contact : Contact) (is : (more : List ℕ) → contact_at (taken ++ more) ≡ Ok (contact, more)) where
+  pub contact_taken : length taken ≡ 6
+  contact_taken = omega (arith, contact_size (taken ++ []) contact [] (is []), length-append taken [])
+
+  -- what follows the contact header is read from offset 6 on
+  pub reading-contact : (more : List ℕ) → reading_of (taken ++ more) ≡ record { contact = Some contact; entries = (stream_at 6 more).entries; end = (stream_at 6 more).end }
+  unfolding reading_of
+  reading-contact more = ap reading_by (is more)
+
+pub reading-refused : (bytes : List ℕ) (fault : WireFault) → contact_at bytes ≡ Err fault → reading_of bytes ≡ record { contact = None; entries = []; end = Fault 0 fault }
+unfolding reading_of
+reading-refused bytes fault is = ap reading_by is
