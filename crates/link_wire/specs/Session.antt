@@ -184,17 +184,9 @@ module _ {R : Type 0} where
   abbrev pub left_of : Session R → ℕ
   left_of s = s.left
 
-  -- the contact header was asked for
-  abbrev pub IsOpened : Session R → Type 0
-  IsOpened s = s.opened ≡ true
-
   -- the session has stopped
   abbrev pub HasStopped : Session R → Stop → Type 0
   HasStopped s why = s.stop ≡ Some why
-
-  -- a message may be asked for: no data is to come, or the session has stopped
-  abbrev pub IsBetween : Session R → Type 0
-  IsBetween s = s.stop ≡ None → s.left ≡ 0
 
 -- What a message that is asked for gives: nothing at the end of the input; the message; or what its type byte and the
 -- bytes behind it show.

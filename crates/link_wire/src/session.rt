@@ -14,8 +14,6 @@ use crate::source::Source;
 #[derive(Drop)]
 pub struct Session<R> {
     source: Source<R>,
-    /// The contact header was asked for.
-    opened: bool,
     /// The offset of the segment whose data comes.
     offset: u64,
     /// How many bytes of that data have not come.
@@ -46,7 +44,7 @@ impl<R: InDevice> Session<R> {
     ghost use Rattle.std.specs.Prelude.{◌≡◌, ◌≤◌, ◌<◌, true, false, length, take, List, ℕ, IfOk, Some, None, Err};
     ghost use Rattle.link_wire.specs.Halt.{stop_at};
     ghost use Rattle.link_wire.specs.Source.{IsFresh};
-    ghost use Rattle.link_wire.specs.Session.{IsNew, IsSessionAt, IsOpened, IsBetween, HasStopped, left_of, GivesContact, GivesNext, GivesData};
+    ghost use Rattle.link_wire.specs.Session.{IsNew, IsSessionAt, HasStopped, left_of, GivesContact, GivesNext, GivesData};
 
     /// A session over a source that has taken nothing.
     pub fn new(source: Source<R>) -> Session<R>
@@ -56,7 +54,6 @@ impl<R: InDevice> Session<R> {
     {
         Session {
             source,
-            opened: false,
             offset: 0,
             left: 0,
             stop: None,
@@ -69,7 +66,6 @@ impl<R: InDevice> Session<R> {
     {
         let Session {
             source,
-            opened: _,
             offset: _,
             left: _,
             stop: _,
@@ -84,13 +80,10 @@ impl<R: InDevice> Session<R> {
         self.left
     }
 
-    /// Reads the contact header: once, first.
+    /// Reads the contact header, of a new session.
     pub fn open(&mut self) -> Result<Contact, Stop>
-        requires { self.old.opened ≡ false }
-        ensures opened { IsOpened self.new }
-        ensures gives { IsNew R.state self.old → GivesContact R.state self.old self.new result }
+        ensures { IsNew R.state self.old → GivesContact R.state self.old self.new result }
     {
-        self.opened = true;
         match contact(&mut self.source) {
             Ok(contact) => Ok(contact),
             Err(halt) => Err(self.stop_at(0, halt)),
@@ -98,13 +91,11 @@ impl<R: InDevice> Session<R> {
     }
 
     /// The next message and the offset of its type byte, of a segment its head alone; `None` at the
-    /// end of a stream that ends between two messages, and again on each later call. After a stop it
-    /// answers that stop again, and reads nothing.
+    /// end of a stream that ends between two messages, and again on each later call. It is asked for
+    /// once the contact header and the data of the message before have come. After a stop it answers
+    /// that stop again, and reads nothing.
     pub fn next(&mut self) -> Result<Option<(u64, Message)>, Stop>
-        requires opened { IsOpened self.old }
-        requires between { IsBetween self.old }
-        ensures opened { IsOpened self.new }
-        ensures gives { (history : List ℕ) → IsSessionAt R.state self.old history → GivesNext R.state self.old self.new history result }
+        ensures gives { (history : List ℕ) → IsSessionAt R.state self.old history → left_of self.old ≡ 0 → GivesNext R.state self.old self.new history result }
         ensures stopped { (stop : _) → HasStopped self.old stop → (self.new ≡ self.old) × (result ≡ Err stop) }
     {
         if let Some(stop) = self.stop {
@@ -136,7 +127,6 @@ impl<R: InDevice> Session<R> {
     /// left, or for an empty slice. After a stop it answers that stop again, and reads nothing.
     pub fn data(&mut self, buffer: &mut [u8]) -> Result<usize, Stop>
         ensures bound { IfOk result (λ n. n ≤ length buffer.new) }
-        ensures opened { IsOpened self.old → IsOpened self.new }
         ensures gives { (history : List ℕ) → IsSessionAt R.state self.old history → GivesData R.state self.old self.new history buffer.new result }
         ensures stopped { (stop : _) → HasStopped self.old stop → (self.new ≡ self.old) × (result ≡ Err stop) }
     {
