@@ -9,6 +9,7 @@ use Rattle.link_wire.specs.Message.{contact_at}
 use Rattle.link_wire.specs.Stream.{Entry, Clean, Fault, stream_at, ended, Reading, reading_of, reading_by}
 use Rattle.link_wire.specs.StreamLaws.{stream_at-nil}
 use Rattle.link_wire.specs.declared.fault.WireFault.{WireFault}
+use Rattle.link_wire.specs.declared.fault.WireFault.TheVariants.{Truncated}
 use Rattle.link_wire.specs.declared.message.Contact.{Contact}
 
 -- both tests were passed
@@ -43,3 +44,11 @@ module _ (taken : List ℕ) (contact : Contact) (is : (more : List ℕ) → cont
 pub reading-refused : (bytes : List ℕ) (fault : WireFault) → contact_at bytes ≡ Err fault → reading_of bytes ≡ record { contact = None; entries = []; end = Fault 0 fault }
 unfolding reading_of
 reading-refused bytes fault is = ap reading_by is
+
+no_contact : contact_at [] ≡ Err Truncated
+unfolding contact_at bytes_at
+no_contact = refl
+
+-- no byte is no contact header
+pub reading-none : reading_of [] ≡ record { contact = None; entries = []; end = Fault 0 Truncated }
+reading-none = reading-refused [] Truncated no_contact

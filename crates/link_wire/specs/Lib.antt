@@ -21,3 +21,4 @@ pub mod MessageLaws
 pub mod NextLaws
 pub mod ContactLaws
 pub mod SessionSteps
+pub mod ReadLaws

@@ -98,6 +98,7 @@ module _ {R : Type 0} where
     pub taken : List ℕ
     pub takes : Takes look old.source new.source taken
     pub reading : reading_of taken ≡ record { contact = Some contact; entries = []; end = Clean }
+    pub some : 0 < length taken
     pub at : IsSessionAt look new taken
     pub between : new.left ≡ 0
 
@@ -123,6 +124,7 @@ module _ {R : Type 0} where
   pub record GaveMessage (look : R → Input) (old new : Session R) (history : List ℕ) (offset : ℕ) (message : Message) : Type 0 where
     pub taken : List ℕ
     pub takes : Takes look old.source new.source taken
+    pub some : 0 < length taken
     pub place : offset ≡ length history
     pub left : new.left ≡ data_length message
     pub reading : reading_of (history ++ taken) ≡ with_message offset message (reading_of history)

@@ -4,6 +4,7 @@ use Rattle.link_wire.specs.Bytes.{no_bytes}
 use Rattle.link_wire.specs.Device.{Input}
 use Rattle.link_wire.specs.Message.{contact_at, message_at, fields_at, data_length}
 use Rattle.link_wire.specs.MessageLaws.{message_at-kind}
+use Rattle.link_wire.specs.PartSizes.{shrinks_message}
 use Rattle.link_wire.specs.Source.{IsSourceAt, IsLive, IsOver, Takes, StopsAfter}
 use Rattle.link_wire.specs.SourceLaws.{IsSourceAt-then, Takes-then}
 use Rattle.link_wire.specs.Getting.{Gets, GotPart, MetFault, MetStop, IsFaultOf, IsOverAt}
@@ -67,6 +68,7 @@ module _ {R : Type 0} {look : R → Input} where
       record {
         taken = taken;
         takes = got.by.takes;
+        some = omega (arith, six);
         reading = settled begins taken (ended Clean) new.offset new.left (length taken) is reads;
         at = stands new taken begins (ended Clean) contact (IsSourceAt-then look old.source new.source [] taken got.by.takes fresh.at) got.by.live going refl is reads;
         between = left;
@@ -117,6 +119,7 @@ module _ {R : Type 0} {look : R → Input} where
         record {
           taken = taken;
           takes = got.takes;
+          some = omega (arith, shrinks_message.by (taken ++ []) message [] (got.is_part []), length-append taken []);
           place = refl;
           left = left;
           reading = settled (reading_of history) (history ++ taken) (begun here message) new.offset new.left (length (history ++ taken)) is reads;

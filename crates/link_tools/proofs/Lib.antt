@@ -1,0 +1,4 @@
+mod RunLaws
+mod ListSteps
+mod ListCalls
+mod ListMessages

@@ -1,0 +1,18 @@
+-- How the program ends.
+use Rattle.std.specs.Prelude.{ℕ, List, [], Result, Ok, Err, codes}
+use Rattle.link_wire.specs.declared.fault.IoFault.{IoFault}
+use Rattle.link_wire.specs.declared.fault.IoFault.TheVariants.{Read, InputTooLong, Write, Memory}
+use Rattle.link_tools.specs.declared.run.Status.{Status}
+
+-- the exit status: that of the run, or 4 after a failure
+abbrev pub status_of : Result Status IoFault → ℕ
+status_of (Ok status) = status.0
+status_of (Err fault) = 4
+
+-- what is said of a failure
+abbrev pub exit_text : Result Status IoFault → List ℕ
+exit_text (Ok status) = []
+exit_text (Err Read) = codes "tcpclkit: read failed"
+exit_text (Err InputTooLong) = codes "tcpclkit: input too long"
+exit_text (Err Write) = codes "tcpclkit: write failed"
+exit_text (Err Memory) = codes "tcpclkit: out of memory"

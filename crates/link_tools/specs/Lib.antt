@@ -1,0 +1,4 @@
+pub mod Run
+pub mod Exit
+pub mod Listing
+pub mod ListRun

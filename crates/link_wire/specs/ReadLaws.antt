@@ -1,0 +1,41 @@
+-- What has been read stays so, whatever the reader has left.
+use Rattle.std.proofs.Common.{◌≡◌, ℕ, List, [], ◌∷◌, ◌++◌, Option, Some, None, refl, ap, sym, ◌∙◌, append-nil}
+use Rattle.std.specs.Io.KnownBytes.{IsAtEnd}
+use Rattle.link_wire.specs.Device.{Input}
+use Rattle.link_wire.specs.Source.{IsOver}
+use Rattle.link_wire.specs.Stream.{Reading, reading_of}
+use Rattle.link_wire.specs.Session.{IsRead}
+use Rattle.link_wire.specs.declared.fault.WireFault.{WireFault}
+use Rattle.link_wire.specs.declared.fault.WireFault.TheVariants as wire
+use Rattle.link_wire.specs.declared.source.Source.{Source}
+
+-- the reading of all the bytes of an input is that of these
+pub record IsWhole (left : Option (List ℕ)) (history : List ℕ) (reading : Reading) : Type 0 where
+  pub is : reading_of history ≡ reading
+  pub all : (rest : List ℕ) → left ≡ Some rest → reading_of (history ++ rest) ≡ reading_of history
+
+none_left : (left : Option (List ℕ)) (rest : List ℕ) → IsAtEnd left → left ≡ Some rest → rest ≡ []
+none_left None rest empty is = absurd (cc)
+none_left (Some xs) rest empty is = let same : xs ≡ rest = cc in sym same ∙ empty
+
+module _ {R : Type 0} (look : R → Input) (source : Source R) where
+  pub whole_over : (history : List ℕ) (reading : Reading) → IsOver look source → reading_of history ≡ reading → IsWhole (look source.reader).left history reading
+  whole_over history reading over is = record {
+    is = is;
+    all = λ rest left. ap (λ xs. reading_of (history ++ xs)) (none_left (look source.reader).left rest over.empty left) ∙ ap reading_of (append-nil history);
+  }
+
+  whole_always : (history : List ℕ) (reading : Reading) → ((more : List ℕ) → reading_of (history ++ more) ≡ reading) → IsWhole (look source.reader).left history reading
+  whole_always history reading is =
+      let here : reading_of history ≡ reading = ap reading_of (sym (append-nil history)) ∙ is [] in
+      record { is = here; all = λ rest left. is rest ∙ sym here }
+
+  pub whole_read : (history : List ℕ) (fault : WireFault) (reading : Reading) → IsRead look source history fault reading → IsWhole (look source.reader).left history reading
+  whole_read history wire.Truncated reading read = whole_over history reading read.0 read.1
+  whole_read history wire.BadMagic reading read = whole_always history reading read
+  whole_read history (wire.BadVersion n) reading read = whole_always history reading read
+  whole_read history (wire.UnknownType n) reading read = whole_always history reading read
+  whole_read history (wire.NodeIdTooLong n) reading read = whole_always history reading read
+  whole_read history (wire.ListTooLong n) reading read = whole_always history reading read
+  whole_read history wire.TooManyItems reading read = whole_always history reading read
+  whole_read history wire.ItemsOverrun reading read = whole_always history reading read
