@@ -2,3 +2,4 @@ mod RunLaws
 mod ListSteps
 mod ListCalls
 mod ListMessages
+mod ListRuns

@@ -58,6 +58,10 @@ module _ {R W E : Type 0} where
     GivesStep start new history (Ok (Done status)) = GaveAnswer in_look out_look report_look listing start (devices_of new) status
     GivesStep start new history (Err fault) = GaveFailure in_look out_look report_look listing start (devices_of new) fault
 
+    -- a run that is new, or stands behind what it has taken
+    abbrev pub IsUnderWay : Devices R W E → ListRun R W E → Type 0
+    IsUnderWay start run = (IsListStart run × (devices_of run ≡ start)) ⊎ ((history : List ℕ) × IsListAt start run history)
+
   -- a run that has ended, and one that has failed
   abbrev pub HasDone : ListRun R W E → Status → Type 0
   HasDone run status = run.stage ≡ stage.Done status

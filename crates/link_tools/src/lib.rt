@@ -7,5 +7,5 @@ mod listing;
 mod run;
 
 pub use exit::run_exit;
-pub use listing::ListRun;
+pub use listing::{ListRun, list};
 pub use run::{Progress, RunEnd, Status};

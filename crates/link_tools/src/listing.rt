@@ -1,6 +1,10 @@
 //! `list`: a line for the contact header and for each message of a recorded stream.
 
-use crate::run::{Progress, Status};
+ghost use Rattle.std.specs.Prelude.{◌≡◌, false};
+ghost use Rattle.link_tools.specs.Run.{GivesAnswer};
+ghost use Rattle.link_tools.specs.Listing.{listing};
+
+use crate::run::{Progress, RunEnd, Status};
 use link_report::{Fault, Line, contact_line, fault_line, message_line};
 use link_wire::{InDevice, IoFault, OutDevice, Session, Source, Stop, WireFault, write_whole};
 
@@ -86,6 +90,20 @@ impl<R: InDevice, W: OutDevice, E: OutDevice> ListRun<R, W, E> {
             piece: _,
         } = self;
         (session.into_source().into_reader(), output, report)
+    }
+
+    /// The devices as they stand, and the answer.
+    fn end(self, answer: Result<Status, IoFault>) -> RunEnd<R, W, E>
+        ensures devices { record { reader = result.reader; output = result.output; report = result.report } ≡ devices_of self }
+        ensures answer { result.answer ≡ answer }
+    {
+        let (reader, output, report) = self.into_parts();
+        RunEnd {
+            reader,
+            output,
+            report,
+            answer,
+        }
     }
 
     /// Takes the contact header, or the head of a message, or a piece of a segment's data, and writes
@@ -204,6 +222,33 @@ impl<R: InDevice, W: OutDevice, E: OutDevice> ListRun<R, W, E> {
                 self.stage = Stage::Failed(fault);
                 Err(fault)
             }
+        }
+    }
+}
+
+/// Lists a recorded stream: the output has the line of the contact header and of each message, the
+/// report that of the fault which ended the stream, if any; status 3 at a fault, else 0.
+pub fn list<R: InDevice, W: OutDevice, E: OutDevice>(
+    reader: R,
+    output: W,
+    report: E,
+) -> RunEnd<R, W, E>
+    requires reader { (R.state reader).failed ≡ false }
+    requires output { (W.state output).failed ≡ false }
+    requires report { (E.state report).failed ≡ false }
+    ensures {
+        GivesAnswer R.state W.state E.state listing
+            (record { reader = reader; output = output; report = report })
+            (record { reader = result.reader; output = result.output; report = result.report })
+            result.answer
+    }
+{
+    let mut run = ListRun::new(reader, output, report);
+    'steps: loop {
+        match run.step() {
+            Ok(Progress::More) => {}
+            Ok(Progress::Done(status)) => return run.end(Ok(status)),
+            Err(fault) => return run.end(Err(fault)),
         }
     }
 }
