@@ -1,33 +1,26 @@
 -- What each call of the session lets a step of `list` give.
-use Rattle.std.proofs.Common.{◌≡◌, ℕ, ◌+◌, ◌<◌, ◌≤◌, ◌⊎◌, inl, inr, true, false, List, [], ◌∷◌, ◌++◌, length, take, Option, Some, None, Result, Ok, Err, nat_lt, if◌then◌else◌, arith, refl, ap, sym, ◌∙◌, subst, append-nil, append_assoc, length-take}
-use Rattle.std.proofs.lemmas.Bool.{lt-ltb, le-ltb}
+use Rattle.std.proofs.Common.{◌≡◌, ℕ, List, [], ◌∷◌, ◌++◌, Some, None, Result, Ok, Err, refl, ap, sym, ◌∙◌, subst, append-nil, append_assoc}
 use Rattle.std.proofs.lemmas.Grind.{flat_map-append}
-use Rattle.std.specs.List.{flat_map}
 use Rattle.link_wire.specs.Device.{Input, Output}
-use Rattle.link_wire.specs.Message.{data_length}
-use Rattle.link_wire.specs.Stream.{Entry, End, Clean, Cut, Fault, Stream, ended, with_entry, Reading, reading_of}
-use Rattle.link_wire.specs.Source.{Takes, IsOver}
-use Rattle.link_wire.specs.Session.{joined, with_message, data_after, with_data, IsSessionAt, IsLeft, SameMessages, GaveContact, GivesContact, GaveMessage, GaveEnd, GivesNext, GaveData, GivesData, left_of}
+use Rattle.link_wire.specs.Stream.{Entry, End, Clean, Cut, Fault, Stream, Reading, reading_of}
+use Rattle.link_wire.specs.Source.{Takes}
+use Rattle.link_wire.specs.Session.{joined, IsSessionAt, IsLeft, SameMessages, GaveContact, GivesContact, left_of}
 use Rattle.link_wire.specs.ContactLaws.{reading-none}
-use Rattle.link_wire.specs.ReadLaws.{IsWhole, whole_over, whole_read}
+use Rattle.link_wire.specs.ReadLaws.{whole_read}
 use Rattle.link_wire.specs.declared.fault.IoFault.{IoFault}
 use Rattle.link_wire.specs.declared.fault.Stop.{Stop}
 use Rattle.link_wire.specs.declared.fault.Stop.TheVariants as stop
-use Rattle.link_wire.specs.declared.fault.WireFault.{WireFault}
-use Rattle.link_wire.specs.declared.fault.WireFault.TheVariants as wire
 use Rattle.link_wire.specs.declared.message.Contact.{Contact}
-use Rattle.link_wire.specs.declared.message.Message.{Message}
 use Rattle.link_wire.specs.declared.session.Session.{Session}
 use Rattle.link_report.specs.Message.{contact_text, message_text}
 use Rattle.link_report.specs.Fault.{fault_text}
 use Rattle.link_report.specs.declared.fault.Fault.TheVariants.{Wire}
-use Rattle.link_tools.specs.Run.{Told, Devices, NoneFailed, HasTold, GaveAnswer, GaveFailure}
-use Rattle.link_tools.specs.Listing.{listing, listing_of, contact_lines, message_lines, end_lines}
-use Rattle.link_tools.specs.ListRun.{devices_of, IsListStart, IsListAt, IsWaiting, GivesStep, WritesLine, GoesOn, WroteLine, Waits, Stops, ReportsFault}
+use Rattle.link_tools.specs.Run.{Devices, NoneFailed}
+use Rattle.link_tools.specs.Listing.{listing, listing_of, contact_lines, message_lines}
+use Rattle.link_tools.specs.ListRun.{devices_of, IsListStart, IsListAt, IsWaiting, GivesStep, WritesLine, WroteLine, Stops}
 use Rattle.link_tools.specs.declared.listing.ListRun.{ListRun}
 use Rattle.link_tools.specs.declared.listing.Stage.{Stage}
 use Rattle.link_tools.specs.declared.listing.Stage.TheVariants as stage
-use Rattle.link_tools.specs.declared.run.Status.{Status}
 use Rattle.link_tools.specs.declared.run.Progress.{Progress}
 use Rattle.link_tools.specs.declared.run.Progress.TheVariants.{More, Done}
 use Rattle.link_tools.proofs.RunLaws.{HasTold-none, HasTold-then, told_as}

@@ -1,37 +1,33 @@
 -- What a message, and data of a segment, let a step of `list` give.
-use Rattle.std.proofs.Common.{◌≡◌, ℕ, ◌+◌, ◌<◌, ◌≤◌, ◌⊎◌, inl, inr, true, false, List, [], ◌∷◌, ◌++◌, length, take, Option, Some, None, Result, Ok, Err, nat_lt, if◌then◌else◌, arith, refl, ap, sym, ◌∙◌, subst, append-nil, append_assoc, length-take}
+use Rattle.std.proofs.Common.{◌≡◌, ℕ, ◌+◌, ◌<◌, inl, inr, true, false, List, [], ◌++◌, length, take, Result, Ok, Err, nat_lt, arith, refl, ap, sym, ◌∙◌, subst, append-nil, length-take}
 use Rattle.std.proofs.lemmas.Bool.{lt-ltb, le-ltb}
-use Rattle.std.proofs.lemmas.Grind.{flat_map-append}
 use Rattle.std.proofs.KnownBytes.{Consumes-nil, Appends-nil}
 use Rattle.arrayvec.specs.ArrayVec.{ArrayVec}
 use Rattle.link_wire.specs.Device.{Input, Output}
 use Rattle.link_wire.specs.Message.{data_length}
-use Rattle.link_wire.specs.Stream.{Entry, End, Clean, Cut, Fault, Stream, ended, with_entry, Reading, reading_of}
-use Rattle.link_wire.specs.Source.{Takes, IsOver}
-use Rattle.link_wire.specs.Session.{joined, with_message, data_after, with_data, IsSessionAt, IsLeft, SameMessages, GaveContact, GivesContact, GaveMessage, GaveEnd, GivesNext, GaveData, GivesData, GaveStop, IsRead}
-use Rattle.link_wire.specs.ContactLaws.{reading-none}
+use Rattle.link_wire.specs.Stream.{Entry, End, Clean, Cut, Fault, ended, with_entry, Reading, reading_of}
+use Rattle.link_wire.specs.Source.{Takes}
+use Rattle.link_wire.specs.Session.{joined, data_after, IsSessionAt, IsLeft, GaveMessage, GaveEnd, GivesNext, GaveData, GivesData, GaveStop, IsRead}
 use Rattle.link_wire.specs.ReadLaws.{IsWhole, whole_over, whole_read}
 use Rattle.link_wire.specs.declared.fault.IoFault.{IoFault}
 use Rattle.link_wire.specs.declared.fault.Stop.{Stop}
 use Rattle.link_wire.specs.declared.fault.Stop.TheVariants as stop
 use Rattle.link_wire.specs.declared.fault.WireFault.{WireFault}
-use Rattle.link_wire.specs.declared.fault.WireFault.TheVariants as wire
-use Rattle.link_wire.specs.declared.message.Contact.{Contact}
 use Rattle.link_wire.specs.declared.message.Message.{Message}
 use Rattle.link_wire.specs.declared.session.Session.{Session}
-use Rattle.link_report.specs.Message.{contact_text, message_text}
+use Rattle.link_report.specs.Message.{message_text}
 use Rattle.link_report.specs.Fault.{fault_text}
 use Rattle.link_report.specs.declared.fault.Fault.TheVariants.{Wire}
-use Rattle.link_tools.specs.Run.{Told, Devices, NoneFailed, HasTold, GaveAnswer, GaveFailure}
+use Rattle.link_tools.specs.Run.{Devices, HasTold, GaveAnswer, GaveFailure}
 use Rattle.link_tools.specs.Listing.{listing, listing_of, end_lines, end_status}
-use Rattle.link_tools.specs.ListRun.{devices_of, IsListStart, IsListAt, IsWaiting, GivesStep, WritesLine, GoesOn, WroteLine, FailedLine, Waits, Stops, FailsStop}
+use Rattle.link_tools.specs.ListRun.{devices_of, IsListAt, IsWaiting, GivesStep, GoesOn, WroteLine, FailedLine, Waits, Stops, FailsStop}
 use Rattle.link_tools.specs.declared.listing.ListRun.{ListRun}
 use Rattle.link_tools.specs.declared.listing.Stage.{Stage}
 use Rattle.link_tools.specs.declared.listing.Stage.TheVariants as stage
 use Rattle.link_tools.specs.declared.run.Status.{Status}
 use Rattle.link_tools.specs.declared.run.Progress.{Progress}
 use Rattle.link_tools.specs.declared.run.Progress.TheVariants.{More, Done}
-use Rattle.link_tools.proofs.RunLaws.{HasTold-none, HasTold-then, told_as}
+use Rattle.link_tools.proofs.RunLaws.{HasTold-then, told_as}
 use Rattle.link_tools.proofs.ListCalls.{output_joined, output_same, one_line, no_lines, sound_mid, sound_new}
 use Rattle.link_tools.proofs.ListSteps.{session_told, line_told, line_failed, fault_told, report_failed, reader_failed}
 
@@ -59,7 +55,7 @@ module _ {R W E : Type 0} (in_look : R → Input) (out_look : W → Output) (rep
       record {
         session = subst P (sym waits.session) session;
         told = told_as in_look out_look report_look (HasTold-then in_look out_look report_look start (devices_of mid) (devices_of new) (history ++ taken) [] (listing history).output [] [] [] (told_mid taken took) last)
-          (append-nil (history ++ taken)) (append-nil (listing history).output ∙ sym same) refl;
+            (append-nil (history ++ taken)) (append-nil (listing history).output ∙ sym same) refl;
         sound = record { reader = rw waits.session sound.reader; output = rw waits.output sound.output; report = rw waits.report sound.report };
         waits = subst Q (sym (ap (λ (r : Reading). r.end) reading)) (waits.stage, ap (λ (l : ArrayVec ℕ). l.items) waits.line ∙ line);
       }
@@ -75,7 +71,7 @@ module _ {R W E : Type 0} (in_look : R → Input) (out_look : W → Output) (rep
       record {
         session = subst P (sym wrote.session) session;
         told = told_as in_look out_look report_look (HasTold-then in_look out_look report_look start (devices_of mid) (devices_of new) (history ++ taken) [] (listing history).output mid.line.items [] [] (told_mid taken took) (line_told in_look out_look report_look mid new wrote))
-          (append-nil (history ++ taken)) (sym grown) refl;
+            (append-nil (history ++ taken)) (sym grown) refl;
         sound = sound_new in_look out_look report_look run mid new output report wrote (sound_mid in_look out_look report_look run mid new output report taken at.sound took);
         waits = subst Q (sym (ap (λ (r : Reading). r.end) reading)) wrote.stage;
       }
@@ -128,6 +124,7 @@ module _ {R W E : Type 0} (in_look : R → Input) (out_look : W → Output) (rep
     where
       bytes : List ℕ
       bytes = take n buffer
+
       by_end : (end : End) → (reading_of history).end ≡ end → GivesStep in_look out_look report_look start new history result
       by_end Clean is =
           let P : End → Type 0 = λ end. IsWaiting run.stage run.line.items end in

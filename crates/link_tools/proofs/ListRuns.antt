@@ -1,5 +1,5 @@
 -- A whole run of `list`, step by step.
-use Rattle.std.proofs.Common.{◌≡◌, ℕ, ◌+◌, ◌-◌, ◌^◌, ◌<◌, ◌⊎◌, inl, inr, List, [], ◌++◌, length, Result, Ok, Err, arith, sym, subst, length-append}
+use Rattle.std.proofs.Common.{◌≡◌, ℕ, ◌-◌, ◌^◌, ◌<◌, inl, inr, List, [], length, Result, arith, sym, subst, length-append}
 use Rattle.link_wire.specs.Device.{Input, Output}
 use Rattle.link_wire.specs.declared.fault.IoFault.{IoFault}
 use Rattle.link_tools.specs.Run.{Devices, GivesAnswer}

@@ -1,12 +1,11 @@
 -- What each step of `list` takes and writes.
-use Rattle.std.proofs.Common.{◌≡◌, ℕ, ◌+◌, ◌<◌, ◌≤◌, ◌⊎◌, inl, inr, true, false, List, [], ◌∷◌, ◌++◌, length, take, Option, Some, None, Result, Ok, Err, refl, ap, sym, ◌∙◌, subst, append-nil, append_assoc}
+use Rattle.std.proofs.Common.{◌≡◌, ℕ, ◌+◌, inl, inr, List, [], ◌++◌, length, take, refl, ap, sym, ◌∙◌, append-nil, append_assoc}
 use Rattle.std.proofs.KnownBytes.{Consumes-nil, Appends-nil}
 use Rattle.std.proofs.Math.Seq.{take-append-add}
 use Rattle.std.proofs.Math.Seq.{take-length}
 use Rattle.link_wire.specs.Device.{Input, Output}
 use Rattle.link_wire.specs.Source.{Takes, StopsAfter, HasCause}
-use Rattle.link_wire.specs.Writing.{Wrote, WroteFront}
-use Rattle.link_wire.specs.Stream.{Reading, Clean, Cut, reading_of}
+use Rattle.link_wire.specs.Stream.{Reading, reading_of}
 use Rattle.link_wire.specs.ReadLaws.{IsWhole}
 use Rattle.link_wire.specs.declared.fault.IoFault.{IoFault}
 use Rattle.link_wire.specs.declared.fault.IoFault.TheVariants as io
@@ -15,12 +14,12 @@ use Rattle.link_wire.specs.declared.session.Session.{Session}
 use Rattle.link_wire.specs.declared.source.Source.{Source}
 use Rattle.link_report.specs.Fault.{fault_text}
 use Rattle.link_report.specs.declared.fault.Fault.TheVariants.{Wire}
-use Rattle.link_tools.specs.Run.{Told, Devices, NoneFailed, HasTold, GaveAnswer, GaveFailure, HasFailedBy}
+use Rattle.link_tools.specs.Run.{Devices, NoneFailed, HasTold, GaveAnswer, GaveFailure, HasFailedBy}
 use Rattle.link_tools.specs.Listing.{listing, listing_of}
-use Rattle.link_tools.specs.ListRun.{devices_of, IsListStart, IsListAt, WroteLine, FailedLine, Reported, FailedReport, FailedStop}
+use Rattle.link_tools.specs.ListRun.{devices_of, WroteLine, FailedLine, Reported, FailedReport, FailedStop}
 use Rattle.link_tools.specs.declared.listing.ListRun.{ListRun}
 use Rattle.link_tools.specs.declared.run.Status.{Status}
-use Rattle.link_tools.proofs.RunLaws.{HasTold-none, HasTold-then, told_as}
+use Rattle.link_tools.proofs.RunLaws.{HasTold-then, told_as}
 
 module _ {R W E : Type 0} (in_look : R → Input) (out_look : W → Output) (report_look : E → Output) where
   Tells : Devices R W E → Devices R W E → List ℕ → List ℕ → List ℕ → Type 0
@@ -51,7 +50,7 @@ module _ {R W E : Type 0} (in_look : R → Input) (out_look : W → Output) (rep
         reports = rw failed.report (Appends-nil (report_look mid.report).written);
       } in
       let front : take (length before + failed.writes.count) (listing taken).output ≡ before ++ take failed.writes.count mid.line.items =
-          ap (take (length before + failed.writes.count)) all ∙ take-append-add before mid.line.items failed.writes.count in
+      ap (take (length before + failed.writes.count)) all ∙ take-append-add before mid.line.items failed.writes.count in
       rw failed.writes.kind (record {
         taken = taken;
         past = [];
@@ -105,7 +104,7 @@ module _ {R W E : Type 0} (in_look : R → Input) (out_look : W → Output) (rep
         output = length (listing taken).output;
         report = failed.writes.count;
         told = told_as in_look out_look report_look (HasTold-then in_look out_look report_look start (devices_of mid) (devices_of new) taken [] (listing taken).output [] [] (take failed.writes.count line) told last)
-          refl (append-nil (listing taken).output ∙ sym (take-length (listing taken).output)) (ap (take failed.writes.count) (sym whole));
+            refl (append-nil (listing taken).output ∙ sym (take-length (listing taken).output)) (ap (take failed.writes.count) (sym whole));
         cause = (inr failed.writes.device, refl);
       })
 
@@ -134,8 +133,8 @@ module _ {R W E : Type 0} (in_look : R → Input) (out_look : W → Output) (rep
         output = length (listing history).output;
         report = 0;
         told = told_as in_look out_look report_look (HasTold-then in_look out_look report_look start (devices_of run) (devices_of new) history (taken ++ stops.past) (listing history).output [] [] [] told last)
-          (sym (append_assoc history taken stops.past))
-          (append-nil (listing history).output ∙ sym (ap (take (length (listing history).output)) same ∙ take-length (listing history).output))
-          refl;
+            (sym (append_assoc history taken stops.past))
+            (append-nil (listing history).output ∙ sym (ap (take (length (listing history).output)) same ∙ take-length (listing history).output))
+            refl;
         cause = stop_cause (devices_of new) mid.session.source fault stops.past (ap (λ (s : Session R). s.source.reader) (sym failed.session)) stops.cause;
       }

@@ -1,8 +1,8 @@
 -- What a run tells in turn it tells in one.
-use Rattle.std.proofs.Common.{◌≡◌, ℕ, ◌+◌, true, false, List, [], ◌++◌, length, take, Option, Some, refl, ap, sym, ◌∙◌, subst, append-nil}
+use Rattle.std.proofs.Common.{◌≡◌, ℕ, List, [], ◌++◌}
 use Rattle.std.proofs.KnownBytes.{Consumes-nil, Consumes-trans, Appends-nil, Appends-trans}
 use Rattle.link_wire.specs.Device.{Input, Output}
-use Rattle.link_tools.specs.Run.{Devices, NoneFailed, HasTold}
+use Rattle.link_tools.specs.Run.{Devices, HasTold}
 
 module _ {R W E : Type 0} (in_look : R → Input) (out_look : W → Output) (report_look : E → Output) where
   pub HasTold-none : (d : Devices R W E) → HasTold in_look out_look report_look d d [] [] []

@@ -1,5 +1,5 @@
 -- Where a run of `list` stands.
-use Rattle.std.specs.Prelude.{◌≡◌, ℕ, ◌+◌, ◌<◌, ◌⊎◌, List, [], ◌++◌, length, Option, Some, None, Result, Ok, Err}
+use Rattle.std.specs.Prelude.{◌≡◌, ℕ, ◌<◌, ◌⊎◌, List, [], ◌++◌, length, Result, Ok, Err}
 use Rattle.link_wire.specs.Device.{Input, Output}
 use Rattle.link_wire.specs.Stream.{End, Clean, Cut, Fault, reading_of}
 use Rattle.link_wire.specs.Session.{IsNew, IsSessionAt, left_of}

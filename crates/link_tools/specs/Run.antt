@@ -1,12 +1,10 @@
 -- What a run has written, and how it ends.
-use Rattle.std.specs.Prelude.{◌≡◌, ℕ, ◌<◌, ◌⊎◌, true, false, List, [], ◌++◌, length, take, Option, Some, Result, Ok, Err}
+use Rattle.std.specs.Prelude.{◌≡◌, ℕ, ◌⊎◌, true, false, List, [], ◌++◌, length, take, Some, Result, Ok, Err}
 use Rattle.std.specs.Io.KnownBytes.{Consumes, Appends}
 use Rattle.link_wire.specs.Device.{Input, Output}
 use Rattle.link_wire.specs.declared.fault.IoFault.{IoFault}
 use Rattle.link_wire.specs.declared.fault.IoFault.TheVariants as io
 use Rattle.link_tools.specs.declared.run.Status.{Status}
-use Rattle.link_tools.specs.declared.run.Progress.{Progress}
-use Rattle.link_tools.specs.declared.run.Progress.TheVariants.{More, Done}
 
 -- what a tool tells of an input: its output, its report and its status
 pub record Told : Type 0 where

@@ -236,12 +236,10 @@ pub fn list<R: InDevice, W: OutDevice, E: OutDevice>(
     requires reader { (R.state reader).failed ≡ false }
     requires output { (W.state output).failed ≡ false }
     requires report { (E.state report).failed ≡ false }
-    ensures {
-        GivesAnswer R.state W.state E.state listing
-            (record { reader = reader; output = output; report = report })
-            (record { reader = result.reader; output = result.output; report = result.report })
-            result.answer
-    }
+    ensures { GivesAnswer R.state W.state E.state listing
+        (record { reader = reader; output = output; report = report })
+        (record { reader = result.reader; output = result.output; report = result.report })
+        result.answer }
 {
     let mut run = ListRun::new(reader, output, report);
     'steps: loop {

@@ -6,10 +6,9 @@
 
 use link_tools::{Status, list, run_exit};
 use link_wire::{IoFault, Reader, Writer};
-use std::env;
-use std::io;
 use std::io::{BufReader, BufWriter, Write};
 use std::process::ExitCode;
+use std::{env, io};
 
 /// The exit status where the words are not those of the program.
 const USAGE: u8 = 2;
@@ -50,7 +49,11 @@ fn list_streams(rt: &HostRuntime) -> io::Result<Result<Status, IoFault>> {
     let reader = BufReader::with_capacity(alloc, INPUT_BUFFER, rt.stdin())?;
     let output = BufWriter::with_capacity(alloc, TEXT_BUFFER, rt.stdout())?;
     let report = BufWriter::with_capacity(alloc, TEXT_BUFFER, rt.stderr())?;
-    let end = list(Reader::new(reader), Writer::new(output), Writer::new(report));
+    let end = list(
+        Reader::new(reader),
+        Writer::new(output),
+        Writer::new(report),
+    );
     let written = end.output.into_inner().flush().is_ok();
     let told = end.report.into_inner().flush().is_ok();
     Ok(with_flushes(end.answer, written && told))

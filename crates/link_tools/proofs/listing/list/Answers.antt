@@ -1,4 +1,4 @@
-use Rattle.std.proofs.Common.{◌≡◌, ◌++◌, inr, Ok, Err, ap, ◌∙◌}
+use Rattle.std.proofs.Common.{◌++◌, inr, Ok, Err, ap, ◌∙◌}
 use Rattle.link_tools.specs.declared.run.Progress.TheVariants.{More, Done}
 use Rattle.link_tools.proofs.ListRuns.{step_under_way, nearer, handed_back}
 use Rattle.link_tools.proofs.listing.list.Goals as goal

@@ -1,4 +1,4 @@
-use Rattle.std.proofs.Common.{◌≡◌, refl}
+use Rattle.std.proofs.Common.{refl}
 use Rattle.link_tools.proofs.ListCalls.{contact_step, contact_stop}
 use Rattle.link_tools.proofs.listing.ListRun.take_contact.Goals as goal
 

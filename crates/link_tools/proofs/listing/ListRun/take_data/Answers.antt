@@ -1,4 +1,4 @@
-use Rattle.std.proofs.Common.{◌≡◌, refl, ap, length, ◌<◌, arith}
+use Rattle.std.proofs.Common.{refl, length, ◌<◌, arith}
 use Rattle.link_tools.proofs.ListMessages.{data_step, data_stop}
 use Rattle.link_tools.proofs.listing.ListRun.take_data.Goals as goal
 

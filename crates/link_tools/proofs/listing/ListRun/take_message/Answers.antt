@@ -1,4 +1,4 @@
-use Rattle.std.proofs.Common.{◌≡◌, refl, ap, subst}
+use Rattle.std.proofs.Common.{refl}
 use Rattle.link_tools.proofs.ListMessages.{message_step, message_end, next_stop}
 use Rattle.link_tools.proofs.ListCalls.{none_left}
 use Rattle.link_tools.proofs.listing.ListRun.take_message.Goals as goal
