@@ -1,13 +1,12 @@
 -- A stream begins with the six bytes of its contact header.
-use Rattle.std.proofs.Common.{◌≡◌, ℕ, ◌+◌, ◌<◌, ◌≤◌, Bool, true, false, List, [], ◌++◌, length, take, drop, Some, None, Result, Ok, Err, if◌then◌else◌, eqb, slice_index, arith, refl, ap, sym, ◌∙◌, length-append, length-drop, ◌⊎◌, ⊎_elim}
+use Rattle.std.proofs.Common.{◌≡◌, ℕ, ◌+◌, Bool, true, false, List, [], ◌++◌, length, Some, None, Ok, Err, if◌then◌else◌, eqb, slice_index, arith, refl, ap, sym, ◌∙◌, length-append, length-drop, ⊎_elim}
 use Rattle.std.proofs.lemmas.Bool.{cases_lt}
 use Rattle.byteorder.specs.Endian.{big_number}
-use Rattle.link_wire.specs.Part.{Part, ◌>>=◌, bytes_at}
+use Rattle.link_wire.specs.Part.{bytes_at}
 use Rattle.link_wire.specs.PartLaws.{bytes_at-short, bytes_at-enough}
 use Rattle.link_wire.specs.PartSizes.{both_read, same_rest}
 use Rattle.link_wire.specs.Message.{contact_at}
-use Rattle.link_wire.specs.Stream.{Entry, Clean, Fault, stream_at, ended, Reading, reading_of, reading_by}
-use Rattle.link_wire.specs.StreamLaws.{stream_at-nil}
+use Rattle.link_wire.specs.Stream.{Fault, stream_at, reading_of, reading_by}
 use Rattle.link_wire.specs.declared.fault.WireFault.{WireFault}
 use Rattle.link_wire.specs.declared.fault.WireFault.TheVariants.{Truncated}
 use Rattle.link_wire.specs.declared.message.Contact.{Contact}
@@ -26,10 +25,10 @@ contact_size bytes contact rest is =
     ⊎_elim
     (λ short. let none = sym (bytes_at-short 6 bytes short) ∙ read.1 in absurd (cc))
     (λ enough.
-      let found = sym (bytes_at-enough 6 bytes enough) ∙ read.1 in
-      let pair = passed (eqb (big_number 4 header.0) 0x64746e21) (eqb (slice_index header.0 4) 4) _ (contact, rest) _ _ read.2 in
-      let behind : header.1 ≡ rest = ap (λ (p : Contact × List ℕ). p.1) pair in
-      omega (arith, ap length behind, ap length (same_rest found), length-drop 6 bytes))
+    let found = sym (bytes_at-enough 6 bytes enough) ∙ read.1 in
+    let pair = passed (eqb (big_number 4 header.0) 0x64746e21) (eqb (slice_index header.0 4) 4) _ (contact, rest) _ _ read.2 in
+    let behind : header.1 ≡ rest = ap (λ (p : Contact × List ℕ). p.1) pair in
+    omega (arith, ap length behind, ap length (same_rest found), length-drop 6 bytes))
     (cases_lt (length bytes) 6)
 
 module _ (taken : List ℕ) (contact : Contact) (is : (more : List ℕ) → contact_at (taken ++ more) ≡ Ok (contact, more)) where

@@ -1,7 +1,7 @@
 -- A part that is read from a source, against its definition over lists.
-use Rattle.std.specs.Prelude.{◌≡◌, ℕ, List, ◌++◌, length, Result, Ok, Err}
+use Rattle.std.specs.Prelude.{◌≡◌, ℕ, List, ◌++◌, Result, Ok, Err}
 use Rattle.link_wire.specs.Device.{Input}
-use Rattle.link_wire.specs.Part.{Part, bytes_at}
+use Rattle.link_wire.specs.Part.{Part}
 use Rattle.link_wire.specs.Source.{IsLive, IsOver, Takes, StopsAfter}
 use Rattle.link_wire.specs.declared.fault.IoFault.{IoFault}
 use Rattle.link_wire.specs.declared.fault.WireFault.{WireFault}

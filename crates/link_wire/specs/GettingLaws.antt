@@ -1,5 +1,5 @@
 -- A part that was read, and then what depends on it.
-use Rattle.std.proofs.Common.{◌≡◌, ◌≢◌, ◌+◌, ◌-◌, ◌≤◌, ℕ, Bool, true, false, List, [], ◌++◌, length, Result, Ok, Err, if◌then◌else◌, cond, ap, sym, ◌∙◌, subst, refl, append_assoc, slice_index, arith}
+use Rattle.std.proofs.Common.{◌≡◌, ◌≢◌, ◌+◌, ◌-◌, ◌≤◌, ℕ, Bool, true, false, List, [], ◌++◌, Result, Ok, Err, if◌then◌else◌, ap, sym, ◌∙◌, subst, refl, append_assoc, slice_index, arith}
 use mathlib.Core.Path.{fun_ext}
 use Rattle.std.specs.Prelude.{IsErrAnd}
 use Rattle.byteorder.specs.Endian.{big_number}
@@ -7,10 +7,9 @@ use Rattle.link_wire.specs.Device.{Input}
 use Rattle.link_wire.specs.Part.{Part, ◌>>=◌, bytes_at, number_at}
 use Rattle.link_wire.specs.Message.{skipped_at}
 use Rattle.link_wire.specs.ListLaws.{skipped_at-there, skipped_at-add}
-use Rattle.link_wire.specs.Source.{IsLive, IsOver, Takes, StopsAfter}
+use Rattle.link_wire.specs.Source.{IsLive}
 use Rattle.link_wire.specs.SourceLaws.{Takes-none, Takes-then, StopsAfter-then}
-use Rattle.link_wire.specs.Getting.{IsFaultOf, IsOverAt, GotPart, MetFault, MetStop, Gets}
-use Rattle.link_wire.specs.declared.fault.IoFault.{IoFault}
+use Rattle.link_wire.specs.Getting.{IsFaultOf, Gets}
 use Rattle.link_wire.specs.declared.fault.WireFault.{WireFault}
 use Rattle.link_wire.specs.declared.fault.WireFault.TheVariants as wire
 use Rattle.link_wire.specs.declared.halt.Halt.{Halt}
@@ -50,37 +49,47 @@ module _ {A B : Type 0} (part : List ℕ → Part A) (next : A × List ℕ → P
 module _ {R A B : Type 0} {look : R → Input} {part : List ℕ → Part A} (next : A × List ℕ → Part B) where
   -- a part that was not read: nothing that goes on from it was
   pub exit : {old new : Source R} {stop : Halt} → Gets look part old new (Err stop) → Gets look (λ bytes. part bytes >>= next) old new (Err stop)
-  exit {stop = halt.Wire fault} met = record { by = record {
-    taken = met.by.taken;
-    takes = met.by.takes;
-    is_fault = IsFaultOf-exit part next met.by.taken fault met.by.is_fault;
-    over = met.by.over;
-  } }
-  exit {stop = halt.Io fault} met = record { by = record {
-    taken = met.by.taken;
-    stops = met.by.stops;
-    is_cut = ap (λ r. r >>= next) met.by.is_cut;
-  } }
+  exit {stop = halt.Wire fault} met = record {
+    by = record {
+      taken = met.by.taken;
+      takes = met.by.takes;
+      is_fault = IsFaultOf-exit part next met.by.taken fault met.by.is_fault;
+      over = met.by.over;
+    };
+  }
+  exit {stop = halt.Io fault} met = record {
+    by = record {
+      taken = met.by.taken;
+      stops = met.by.stops;
+      is_cut = ap (λ r. r >>= next) met.by.is_cut;
+    };
+  }
 
   -- a part that was read, and what goes on from it
   pub after : {old mid new : Source R} {value : A} {answer : Result B Halt} → Gets look part old mid (Ok value) → Gets look (λ bytes. next (value, bytes)) mid new answer → Gets look (λ bytes. part bytes >>= next) old new answer
-  after {old} {mid} {new} {value} {answer = Ok given} got more = record { by = record {
-    taken = got.by.taken ++ more.by.taken;
-    takes = Takes-then look old mid new got.by.taken more.by.taken got.by.takes more.by.takes;
-    live = more.by.live;
-    is_part = λ rest. part_then_more part next value got.by.taken more.by.taken got.by.is_part rest ∙ more.by.is_part rest;
-  } }
-  after {old} {mid} {new} {value} {answer = Err (halt.Wire fault)} got more = record { by = record {
-    taken = got.by.taken ++ more.by.taken;
-    takes = Takes-then look old mid new got.by.taken more.by.taken got.by.takes more.by.takes;
-    is_fault = IsFaultOf-then part next value got.by.taken more.by.taken got.by.is_part fault more.by.is_fault;
-    over = more.by.over;
-  } }
-  after {old} {mid} {new} {value} {answer = Err (halt.Io fault)} got more = record { by = record {
-    taken = got.by.taken ++ more.by.taken;
-    stops = StopsAfter-then look old mid new got.by.taken more.by.taken fault got.by.takes more.by.stops;
-    is_cut = part_then part next value got.by.taken more.by.taken got.by.is_part ∙ more.by.is_cut;
-  } }
+  after {old} {mid} {new} {value} {answer = Ok given} got more = record {
+    by = record {
+      taken = got.by.taken ++ more.by.taken;
+      takes = Takes-then look old mid new got.by.taken more.by.taken got.by.takes more.by.takes;
+      live = more.by.live;
+      is_part = λ rest. part_then_more part next value got.by.taken more.by.taken got.by.is_part rest ∙ more.by.is_part rest;
+    };
+  }
+  after {old} {mid} {new} {value} {answer = Err (halt.Wire fault)} got more = record {
+    by = record {
+      taken = got.by.taken ++ more.by.taken;
+      takes = Takes-then look old mid new got.by.taken more.by.taken got.by.takes more.by.takes;
+      is_fault = IsFaultOf-then part next value got.by.taken more.by.taken got.by.is_part fault more.by.is_fault;
+      over = more.by.over;
+    };
+  }
+  after {old} {mid} {new} {value} {answer = Err (halt.Io fault)} got more = record {
+    by = record {
+      taken = got.by.taken ++ more.by.taken;
+      stops = StopsAfter-then look old mid new got.by.taken more.by.taken fault got.by.takes more.by.stops;
+      is_cut = part_then part next value got.by.taken more.by.taken got.by.is_part ∙ more.by.is_cut;
+    };
+  }
 
 module _ {R A : Type 0} {look : R → Input} where
   -- a part that was read leaves the source as it was before

@@ -1,11 +1,10 @@
 -- The items of a list, one after another.
-use Rattle.std.proofs.Common.{◌≡◌, ◌≢◌, ℕ, zero, suc, ◌+◌, ◌-◌, ◌<◌, Bool, List, [], ◌∷◌, ◌++◌, length, Option, Result, Ok, Err, eqb, true, false, arith, refl, ap, sym, ◌∙◌, append_assoc}
+use Rattle.std.proofs.Common.{◌≡◌, ℕ, zero, suc, ◌+◌, ◌-◌, ◌<◌, Bool, List, [], ◌∷◌, ◌++◌, Option, Result, Ok, Err, eqb, false, arith, refl, ap, sym, append_assoc}
 use Rattle.std.proofs.lemmas.Bool.Decides.{nat_tests}
 use Rattle.link_wire.specs.Device.{Input}
-use Rattle.link_wire.specs.Part.{Part, ◌>>=◌}
 use Rattle.link_wire.specs.Source.{IsLive}
 use Rattle.link_wire.specs.Getting.{Gets}
-use Rattle.link_wire.specs.GettingLaws.{exit, after, pure, refuse, is_live, if_true, if_false}
+use Rattle.link_wire.specs.GettingLaws.{exit, after, pure, refuse, is_live, if_false}
 use Rattle.link_wire.specs.Message.{item_head_at, total_at, items_at}
 use Rattle.link_wire.specs.declared.fault.WireFault.TheVariants as wire
 use Rattle.link_wire.specs.declared.halt.Halt.{Halt}

@@ -1,11 +1,10 @@
 -- Bytes that are passed over in pieces, and the items of a list one after another.
-use Rattle.std.proofs.Common.{◌≡◌, ℕ, ◌+◌, ◌-◌, ◌<◌, ◌≤◌, ◌⊎◌, List, [], ◌++◌, length, drop, Result, Ok, Err, nat_lt, arith, refl, ap, sym, ◌∙◌, ⊎_elim, length-drop}
-use Rattle.std.proofs.lemmas.Bool.{lt-ltb, le-ltb, cases_lt}
+use Rattle.std.proofs.Common.{◌≡◌, ℕ, ◌+◌, ◌<◌, ◌≤◌, List, length, drop, Ok, Err, arith, refl, ap, sym, ◌∙◌, ⊎_elim, length-drop}
+use Rattle.std.proofs.lemmas.Bool.{le-ltb, cases_lt}
 use Rattle.std.proofs.lemmas.List.{drop-drop}
-use Rattle.link_wire.specs.Part.{Part, ◌>>=◌, bytes_at}
+use Rattle.link_wire.specs.Part.{◌>>=◌, bytes_at}
 use Rattle.link_wire.specs.PartLaws.{bytes_at-short}
 use Rattle.link_wire.specs.Message.{skipped_at}
-use Rattle.link_wire.specs.declared.fault.WireFault.{WireFault}
 use Rattle.link_wire.specs.declared.fault.WireFault.TheVariants.{Truncated}
 
 pub skipped_at-short : (n : ℕ) (bytes : List ℕ) → length bytes < n → skipped_at n bytes ≡ Err Truncated
@@ -25,7 +24,7 @@ skipped_at-add a b bytes =
     ⊎_elim
     (λ short. ap (λ r. r >>= λ v. skipped_at b v.1) (skipped_at-short a bytes short) ∙ sym (skipped_at-short (a + b) bytes (omega arith)))
     (λ there. skipped_at-first a b bytes there ∙ ⊎_elim
-        (λ short. skipped_at-short b (drop a bytes) short ∙ sym (skipped_at-short (a + b) bytes (omega (arith, length-drop a bytes))))
-        (λ enough. skipped_at-there b (drop a bytes) enough ∙ ap (λ rest. Ok (tt, rest)) (drop-drop b a bytes) ∙ sym (skipped_at-there (a + b) bytes (omega (arith, length-drop a bytes))))
-        (cases_lt (length (drop a bytes)) b))
+    (λ short. skipped_at-short b (drop a bytes) short ∙ sym (skipped_at-short (a + b) bytes (omega (arith, length-drop a bytes))))
+    (λ enough. skipped_at-there b (drop a bytes) enough ∙ ap (λ rest. Ok (tt, rest)) (drop-drop b a bytes) ∙ sym (skipped_at-there (a + b) bytes (omega (arith, length-drop a bytes))))
+    (cases_lt (length (drop a bytes)) b))
     (cases_lt (length bytes) a)

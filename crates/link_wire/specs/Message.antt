@@ -1,16 +1,14 @@
 -- The messages of TCPCLv4 (RFC 9174), read from a list of bytes field by field, in written order: the first field that
 -- is missing or breaks its rule gives the fault.
-use Rattle.std.specs.Prelude.{◌≡◌, ℕ, zero, suc, ◌+◌, ◌-◌, ◌*◌, Bool, true, false, ◌&&◌, List, [], ◌∷◌, length, take, drop, slice_index, Option, Some, None, Result, Ok, Err, nat_lt, ◌==◌, if◌then◌else◌, bit_and}
+use Rattle.std.specs.Prelude.{ℕ, zero, suc, ◌+◌, ◌-◌, Bool, true, false, ◌&&◌, List, [], ◌∷◌, slice_index, Option, Some, None, Ok, Err, nat_lt, ◌==◌, if◌then◌else◌, bit_and}
 use Rattle.arrayvec.specs.ArrayVec.{ArrayVec}
 use Rattle.byteorder.specs.Endian.{big_number}
 use Rattle.link_wire.specs.Part.{Part, ◌>>=◌, bytes_at, number_at}
 use Rattle.link_wire.specs.declared.message.TheConstants.{MAX_NODE_ID, MAX_LIST_LENGTH, MAX_ITEMS}
-use Rattle.link_wire.specs.declared.fault.WireFault.{WireFault}
 use Rattle.link_wire.specs.declared.fault.WireFault.TheVariants.{BadMagic, BadVersion, UnknownType, NodeIdTooLong, ListTooLong, TooManyItems, ItemsOverrun}
 use Rattle.link_wire.specs.declared.message.Contact.{Contact}
 use Rattle.link_wire.specs.declared.message.Item.{Item}
 use Rattle.link_wire.specs.declared.list.ItemHead.{ItemHead}
-use Rattle.link_wire.specs.declared.message.SegmentHead.{SegmentHead}
 use Rattle.link_wire.specs.declared.message.Message.{Message}
 use Rattle.link_wire.specs.declared.message.Message.TheVariants.{SessInit, Segment, Ack, Refuse, Keepalive, SessTerm, MsgReject}
 
@@ -49,7 +47,7 @@ gives_total is_transfer kind size = is_transfer && (kind == 1 && size == 8)
 -- an extension item's value: the total length, of a Transfer Length item
 unfoldable pub total_at : Bool → ℕ → ℕ → List ℕ → Part (Option ℕ)
 total_at is_transfer kind size bytes =
-  if gives_total is_transfer kind size
+    if gives_total is_transfer kind size
     then (do
       total ← number_at 8 bytes
       Ok (Some total.0, total.1))
@@ -61,15 +59,15 @@ total_at is_transfer kind size bytes =
 -- type and length. The item has to end within the list.
 unfoldable pub item_head_at : ℕ → List ℕ → Part ItemHead
 item_head_at left bytes =
-  if nat_lt left 5
+    if nat_lt left 5
     then Err ItemsOverrun
     else (do
       flags ← number_at 1 bytes
       kind ← number_at 2 flags.1
       size ← number_at 2 kind.1
       if nat_lt (left - 5) size.0
-        then Err ItemsOverrun
-        else Ok (record { flags = flags.0; kind = kind.0; length = size.0 }, size.1))
+          then Err ItemsOverrun
+          else Ok (record { flags = flags.0; kind = kind.0; length = size.0 }, size.1))
 
 -- The items of a list's next `left` bytes, of which at most `room` more may come. They fill those bytes exactly.
 unfoldable pub items_at : Bool → ℕ → ℕ → List ℕ → Part (List Item)

@@ -1,7 +1,7 @@
 -- A message begins with its type byte.
-use Rattle.std.proofs.Common.{◌≡◌, ℕ, List, [], ◌∷◌, Result, Ok, Err, ap, refl}
+use Rattle.std.proofs.Common.{◌≡◌, ℕ, List, [], ◌∷◌, Err, ap, refl}
 use Rattle.link_wire.specs.Part.{◌>>=◌, number_at, bytes_at}
-use Rattle.link_wire.specs.PartLaws.{number_at-byte, bytes_at-short}
+use Rattle.link_wire.specs.PartLaws.{number_at-byte}
 use Rattle.link_wire.specs.Message.{message_at, fields_at}
 use Rattle.link_wire.specs.declared.fault.WireFault.TheVariants.{Truncated}
 

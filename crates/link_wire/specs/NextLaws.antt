@@ -1,12 +1,12 @@
 -- A message by its type byte and what follows it.
-use Rattle.std.proofs.Common.{◌≡◌, ℕ, List, [], ◌∷◌, ◌++◌, Result, Ok, Err, Option, ◌∙◌}
+use Rattle.std.proofs.Common.{ℕ, [], ◌∷◌, ◌++◌, Ok, Err, ◌∙◌}
 use Rattle.link_wire.specs.Device.{Input}
 use Rattle.link_wire.specs.Message.{message_at, fields_at}
 use Rattle.link_wire.specs.MessageLaws.{message_at-kind, message_at-nil}
 use Rattle.link_wire.specs.Source.{StopsAfter}
 use Rattle.link_wire.specs.SourceLaws.{Takes-then, StopsAfter-then}
 use Rattle.link_wire.specs.Getting.{Gets, GotPart}
-use Rattle.link_wire.specs.Session.{GotKind, GetsNext, MetNext, StopNext}
+use Rattle.link_wire.specs.Session.{GotKind, GetsNext, StopNext}
 use Rattle.link_wire.specs.declared.fault.IoFault.{IoFault}
 use Rattle.link_wire.specs.declared.halt.Halt.{Halt}
 use Rattle.link_wire.specs.declared.halt.Halt.TheVariants as halt

@@ -1,5 +1,5 @@
 -- Reading a list of bytes part by part, in written order.
-use Rattle.std.specs.Prelude.{◌≡◌, ℕ, List, length, take, drop, Result, Ok, Err, nat_lt, if◌then◌else◌}
+use Rattle.std.specs.Prelude.{ℕ, List, length, take, drop, Result, Ok, Err, nat_lt, if◌then◌else◌}
 use Rattle.byteorder.specs.Endian.{big_number}
 use Rattle.link_wire.specs.declared.fault.WireFault.{WireFault}
 use Rattle.link_wire.specs.declared.fault.WireFault.TheVariants.{Truncated}

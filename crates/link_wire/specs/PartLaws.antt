@@ -1,11 +1,10 @@
 -- Fields that are there, and fields that are missing.
-use Rattle.std.proofs.Common.{◌≡◌, ℕ, ◌+◌, ◌*◌, ◌<◌, ◌≤◌, List, [], ◌∷◌, ◌++◌, length, take, drop, Result, Ok, Err, nat_lt, arith, refl, ap, sym, ◌∙◌, length-append}
+use Rattle.std.proofs.Common.{◌≡◌, ℕ, ◌+◌, ◌*◌, ◌<◌, ◌≤◌, List, [], ◌∷◌, ◌++◌, length, take, drop, Ok, Err, arith, refl, ap, ◌∙◌, length-append}
 use Rattle.std.proofs.lemmas.Bool.{lt-ltb, le-ltb}
 use Rattle.std.proofs.Math.Seq.{take-append_seam, drop-append_seam}
 use Rattle.arrayvec.specs.ArrayVec.{ArrayVec}
 use Rattle.byteorder.specs.Endian.{big_number}
-use Rattle.link_wire.specs.Part.{Part, ◌>>=◌, bytes_at, number_at}
-use Rattle.link_wire.specs.declared.fault.WireFault.{WireFault}
+use Rattle.link_wire.specs.Part.{◌>>=◌, bytes_at, number_at}
 use Rattle.link_wire.specs.declared.fault.WireFault.TheVariants.{Truncated}
 
 pub bytes_at-short : (n : ℕ) (bytes : List ℕ) → length bytes < n → bytes_at n bytes ≡ Err Truncated

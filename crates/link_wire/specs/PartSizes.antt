@@ -1,9 +1,9 @@
 -- What is behind a part is no longer than what the part stands in front of.
-use Rattle.std.proofs.Common.{◌≡◌, ℕ, zero, suc, ◌+◌, ◌-◌, ◌<◌, ◌≤◌, Bool, true, false, eqb, List, [], ◌∷◌, length, drop, Result, Ok, Err, nat_lt, if◌then◌else◌, arith, refl, ap, sym, ◌∙◌, length-drop, ◌⊎◌, ⊎_elim}
+use Rattle.std.proofs.Common.{◌≡◌, ℕ, zero, suc, ◌+◌, ◌-◌, ◌≤◌, Bool, true, false, eqb, List, length, drop, Result, Ok, Err, nat_lt, if◌then◌else◌, arith, refl, ap, sym, ◌∙◌, length-drop, ⊎_elim}
 use Rattle.std.proofs.lemmas.Bool.{cases_lt}
 use Rattle.link_wire.specs.Part.{Part, ◌>>=◌, bytes_at, number_at}
 use Rattle.link_wire.specs.PartLaws.{bytes_at-short, bytes_at-enough}
-use Rattle.link_wire.specs.Message.{contact_at, skipped_at, total_at, item_head_at, items_at, items_of, list_at, node_bytes_at, node_at, segment_items_at, segment_at, ack_at, refuse_at, sess_term_at, msg_reject_at, sess_init_at, fields_at, message_at, has_start, gives_total}
+use Rattle.link_wire.specs.Message.{skipped_at, total_at, item_head_at, items_at, items_of, list_at, node_bytes_at, node_at, segment_items_at, segment_at, ack_at, refuse_at, sess_term_at, msg_reject_at, sess_init_at, fields_at, message_at, has_start, gives_total}
 use Rattle.link_wire.specs.declared.message.TheConstants.{MAX_NODE_ID, MAX_LIST_LENGTH, MAX_ITEMS}
 use Rattle.link_wire.specs.declared.fault.WireFault.{WireFault}
 
@@ -28,11 +28,13 @@ shrinks_err fault = record { by = λ bytes other rest is. absurd (cc) }
 
 module _ {A B : Type 0} where
   pub shrinks_then : (less : ℕ) (part : List ℕ → Part A) (next : A × List ℕ → Part B) → Shrinks less part → ((value : A) → Shrinks 0 (λ bytes. next (value, bytes))) → Shrinks less (λ bytes. part bytes >>= next)
-  shrinks_then less part next first second = record { by = λ bytes value rest is.
-    let read = both_read (part bytes) next (value, rest) is in
-    let before = first.by bytes read.0.0 read.0.1 read.1 in
-    let behind = (second read.0.0).by read.0.1 value rest read.2 in
-    omega arith }
+  shrinks_then less part next first second = record {
+    by = λ bytes value rest is.
+        let read = both_read (part bytes) next (value, rest) is in
+        let before = first.by bytes read.0.0 read.0.1 read.1 in
+        let behind = (second read.0.0).by read.0.1 value rest read.2 in
+        omega arith;
+  }
 
 module _ {A : Type 0} where
   pub shrinks_if : (test : Bool) (part other : List ℕ → Part A) → Shrinks 0 part → Shrinks 0 other → Shrinks 0 (λ bytes. if test then part bytes else other bytes)
@@ -40,10 +42,12 @@ module _ {A : Type 0} where
   shrinks_if false part other p q = q
 
 pub shrinks_bytes : (n : ℕ) → Shrinks n (bytes_at n)
-shrinks_bytes n = record { by = λ bytes value rest is. ⊎_elim
-  (λ short. let never = sym (bytes_at-short n bytes short) ∙ is in absurd (cc))
-  (λ enough. let found = sym (bytes_at-enough n bytes enough) ∙ is in let same : drop n bytes ≡ rest = same_rest found in omega (arith, ap length same, length-drop n bytes))
-  (cases_lt (length bytes) n) }
+shrinks_bytes n = record {
+  by = λ bytes value rest is. ⊎_elim
+      (λ short. let never = sym (bytes_at-short n bytes short) ∙ is in absurd (cc))
+      (λ enough. let found = sym (bytes_at-enough n bytes enough) ∙ is in let same : drop n bytes ≡ rest = same_rest found in omega (arith, ap length same, length-drop n bytes))
+      (cases_lt (length bytes) n);
+}
 
 loosely : {A : Type 0} (less : ℕ) (part : List ℕ → Part A) → Shrinks less part → Shrinks 0 part
 loosely less part shrinks = record { by = λ bytes value rest is. let h = shrinks.by bytes value rest is in omega arith }

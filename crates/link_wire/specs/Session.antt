@@ -1,10 +1,10 @@
 -- Where a session stands in the reading of the bytes that it has taken.
-use Rattle.std.specs.Prelude.{◌≡◌, ℕ, ◌+◌, ◌<◌, ◌≤◌, Bool, true, false, List, [], ◌∷◌, ◌++◌, length, take, drop, Option, Some, None, Result, Ok, Err, nat_lt, ◌==◌, if◌then◌else◌}
+use Rattle.std.specs.Prelude.{◌≡◌, ℕ, ◌+◌, ◌<◌, ◌≤◌, List, [], ◌∷◌, ◌++◌, length, take, drop, Option, Some, None, Result, Ok, Err, nat_lt, if◌then◌else◌}
 use Rattle.link_wire.specs.Device.{Input}
 use Rattle.link_wire.specs.Getting.{GotPart, MetFault}
 use Rattle.link_wire.specs.Message.{data_length, fields_at, message_at}
 use Rattle.link_wire.specs.Source.{IsSourceAt, IsLive, IsOver, Takes, StopsAfter}
-use Rattle.link_wire.specs.Stream.{Entry, End, Clean, Cut, Fault, Stream, ended, with_entry, stream_at, Reading, reading_of}
+use Rattle.link_wire.specs.Stream.{End, Clean, Cut, Fault, Stream, ended, with_entry, stream_at, Reading, reading_of}
 use Rattle.link_wire.specs.declared.fault.IoFault.{IoFault}
 use Rattle.link_wire.specs.declared.fault.Stop.{Stop}
 use Rattle.link_wire.specs.declared.fault.Stop.TheVariants as stop
@@ -24,7 +24,7 @@ joined reading rest = record { contact = reading.contact; entries = reading.entr
 -- the head of a message has come: a message without data is whole with it
 abbrev pub with_message : ℕ → Message → Reading → Reading
 with_message offset message reading =
-  joined reading (if nat_lt 0 (data_length message)
+    joined reading (if nat_lt 0 (data_length message)
     then ended (Cut offset message [])
     else with_entry (record { offset = offset; message = message; content = [] }) (ended Clean))
 
@@ -32,7 +32,7 @@ with_message offset message reading =
 abbrev pub data_after : ℕ → List ℕ → End → Stream
 data_after left bytes Clean = ended Clean
 data_after left bytes (Cut offset message content) =
-  if nat_lt 0 left
+    if nat_lt 0 left
     then ended (Cut offset message (content ++ bytes))
     else with_entry (record { offset = offset; message = message; content = content ++ bytes }) (ended Clean)
 data_after left bytes (Fault offset fault) = ended (Fault offset fault)
@@ -44,7 +44,7 @@ with_data left bytes reading = joined reading (data_after left bytes reading.end
 abbrev pub rest_after : ℕ → ℕ → End → List ℕ → Stream
 rest_after place left Clean bytes = stream_at place bytes
 rest_after place left (Cut offset message content) bytes =
-  if nat_lt (length bytes) left
+    if nat_lt (length bytes) left
     then ended (Cut offset message (content ++ bytes))
     else with_entry (record { offset = offset; message = message; content = content ++ take left bytes }) (stream_at (place + left) (drop left bytes))
 rest_after place left (Fault offset fault) bytes = ended (Fault offset fault)

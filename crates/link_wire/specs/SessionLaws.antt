@@ -1,12 +1,11 @@
 -- A session's reading goes on by the head of a message, and by data.
-use Rattle.std.proofs.Common.{◌≡◌, ℕ, zero, suc, ◌+◌, ◌-◌, ◌<◌, ◌≤◌, Bool, true, false, List, [], ◌∷◌, ◌++◌, length, take, drop, Option, Some, None, Result, Ok, Err, nat_lt, if◌then◌else◌, arith, refl, ap, sym, ◌∙◌, subst, append_assoc, append-nil, length-append, length-take, add-zero, add_assoc, ◌⊎◌, ⊎_elim}
+use Rattle.std.proofs.Common.{◌≡◌, ℕ, zero, suc, ◌+◌, true, false, List, [], ◌++◌, length, drop, nat_lt, if◌then◌else◌, arith, refl, ap, sym, ◌∙◌, append_assoc, append-nil, length-append, add-zero, add_assoc, ⊎_elim}
 use Rattle.std.proofs.lemmas.Bool.{cases_lt, lt-ltb, le-ltb}
-use Rattle.std.proofs.lemmas.List.{take-append-le, drop-append-le}
 use Rattle.std.proofs.Math.Seq.{take-append_seam, drop-append_seam, take-append-add, drop-append-add}
-use Rattle.link_wire.specs.Message.{message_at, contact_at, data_length}
-use Rattle.link_wire.specs.Stream.{Entry, End, Clean, Cut, Fault, Stream, ended, with_entry, with_data_of, stream_at, Reading, reading_of}
-use Rattle.link_wire.specs.StreamLaws.{stream_at-nil, stream_at-head}
-use Rattle.link_wire.specs.Session.{joined, with_message, data_after, with_data, rest_after, IsLeft}
+use Rattle.link_wire.specs.Message.{data_length}
+use Rattle.link_wire.specs.Stream.{End, Clean, Cut, Fault, Stream, ended, with_entry, with_data_of, stream_at, Reading, reading_of}
+use Rattle.link_wire.specs.StreamLaws.{stream_at-nil}
+use Rattle.link_wire.specs.Session.{joined, data_after, rest_after, IsLeft}
 use Rattle.link_wire.specs.declared.message.Message.{Message}
 
 -- one stream behind another
@@ -45,13 +44,13 @@ module _ (place n offset : ℕ) (message : Message) (content bytes more : List �
       let some : nat_lt 0 (suc left) ≡ true = lt-ltb 0 (suc left) (omega arith) in
       ⊎_elim
       (λ less.
-        let short : nat_lt (length more) (suc left) ≡ true = lt-ltb (length more) (suc left) less in
-        let before : nat_lt (length (bytes ++ more)) n ≡ true = lt-ltb (length (bytes ++ more)) n (omega (arith, length-append bytes more)) in
-        rw (before, some, short, append_assoc) refl)
+      let short : nat_lt (length more) (suc left) ≡ true = lt-ltb (length more) (suc left) less in
+      let before : nat_lt (length (bytes ++ more)) n ≡ true = lt-ltb (length (bytes ++ more)) n (omega (arith, length-append bytes more)) in
+      rw (before, some, short, append_assoc) refl)
       (λ enough.
-        let whole : nat_lt (length more) (suc left) ≡ false = le-ltb (length more) (suc left) enough in
-        let before : nat_lt (length (bytes ++ more)) n ≡ false = le-ltb (length (bytes ++ more)) n (omega (arith, length-append bytes more)) in
-        rw (before, some, whole, is, take-append-add, drop-append-add, append_assoc, add_assoc) refl)
+      let whole : nat_lt (length more) (suc left) ≡ false = le-ltb (length more) (suc left) enough in
+      let before : nat_lt (length (bytes ++ more)) n ≡ false = le-ltb (length (bytes ++ more)) n (omega (arith, length-append bytes more)) in
+      rw (before, some, whole, is, take-append-add, drop-append-add, append_assoc, add_assoc) refl)
       (cases_lt (length more) (suc left))
 
 -- nothing more to read

@@ -1,21 +1,19 @@
 -- What each call of a session does to where it stands.
-use Rattle.std.proofs.Common.{◌≡◌, ℕ, zero, suc, ◌+◌, ◌<◌, ◌≤◌, List, [], ◌∷◌, ◌++◌, length, take, Option, Some, None, Result, Ok, Err, arith, refl, ap, sym, ◌∙◌, subst, append_assoc, append-nil, length-append, length-take, add-zero}
+use Rattle.std.proofs.Common.{◌≡◌, ℕ, ◌+◌, List, [], ◌∷◌, ◌++◌, length, Some, None, Ok, Err, arith, refl, ap, sym, ◌∙◌, subst, append_assoc, append-nil, length-append}
 use Rattle.link_wire.specs.Bytes.{no_bytes}
 use Rattle.link_wire.specs.Device.{Input}
 use Rattle.link_wire.specs.Message.{contact_at, message_at, fields_at, data_length}
 use Rattle.link_wire.specs.MessageLaws.{message_at-kind}
 use Rattle.link_wire.specs.PartSizes.{shrinks_message}
-use Rattle.link_wire.specs.Source.{IsSourceAt, IsLive, IsOver, Takes, StopsAfter}
+use Rattle.link_wire.specs.Source.{IsSourceAt, IsLive, IsOver, Takes}
 use Rattle.link_wire.specs.SourceLaws.{IsSourceAt-then, Takes-then}
-use Rattle.link_wire.specs.Getting.{Gets, GotPart, MetFault, MetStop, IsFaultOf, IsOverAt}
-use Rattle.link_wire.specs.Stream.{Entry, End, Clean, Cut, Fault, Stream, ended, with_entry, stream_at, Reading, reading_of}
-use Rattle.link_wire.specs.StreamLaws.{stream_at-nil, stream_at-head, stream_at-fault}
+use Rattle.link_wire.specs.Getting.{Gets, GotPart, IsFaultOf, IsOverAt}
+use Rattle.link_wire.specs.Stream.{End, Clean, Cut, Fault, Stream, ended, stream_at, Reading, reading_of}
+use Rattle.link_wire.specs.StreamLaws.{stream_at-head, stream_at-fault}
 use Rattle.link_wire.specs.ContactLaws.{contact_taken, reading-contact, reading-refused}
-use Rattle.link_wire.specs.Session.{joined, with_message, data_after, with_data, rest_after, IsLeft, IsNew, IsSessionAt, SameMessages, IsRead, GaveContact, RefusedContact, StoppedContact, GivesContact, GaveMessage, GaveFault, GaveStop, GivesNext, GaveData, MetNext, StopNext, GetsNext}
+use Rattle.link_wire.specs.Session.{joined, data_after, with_data, rest_after, IsLeft, IsNew, IsSessionAt, SameMessages, IsRead, GaveContact, GivesContact, GaveMessage, GivesNext, GetsNext}
 use Rattle.link_wire.specs.SessionLaws.{appended, begun, begun_by, begun_left, data_by, data_left, clean_end, settled, goes_on_from}
-use Rattle.link_wire.specs.declared.fault.IoFault.{IoFault}
 use Rattle.link_wire.specs.declared.fault.Stop.{Stop}
-use Rattle.link_wire.specs.declared.fault.Stop.TheVariants as stop
 use Rattle.link_wire.specs.declared.fault.WireFault.{WireFault}
 use Rattle.link_wire.specs.declared.fault.WireFault.TheVariants as wire
 use Rattle.link_wire.specs.Halt.{stop_at}
@@ -110,11 +108,11 @@ module _ {R : Type 0} {look : R → Input} where
         let place : length (history ++ taken) ≡ here + length taken = length-append history taken in
         let is : IsLeft new.offset new.left (begun here message).end = rw (offset, left) (begun_left (data_length message) here message refl) in
         let reads : (more : List ℕ) → reading_of ((history ++ taken) ++ more) ≡ joined (reading_of history) (appended (begun here message) (rest_after (length (history ++ taken)) new.left (begun here message).end more)) =
-            λ more.
-              ap reading_of (append_assoc history taken more) ∙ from_here (taken ++ more)
-              ∙ ap (joined (reading_of history)) (stream_at-head here taken message got.is_part more ∙ begun_by (data_length message) here (here + length taken) message more refl)
-              ∙ ap (λ p. joined (reading_of history) (appended (begun here message) (rest_after p (data_length message) (begun here message).end more))) (sym place)
-              ∙ ap (λ n. joined (reading_of history) (appended (begun here message) (rest_after (length (history ++ taken)) n (begun here message).end more))) (sym left)
+        λ more.
+        ap reading_of (append_assoc history taken more) ∙ from_here (taken ++ more)
+        ∙ ap (joined (reading_of history)) (stream_at-head here taken message got.is_part more ∙ begun_by (data_length message) here (here + length taken) message more refl)
+        ∙ ap (λ p. joined (reading_of history) (appended (begun here message) (rest_after p (data_length message) (begun here message).end more))) (sym place)
+        ∙ ap (λ n. joined (reading_of history) (appended (begun here message) (rest_after (length (history ++ taken)) n (begun here message).end more))) (sym left)
         in
         record {
           taken = taken;
@@ -189,12 +187,11 @@ module _ {R : Type 0} {look : R → Input} where
         let none : bytes ≡ [] = no_bytes bytes (omega arith) in
         (omega arith, λ more. rw (none, append-nil) refl)
     read_by (Cut from message content) is =
-        let place : length (history ++ bytes) ≡ length history + length bytes = length-append history bytes in
-        (
+        let place : length (history ++ bytes) ≡ length history + length bytes = length-append history bytes in (
           data_left new.offset from message content bytes new.left old.left (is.1 ∙ sym offset) is.2 left,
           λ more.
-            ap (joined (reading_of history)) (data_by (length history) old.left from message content bytes more new.left left)
-            ∙ ap (λ p. joined (reading_of history) (appended (data_after new.left bytes (Cut from message content)) (rest_after p new.left (data_after new.left bytes (Cut from message content)).end more))) (sym place),
+              ap (joined (reading_of history)) (data_by (length history) old.left from message content bytes more new.left left)
+              ∙ ap (λ p. joined (reading_of history) (appended (data_after new.left bytes (Cut from message content)) (rest_after p new.left (data_after new.left bytes (Cut from message content)).end more))) (sym place),
         )
     read_by (Fault from fault) is = absurd is
 
@@ -205,9 +202,8 @@ module _ {R : Type 0} {look : R → Input} where
         let end = (reading_of history).end in
         let by = read_by end at.left in
         let reads : (more : List ℕ) → reading_of ((history ++ bytes) ++ more) ≡ joined (reading_of history) (appended (data_after new.left bytes end) (rest_after (length (history ++ bytes)) new.left (data_after new.left bytes end).end more)) =
-            λ more. ap reading_of (append_assoc history bytes more) ∙ at.goes_on (bytes ++ more) ∙ by.1 more
-        in
-        (
+        λ more. ap reading_of (append_assoc history bytes more) ∙ at.goes_on (bytes ++ more) ∙ by.1 more
+        in (
           settled (reading_of history) (history ++ bytes) (data_after new.left bytes end) new.offset new.left (length (history ++ bytes)) by.0 reads,
           stands new (history ++ bytes) (reading_of history) (data_after new.left bytes end) at.contact (IsSourceAt-then look old.source new.source history bytes takes at.at) live going at.has_contact by.0 reads,
         )

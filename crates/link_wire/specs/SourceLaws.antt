@@ -1,7 +1,7 @@
 -- What is taken in turn is taken in one.
-use Rattle.std.proofs.Common.{◌≡◌, ℕ, ◌+◌, List, [], ◌++◌, length, ap, sym, ◌∙◌, add_assoc, length-append, append_assoc, add-zero, rules, refl}
+use Rattle.std.proofs.Common.{◌≡◌, ℕ, ◌+◌, List, [], ◌++◌, length, ap, sym, ◌∙◌, add_assoc, length-append, append_assoc, add-zero, refl}
 use Rattle.std.proofs.KnownBytes.{Consumes-nil, Consumes-trans}
-use Rattle.link_wire.specs.Bytes.{AreBytes, AreBytes-append}
+use Rattle.link_wire.specs.Bytes.{AreBytes-append}
 use Rattle.link_wire.specs.Device.{Input}
 use Rattle.link_wire.specs.Source.{IsSourceAt, Takes, StopsAfter}
 use Rattle.link_wire.specs.declared.fault.IoFault.{IoFault}

@@ -1,6 +1,5 @@
 -- The reading of a whole recorded stream (RFC 9174 section 4): a contact header, and then messages one after another.
-use Rattle.std.specs.Prelude.{ℕ, zero, suc, ◌+◌, ◌-◌, List, [], ◌∷◌, ◌++◌, length, take, drop, Option, Some, None, Result, Ok, Err, nat_lt, if◌then◌else◌}
-use Rattle.link_wire.specs.Part.{Part}
+use Rattle.std.specs.Prelude.{ℕ, zero, suc, ◌+◌, ◌-◌, List, [], ◌∷◌, length, take, drop, Option, Some, None, Result, Ok, Err, nat_lt, if◌then◌else◌}
 use Rattle.link_wire.specs.Message.{contact_at, message_at, data_length}
 use Rattle.link_wire.specs.declared.fault.WireFault.{WireFault}
 use Rattle.link_wire.specs.declared.message.Contact.{Contact}
@@ -32,7 +31,7 @@ with_entry entry rest = record { entries = entry ∷ rest.entries; end = rest.en
 -- a message whose data begins the bytes, and what reads the bytes behind its data
 abbrev pub with_data_of : ℕ → Message → List ℕ → Stream → Stream
 with_data_of offset message bytes rest =
-  if nat_lt (length bytes) (data_length message)
+    if nat_lt (length bytes) (data_length message)
     then ended (Cut offset message bytes)
     else with_entry (record { offset = offset; message = message; content = take (data_length message) bytes }) rest
 
@@ -40,7 +39,7 @@ with_data_of offset message bytes rest =
 abbrev pub stream_by : (ℕ → List ℕ → Stream) → ℕ → ℕ → Result (Message × List ℕ) WireFault → Stream
 stream_by next offset size (Err fault) = ended (Fault offset fault)
 stream_by next offset size (Ok (message, bytes)) =
-  with_data_of offset message bytes (next (offset + (size - length bytes) + data_length message) (drop (data_length message) bytes))
+    with_data_of offset message bytes (next (offset + (size - length bytes) + data_length message) (drop (data_length message) bytes))
 
 -- the messages from an offset on, `count` at most
 unfoldable pub messages_at : ℕ → ℕ → List ℕ → Stream

@@ -1,11 +1,9 @@
 -- The reading of a stream goes on message by message.
-use Rattle.std.proofs.Common.{◌≡◌, ℕ, zero, suc, ◌+◌, ◌-◌, ◌<◌, ◌≤◌, Bool, true, false, List, [], ◌∷◌, ◌++◌, length, take, drop, Result, Ok, Err, nat_lt, if◌then◌else◌, arith, refl, ap, sym, ◌∙◌, subst, length-drop, length-append}
-use Rattle.link_wire.specs.Part.{Part, ◌>>=◌, bytes_at, number_at}
-use Rattle.link_wire.specs.PartSizes.{shrinks_message, both_read}
+use Rattle.std.proofs.Common.{◌≡◌, ℕ, zero, suc, ◌+◌, ◌-◌, ◌≤◌, List, [], ◌∷◌, ◌++◌, length, drop, Result, Ok, Err, arith, refl, ap, ◌∙◌, length-drop, length-append}
+use Rattle.link_wire.specs.PartSizes.{shrinks_message}
 use Rattle.link_wire.specs.Message.{message_at, data_length}
-use Rattle.link_wire.specs.Stream.{Entry, End, Clean, Cut, Fault, Stream, ended, with_entry, with_data_of, stream_by, messages_at, stream_at}
+use Rattle.link_wire.specs.Stream.{Clean, Fault, Stream, ended, with_data_of, stream_by, messages_at, stream_at}
 use Rattle.link_wire.specs.declared.fault.WireFault.{WireFault}
-use Rattle.link_wire.specs.declared.fault.WireFault.TheVariants.{Truncated}
 use Rattle.link_wire.specs.declared.message.Message.{Message}
 
 -- two readers of what is behind that agree there
@@ -27,9 +25,9 @@ enough_turns (suc count) zero offset (b ∷ bytes) p q = absurd (omega arith)
 enough_turns (suc count) (suc other) offset [] p q = refl
 enough_turns (suc count) (suc other) offset (b ∷ bytes) p q =
     stream_by-same (messages_at count) (messages_at other) offset (length (b ∷ bytes)) (message_at (b ∷ bytes)) (λ message rest is at.
-      let fewer = shrinks_message.by (b ∷ bytes) message rest is in
-      let behind = length-drop (data_length message) rest in
-      enough_turns count other at (drop (data_length message) rest) (omega arith) (omega arith))
+    let fewer = shrinks_message.by (b ∷ bytes) message rest is in
+    let behind = length-drop (data_length message) rest in
+    enough_turns count other at (drop (data_length message) rest) (omega arith) (omega arith))
 
 pub stream_at-nil : (offset : ℕ) → stream_at offset [] ≡ ended Clean
 unfolding stream_at messages_at

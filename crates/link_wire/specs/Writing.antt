@@ -1,5 +1,5 @@
 -- What a whole write leaves on a device.
-use Rattle.std.specs.Prelude.{◌≡◌, ℕ, ◌≤◌, true, List, ◌++◌, length, take}
+use Rattle.std.specs.Prelude.{◌≡◌, ℕ, ◌≤◌, true, List, length, take}
 use Rattle.std.specs.Io.KnownBytes.{Appends}
 use Rattle.link_wire.specs.Device.{Output}
 use Rattle.link_wire.specs.declared.fault.IoFault.{IoFault}

@@ -88,11 +88,7 @@ fn item_head<R: InDevice>(source: &mut Source<R>, left: u32) -> Result<ItemHead,
 }
 
 /// The items of a list of so many bytes.
-fn items<R: InDevice>(
-    source: &mut Source<R>,
-    is_transfer: bool,
-    length: u32,
-) -> Result<Items, Halt>
+fn items<R: InDevice>(source: &mut Source<R>, is_transfer: bool, length: u32) -> Result<Items, Halt>
     ensures { IsLive R.state source.old → Gets R.state (items_of is_transfer length) source.old source.new result }
 {
     let mut items = Items::new();

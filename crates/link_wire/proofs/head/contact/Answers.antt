@@ -1,4 +1,4 @@
-use Rattle.std.proofs.Common.{◌≡◌, eq-eqb, true, false, arith, slice_index, sym, ◌∙◌, ap, eqb}
+use Rattle.std.proofs.Common.{eq-eqb, slice_index, sym, ◌∙◌}
 use Rattle.std.proofs.lemmas.Bool.{ne_eqb}
 use Rattle.byteorder.specs.Endian.{big_number}
 use Rattle.link_wire.specs.GettingLaws.{exit, exiting, after, pure, refuse, is_live, if_true, if_false}

@@ -1,9 +1,8 @@
-use Rattle.std.proofs.Common.{◌≡◌, ℕ, zero, suc, ◌+◌, ◌-◌, ◌<◌, ◌≤◌, List, [], ◌∷◌, ◌++◌, length, Result, Ok, Err, arith, sym, subst, refl, ap, ◌∙◌, length-append, append-nil}
+use Rattle.std.proofs.Common.{◌≡◌, ℕ, suc, ◌-◌, ◌<◌, [], length, Ok, arith, append-nil}
 use Rattle.std.proofs.lemmas.Bool.Decides.{nat_tests}
-use Rattle.link_wire.specs.Getting.{Gets}
 use Rattle.link_wire.specs.GettingLaws.{exit, exiting, after, pure, is_live}
-use Rattle.link_wire.specs.Message.{items_at, items_of}
-use Rattle.link_wire.specs.ItemsLaws.{with_front, with_front-append, items_none, items_exit, items_full, items_exit_total, items_more}
+use Rattle.link_wire.specs.Message.{items_of}
+use Rattle.link_wire.specs.ItemsLaws.{with_front-append, items_none, items_exit, items_full, items_exit_total, items_more}
 use Rattle.link_wire.specs.declared.message.TheConstants.{MAX_ITEMS}
 use Rattle.link_wire.proofs.list.items.Goals as goal
 
@@ -42,10 +41,10 @@ loop-left-preserved g c =
       few = omega arith;
       live = λ live. is_live (c.in_ok-total.ensures (is_live (c.in_ok-head.ensures.gets (kept.live live))));
       rest = λ live new answer others.
-        let head = c.in_ok-head.ensures.gets (kept.live live) in
-        let total = c.in_ok-total.ensures (is_live head) in
-        let joined = kept.rest live new _ (items_more _ _ c.loop-left-test.true head _ _ c.in_ok-total.total answer (room_for_one _ below) total (rw (grown, c.from.ensures) at others)) in
-        rw (with_front-append, ← c.push.ensures.items) at joined;
+          let head = c.in_ok-head.ensures.gets (kept.live live) in
+          let total = c.in_ok-total.ensures (is_live head) in
+          let joined = kept.rest live new _ (items_more _ _ c.loop-left-test.true head _ _ c.in_ok-total.total answer (room_for_one _ below) total (rw (grown, c.from.ensures) at others)) in
+          rw (with_front-append, ← c.push.ensures.items) at joined;
     }
 
 pub returns : goal.returns

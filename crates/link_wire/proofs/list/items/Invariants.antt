@@ -17,8 +17,8 @@ invariant-loop-left g l =
       few : length l.items.items ≤ MAX_ITEMS;
       live : IsLive look l.fn.source → IsLive look l.source;
       rest : IsLive look l.fn.source → (new : Source g.row.R.Denot) (answer : Result (List Item) Halt)
-        → Gets look (items_at l.is_transfer (MAX_ITEMS - length l.items.items) l.left) l.source new answer
-        → Gets look (items_at l.is_transfer MAX_ITEMS l.length) l.fn.source new (with_front l.items.items answer);
+          → Gets look (items_at l.is_transfer (MAX_ITEMS - length l.items.items) l.left) l.source new answer
+          → Gets look (items_at l.is_transfer MAX_ITEMS l.length) l.fn.source new (with_front l.items.items answer);
     }
 
 abbrev pub decreases-loop-left : goal.decreases-loop-left

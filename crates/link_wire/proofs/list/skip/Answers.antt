@@ -1,4 +1,4 @@
-use Rattle.std.proofs.Common.{◌≡◌, ◌+◌, ◌-◌, ◌≤◌, arith, length, length-take}
+use Rattle.std.proofs.Common.{◌≡◌, ◌-◌, arith, length-take}
 use Rattle.link_wire.specs.GettingLaws.{exiting, is_live, skip_none, skip_more, skip_exit}
 use Rattle.link_wire.proofs.list.skip.Goals as goal
 
@@ -16,6 +16,6 @@ pub loop-left-preserved : goal.loop-left-preserved
 loop-left-preserved g c = record {
   within = omega arith;
   passed = λ live.
-    let passed = c.loop-left.invariant.passed live in
-    skip_more _ _ _ (omega (arith, length-take c.min-size.result c.loop-left.piece)) passed (c.in_ok-bytes.ensures (is_live passed));
+      let passed = c.loop-left.invariant.passed live in
+      skip_more _ _ _ (omega (arith, length-take c.min-size.result c.loop-left.piece)) passed (c.in_ok-bytes.ensures (is_live passed));
 }

@@ -1,4 +1,4 @@
-use Rattle.std.proofs.Common.{◌-◌, ◌≤◌, length, ◌≡◌, Ok}
+use Rattle.std.proofs.Common.{◌-◌, ◌≤◌, Ok}
 use Rattle.link_wire.specs.Source.{IsLive}
 use Rattle.link_wire.specs.Message.{skipped_at}
 use Rattle.link_wire.specs.Getting.{Gets}

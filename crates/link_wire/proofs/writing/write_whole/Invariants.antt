@@ -1,4 +1,4 @@
-use Rattle.std.proofs.Common.{◌≡◌, length, ◌-◌, ◌≤◌, take}
+use Rattle.std.proofs.Common.{length, ◌-◌, ◌≤◌, take}
 use Rattle.link_wire.specs.Writing.{Wrote}
 use Rattle.link_wire.proofs.writing.write_whole.Given as goal
 

@@ -1,4 +1,4 @@
-use Rattle.std.proofs.Common.{◌≡◌, ◌+◌, ◌-◌, length, take, refl, arith, length-take}
+use Rattle.std.proofs.Common.{◌≡◌, length, take, refl, arith, length-take}
 use Rattle.link_wire.specs.SessionSteps.{data_stands}
 use Rattle.link_wire.proofs.session.Session.data.Goals as goal
 

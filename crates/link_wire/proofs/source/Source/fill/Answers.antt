@@ -1,6 +1,6 @@
-use Rattle.std.proofs.Common.{◌≡◌, ◌+◌, length, take, drop, ◌++◌, arith, ap, sym, subst, List, ℕ, ◌∙◌}
+use Rattle.std.proofs.Common.{◌≡◌, ◌+◌, take, drop, ◌++◌, ap, ◌∙◌}
 use Rattle.std.proofs.Math.Seq.{take-add}
-use Rattle.link_wire.specs.Source.{Takes, HasEnded}
+use Rattle.link_wire.specs.Source.{HasEnded}
 use Rattle.link_wire.specs.SourceLaws.{Takes-then}
 use Rattle.link_wire.proofs.source.Source.fill.Goals as goal
 

@@ -1,5 +1,4 @@
-use Rattle.std.proofs.Common.{◌<◌, ◌≡◌, ◌+◌, length, take, arith, length-take, rules, sym, ap, ◌∙◌}
-use Rattle.link_wire.specs.Source.{GaveSome}
+use Rattle.std.proofs.Common.{◌≡◌, ◌+◌, length, take, arith, length-take, sym, ap}
 use Rattle.link_wire.specs.Bytes.{AreBytes-from_index, AreBytes-take}
 use Rattle.link_wire.proofs.source.Source.read.Goals as goal
 
