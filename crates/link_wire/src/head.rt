@@ -61,6 +61,7 @@ fn node_bytes<R: InDevice>(source: &mut Source<R>, length: u16) -> Result<NodeId
 }
 
 /// The extension list of a segment, which stands there only with START.
+#[inline]
 fn segment_items<R: InDevice>(source: &mut Source<R>, flags: u8) -> Result<Items, Halt>
     ensures { IsLive R.state source.old → Gets R.state (segment_items_at flags) source.old source.new result }
 {
@@ -72,6 +73,7 @@ fn segment_items<R: InDevice>(source: &mut Source<R>, flags: u8) -> Result<Items
 }
 
 /// XFER_SEGMENT, less its data.
+#[inline]
 fn segment<R: InDevice>(source: &mut Source<R>) -> Result<Message, Halt>
     ensures { IsLive R.state source.old → Gets R.state segment_at source.old source.new result }
 {
@@ -143,6 +145,7 @@ fn sess_init<R: InDevice>(source: &mut Source<R>) -> Result<Message, Halt>
 }
 
 /// What follows a message's type byte.
+#[inline]
 pub fn fields<R: InDevice>(source: &mut Source<R>, kind: u8) -> Result<Message, Halt>
     ensures { IsLive R.state source.old → Gets R.state (fields_at kind) source.old source.new result }
 {
@@ -159,6 +162,7 @@ pub fn fields<R: InDevice>(source: &mut Source<R>, kind: u8) -> Result<Message, 
 }
 
 /// The type byte of the next message, or `None` where the input ends in front of it.
+#[inline]
 fn kind<R: InDevice>(source: &mut Source<R>) -> Result<Option<u8>, IoFault>
     ensures { IsLive R.state source.old → GetsKind R.state source.old source.new result }
 {
@@ -170,6 +174,7 @@ fn kind<R: InDevice>(source: &mut Source<R>) -> Result<Option<u8>, IoFault>
 }
 
 /// The next message, or `None` where the input ends in front of it.
+#[inline]
 pub fn message<R: InDevice>(source: &mut Source<R>) -> Result<Option<Message>, Halt>
     ensures { IsLive R.state source.old → GetsNext R.state source.old source.new result }
 {

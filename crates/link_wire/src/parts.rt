@@ -12,6 +12,7 @@ use crate::source::{Filled, Source};
 use byteorder::{BigEndian, ByteOrder};
 
 /// The next bytes, as many as the slice has room for.
+#[inline]
 pub fn bytes<R: InDevice>(source: &mut Source<R>, field: &mut [u8]) -> Result<(), Halt>
     ensures { IsLive R.state source.old → Gets R.state (bytes_at (length field.new)) source.old source.new (with_bytes field.new result) }
 {
@@ -23,6 +24,7 @@ pub fn bytes<R: InDevice>(source: &mut Source<R>, field: &mut [u8]) -> Result<()
 }
 
 /// The next bytes, as many as the array has.
+#[inline]
 pub fn field<const N: usize, R: InDevice>(source: &mut Source<R>) -> Result<[u8; N], Halt>
     ensures { IsLive R.state source.old → Gets R.state (bytes_at N) source.old source.new result }
 {
@@ -32,6 +34,7 @@ pub fn field<const N: usize, R: InDevice>(source: &mut Source<R>) -> Result<[u8;
 }
 
 /// The next byte.
+#[inline]
 pub fn number8<R: InDevice>(source: &mut Source<R>) -> Result<u8, Halt>
     ensures { IsLive R.state source.old → Gets R.state (number_at 1) source.old source.new result }
 {
@@ -39,6 +42,7 @@ pub fn number8<R: InDevice>(source: &mut Source<R>) -> Result<u8, Halt>
 }
 
 /// The next two bytes, as a number.
+#[inline]
 pub fn number16<R: InDevice>(source: &mut Source<R>) -> Result<u16, Halt>
     ensures { IsLive R.state source.old → Gets R.state (number_at 2) source.old source.new result }
 {
@@ -46,6 +50,7 @@ pub fn number16<R: InDevice>(source: &mut Source<R>) -> Result<u16, Halt>
 }
 
 /// The next four bytes, as a number.
+#[inline]
 pub fn number32<R: InDevice>(source: &mut Source<R>) -> Result<u32, Halt>
     ensures { IsLive R.state source.old → Gets R.state (number_at 4) source.old source.new result }
 {
@@ -53,6 +58,7 @@ pub fn number32<R: InDevice>(source: &mut Source<R>) -> Result<u32, Halt>
 }
 
 /// The next eight bytes, as a number.
+#[inline]
 pub fn number64<R: InDevice>(source: &mut Source<R>) -> Result<u64, Halt>
     ensures { IsLive R.state source.old → Gets R.state (number_at 8) source.old source.new result }
 {

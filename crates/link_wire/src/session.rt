@@ -94,6 +94,7 @@ impl<R: InDevice> Session<R> {
     /// end of a stream that ends between two messages, and again on each later call. It is asked for
     /// once the contact header and the data of the message before have come. After a stop it answers
     /// that stop again, and reads nothing.
+    #[inline]
     pub fn next(&mut self) -> Result<Option<(u64, Message)>, Stop>
         ensures gives { (history : List ℕ) → IsSessionAt R.state self.old history → left_of self.old ≡ 0 → GivesNext R.state self.old self.new history result }
         ensures stopped { (stop : _) → HasStopped self.old stop → (self.new ≡ self.old) × (result ≡ Err stop) }
@@ -125,6 +126,7 @@ impl<R: InDevice> Session<R> {
 
     /// The next bytes of the segment's data, by one read, and how many they are: 0 only where none are
     /// left, or for an empty slice. After a stop it answers that stop again, and reads nothing.
+    #[inline]
     pub fn data(&mut self, buffer: &mut [u8]) -> Result<usize, Stop>
         ensures bound { IfOk result (λ n. n ≤ length buffer.new) }
         ensures gives { (history : List ℕ) → IsSessionAt R.state self.old history → GivesData R.state self.old self.new history buffer.new result }

@@ -74,6 +74,7 @@ impl<R: InDevice> Source<R> {
 
     /// Gives the next bytes, by one read, and answers how many: 0 only at the end, or for an empty
     /// slice. After a fault it answers that fault again, and after the end 0, and reads nothing.
+    #[inline]
     pub fn some(&mut self, buffer: &mut [u8]) -> Result<usize, IoFault>
         ensures bound { IfOk result (λ n. n ≤ length buffer.new) }
         ensures gives { IsLive R.state self.old → GivesSome R.state self.old self.new buffer.new result }
@@ -88,6 +89,7 @@ impl<R: InDevice> Source<R> {
     }
 
     /// `some` on a source that may give more.
+    #[inline]
     fn next_some(&mut self, buffer: &mut [u8]) -> Result<usize, IoFault>
         requires { self.old.flow ≡ Flow.Open }
         ensures { GivesSome R.state self.old self.new buffer.new result }
@@ -104,6 +106,7 @@ impl<R: InDevice> Source<R> {
     }
 
     /// One read of bytes that are within the limit.
+    #[inline]
     fn read(&mut self, buffer: &mut [u8]) -> Result<usize, IoFault>
         requires open { self.old.flow ≡ Flow.Open }
         requires room { self.old.taken + length buffer.old < 2 ^ 63 }
@@ -151,6 +154,7 @@ impl<R: InDevice> Source<R> {
 
     /// Fills the slice with the next bytes, or as much of it as the input still has. After a fault
     /// it answers that fault again, and after the end it gives nothing; neither reads.
+    #[inline]
     pub fn fill(&mut self, buffer: &mut [u8]) -> Result<Filled, IoFault>
         ensures gives { IsLive R.state self.old → GivesFill R.state self.old self.new buffer.new result }
         ensures ended { HasEnded self.old → (self.new ≡ self.old) × (result ≡ Ok (filled_at_end buffer.old)) }
@@ -171,6 +175,7 @@ impl<R: InDevice> Source<R> {
     }
 
     /// `some` on the part of the buffer from a place on.
+    #[inline]
     fn some_from(&mut self, buffer: &mut [u8], at: usize) -> Result<usize, IoFault>
         requires { at < length buffer.old }
         ensures front { take at buffer.new ≡ take at buffer.old }
