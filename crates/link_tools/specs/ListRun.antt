@@ -69,6 +69,12 @@ module _ {R W E : Type 0} where
   abbrev pub HasFailed : ListRun R W E → IoFault → Type 0
   HasFailed run fault = run.stage ≡ stage.Failed fault
 
+  -- what a step leaves: a run that has ended, or failed, where it answers so
+  abbrev pub Settles : ListRun R W E → Result Progress IoFault → Type 0
+  Settles run (Ok More) = Unit {0}
+  Settles run (Ok (Done status)) = HasDone run status
+  Settles run (Err fault) = HasFailed run fault
+
 -- What the parts of a step do.
 module _ {R W E : Type 0} where
   -- the line was written, and a message comes

@@ -41,7 +41,7 @@ pub struct ListRun<R, W, E> {
 
 impl<R: InDevice, W: OutDevice, E: OutDevice> ListRun<R, W, E> {
     ghost use Rattle.std.specs.Prelude.{◌≡◌, ℕ, List, [], false, Ok, Err};
-    ghost use Rattle.link_tools.specs.ListRun.{IsListStart, IsListAt, GivesStep, HasDone, HasFailed, devices_of};
+    ghost use Rattle.link_tools.specs.ListRun.{IsListStart, IsListAt, GivesStep, Settles, HasDone, HasFailed, devices_of};
     ghost use Rattle.link_tools.specs.Run.{Devices};
     ghost use Rattle.link_tools.specs.ListRun.{GoesOn, WritesLine, Stops, ReportsFault};
 
@@ -112,6 +112,7 @@ impl<R: InDevice, W: OutDevice, E: OutDevice> ListRun<R, W, E> {
     pub fn step(&mut self) -> Result<Progress, IoFault>
         ensures starts { IsListStart R.state W.state E.state self.old → GivesStep R.state W.state E.state (devices_of self.old) self.new [] result }
         ensures goes { (start : Devices R W E) (history : List ℕ) → IsListAt R.state W.state E.state start self.old history → GivesStep R.state W.state E.state start self.new history result }
+        ensures settles { Settles self.new result }
         ensures done { (status : _) → HasDone self.old status → (self.new ≡ self.old) × (result ≡ Ok (Progress.Done status)) }
         ensures failed { (fault : _) → HasFailed self.old fault → (self.new ≡ self.old) × (result ≡ Err fault) }
     {
@@ -126,7 +127,8 @@ impl<R: InDevice, W: OutDevice, E: OutDevice> ListRun<R, W, E> {
 
     /// The contact header and its line.
     fn take_contact(&mut self) -> Result<Progress, IoFault>
-        ensures { IsListStart R.state W.state E.state self.old → GivesStep R.state W.state E.state (devices_of self.old) self.new [] result }
+        ensures settles { Settles self.new result }
+        ensures gives { IsListStart R.state W.state E.state self.old → GivesStep R.state W.state E.state (devices_of self.old) self.new [] result }
     {
         match self.session.open() {
             Ok(contact) => {
@@ -140,7 +142,8 @@ impl<R: InDevice, W: OutDevice, E: OutDevice> ListRun<R, W, E> {
 
     /// The head of a message, and its line where it has no data.
     fn take_message(&mut self) -> Result<Progress, IoFault>
-        ensures { (start : Devices R W E) (history : List ℕ) → self.old.stage ≡ Stage.Message → IsListAt R.state W.state E.state start self.old history → GivesStep R.state W.state E.state start self.new history result }
+        ensures settles { Settles self.new result }
+        ensures gives { (start : Devices R W E) (history : List ℕ) → self.old.stage ≡ Stage.Message → IsListAt R.state W.state E.state start self.old history → GivesStep R.state W.state E.state start self.new history result }
     {
         match self.session.next() {
             Ok(Some((offset, message))) => {
@@ -158,7 +161,8 @@ impl<R: InDevice, W: OutDevice, E: OutDevice> ListRun<R, W, E> {
 
     /// A piece of a segment's data, and the segment's line behind the last.
     fn take_data(&mut self) -> Result<Progress, IoFault>
-        ensures { (start : Devices R W E) (history : List ℕ) → self.old.stage ≡ Stage.Data → IsListAt R.state W.state E.state start self.old history → GivesStep R.state W.state E.state start self.new history result }
+        ensures settles { Settles self.new result }
+        ensures gives { (start : Devices R W E) (history : List ℕ) → self.old.stage ≡ Stage.Data → IsListAt R.state W.state E.state start self.old history → GivesStep R.state W.state E.state start self.new history result }
     {
         match self.session.data(&mut self.piece) {
             Ok(_) => self.go_on(),
