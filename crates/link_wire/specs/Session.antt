@@ -3,7 +3,7 @@ use Rattle.std.specs.Prelude.{◌≡◌, ℕ, ◌+◌, ◌<◌, ◌≤◌, List,
 use Rattle.link_wire.specs.Device.{Input}
 use Rattle.link_wire.specs.Getting.{GotPart, MetFault}
 use Rattle.link_wire.specs.Message.{data_length, fields_at, message_at}
-use Rattle.link_wire.specs.Source.{IsSourceAt, IsLive, IsOver, Takes, StopsAfter}
+use Rattle.link_wire.specs.Source.{IsSourceAt, IsLive, IsOver, HasEnded, Takes, StopsAfter}
 use Rattle.link_wire.specs.Stream.{End, Clean, Cut, Fault, Stream, ended, with_entry, stream_at, Reading, reading_of}
 use Rattle.link_wire.specs.declared.fault.IoFault.{IoFault}
 use Rattle.link_wire.specs.declared.fault.Stop.{Stop}
@@ -185,6 +185,10 @@ module _ {R : Type 0} where
   -- how many bytes of data are to come
   abbrev pub left_of : Session R → ℕ
   left_of s = s.left
+
+  -- the input has ended, and no fault was met
+  abbrev pub HasEndedBetween : Session R → Type 0
+  HasEndedBetween s = (s.stop ≡ None) × HasEnded s.source
 
   -- the session has stopped
   abbrev pub HasStopped : Session R → Stop → Type 0

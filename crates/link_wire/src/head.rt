@@ -1,7 +1,7 @@
 //! The contact header and the heads of messages, field by field (RFC 9174 sections 4.2 to 6.1).
 
-ghost use Rattle.std.specs.Prelude.{◌≤◌};
-ghost use Rattle.link_wire.specs.Source.{IsLive};
+ghost use Rattle.std.specs.Prelude.{◌≡◌, ◌≤◌, Ok, None};
+ghost use Rattle.link_wire.specs.Source.{HasEnded, IsLive};
 ghost use Rattle.link_wire.specs.Message.{contact_at, node_at, node_bytes_at, segment_items_at, segment_at, ack_at, refuse_at, sess_term_at, msg_reject_at, sess_init_at, fields_at};
 ghost use Rattle.link_wire.specs.Getting.{Gets};
 ghost use Rattle.link_wire.specs.Session.{GetsKind, GetsNext};
@@ -164,7 +164,8 @@ pub fn fields<R: InDevice>(source: &mut Source<R>, kind: u8) -> Result<Message, 
 /// The type byte of the next message, or `None` where the input ends in front of it.
 #[inline]
 fn kind<R: InDevice>(source: &mut Source<R>) -> Result<Option<u8>, IoFault>
-    ensures { IsLive R.state source.old → GetsKind R.state source.old source.new result }
+    ensures ended { HasEnded source.old → (source.new ≡ source.old) × (result ≡ Ok None) }
+    ensures gives { IsLive R.state source.old → GetsKind R.state source.old source.new result }
 {
     let mut kind = [0; 1];
     match source.fill(&mut kind)? {
@@ -176,7 +177,8 @@ fn kind<R: InDevice>(source: &mut Source<R>) -> Result<Option<u8>, IoFault>
 /// The next message, or `None` where the input ends in front of it.
 #[inline]
 pub fn message<R: InDevice>(source: &mut Source<R>) -> Result<Option<Message>, Halt>
-    ensures { IsLive R.state source.old → GetsNext R.state source.old source.new result }
+    ensures ended { HasEnded source.old → (source.new ≡ source.old) × (result ≡ Ok None) }
+    ensures gives { IsLive R.state source.old → GetsNext R.state source.old source.new result }
 {
     match kind(source) {
         Ok(Some(kind)) => Ok(Some(fields(source, kind)?)),

@@ -41,10 +41,10 @@ fn data_of<R: InDevice>(
 }
 
 impl<R: InDevice> Session<R> {
-    ghost use Rattle.std.specs.Prelude.{◌≡◌, ◌≤◌, ◌<◌, true, false, length, take, List, ℕ, IfOk, Some, None, Err};
+    ghost use Rattle.std.specs.Prelude.{◌≡◌, ◌≤◌, ◌<◌, true, false, length, take, List, ℕ, IfOk, IfErr, Some, None, Ok, Err};
     ghost use Rattle.link_wire.specs.Halt.{stop_at};
     ghost use Rattle.link_wire.specs.Source.{IsFresh};
-    ghost use Rattle.link_wire.specs.Session.{IsNew, IsSessionAt, HasStopped, left_of, GivesContact, GivesNext, GivesData};
+    ghost use Rattle.link_wire.specs.Session.{IsNew, IsSessionAt, HasEndedBetween, HasStopped, left_of, GivesContact, GivesNext, GivesData};
 
     /// A session over a source that has taken nothing.
     pub fn new(source: Source<R>) -> Session<R>
@@ -82,7 +82,8 @@ impl<R: InDevice> Session<R> {
 
     /// Reads the contact header, of a new session.
     pub fn open(&mut self) -> Result<Contact, Stop>
-        ensures { IsNew R.state self.old → GivesContact R.state self.old self.new result }
+        ensures settles { IfErr result (HasStopped self.new) }
+        ensures gives { IsNew R.state self.old → GivesContact R.state self.old self.new result }
     {
         match contact(&mut self.source) {
             Ok(contact) => Ok(contact),
@@ -96,6 +97,8 @@ impl<R: InDevice> Session<R> {
     /// that stop again, and reads nothing.
     #[inline]
     pub fn next(&mut self) -> Result<Option<(u64, Message)>, Stop>
+        ensures settles { IfErr result (HasStopped self.new) }
+        ensures again { HasEndedBetween self.old → (self.new ≡ self.old) × (result ≡ Ok None) }
         ensures gives { (history : List ℕ) → IsSessionAt R.state self.old history → left_of self.old ≡ 0 → GivesNext R.state self.old self.new history result }
         ensures stopped { (stop : _) → HasStopped self.old stop → (self.new ≡ self.old) × (result ≡ Err stop) }
     {
@@ -129,6 +132,7 @@ impl<R: InDevice> Session<R> {
     #[inline]
     pub fn data(&mut self, buffer: &mut [u8]) -> Result<usize, Stop>
         ensures bound { IfOk result (λ n. n ≤ length buffer.new) }
+        ensures settles { IfErr result (HasStopped self.new) }
         ensures gives { (history : List ℕ) → IsSessionAt R.state self.old history → GivesData R.state self.old self.new history buffer.new result }
         ensures stopped { (stop : _) → HasStopped self.old stop → (self.new ≡ self.old) × (result ≡ Err stop) }
     {
