@@ -22,3 +22,8 @@ pub mod NextLaws
 pub mod ContactLaws
 pub mod SessionSteps
 pub mod ReadLaws
+pub mod Spelled
+pub mod SpelledLaws
+pub mod SpelledLawsFound
+pub mod SpelledStream
+pub mod ReadingLaws

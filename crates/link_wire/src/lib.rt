@@ -6,6 +6,7 @@ mod device;
 mod fault;
 mod halt;
 mod head;
+pub mod laws;
 mod list;
 mod message;
 mod parts;

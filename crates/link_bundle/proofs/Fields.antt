@@ -1,0 +1,93 @@
+-- the content of a check field
+
+use Rattle.std.proofs.Common.{◌≡◌, ℕ, zero, suc, ◌+◌, ◌-◌, ◌*◌, ◌^◌, ◌<◌, Bool, true, false, ◌&&◌, List, ◌∷◌, drop, None, Some, Ok, Err, refl, ap, ◌∙◌, arith}
+use Rattle.std.specs.Prelude.{IsTrue, nat_lt, nat_le, ◌==◌, slice_range, if◌then◌else◌}
+use Rattle.std.proofs.lemmas.Bool.Decides.{nat_tests}
+use Rattle.std.proofs.lemmas.Bool.{ltb-true, false≢true}
+use Rattle.link_cbor.specs.declared.check.CheckKind.{CheckKind}
+use Rattle.link_cbor.specs.declared.check.CheckKind.TheVariants.{Crc16, Crc32}
+use Rattle.link_cbor.specs.declared.head.Head.{Head}
+use Rattle.link_bundle.specs.declared.fault.BundleFault.TheVariants.{CheckDiffers}
+use Rattle.link_bundle.specs.declared.stage.CheckType.{CheckType}
+use Rattle.link_bundle.specs.declared.stage.CheckType.TheVariants.{Unread, Is}
+use Rattle.link_bundle.specs.CheckKinds.{kind_of, is_kind}
+use Rattle.link_bundle.specs.Covers.{zeroed_check}
+use Rattle.link_bundle.specs.Rows.{◌>>=◌, check_width, check_field}
+use Rattle.link_bundle.specs.Reading.{stopped, Reading, head_at, bytes_at}
+use Rattle.link_bundle.specs.Blocks.{number_from, check_of, field_at}
+use Rattle.link_bundle.specs.Left.{stored_left}
+use Rattle.link_bundle.proofs.Heads.{row_at-told}
+use Rattle.link_bundle.proofs.Runs.{with_byte, bytes_at-step, bytes_at-last}
+
+-- the check type that was read is that of the field
+pub same_check : (check : CheckType) (kind : CheckKind) → IsTrue (is_kind (kind_of check) kind) → check ≡ Is (Some kind)
+same_check Unread kind told = cc
+same_check (Is None) kind told = cc
+same_check (Is (Some Crc16)) Crc16 told = refl
+same_check (Is (Some Crc16)) Crc32 told = cc
+same_check (Is (Some Crc32)) Crc16 told = cc
+same_check (Is (Some Crc32)) Crc32 told = refl
+
+-- behind the field's head the content is read, and compared with the check
+pub field_at-told : (kind : CheckKind) (bytes : List ℕ) (start place next width expected : ℕ) (head : Head) (count : ℕ)
+    → head_at bytes place ≡ Ok (head, next) → check_field kind head ≡ Ok count
+    → width ≡ check_width kind → expected ≡ zeroed_check kind (slice_range bytes start next)
+    → field_at (Some kind) start bytes place ≡ stored_left width 0 expected place bytes next
+unfolding field_at stored_left check_of zeroed_check
+field_at-told kind bytes start place next width expected head count told judged is_width is_check =
+    rw (row_at-told (check_field kind) bytes place next head count told judged, is_width, is_check) refl
+
+-- what a content is compared with, behind a byte
+compared : ℕ → ℕ → ℕ → Reading (List ℕ) → Reading Bool
+compared stored expected field reading =
+    reading >>= λ (rest, next). if number_from stored rest == expected then Ok (true, next) else Err (stopped CheckDiffers field)
+
+compared-with_byte : (stored expected field byte : ℕ) (reading : Reading (List ℕ))
+    → compared stored expected field (with_byte byte reading) ≡ compared (stored * 256 + byte) expected field reading
+unfolding compared
+compared-with_byte stored expected field byte (Ok (rest, next)) = refl
+compared-with_byte stored expected field byte (Err stop) = refl
+
+pub stored_left-step : (left stored expected field : ℕ) (bytes more : List ℕ) (byte place : ℕ)
+    → drop place bytes ≡ byte ∷ more → 0 < left
+    → stored_left left stored expected field bytes place ≡ stored_left (left - 1) (stored * 256 + byte) expected field bytes (place + 1)
+unfolding stored_left compared
+stored_left-step left stored expected field bytes more byte place here some =
+    ap (λ (reading : Reading (List ℕ)). compared stored expected field reading) (bytes_at-step left bytes more byte place here some)
+    ∙ compared-with_byte stored expected field byte (bytes_at (left - 1) bytes (place + 1))
+
+-- the last byte
+pub stored_left-last : (left stored expected field : ℕ) (bytes more : List ℕ) (byte place : ℕ)
+    → drop place bytes ≡ byte ∷ more → left ≡ 1
+    → stored_left left stored expected field bytes place
+    ≡ (if stored * 256 + byte == expected then Ok (true, place + 1) else Err (stopped CheckDiffers field))
+unfolding stored_left
+stored_left-last left stored expected field bytes more byte place here one =
+    rw (one, bytes_at-last bytes more byte place here) refl
+
+-- the content's number stays within its bytes
+abbrev pub room : ℕ → ℕ → Bool
+room left stored = nat_lt 0 left && (nat_le left 4 && nat_lt stored (256 ^ (4 - left)))
+
+pub record HasRoom (left stored byte : ℕ) : Type 0 where
+  pub wants : 0 < left
+  pub scaled : stored * 256 + byte < 2 ^ 32
+
+has_room_at : (left stored byte : ℕ) → IsTrue (room left stored) → byte < 256 → HasRoom left stored byte
+has_room_at zero stored byte fits small = absurd (grind (arith, nat_tests))
+has_room_at (suc zero) stored byte fits small = record { wants = omega arith; scaled = omega (arith, ltb-true stored (256 ^ 3) fits) }
+has_room_at (suc (suc zero)) stored byte fits small = record { wants = omega arith; scaled = omega (arith, ltb-true stored (256 ^ 2) fits) }
+has_room_at (suc (suc (suc zero))) stored byte fits small = record { wants = omega arith; scaled = omega (arith, ltb-true stored (256 ^ 1) fits) }
+has_room_at (suc (suc (suc (suc zero)))) stored byte fits small = record { wants = omega arith; scaled = omega (arith, ltb-true stored (256 ^ 0) fits) }
+has_room_at (suc (suc (suc (suc (suc left))))) stored byte fits small = absurd (grind (arith, nat_tests))
+
+pub behind_and : (a b : Bool) → IsTrue (a && b) → IsTrue b
+behind_and true b both = both
+behind_and false b both = absurd (false≢true both)
+
+pub before_and : (a b : Bool) → IsTrue (a && b) → IsTrue a
+before_and true b both = refl
+before_and false b both = absurd (false≢true both)
+
+pub has_room : (settled : Bool) (left stored byte : ℕ) → IsTrue (settled && room left stored) → byte < 256 → HasRoom left stored byte
+has_room settled left stored byte fits small = has_room_at left stored byte (behind_and settled (room left stored) fits) small

@@ -1,0 +1,12 @@
+pub mod Heads
+pub mod Runs
+pub mod Names
+pub mod Fields
+pub mod Blocks
+pub mod Stops
+pub mod Steps
+pub mod Contents
+pub mod Opening
+pub mod Verdicts
+pub mod Steady
+pub mod Lengths

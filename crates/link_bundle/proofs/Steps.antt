@@ -1,0 +1,302 @@
+-- one more byte, stage by stage
+
+use Rattle.std.proofs.Common.{◌≡◌, ℕ, ◌+◌, ◌-◌, ◌<◌, ◌≤◌, Bool, true, false, List, [], ◌∷◌, ◌++◌, length, take, drop, None, Some, Result, Ok, Err, refl, sym, ap, subst, ◌∙◌, append_assoc, length-append, length-drop, ◌⊎◌, inl, inr, ⊎_elim, arith}
+use Rattle.std.proofs.lemmas.Bool.{false≢true}
+use Rattle.std.specs.Prelude.{slice_range}
+use Rattle.std.specs.Bool.{MatchBool}
+use Rattle.std.proofs.lemmas.List.{drop-append-le}
+use Rattle.std.proofs.Math.Seq.{drop-append_seam, drop-length, take-append_seam}
+use Rattle.std.proofs.lemmas.List.Elements.{All-push}
+use Rattle.link_cbor.specs.declared.head.Head.{Head as HeadItem}
+use Rattle.link_cbor.specs.Head.{AreBytes, Cut as CutHead, IllFormed, Whole, head_front}
+use Rattle.link_cbor.specs.HeadLaws.{whole_stays, ill_formed_stays}
+use Rattle.link_cbor.specs.HeadScan.{HasScanned as HasScannedHead}
+use Rattle.link_bundle.specs.declared.checks.BlockChecks.{BlockChecks}
+use Rattle.link_bundle.specs.declared.cursor.Cursor.{Cursor}
+use Rattle.link_bundle.specs.declared.draft.Draft.{Draft}
+use Rattle.link_bundle.specs.declared.fault.BundleFault.{BundleFault}
+use Rattle.link_bundle.specs.declared.fault.BundleFault.TheVariants.{BadHead}
+use Rattle.link_bundle.specs.declared.stage.CheckType.{CheckType}
+use Rattle.link_bundle.specs.declared.stage.CheckType.TheVariants.{Unread, Is}
+use Rattle.link_bundle.specs.declared.stage.Field.{Field}
+use Rattle.link_bundle.specs.declared.stage.Field.TheVariants as field
+use Rattle.link_bundle.specs.declared.stage.PrimaryField.TheVariants as primary
+use Rattle.link_bundle.specs.declared.stage.CanonicalField.TheVariants as canonical
+use Rattle.link_bundle.specs.declared.stage.Stage.{Stage}
+use Rattle.link_bundle.specs.declared.stage.Stage.TheVariants.{Start, Head, Name, Content, Stored, Ended, Failed}
+use Rattle.link_cbor.specs.declared.check.CheckKind.TheVariants.{Crc16, Crc32}
+use Rattle.link_bundle.specs.CheckKinds.{is_unread}
+use Rattle.link_bundle.specs.Covers.{Covers}
+use Rattle.link_bundle.specs.Fits.{is_block, KeepsCheck}
+use Rattle.link_bundle.specs.Bundle.{Bundle, judged}
+use Rattle.link_bundle.specs.Reading.{Stop, stopped, head_at}
+use Rattle.link_bundle.specs.Left.{block_start, field_left, ends_of, with_note, stage_left, goes_on, JudgesWith}
+use Rattle.link_bundle.proofs.Heads.{ends_of-stopped}
+use Rattle.link_bundle.proofs.Stops.{field_left-stopped}
+use Rattle.link_bundle.specs.Scan.{HasCome, Stands, IsAtHead, IsInHead, IsInside}
+
+-- the bytes with one more, and those that follow
+pub grown : (seen more : List ℕ) (byte : ℕ) → (seen ++ byte ∷ []) ++ more ≡ seen ++ (byte ∷ more)
+grown seen more byte = append_assoc seen (byte ∷ []) more
+
+pub length-grown : (seen : List ℕ) (byte : ℕ) → length (seen ++ byte ∷ []) ≡ length seen + 1
+length-grown seen byte = length-append seen (byte ∷ [])
+
+pub next_byte : (seen more : List ℕ) (byte : ℕ) → drop (length seen) ((seen ++ byte ∷ []) ++ more) ≡ byte ∷ more
+next_byte seen more byte = ap (λ (bytes : List ℕ). drop (length seen) bytes) (grown seen more byte) ∙ drop-append_seam seen (byte ∷ more)
+
+pub slice_seen : (seen more : List ℕ) (start : ℕ) → start ≤ length seen → slice_range (seen ++ more) start (length seen) ≡ drop start seen
+slice_seen seen more start within =
+    ap (λ (bytes : List ℕ). take (length seen - start) bytes) (drop-append-le start seen more within)
+    ∙ ap (λ (count : ℕ). take count (drop start seen ++ more)) (sym (length-drop start seen))
+    ∙ take-append_seam (drop start seen) more
+
+-- the checks that are wanted
+narrowed : (check : CheckType) (checks : BlockChecks) (covered : List ℕ) → Covers Unread checks covered → Covers check checks covered
+narrowed Unread checks covered both = both
+narrowed (Is None) checks covered both = tt
+narrowed (Is (Some Crc16)) checks covered both = both.0
+narrowed (Is (Some Crc32)) checks covered both = both.1
+
+kept : (old new : CheckType) (checks : BlockChecks) (covered : List ℕ)
+    → (is_unread old ≡ false → (checks : BlockChecks) (covered : List ℕ) → Covers old checks covered → Covers new checks covered)
+    → Covers old checks covered → Covers new checks covered
+kept Unread new checks covered keeps covers = narrowed new checks covered covers
+kept (Is kind) new checks covered keeps covers = keeps refl checks covered covers
+
+-- what `enter` makes of a cursor
+pub record Enters (stage : Stage) (old new : Cursor) : Type 0 where
+  pub count : new.count ≡ old.count
+  pub place : new.place ≡ old.count
+  pub head : HasScannedHead new.head []
+  pub checks : MatchBool (is_block stage) (Covers Unread new.checks []) (new.checks ≡ old.checks)
+
+-- at the end of the bytes nothing of what comes next has come
+nothing_yet : (place : ℕ) (seen : List ℕ) → place ≡ length seen → drop place seen ≡ []
+nothing_yet place seen here = ap (λ (place : ℕ). drop place seen) here ∙ drop-length seen
+
+begun : (which : Field) (cursor : Cursor) (check : CheckType) (start : ℕ) (seen : List ℕ)
+    → cursor.place ≡ length seen → HasScannedHead cursor.head []
+    → block_start which start cursor.place ≤ length seen
+    → Covers check cursor.checks (drop (block_start which start cursor.place) seen)
+    → IsInHead which cursor check start seen
+unfolding head_front
+begun which cursor check start seen here head in_block checks = record {
+  at = record {
+    in_bytes = omega arith;
+    head = subst (λ (bytes : List ℕ). HasScannedHead cursor.head bytes) (sym (nothing_yet cursor.place seen here)) head;
+    in_block = in_block;
+    checks = checks;
+  };
+  cut = rw (nothing_yet cursor.place seen here) refl;
+}
+
+-- a head either begins its block or stands in it
+begins : (which : Field) (start place : ℕ)
+    → ((is_block (Head which) ≡ true) × (block_start which start place ≡ place))
+    ⊎ ((is_block (Head which) ≡ false) × (block_start which start place ≡ start))
+begins (field.Primary primary.Block) start place = inl (refl, refl)
+begins (field.Primary primary.Version) start place = inr (refl, refl)
+begins (field.Primary primary.Flags) start place = inr (refl, refl)
+begins (field.Primary primary.CheckType) start place = inr (refl, refl)
+begins (field.Primary primary.Timestamp) start place = inr (refl, refl)
+begins (field.Primary primary.Time) start place = inr (refl, refl)
+begins (field.Primary primary.Sequence) start place = inr (refl, refl)
+begins (field.Primary primary.Lifetime) start place = inr (refl, refl)
+begins (field.Primary primary.FragmentOffset) start place = inr (refl, refl)
+begins (field.Primary primary.TotalLength) start place = inr (refl, refl)
+begins (field.Endpoint role part) start place = inr (refl, refl)
+begins (field.Canonical canonical.Block) start place = inl (refl, refl)
+begins (field.Canonical canonical.Type) start place = inr (refl, refl)
+begins (field.Canonical canonical.Number) start place = inr (refl, refl)
+begins (field.Canonical canonical.Flags) start place = inr (refl, refl)
+begins (field.Canonical canonical.CheckType) start place = inr (refl, refl)
+begins (field.Canonical canonical.Data) start place = inr (refl, refl)
+begins (field.Check kind) start place = inr (refl, refl)
+begins field.Closing start place = inr (refl, refl)
+
+stands_head : (which : Field) (old new : Cursor) (check after : CheckType) (start : ℕ) (seen : List ℕ)
+    → old.count ≡ length seen → start ≤ length seen → Covers check old.checks (drop start seen)
+    → KeepsCheck check (Head which) after → Enters (Head which) old new → IsInHead which new after start seen
+stands_head which old new check after start seen counted within covers keeps enters =
+    let here : new.place ≡ length seen = enters.place ∙ counted in
+    ⊎_elim
+    (λ (is, at).
+    let fresh : Covers Unread new.checks [] = subst (λ (b : Bool). MatchBool b (Covers Unread new.checks []) (new.checks ≡ old.checks)) is enters.checks in
+    begun which new after start seen here enters.head (omega (arith, at))
+    (subst (λ (bytes : List ℕ). Covers after new.checks bytes)
+    (sym (ap (λ (place : ℕ). drop place seen) at ∙ nothing_yet new.place seen here)) (narrowed after new.checks [] fresh)))
+    (λ (is, at).
+    let same : new.checks ≡ old.checks = subst (λ (b : Bool). MatchBool b (Covers Unread new.checks []) (new.checks ≡ old.checks)) is enters.checks in
+    let held = kept check after old.checks (drop start seen) (keeps.1 is) covers in
+    begun which new after start seen here enters.head (omega (arith, at))
+    (subst (λ (checks : BlockChecks). Covers after checks (drop (block_start which start new.place) seen)) (sym same)
+    (subst (λ (place : ℕ). Covers after old.checks (drop place seen)) (sym at) held)))
+    (begins which start new.place)
+
+stands_inside : (old new : Cursor) (check after : CheckType) (start : ℕ) (seen : List ℕ)
+    → start ≤ length seen → Covers check old.checks (drop start seen)
+    → (is_unread check ≡ false → (checks : BlockChecks) (covered : List ℕ) → Covers check checks covered → Covers after checks covered)
+    → new.checks ≡ old.checks → IsInside new after start seen
+stands_inside old new check after start seen within covers keeps same = record {
+  in_block = within;
+  checks = subst (λ (checks : BlockChecks). Covers after checks (drop start seen)) (sym same) (kept check after old.checks (drop start seen) keeps covers);
+}
+
+stands_entered : (stage : Stage) (old new : Cursor) (check after : CheckType) (start : ℕ) (seen : List ℕ)
+    → old.count ≡ length seen → start ≤ length seen → Covers check old.checks (drop start seen)
+    → KeepsCheck check stage after → Enters stage old new → Stands stage new after start seen
+stands_entered Start old new check after start seen counted within covers keeps enters = absurd (false≢true keeps.0)
+stands_entered (Head which) old new check after start seen counted within covers keeps enters =
+    stands_head which old new check after start seen counted within covers keeps enters
+stands_entered (Name role left) old new check after start seen counted within covers keeps enters =
+    stands_inside old new check after start seen within covers (keeps.1 refl) enters.checks
+stands_entered (Content left) old new check after start seen counted within covers keeps enters =
+    stands_inside old new check after start seen within covers (keeps.1 refl) enters.checks
+stands_entered (Stored place left stored expected) old new check after start seen counted within covers keeps enters = tt
+stands_entered Ended old new check after start seen counted within covers keeps enters = enters.place ∙ counted
+stands_entered (Failed fault place) old new check after start seen counted within covers keeps enters = tt
+
+-- a stage is entered, with what is left to be read from there
+pub entered : (stage : Stage) (old new : Cursor) (check : CheckType) (draft : Draft) (start : ℕ) (seen : List ℕ)
+    → AreBytes seen → old.count ≡ length seen → start ≤ length seen → Covers check old.checks (drop start seen)
+    → KeepsCheck check stage draft.check → Enters stage old new
+    → ((more : List ℕ) → judged (seen ++ more) ≡ stage_left stage draft start (length seen) (seen ++ more) (length seen))
+    → HasCome stage new draft seen
+entered stage old new check draft start seen all counted within covers keeps enters reads = record {
+  all_bytes = all;
+  count = enters.count ∙ counted;
+  start = start;
+  reads = λ more. reads more
+      ∙ ap (λ (place : ℕ). stage_left stage draft start place (seen ++ more) (length seen)) (sym (enters.place ∙ counted));
+  stands = stands_entered stage old new check draft.check start seen counted within covers keeps enters;
+}
+
+-- what was left to be read with the byte before it
+pub regrown : (left : List ℕ → Result Bundle Stop) (seen : List ℕ) (byte : ℕ)
+    → ((more : List ℕ) → judged (seen ++ more) ≡ left (seen ++ more))
+    → (more : List ℕ) → judged ((seen ++ byte ∷ []) ++ more) ≡ left ((seen ++ byte ∷ []) ++ more)
+regrown left seen byte reads more =
+    subst (λ (bytes : List ℕ). judged bytes ≡ left bytes) (sym (grown seen more byte)) (reads (byte ∷ more))
+
+pub all_grown : (seen : List ℕ) (byte : ℕ) → AreBytes seen → byte < 256 → AreBytes (seen ++ byte ∷ [])
+all_grown seen byte all small = All-push (λ (b : ℕ). b < 256) seen byte all small
+
+drop-grown : (place : ℕ) (seen : List ℕ) (byte : ℕ) → place ≤ length seen → drop place (seen ++ byte ∷ []) ≡ drop place seen ++ byte ∷ []
+drop-grown place seen byte within = drop-append-le place seen (byte ∷ []) within
+
+-- a head has come, and is not told yet
+pub record HeadCame (which : Field) (cursor : Cursor) (draft : Draft) (seen : List ℕ) : Type 0 where
+  pub all_bytes : AreBytes seen
+  pub count : cursor.count ≡ length seen
+  pub start : ℕ
+  pub reads : (more : List ℕ) → judged (seen ++ more) ≡ stage_left (Head which) draft start cursor.place (seen ++ more) (length seen)
+  pub at : IsAtHead which cursor draft.check start seen
+
+-- a byte of a head
+pub grown_head : (which : Field) (old new : Cursor) (draft : Draft) (seen : List ℕ) (byte : ℕ)
+    → HasCome (Head which) old draft seen → byte < 256
+    → new.count ≡ old.count + 1 → new.place ≡ old.place
+    → ((head : List ℕ) → HasScannedHead old.head head → HasScannedHead new.head (head ++ byte ∷ []))
+    → ((covered : List ℕ) → Covers draft.check old.checks covered → Covers draft.check new.checks (covered ++ byte ∷ []))
+    → HeadCame which new draft (seen ++ byte ∷ [])
+unfolding stage_left
+grown_head which old new draft seen byte come small counts stays heads covers =
+    let at = come.stands.at in
+    let longer = length-grown seen byte in
+    record {
+      all_bytes = all_grown seen byte come.all_bytes small;
+      count = counts ∙ ap (λ (count : ℕ). count + 1) come.count ∙ sym longer;
+      start = come.start;
+      reads = rw stays (regrown (λ (bytes : List ℕ). stage_left (Head which) draft come.start old.place bytes (length seen)) seen byte come.reads);
+      at = record {
+        in_bytes = omega (arith, at.in_bytes);
+        head = rw (stays, drop-grown old.place seen byte at.in_bytes) (heads (drop old.place seen) at.head);
+        in_block = rw stays (omega (arith, at.in_block));
+        checks = rw (stays, drop-grown (block_start which come.start old.place) seen byte at.in_block)
+            (covers (drop (block_start which come.start old.place) seen) at.checks);
+      };
+    }
+
+-- the head that has come, however the bytes go on
+front_stays : (place : ℕ) (seen more : List ℕ) → place ≤ length seen → drop place (seen ++ more) ≡ drop place seen ++ more
+front_stays place seen more within = drop-append-le place seen more within
+
+head_at-whole : (place : ℕ) (seen more : List ℕ) (head : HeadItem) → place ≤ length seen
+    → head_front (drop place seen) ≡ Whole head (length (drop place seen)) → head_at (seen ++ more) place ≡ Ok (head, length seen)
+unfolding head_at
+head_at-whole place seen more head within told =
+    let next : place + length (drop place seen) ≡ length seen = omega (arith, length-drop place seen) in
+    rw (front_stays place seen more within, whole_stays (drop place seen) more head (length (drop place seen)) told, next) refl
+
+head_at-bad : (place : ℕ) (seen more : List ℕ) → place ≤ length seen
+    → head_front (drop place seen) ≡ IllFormed → head_at (seen ++ more) place ≡ Err (stopped BadHead place)
+unfolding head_at
+head_at-bad place seen more within told =
+    rw (front_stays place seen more within, ill_formed_stays (drop place seen) more told) refl
+
+-- a head that goes on
+pub more_head : (which : Field) (cursor : Cursor) (draft : Draft) (seen : List ℕ) → HeadCame which cursor draft seen
+    → head_front (drop cursor.place seen) ≡ CutHead → HasCome (Head which) cursor draft seen
+more_head which cursor draft seen come told = record {
+  all_bytes = come.all_bytes;
+  count = come.count;
+  start = come.start;
+  reads = come.reads;
+  stands = record { at = come.at; cut = told };
+}
+
+-- an ill-formed head
+pub bad_head : (which : Field) (cursor : Cursor) (draft : Draft) (seen : List ℕ) → HeadCame which cursor draft seen
+    → head_front (drop cursor.place seen) ≡ IllFormed → HasCome (Failed BadHead cursor.place) cursor draft seen
+unfolding stage_left
+bad_head which cursor draft seen come told = record {
+  all_bytes = come.all_bytes;
+  count = come.count;
+  start = come.start;
+  reads = λ more. come.reads more
+      ∙ ap (λ (reading : Result Bundle Stop). ends_of (seen ++ more) (with_note draft.payload reading))
+      (field_left-stopped which draft (block_start which come.start cursor.place) (seen ++ more) cursor.place (stopped BadHead cursor.place)
+      (head_at-bad cursor.place seen more come.at.in_bytes told))
+      ∙ ends_of-stopped draft.payload (seen ++ more) (stopped BadHead cursor.place);
+  stands = tt;
+}
+
+-- a head that is whole and judged
+judged_head : (which : Field) (cursor : Cursor) (draft new : Draft) (head : HeadItem) (result : Result Stage BundleFault) (seen : List ℕ)
+    → (come : HeadCame which cursor draft seen) → head_front (drop cursor.place seen) ≡ Whole head (length (drop cursor.place seen))
+    → JudgesWith cursor.checks cursor.place cursor.count which draft head result new
+    → (more : List ℕ) → judged (seen ++ more)
+    ≡ goes_on result new (block_start which come.start cursor.place) cursor.place (length seen) (seen ++ more)
+unfolding stage_left
+judged_head which cursor draft new head result seen come told judges more =
+    let at = come.at in
+    let whole = head_at-whole cursor.place seen more head at.in_bytes told in
+    let covered = slice_seen seen more (block_start which come.start cursor.place) at.in_block in
+    come.reads more
+    ∙ subst (λ (count : ℕ). ends_of (seen ++ more) (with_note draft.payload (field_left which draft (block_start which come.start cursor.place) (seen ++ more) cursor.place))
+    ≡ goes_on result new (block_start which come.start cursor.place) cursor.place count (seen ++ more)) come.count
+    (judges (seen ++ more) come.start (rw come.count whole) (omega (arith, length-append seen more, come.count))
+    (rw (come.count, covered) at.checks))
+
+pub went_on : (which : Field) (old cursor : Cursor) (draft new : Draft) (head : HeadItem) (stage : Stage) (seen : List ℕ)
+    → HeadCame which old draft seen → head_front (drop old.place seen) ≡ Whole head (length (drop old.place seen))
+    → JudgesWith old.checks old.place old.count which draft head (Ok stage) new
+    → KeepsCheck draft.check stage new.check → Enters stage old cursor → HasCome stage cursor new seen
+went_on which old cursor draft new head stage seen come told judges keeps enters =
+    entered stage old cursor draft.check new (block_start which come.start old.place) seen come.all_bytes come.count
+    come.at.in_block come.at.checks keeps enters
+    (judged_head which old draft new head (Ok stage) seen come told judges)
+
+pub refused : (which : Field) (cursor : Cursor) (draft new : Draft) (head : HeadItem) (fault : BundleFault) (seen : List ℕ)
+    → HeadCame which cursor draft seen → head_front (drop cursor.place seen) ≡ Whole head (length (drop cursor.place seen))
+    → JudgesWith cursor.checks cursor.place cursor.count which draft head (Err fault) new
+    → HasCome (Failed fault cursor.place) cursor new seen
+unfolding stage_left
+refused which cursor draft new head fault seen come told judges = record {
+  all_bytes = come.all_bytes;
+  count = come.count;
+  start = come.start;
+  reads = judged_head which cursor draft new head (Err fault) seen come told judges;
+  stands = tt;
+}

@@ -1,0 +1,8 @@
+use Rattle.link_bundle.proofs.Lengths.{FaultLasts-holds, TrailingLasts-holds}
+use Rattle.link_bundle.proofs.laws.verdict_lasts.Goals as goal
+
+pub returns-clause-fault : goal.returns-clause-fault
+returns-clause-fault c = FaultLasts-holds
+
+pub returns-clause-trailing : goal.returns-clause-trailing
+returns-clause-trailing c = TrailingLasts-holds

@@ -1,0 +1,25 @@
+use Rattle.std.proofs.Common.{subst, arith}
+use Rattle.link_bundle.specs.declared.stage.Stage.{Stage}
+use Rattle.std.specs.Prelude.{IsTrue}
+use Rattle.std.proofs.lemmas.Bool.{ltb-true}
+use Rattle.link_bundle.specs.Fits.{scan_fits}
+use Rattle.link_bundle.specs.Scan.{HasCome}
+use Rattle.link_bundle.proofs.Contents.{grown_content, ended_content}
+use Rattle.link_bundle.proofs.scan.BundleScan.content_byte.Goals as goal
+
+pub returns-then-left-gt1-clause-seen : goal.returns-then-left-gt1-clause-seen
+returns-then-left-gt1-clause-seen c = λ seen come.
+    let now = c.args.self.now in
+    let here = subst (λ (stage : Stage). HasCome stage now.cursor now.draft seen) c.requires.stage come in
+    grown_content c.args.left now.cursor c.content_byte.new.self now.draft seen c.args.byte here (omega arith) (omega arith)
+    c.content_byte.ensures.count c.content_byte.ensures.checks
+
+pub returns-else-left-gt1-clause-seen : goal.returns-else-left-gt1-clause-seen
+returns-else-left-gt1-clause-seen c = λ seen come.
+    let now = c.args.self.now in
+    let here = subst (λ (stage : Stage). HasCome stage now.cursor now.draft seen) c.requires.stage come in
+    let fits = subst (λ (stage : Stage). IsTrue (scan_fits stage now.cursor now.draft)) c.requires.stage now.fits in
+    ended_content c.args.left now.cursor c.content_byte.new.self c.enter.new.self now.draft c.behind_fields-stage.new.self c.behind_fields-stage.result
+    seen c.args.byte here (omega arith) (omega (arith, ltb-true 0 c.args.left fits))
+    c.content_byte.ensures.count c.content_byte.ensures.checks c.behind_fields-stage.ensures.reads c.behind_fields-stage.ensures.keeps
+    (record { count = c.enter.ensures.count; place = c.enter.ensures.place; head = c.enter.ensures.head; checks = c.enter.ensures.checks })

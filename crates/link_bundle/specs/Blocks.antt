@@ -1,0 +1,70 @@
+-- the blocks of a bundle (RFC 9171 section 4.3) and their check fields (section 4.2.1)
+
+use Rattle.std.specs.Prelude.{ℕ, ◌+◌, ◌*◌, ◌==◌, Bool, true, false, List, ◌++◌, Option, Some, None, Ok, Err, fold, replicate, slice_range, if◌then◌else◌}
+use Rattle.link_cbor.specs.declared.check.CheckKind.{CheckKind}
+use Rattle.link_cbor.specs.Crc.{crc}
+use Rattle.link_bundle.specs.declared.fault.BundleFault.TheVariants.{CheckDiffers}
+use Rattle.link_bundle.specs.declared.eid.Eid.{Eid}
+use Rattle.link_bundle.specs.Rows.{◌>>=◌, unsigned, pair, primary_block, version, is_fragment, primary_check_type, check_width, check_field}
+use Rattle.link_bundle.specs.Reading.{Reading, stopped, row_at, bytes_at}
+use Rattle.link_bundle.specs.EndpointId.{eid_at}
+
+-- the number that bytes spell, the most significant first, behind those that spell `high`
+abbrev pub number_from : ℕ → List ℕ → ℕ
+number_from high bytes = fold (λ number byte. number * 256 + byte) high bytes
+
+-- the check of a block that begins at `start`, with its field's content, which begins at `content`, as zeros
+unfoldable pub check_of : CheckKind → ℕ → ℕ → List ℕ → ℕ
+check_of kind start content bytes = crc kind (slice_range bytes start content ++ replicate (check_width kind) 0)
+
+-- the check field at a place, of a block that begins at `start` (section 4.2.1)
+unfoldable pub field_at : Option CheckKind → ℕ → List ℕ → ℕ → Reading Bool
+field_at None start bytes place = Ok (true, place)
+field_at (Some kind) start bytes place = do
+  (_, content) ← row_at (check_field kind) bytes place
+  (stored, next) ← bytes_at (check_width kind) bytes content
+  if number_from 0 stored == check_of kind start content bytes then Ok (true, next) else Err (stopped CheckDiffers place)
+
+-- what is kept of the primary block
+pub record Primary : Type 0 where
+  pub flags : ℕ
+  pub destination : Eid
+  pub source : Eid
+  pub time : ℕ
+  pub sequence : ℕ
+  pub lifetime : ℕ
+  -- the fragment offset and the total length
+  pub fragment : Option (ℕ × ℕ)
+
+-- in a fragment the fragment offset and the total length
+unfoldable pub fragment_at : Bool → List ℕ → ℕ → Reading (Option (ℕ × ℕ))
+fragment_at false bytes place = Ok (None, place)
+fragment_at true bytes place = do
+  (offset, place) ← row_at unsigned bytes place
+  (total, place) ← row_at unsigned bytes place
+  Ok (Some (offset, total), place)
+
+-- the primary block up to its check field, and its check type (section 4.3.1): version, bundle processing control flags
+-- (section 4.2.3), check type (section 4.2.1), the endpoint IDs of destination, source and report-to (section 4.2.5.1),
+-- creation timestamp (section 4.2.7) of time (section 4.2.6) and sequence number, lifetime, and the fragment's fields
+unfoldable pub primary_at : List ℕ → ℕ → Reading (Primary × Option CheckKind)
+primary_at bytes place = do
+  (count, place) ← row_at primary_block bytes place
+  (_, place) ← row_at version bytes place
+  (flags, place) ← row_at unsigned bytes place
+  (check, place) ← row_at (primary_check_type count flags) bytes place
+  (destination, place) ← eid_at bytes place
+  (source, place) ← eid_at bytes place
+  (report_to, place) ← eid_at bytes place
+  (_, place) ← row_at pair bytes place
+  (time, place) ← row_at unsigned bytes place
+  (sequence, place) ← row_at unsigned bytes place
+  (lifetime, place) ← row_at unsigned bytes place
+  (fragment, place) ← fragment_at (is_fragment flags) bytes place
+  Ok ((record { flags = flags; destination = destination; source = source; time = time; sequence = sequence; lifetime = lifetime; fragment = fragment }, check), place)
+
+-- the data of a canonical block that begins at `start`, and its check field
+unfoldable pub content_at : ℕ → Option CheckKind → ℕ → List ℕ → ℕ → Reading Bool
+content_at size check start bytes place = do
+  (_, place) ← bytes_at size bytes place
+  field_at check start bytes place

@@ -1,0 +1,119 @@
+-- bundles (RFC 9171 section 4.1), and the verdict on a list of bytes
+
+use Rattle.std.specs.Prelude.{ℕ, zero, suc, ◌+◌, ◌==◌, Bool, true, false, List, [], ◌∷◌, ◌++◌, length, take, drop, Option, Some, None, Result, Ok, Err, if◌then◌else◌}
+use Rattle.link_bundle.specs.declared.fault.BundleFault.{BundleFault}
+use Rattle.link_bundle.specs.declared.fault.BundleFault.TheVariants.{NotABundle, Trailing}
+use Rattle.link_bundle.specs.declared.fault.State.{State}
+use Rattle.link_bundle.specs.declared.fault.State.TheVariants as state
+use Rattle.link_bundle.specs.declared.info.BundleInfo.{BundleInfo}
+use Rattle.link_bundle.specs.Faults.{lasts}
+use Rattle.link_cbor.specs.declared.check.CheckKind.{CheckKind}
+use Rattle.link_bundle.specs.Rows.{◌>>=◌, unsigned, byte_string, block, block_too_many, block_number, block_check_type, closing}
+use Rattle.link_bundle.specs.Reading.{Reading, Stop, stopped, cut_short, row_at}
+use Rattle.link_bundle.specs.Blocks.{Primary, primary_at, field_at, content_at}
+
+-- a whole bundle: its length, and where the payload's bytes begin and how many they are
+pub record Bundle : Type 0 where
+  pub info : BundleInfo
+  pub length : ℕ
+  pub payload : ℕ × ℕ
+
+-- a stop behind the payload's data head, whose bytes are noted
+abbrev pub noting : {A : Type 0} → ℕ × ℕ → Result A Stop → Result A Stop
+noting payload (Ok value) = Ok value
+noting payload (Err stop) = Err (record stop { payload = Some payload })
+
+abbrev pub info_of : Primary → ℕ → ℕ → BundleInfo
+info_of primary blocks payload =
+    record { flags = primary.flags; destination = primary.destination; source = primary.source; time = primary.time; sequence = primary.sequence; lifetime = primary.lifetime; fragment = primary.fragment; blocks = blocks; payload = payload }
+
+-- the data of the payload block that begins at `start`, its check field, and the break behind it
+unfoldable pub payload_at : Primary → ℕ → ℕ → Option CheckKind → ℕ → List ℕ → ℕ → Result Bundle Stop
+payload_at primary blocks size check start bytes place = noting (place, size) do
+  (_, end) ← content_at size check start bytes place
+  (_, end) ← row_at closing bytes end
+  Ok (record { info = info_of primary blocks size; length = end; payload = (place, size) })
+
+-- the canonical blocks up to the payload block, which has type 1 and is the last, and the break; `left` more blocks may
+-- come, and `numbers` are those of the blocks before. Each block (section 4.3.2): its array, block type code, block number
+-- (section 4.1), block processing control flags (section 4.2.4), check type (section 4.2.1), data, and its check field
+unfoldable pub blocks_at : ℕ → List ℕ → Primary → List ℕ → ℕ → Result Bundle Stop
+blocks_at zero numbers primary bytes start = do
+  (_, place) ← row_at block_too_many bytes start
+  cut_short bytes
+blocks_at (suc left) numbers primary bytes start = do
+  (count, place) ← row_at block bytes start
+  (type, place) ← row_at unsigned bytes place
+  (number, place) ← row_at (block_number type numbers) bytes place
+  (flags, place) ← row_at unsigned bytes place
+  (check, place) ← row_at (block_check_type count) bytes place
+  (size, place) ← row_at byte_string bytes place
+  if type == 1 then payload_at primary (length numbers + 1) size check start bytes place else do
+    (_, place) ← content_at size check start bytes place
+    blocks_at left (numbers ++ number ∷ []) primary bytes place
+
+-- the first byte opens an array of indefinite length
+unfoldable pub opening_at : List ℕ → Reading Bool
+opening_at [] = cut_short []
+opening_at (first ∷ rest) = if first == 0x9f then Ok (true, 1) else Err (stopped NotABundle 0)
+
+-- the bundle that the bytes begin with
+unfoldable pub bundle_at : List ℕ → Result Bundle Stop
+bundle_at bytes = do
+  (_, start) ← opening_at bytes
+  ((primary, check), place) ← primary_at bytes start
+  (_, place) ← field_at check start bytes place
+  blocks_at 64 [] primary bytes place
+
+-- the bundle that the bytes are: nothing follows it
+abbrev pub ends : List ℕ → Bundle → Result Bundle Stop
+ends bytes bundle =
+    if bundle.length == length bytes then Ok bundle
+    else Err (record { fault = Trailing; place = bundle.length; payload = Some bundle.payload })
+
+unfoldable pub judged : List ℕ → Result Bundle Stop
+judged bytes = do
+  bundle ← bundle_at bytes
+  ends bytes bundle
+
+abbrev pub told : Result Bundle Stop → Result BundleInfo (BundleFault × ℕ)
+told (Ok bundle) = Ok bundle.info
+told (Err stop) = Err (stop.fault, stop.place)
+
+-- what the bytes are judged: a bundle, or the first fault and its place
+unfoldable pub verdict : List ℕ → Result BundleInfo (BundleFault × ℕ)
+verdict bytes = told (judged bytes)
+
+abbrev pub noted : Result Bundle Stop → Option (ℕ × ℕ)
+noted (Ok bundle) = Some bundle.payload
+noted (Err stop) = stop.payload
+
+abbrev pub bytes_of : Option (ℕ × ℕ) → List ℕ → List ℕ
+bytes_of None bytes = []
+bytes_of (Some (place, size)) bytes = take size (drop place bytes)
+
+-- the payload's bytes that are there, also in what is no bundle; none where its data head was not accepted
+unfoldable pub payload_in : List ℕ → List ℕ
+payload_in bytes = bytes_of (noted (judged bytes)) bytes
+
+-- where the payload's first byte stands, and how many of its bytes are there
+abbrev pub spanned : Option (ℕ × ℕ) → ℕ → Option (ℕ × ℕ)
+spanned None count = None
+spanned (Some (place, size)) count = Some (place, count)
+
+unfoldable pub payload_span : List ℕ → Option (ℕ × ℕ)
+payload_span bytes = spanned (noted (judged bytes)) (length (payload_in bytes))
+
+-- a verdict as a state: bytes that end inside a bundle may go on
+abbrev pub state_of : Result BundleInfo (BundleFault × ℕ) → State
+state_of (Ok info) = state.Ended
+state_of (Err (fault, place)) = if lasts fault then state.Failed fault place else state.Going
+
+abbrev pub is_going : State → Bool
+is_going state.Going = true
+is_going state.Ended = false
+is_going (state.Failed fault place) = false
+
+-- the bytes end inside a bundle
+abbrev pub bundle_goes : List ℕ → Bool
+bundle_goes seen = is_going (state_of (verdict seen))

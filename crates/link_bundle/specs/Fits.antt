@@ -1,0 +1,121 @@
+-- what keeps a scan in bounds at each stage
+
+use Rattle.std.specs.Prelude.{◌≡◌, ℕ, ◌+◌, ◌-◌, ◌^◌, Bool, true, false, ◌&&◌, ◌==◌, nat_lt, nat_le, List, length, is_none, is_some, Result, MatchResult, IsTrue}
+use Rattle.link_cbor.specs.declared.head_scan.HeadScan.{HeadScan}
+use Rattle.link_cbor.specs.HeadScan.{may_scan}
+use Rattle.link_bundle.specs.declared.cursor.Cursor.{Cursor}
+use Rattle.link_bundle.specs.declared.fault.BundleFault.{BundleFault}
+use Rattle.link_bundle.specs.Faults.{lasts}
+use Rattle.link_bundle.specs.declared.draft.Draft.{Draft}
+use Rattle.link_bundle.specs.declared.stage.Stage.{Stage}
+use Rattle.link_bundle.specs.declared.stage.Stage.TheVariants.{Start, Head, Name, Content, Stored, Ended, Failed}
+use Rattle.link_bundle.specs.declared.stage.Field.{Field}
+use Rattle.link_bundle.specs.declared.stage.Field.TheVariants as field
+use Rattle.link_bundle.specs.declared.stage.PrimaryField.{PrimaryField}
+use Rattle.link_bundle.specs.declared.stage.PrimaryField.TheVariants as primary
+use Rattle.link_bundle.specs.declared.stage.CanonicalField.{CanonicalField}
+use Rattle.link_bundle.specs.declared.stage.CanonicalField.TheVariants as canonical
+use Rattle.link_bundle.specs.declared.stage.CheckType.{CheckType}
+use Rattle.link_bundle.specs.declared.checks.BlockChecks.{BlockChecks}
+use Rattle.link_bundle.specs.CheckKinds.{kind_of, is_unread, is_settled, is_kind}
+use Rattle.link_bundle.specs.Covers.{Covers}
+
+-- before the check type's head both checks run
+abbrev pub primary_fits : PrimaryField → Draft → Bool
+primary_fits primary.Block draft = is_unread draft.check
+primary_fits primary.Version draft = is_unread draft.check
+primary_fits primary.Flags draft = is_unread draft.check
+primary_fits primary.CheckType draft = is_unread draft.check
+primary_fits primary.Timestamp draft = true
+primary_fits primary.Time draft = true
+primary_fits primary.Sequence draft = true
+primary_fits primary.Lifetime draft = true
+primary_fits primary.FragmentOffset draft = true
+primary_fits primary.TotalLength draft = true
+
+-- the payload block has not come, and there is room for the block's number
+abbrev pub canonical_fits : CanonicalField → Draft → Bool
+canonical_fits canonical.Block draft = is_none draft.payload && is_unread draft.check
+canonical_fits canonical.Type draft =
+    is_none draft.payload && (is_unread draft.check && nat_lt (length draft.numbers.items) 64)
+canonical_fits canonical.Number draft =
+    is_none draft.payload && (is_unread draft.check && nat_lt (length draft.numbers.items) 64)
+canonical_fits canonical.Flags draft = is_none draft.payload && is_unread draft.check
+canonical_fits canonical.CheckType draft = is_none draft.payload && is_unread draft.check
+canonical_fits canonical.Data draft = is_none draft.payload
+
+abbrev pub field_fits : Field → Draft → Bool
+field_fits (field.Primary which) draft = primary_fits which draft
+field_fits (field.Endpoint role part) draft = true
+field_fits (field.Canonical which) draft = canonical_fits which draft
+field_fits (field.Check kind) draft = is_kind (kind_of draft.check) kind
+field_fits field.Closing draft = is_some draft.payload
+
+abbrev pub stage_fits : Stage → Draft → Bool
+stage_fits Start draft = is_none draft.payload && (is_unread draft.check && length draft.numbers.items == 0)
+stage_fits (Head which) draft = field_fits which draft
+stage_fits (Name role left) draft = nat_lt 0 left && nat_le (length draft.name.items + left) 1024
+stage_fits (Content left) draft = nat_lt 0 left
+stage_fits (Stored place left stored expected) draft =
+    is_settled draft.check && (nat_lt 0 left && (nat_le left 4 && nat_lt stored (256 ^ (4 - left))))
+stage_fits Ended draft = is_some draft.payload
+stage_fits (Failed fault place) draft = lasts fault
+
+-- at the head of a block's array, where its checks begin
+abbrev pub is_block : Stage → Bool
+is_block Start = false
+is_block (Head (field.Primary primary.Block)) = true
+is_block (Head (field.Primary primary.Version)) = false
+is_block (Head (field.Primary primary.Flags)) = false
+is_block (Head (field.Primary primary.CheckType)) = false
+is_block (Head (field.Primary primary.Timestamp)) = false
+is_block (Head (field.Primary primary.Time)) = false
+is_block (Head (field.Primary primary.Sequence)) = false
+is_block (Head (field.Primary primary.Lifetime)) = false
+is_block (Head (field.Primary primary.FragmentOffset)) = false
+is_block (Head (field.Primary primary.TotalLength)) = false
+is_block (Head (field.Endpoint role part)) = false
+is_block (Head (field.Canonical canonical.Block)) = true
+is_block (Head (field.Canonical canonical.Type)) = false
+is_block (Head (field.Canonical canonical.Number)) = false
+is_block (Head (field.Canonical canonical.Flags)) = false
+is_block (Head (field.Canonical canonical.CheckType)) = false
+is_block (Head (field.Canonical canonical.Data)) = false
+is_block (Head (field.Check kind)) = false
+is_block (Head field.Closing) = false
+is_block (Name role left) = false
+is_block (Content left) = false
+is_block (Stored place left stored expected) = false
+is_block Ended = false
+is_block (Failed fault place) = false
+
+abbrev pub is_begun : Stage → Bool
+is_begun Start = false
+is_begun (Head which) = true
+is_begun (Name role left) = true
+is_begun (Content left) = true
+is_begun (Stored place left stored expected) = true
+is_begun Ended = true
+is_begun (Failed fault place) = true
+
+-- once the check type was read, what the checks cover is kept to the end of the block
+abbrev pub KeepsCheck : CheckType → Stage → CheckType → Type 0
+KeepsCheck old stage new =
+    IsTrue (is_begun stage)
+    × (is_block stage ≡ false → is_unread old ≡ false → (checks : BlockChecks) (covered : List ℕ) → Covers old checks covered → Covers new checks covered)
+
+-- what follows a head keeps the scan in bounds
+abbrev pub Follows : Result Stage BundleFault → Draft → Type 0
+Follows result draft = MatchResult result (λ stage. IsTrue (stage_fits stage draft)) (λ fault. IsTrue (lasts fault))
+
+abbrev pub head_fits : Stage → HeadScan → Bool
+head_fits Start head = true
+head_fits (Head which) head = may_scan head
+head_fits (Name role left) head = true
+head_fits (Content left) head = true
+head_fits (Stored place left stored expected) head = true
+head_fits Ended head = true
+head_fits (Failed fault place) head = true
+
+abbrev pub scan_fits : Stage → Cursor → Draft → Bool
+scan_fits stage cursor draft = head_fits stage cursor.head && stage_fits stage draft

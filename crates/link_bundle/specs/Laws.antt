@@ -1,0 +1,20 @@
+-- how a verdict lasts, over the definitions alone
+
+use Rattle.std.specs.Prelude.{◌≡◌, ℕ, List, ◌∷◌, ◌++◌, length, Ok, Err, IsTrue}
+use Rattle.link_bundle.specs.declared.fault.BundleFault.{BundleFault}
+use Rattle.link_bundle.specs.declared.fault.BundleFault.TheVariants.{Trailing}
+use Rattle.link_bundle.specs.declared.info.BundleInfo.{BundleInfo}
+use Rattle.link_bundle.specs.Faults.{lasts}
+use Rattle.link_bundle.specs.Bundle.{verdict}
+
+-- a fault stays, unless it is that the bytes end inside the bundle
+abbrev pub FaultLasts : Type 0
+FaultLasts =
+    (bytes more : List ℕ) (fault : BundleFault) (place : ℕ) → IsTrue (lasts fault) →
+    verdict bytes ≡ Err (fault, place) → verdict (bytes ++ more) ≡ Err (fault, place)
+
+-- a bundle with a byte behind it is trailing bytes at the bundle's length
+abbrev pub TrailingLasts : Type 0
+TrailingLasts =
+    (bytes more : List ℕ) (byte : ℕ) (info : BundleInfo) →
+    verdict bytes ≡ Ok info → verdict (bytes ++ byte ∷ more) ≡ Err (Trailing, length bytes)

@@ -1,0 +1,70 @@
+-- What a scan of a bundle has seen. The promises need no more of it than that `new` has seen nothing and that a step adds
+-- its byte.
+
+use Rattle.std.specs.Prelude.{◌≡◌, ℕ, ◌≤◌, Bool, List, [], ◌++◌, length, drop}
+use Rattle.link_cbor.specs.Head.{AreBytes, Cut, head_front}
+use Rattle.link_cbor.specs.HeadScan.{HasScanned as HasScannedHead}
+use Rattle.link_bundle.specs.declared.cursor.Cursor.{Cursor}
+use Rattle.link_bundle.specs.declared.draft.Draft.{Draft}
+use Rattle.link_bundle.specs.declared.scan.BundleScan.{BundleScan}
+use Rattle.link_bundle.specs.declared.stage.CheckType.{CheckType}
+use Rattle.link_bundle.specs.declared.stage.Field.{Field}
+use Rattle.link_bundle.specs.declared.stage.Stage.{Stage}
+use Rattle.link_bundle.specs.declared.stage.Stage.TheVariants.{Start, Head, Name, Content, Stored, Ended, Failed}
+use Rattle.link_bundle.specs.Bundle.{judged}
+use Rattle.link_bundle.specs.Covers.{Covers}
+use Rattle.link_bundle.specs.Left.{block_start, stage_left}
+use Rattle.link_bundle.specs.Stages.{stage_state, takes_bytes}
+
+-- the head at `cursor.place` has come so far, in a block that begins at `start`
+pub record IsAtHead (field : Field) (cursor : Cursor) (check : CheckType) (start : ℕ) (seen : List ℕ) : Type 0 where
+  pub in_bytes : cursor.place ≤ length seen
+  pub head : HasScannedHead cursor.head (drop cursor.place seen)
+  pub in_block : block_start field start cursor.place ≤ length seen
+  pub checks : Covers check cursor.checks (drop (block_start field start cursor.place) seen)
+
+-- the same, and the head is not whole
+pub record IsInHead (field : Field) (cursor : Cursor) (check : CheckType) (start : ℕ) (seen : List ℕ) : Type 0 where
+  pub at : IsAtHead field cursor check start seen
+  pub cut : head_front (drop cursor.place seen) ≡ Cut
+
+-- in a name or in data, in a block that begins at `start`
+pub record IsInside (cursor : Cursor) (check : CheckType) (start : ℕ) (seen : List ℕ) : Type 0 where
+  pub in_block : start ≤ length seen
+  pub checks : Covers check cursor.checks (drop start seen)
+
+-- before the first byte
+pub record IsFresh (cursor : Cursor) (check : CheckType) (seen : List ℕ) : Type 0 where
+  pub nothing : seen ≡ []
+  pub checks : Covers check cursor.checks []
+
+-- what the cursor has at each stage
+abbrev pub Stands : Stage → Cursor → CheckType → ℕ → List ℕ → Type 0
+Stands Start cursor check start seen = IsFresh cursor check seen
+Stands (Head field) cursor check start seen = IsInHead field cursor check start seen
+Stands (Name role left) cursor check start seen = IsInside cursor check start seen
+Stands (Content left) cursor check start seen = IsInside cursor check start seen
+Stands (Stored place left stored expected) cursor check start seen = Unit {0}
+Stands Ended cursor check start seen = cursor.place ≡ length seen
+Stands (Failed fault place) cursor check start seen = Unit {0}
+
+-- exactly these bytes have come: however they go on, the bundle is what is left to be read from here
+pub record HasCome (stage : Stage) (cursor : Cursor) (draft : Draft) (seen : List ℕ) : Type 0 where
+  pub all_bytes : AreBytes seen
+  pub count : cursor.count ≡ length seen
+  -- where the present block begins
+  pub start : ℕ
+  pub reads : (more : List ℕ) → judged (seen ++ more) ≡ stage_left stage draft start cursor.place (seen ++ more) (length seen)
+  pub stands : Stands stage cursor draft.check start seen
+
+-- the scan has stepped over exactly these bytes
+abbrev pub HasScanned : BundleScan → List ℕ → Type 0
+HasScanned scan seen = HasCome scan.stage scan.cursor scan.draft seen
+
+-- how many bytes it has stepped over
+abbrev pub scan_size : BundleScan → ℕ
+scan_size scan = scan.cursor.count
+
+-- one more byte may be given
+abbrev pub may_scan : BundleScan → Bool
+may_scan scan = takes_bytes (stage_state scan.stage)

@@ -1,0 +1,22 @@
+-- what a caller sees of a stage
+
+use Rattle.std.specs.Prelude.{Bool, true, false}
+use Rattle.link_bundle.specs.declared.fault.State.{State}
+use Rattle.link_bundle.specs.declared.fault.State.TheVariants as state
+use Rattle.link_bundle.specs.declared.stage.Stage.{Stage}
+use Rattle.link_bundle.specs.declared.stage.Stage.TheVariants.{Start, Head, Name, Content, Stored, Ended, Failed}
+
+abbrev pub stage_state : Stage → State
+stage_state Start = state.Going
+stage_state (Head field) = state.Going
+stage_state (Name role left) = state.Going
+stage_state (Content left) = state.Going
+stage_state (Stored place left stored expected) = state.Going
+stage_state Ended = state.Ended
+stage_state (Failed fault place) = state.Failed fault place
+
+-- one more byte may be given where no fault was told
+abbrev pub takes_bytes : State → Bool
+takes_bytes state.Going = true
+takes_bytes state.Ended = true
+takes_bytes (state.Failed fault place) = false

@@ -1,0 +1,59 @@
+ghost use Rattle.std.specs.Prelude.{◌≡◌, ℕ, List, [], ◌∷◌, ◌++◌};
+
+use crate::stage::CheckType;
+use link_cbor::{Check, CheckKind};
+
+/// The checks that run along a block from its array's head (RFC 9171 section 4.2.1). Both run until the check type has
+/// come, since it stands behind other heads; then the one that is wanted.
+#[derive(Debug, Drop)]
+pub(crate) struct BlockChecks {
+    crc16: Check,
+    crc32: Check,
+}
+
+impl BlockChecks {
+    ghost use Rattle.link_bundle.specs.Covers.{Covers, zeroed_check};
+
+    /// The checks of a block of which no byte has come.
+    pub fn new() -> BlockChecks
+        ensures { Covers CheckType.Unread result [] }
+    {
+        BlockChecks {
+            crc16: Check::new(CheckKind::Crc16),
+            crc32: Check::new(CheckKind::Crc32),
+        }
+    }
+
+    /// Takes a byte of the block into what is wanted.
+    pub fn push(&mut self, check: CheckType, byte: u8)
+        ensures { (covered : List ℕ) → Covers check self.old covered → Covers check self.new (covered ++ byte ∷ []) }
+    {
+        match check {
+            CheckType::Unread => {
+                self.crc16.push(byte);
+                self.crc32.push(byte);
+            }
+            CheckType::Is(None) => {}
+            CheckType::Is(Some(CheckKind::Crc16)) => self.crc16.push(byte),
+            CheckType::Is(Some(CheckKind::Crc32)) => self.crc32.push(byte),
+        }
+    }
+
+    /// The check of the block up to its check field's content, with that content as zeros.
+    pub fn zeroed(&self, kind: CheckKind) -> u32
+        ensures { (covered : List ℕ) → Covers (CheckType.Is (Some kind)) self.now covered → result ≡ zeroed_check kind covered }
+    {
+        match kind {
+            CheckKind::Crc16 => {
+                let mut check = self.crc16;
+                check.push_slice(&[0; 2]);
+                check.value()
+            }
+            CheckKind::Crc32 => {
+                let mut check = self.crc32;
+                check.push_slice(&[0; 4]);
+                check.value()
+            }
+        }
+    }
+}

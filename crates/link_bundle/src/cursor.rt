@@ -1,0 +1,80 @@
+ghost use Rattle.std.specs.Prelude.{◌≡◌, ℕ, ◌+◌, ◌-◌, ◌^◌, ◌<◌, ◌↔◌, IsTrue, List, ◌∷◌, [], ◌++◌, length};
+ghost use Rattle.std.specs.Bool.{MatchBool};
+ghost use Rattle.link_cbor.specs.Head.{head_front, front_of};
+ghost use Rattle.link_cbor.specs.HeadScan.{HasScanned as HasScannedHead, may_scan as may_scan_head};
+ghost use Rattle.link_bundle.specs.Covers.{Covers};
+ghost use Rattle.link_bundle.specs.Fits.{is_block};
+
+use crate::checks::BlockChecks;
+use crate::stage::{CheckType, Stage};
+use link_cbor::{HeadScan, HeadStep, Piecewise};
+
+/// How far a scan has come in its bytes.
+#[derive(Debug, Drop)]
+pub(crate) struct Cursor {
+    /// How many bytes have come.
+    pub count: u64,
+    /// Where the present head begins.
+    pub place: u64,
+    pub head: HeadScan,
+    pub checks: BlockChecks,
+}
+
+impl Cursor {
+    /// Before the first byte.
+    pub fn new() -> Cursor
+        ensures count { result.count ≡ 0 }
+        ensures head { HasScannedHead result.head [] }
+        ensures checks { Covers CheckType.Unread result.checks [] }
+    {
+        Cursor {
+            count: 0,
+            place: 0,
+            head: HeadScan::new(),
+            checks: BlockChecks::new(),
+        }
+    }
+
+    /// Takes a byte of a head.
+    pub fn head_byte(&mut self, check: CheckType, byte: u8) -> HeadStep
+        requires room { self.old.count < 2 ^ 63 - 1 }
+        requires may_step { IsTrue (may_scan_head self.old.head) }
+        ensures count { self.new.count ≡ self.old.count + 1 }
+        ensures place { self.new.place ≡ self.old.place }
+        ensures head { (seen : List ℕ) → HasScannedHead self.old.head seen → HasScannedHead self.new.head (seen ++ byte ∷ []) }
+        ensures checks { (covered : List ℕ) → Covers check self.old.checks covered → Covers check self.new.checks (covered ++ byte ∷ []) }
+        ensures front { (seen : List ℕ) → HasScannedHead self.new.head seen → head_front seen ≡ front_of result (length seen) }
+        ensures may_step { IsTrue (may_scan_head self.new.head) ↔ (result ≡ HeadStep.More) }
+    {
+        self.count += 1;
+        self.checks.push(check, byte);
+        self.head.step(byte);
+        self.head.outcome()
+    }
+
+    /// Takes a byte of a name or of data.
+    pub fn content_byte(&mut self, check: CheckType, byte: u8)
+        requires room { self.old.count < 2 ^ 63 - 1 }
+        ensures count { self.new.count ≡ self.old.count + 1 }
+        ensures place { self.new.place ≡ self.old.place }
+        ensures checks { (covered : List ℕ) → Covers check self.old.checks covered → Covers check self.new.checks (covered ++ byte ∷ []) }
+    {
+        self.count += 1;
+        self.checks.push(check, byte);
+    }
+
+    /// Makes ready for what comes next.
+    pub fn enter(&mut self, stage: Stage)
+        ensures count { self.new.count ≡ self.old.count }
+        ensures place { self.new.place ≡ self.old.count }
+        ensures head { HasScannedHead self.new.head [] }
+        ensures may_step { IsTrue (may_scan_head self.new.head) }
+        ensures checks { MatchBool (is_block stage) (Covers CheckType.Unread self.new.checks []) (self.new.checks ≡ self.old.checks) }
+    {
+        self.place = self.count;
+        self.head = HeadScan::new();
+        if stage.is_block() {
+            self.checks = BlockChecks::new();
+        }
+    }
+}

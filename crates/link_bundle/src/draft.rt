@@ -1,0 +1,481 @@
+ghost use Rattle.std.specs.Prelude.{◌≡◌, IfOk, IsTrue, length};
+
+use crate::eid::{EID_LIMIT, Eid};
+use crate::fault::BundleFault;
+use crate::info::{BLOCK_LIMIT, BundleInfo};
+use crate::row;
+use crate::stage::{CanonicalField, CheckType, Field, Part, PrimaryField, Role, Scheme, Stage};
+use arrayvec::ArrayVec;
+use link_cbor::Head;
+
+/// What the heads so far have given.
+#[derive(Debug, Drop)]
+pub(crate) struct Draft {
+    /// How many elements the present block has.
+    pub count: u64,
+    /// The present block's check type.
+    pub check: CheckType,
+    pub flags: u64,
+    pub destination: Eid,
+    pub source: Eid,
+    /// What has come of the name that is being read.
+    pub name: ArrayVec<u8, EID_LIMIT>,
+    pub time: u64,
+    pub sequence: u64,
+    pub lifetime: u64,
+    pub fragment_offset: u64,
+    /// The fragment offset and the total length.
+    pub fragment: Option<(u64, u64)>,
+    /// The present canonical block's type code.
+    pub block_type: u64,
+    /// The numbers of the canonical blocks so far.
+    pub numbers: ArrayVec<u64, BLOCK_LIMIT>,
+    /// Where the payload's bytes begin, and how many they are.
+    pub payload: Option<(u64, u64)>,
+}
+
+impl Draft {
+    ghost use Rattle.link_bundle.specs.Fits.{stage_fits, KeepsCheck};
+    ghost use Rattle.link_bundle.specs.Bundle.{info_of};
+    ghost use Rattle.link_bundle.specs.Left.{BlockEnds, FieldsEnd, primary_of, span_of};
+
+    /// The draft of a bundle of which no byte has come.
+    pub fn new() -> Draft
+        ensures fits { IsTrue (stage_fits Stage.Start result) }
+        ensures check { result.check ≡ CheckType.Unread }
+    {
+        Draft {
+            count: 0,
+            check: CheckType::Unread,
+            flags: 0,
+            destination: Eid::DtnNone,
+            source: Eid::DtnNone,
+            name: ArrayVec::new(),
+            time: 0,
+            sequence: 0,
+            lifetime: 0,
+            fragment_offset: 0,
+            fragment: None,
+            block_type: 0,
+            numbers: ArrayVec::new(),
+            payload: None,
+        }
+    }
+
+    /// What a whole bundle says.
+    pub fn info(&self) -> BundleInfo
+        ensures { result ≡ info_of (primary_of self.now) (length self.now.numbers.items) (span_of self.now.payload).1 }
+    {
+        let (_, payload) = self.payload.unwrap_or((0, 0));
+        BundleInfo {
+            flags: self.flags,
+            destination: self.destination.copied(),
+            source: self.source.copied(),
+            time: self.time,
+            sequence: self.sequence,
+            lifetime: self.lifetime,
+            fragment: self.fragment,
+            blocks: self.numbers.len() as u64,
+            payload,
+        }
+    }
+
+    /// What stands behind a block: the next block, or behind the payload block the break.
+    #[tactic(auto, using(crate::proofs::Heads::closes, crate::proofs::Heads::goes_to_block), unfolding(crate::specs::Left::stage_left, crate::specs::Left::field_left))]
+    pub fn behind_block(&mut self) -> Stage
+        ensures reads { BlockEnds self.old result self.new }
+        ensures fits { IsTrue (stage_fits result self.new) }
+        ensures keeps { KeepsCheck self.old.check result self.new.check }
+    {
+        if self.payload.is_some() {
+            return Stage::Head(Field::Closing);
+        }
+        self.check = CheckType::Unread;
+        Stage::Head(Field::Canonical(CanonicalField::Block))
+    }
+
+    /// What stands behind the fields of a block but its check field.
+    #[tactic(auto, unfolding(crate::specs::Left::stage_left, crate::specs::Left::field_left, crate::specs::Blocks::field_at))]
+    pub fn behind_fields(&mut self) -> Stage
+        ensures reads { FieldsEnd self.old result self.new }
+        ensures fits { IsTrue (stage_fits result self.new) }
+        ensures keeps { KeepsCheck self.old.check result self.new.check }
+    {
+        match self.check.kind() {
+            Some(kind) => Stage::Head(Field::Check(kind)),
+            None => self.behind_block(),
+        }
+    }
+}
+
+/// The primary block (RFC 9171 section 4.3.1).
+impl Draft {
+    ghost use Rattle.link_bundle.specs.Fits.{stage_fits, Follows, KeepsCheck};
+    ghost use Rattle.link_bundle.specs.Left.{Judges};
+
+    /// Judges a head of the primary block.
+    pub fn primary(&mut self, field: PrimaryField, head: Head) -> Result<Stage, BundleFault>
+        requires { IsTrue (stage_fits (Stage.Head (Field.Primary field)) self.old) }
+        ensures judges { Judges (Field.Primary field) self.old head result self.new }
+        ensures follows { Follows result self.new }
+        ensures keeps { IfOk result (λ stage. KeepsCheck self.old.check stage self.new.check) }
+    {
+        match field {
+            PrimaryField::Block => self.primary_block(head),
+            PrimaryField::Version => self.version(head),
+            PrimaryField::Flags => self.flags(head),
+            PrimaryField::CheckType => self.primary_check_type(head),
+            PrimaryField::Timestamp => self.timestamp(head),
+            PrimaryField::Time => self.time(head),
+            PrimaryField::Sequence => self.sequence(head),
+            PrimaryField::Lifetime => self.lifetime(head),
+            PrimaryField::FragmentOffset => self.fragment_offset(head),
+            PrimaryField::TotalLength => self.total_length(head),
+        }
+    }
+
+    #[tactic(auto, using(crate::proofs::Heads::heads), unfolding(crate::specs::Left::field_left, crate::specs::Left::stage_left, crate::specs::Left::primary_block_left))]
+    fn primary_block(&mut self, head: Head) -> Result<Stage, BundleFault>
+        requires { IsTrue (stage_fits (Stage.Head (Field.Primary PrimaryField.Block)) self.old) }
+        ensures judges { Judges (Field.Primary PrimaryField.Block) self.old head result self.new }
+        ensures follows { Follows result self.new }
+        ensures keeps { IfOk result (λ stage. KeepsCheck self.old.check stage self.new.check) }
+    {
+        self.count = row::primary_block(head)?;
+        Ok(Stage::Head(Field::Primary(PrimaryField::Version)))
+    }
+
+    #[tactic(auto, using(crate::proofs::Heads::heads), unfolding(crate::specs::Left::field_left, crate::specs::Left::stage_left, crate::specs::Left::version_left))]
+    fn version(&mut self, head: Head) -> Result<Stage, BundleFault>
+        requires { IsTrue (stage_fits (Stage.Head (Field.Primary PrimaryField.Version)) self.old) }
+        ensures judges { Judges (Field.Primary PrimaryField.Version) self.old head result self.new }
+        ensures follows { Follows result self.new }
+        ensures keeps { IfOk result (λ stage. KeepsCheck self.old.check stage self.new.check) }
+    {
+        row::version(head)?;
+        Ok(Stage::Head(Field::Primary(PrimaryField::Flags)))
+    }
+
+    #[tactic(auto, using(crate::proofs::Heads::heads), unfolding(crate::specs::Left::field_left, crate::specs::Left::stage_left, crate::specs::Left::flags_left))]
+    fn flags(&mut self, head: Head) -> Result<Stage, BundleFault>
+        requires { IsTrue (stage_fits (Stage.Head (Field.Primary PrimaryField.Flags)) self.old) }
+        ensures judges { Judges (Field.Primary PrimaryField.Flags) self.old head result self.new }
+        ensures follows { Follows result self.new }
+        ensures keeps { IfOk result (λ stage. KeepsCheck self.old.check stage self.new.check) }
+    {
+        self.flags = row::unsigned(head)?;
+        Ok(Stage::Head(Field::Primary(PrimaryField::CheckType)))
+    }
+
+    #[tactic(auto, using(crate::proofs::Heads::heads), unfolding(crate::specs::Left::field_left, crate::specs::Left::stage_left, crate::specs::Left::check_type_left, crate::specs::Left::destination_left))]
+    fn primary_check_type(&mut self, head: Head) -> Result<Stage, BundleFault>
+        requires { IsTrue (stage_fits (Stage.Head (Field.Primary PrimaryField.CheckType)) self.old) }
+        ensures judges { Judges (Field.Primary PrimaryField.CheckType) self.old head result self.new }
+        ensures follows { Follows result self.new }
+        ensures keeps { IfOk result (λ stage. KeepsCheck self.old.check stage self.new.check) }
+    {
+        self.check = CheckType::Is(row::primary_check_type(self.count, self.flags, head)?);
+        Ok(Stage::Head(Field::Endpoint(Role::Destination, Part::Whole)))
+    }
+
+    #[tactic(auto, using(crate::proofs::Heads::heads), unfolding(crate::specs::Left::field_left, crate::specs::Left::stage_left, crate::specs::Left::timestamp_left))]
+    fn timestamp(&mut self, head: Head) -> Result<Stage, BundleFault>
+        ensures judges { Judges (Field.Primary PrimaryField.Timestamp) self.old head result self.new }
+        ensures follows { Follows result self.new }
+        ensures keeps { IfOk result (λ stage. KeepsCheck self.old.check stage self.new.check) }
+    {
+        row::pair(head)?;
+        Ok(Stage::Head(Field::Primary(PrimaryField::Time)))
+    }
+
+    #[tactic(auto, using(crate::proofs::Heads::heads), unfolding(crate::specs::Left::field_left, crate::specs::Left::stage_left, crate::specs::Left::time_left))]
+    fn time(&mut self, head: Head) -> Result<Stage, BundleFault>
+        ensures judges { Judges (Field.Primary PrimaryField.Time) self.old head result self.new }
+        ensures follows { Follows result self.new }
+        ensures keeps { IfOk result (λ stage. KeepsCheck self.old.check stage self.new.check) }
+    {
+        self.time = row::unsigned(head)?;
+        Ok(Stage::Head(Field::Primary(PrimaryField::Sequence)))
+    }
+
+    #[tactic(auto, using(crate::proofs::Heads::heads), unfolding(crate::specs::Left::field_left, crate::specs::Left::stage_left, crate::specs::Left::sequence_left))]
+    fn sequence(&mut self, head: Head) -> Result<Stage, BundleFault>
+        ensures judges { Judges (Field.Primary PrimaryField.Sequence) self.old head result self.new }
+        ensures follows { Follows result self.new }
+        ensures keeps { IfOk result (λ stage. KeepsCheck self.old.check stage self.new.check) }
+    {
+        self.sequence = row::unsigned(head)?;
+        Ok(Stage::Head(Field::Primary(PrimaryField::Lifetime)))
+    }
+
+    #[tactic(auto, using(crate::proofs::Heads::heads), unfolding(crate::specs::Left::field_left, crate::specs::Left::stage_left, crate::specs::Left::lifetime_left, crate::specs::Left::offset_left, crate::specs::Blocks::fragment_at))]
+    fn lifetime(&mut self, head: Head) -> Result<Stage, BundleFault>
+        ensures judges { Judges (Field.Primary PrimaryField.Lifetime) self.old head result self.new }
+        ensures follows { Follows result self.new }
+        ensures keeps { IfOk result (λ stage. KeepsCheck self.old.check stage self.new.check) }
+    {
+        self.lifetime = row::unsigned(head)?;
+        if row::is_fragment(self.flags) {
+            return Ok(Stage::Head(Field::Primary(PrimaryField::FragmentOffset)));
+        }
+        self.fragment = None;
+        Ok(self.behind_fields())
+    }
+
+    #[tactic(auto, using(crate::proofs::Heads::heads), unfolding(crate::specs::Left::field_left, crate::specs::Left::stage_left, crate::specs::Left::offset_left, crate::specs::Left::total_left, crate::specs::Blocks::fragment_at))]
+    fn fragment_offset(&mut self, head: Head) -> Result<Stage, BundleFault>
+        ensures judges { Judges (Field.Primary PrimaryField.FragmentOffset) self.old head result self.new }
+        ensures follows { Follows result self.new }
+        ensures keeps { IfOk result (λ stage. KeepsCheck self.old.check stage self.new.check) }
+    {
+        self.fragment_offset = row::unsigned(head)?;
+        Ok(Stage::Head(Field::Primary(PrimaryField::TotalLength)))
+    }
+
+    #[tactic(auto, using(crate::proofs::Heads::heads), unfolding(crate::specs::Left::field_left, crate::specs::Left::stage_left, crate::specs::Left::total_left))]
+    fn total_length(&mut self, head: Head) -> Result<Stage, BundleFault>
+        ensures judges { Judges (Field.Primary PrimaryField.TotalLength) self.old head result self.new }
+        ensures follows { Follows result self.new }
+        ensures keeps { IfOk result (λ stage. KeepsCheck self.old.check stage self.new.check) }
+    {
+        let total_length = row::unsigned(head)?;
+        self.fragment = Some((self.fragment_offset, total_length));
+        Ok(self.behind_fields())
+    }
+}
+
+/// Endpoint IDs (RFC 9171 section 4.2.5.1).
+impl Draft {
+    ghost use Rattle.link_bundle.specs.Fits.{stage_fits, Follows, KeepsCheck};
+    ghost use Rattle.link_bundle.specs.Left.{Judges, EidEnds, NameGoesOn};
+
+    /// Judges a head of an endpoint ID.
+    pub fn endpoint(&mut self, role: Role, part: Part, head: Head) -> Result<Stage, BundleFault>
+        ensures judges { Judges (Field.Endpoint role part) self.old head result self.new }
+        ensures follows { Follows result self.new }
+        ensures keeps { IfOk result (λ stage. KeepsCheck self.old.check stage self.new.check) }
+    {
+        match part {
+            Part::Whole => self.eid(role, head),
+            Part::Scheme => self.scheme(role, head),
+            Part::Specific(Scheme::Dtn) => self.dtn(role, head),
+            Part::Specific(Scheme::Ipn) => self.ipn(role, head),
+            Part::Node => self.node(role, head),
+            Part::Service(node) => self.service(role, node, head),
+        }
+    }
+
+    #[tactic(auto, using(crate::proofs::Heads::heads), unfolding(crate::specs::Left::field_left, crate::specs::Left::stage_left, crate::specs::EndpointId::eid_at, crate::specs::Left::scheme_left))]
+    fn eid(&mut self, role: Role, head: Head) -> Result<Stage, BundleFault>
+        ensures judges { Judges (Field.Endpoint role Part.Whole) self.old head result self.new }
+        ensures follows { Follows result self.new }
+        ensures keeps { IfOk result (λ stage. KeepsCheck self.old.check stage self.new.check) }
+    {
+        row::pair(head)?;
+        Ok(Stage::Head(Field::Endpoint(role, Part::Scheme)))
+    }
+
+    #[tactic(auto, using(crate::proofs::Heads::heads), unfolding(crate::specs::Left::field_left, crate::specs::Left::stage_left, crate::specs::Left::scheme_left))]
+    fn scheme(&mut self, role: Role, head: Head) -> Result<Stage, BundleFault>
+        ensures judges { Judges (Field.Endpoint role Part.Scheme) self.old head result self.new }
+        ensures follows { Follows result self.new }
+        ensures keeps { IfOk result (λ stage. KeepsCheck self.old.check stage self.new.check) }
+    {
+        let scheme = row::scheme(head)?;
+        Ok(Stage::Head(Field::Endpoint(role, Part::Specific(scheme))))
+    }
+
+    #[tactic(auto, using(crate::proofs::Heads::heads), unfolding(crate::specs::Left::field_left, crate::specs::Left::stage_left, crate::specs::EndpointId::specific_at))]
+    fn dtn(&mut self, role: Role, head: Head) -> Result<Stage, BundleFault>
+        ensures judges { Judges (Field.Endpoint role (Part.Specific Scheme.Dtn)) self.old head result self.new }
+        ensures follows { Follows result self.new }
+        ensures keeps { IfOk result (λ stage. KeepsCheck self.old.check stage self.new.check) }
+    {
+        match row::dtn_part(head)? {
+            None => Ok(self.behind_eid(role, Eid::DtnNone)),
+            Some(0) => Ok(self.behind_eid(role, Eid::Dtn(ArrayVec::new()))),
+            Some(left) => {
+                self.name.clear();
+                Ok(Stage::Name(role, left))
+            }
+        }
+    }
+
+    #[tactic(auto, using(crate::proofs::Heads::heads), unfolding(crate::specs::Left::field_left, crate::specs::Left::stage_left, crate::specs::EndpointId::specific_at, crate::specs::Left::node_left, crate::specs::Left::service_left))]
+    fn ipn(&mut self, role: Role, head: Head) -> Result<Stage, BundleFault>
+        ensures judges { Judges (Field.Endpoint role (Part.Specific Scheme.Ipn)) self.old head result self.new }
+        ensures follows { Follows result self.new }
+        ensures keeps { IfOk result (λ stage. KeepsCheck self.old.check stage self.new.check) }
+    {
+        row::ipn_part(head)?;
+        Ok(Stage::Head(Field::Endpoint(role, Part::Node)))
+    }
+
+    #[tactic(auto, using(crate::proofs::Heads::heads), unfolding(crate::specs::Left::field_left, crate::specs::Left::stage_left, crate::specs::Left::node_left))]
+    fn node(&mut self, role: Role, head: Head) -> Result<Stage, BundleFault>
+        ensures judges { Judges (Field.Endpoint role Part.Node) self.old head result self.new }
+        ensures follows { Follows result self.new }
+        ensures keeps { IfOk result (λ stage. KeepsCheck self.old.check stage self.new.check) }
+    {
+        let node = row::unsigned(head)?;
+        Ok(Stage::Head(Field::Endpoint(role, Part::Service(node))))
+    }
+
+    #[tactic(auto, using(crate::proofs::Heads::heads), unfolding(crate::specs::Left::field_left, crate::specs::Left::stage_left, crate::specs::Left::service_left))]
+    fn service(&mut self, role: Role, node: u64, head: Head) -> Result<Stage, BundleFault>
+        ensures judges { Judges (Field.Endpoint role (Part.Service node)) self.old head result self.new }
+        ensures follows { Follows result self.new }
+        ensures keeps { IfOk result (λ stage. KeepsCheck self.old.check stage self.new.check) }
+    {
+        let service = row::unsigned(head)?;
+        Ok(self.behind_eid(role, Eid::Ipn(node, service)))
+    }
+
+    /// Takes a byte of a dtn name, of which `left` bytes were left.
+    #[tactic(auto, unfolding(crate::specs::Left::stage_left))]
+    pub fn name_byte(&mut self, role: Role, left: u64, byte: u8) -> Stage
+        requires { IsTrue (stage_fits (Stage.Name role left) self.old) }
+        ensures reads { NameGoesOn role left byte self.old result self.new }
+        ensures fits { IsTrue (stage_fits result self.new) }
+        ensures keeps { KeepsCheck self.old.check result self.new.check }
+    {
+        self.name.push(byte);
+        if left > 1 {
+            return Stage::Name(role, left - 1);
+        }
+        let name = self.name.take();
+        self.behind_eid(role, Eid::Dtn(name))
+    }
+
+    /// Keeps an endpoint ID: the report-to is judged and not kept.
+    #[tactic(auto, unfolding(crate::specs::Left::field_left, crate::specs::Left::stage_left, crate::specs::Left::source_left, crate::specs::Left::report_to_left))]
+    fn behind_eid(&mut self, role: Role, eid: Eid) -> Stage
+        ensures reads { EidEnds role eid self.old result self.new }
+        ensures fits { IsTrue (stage_fits result self.new) }
+        ensures keeps { KeepsCheck self.old.check result self.new.check }
+    {
+        match role {
+            Role::Destination => {
+                self.destination = eid;
+                Stage::Head(Field::Endpoint(Role::Source, Part::Whole))
+            }
+            Role::Source => {
+                self.source = eid;
+                Stage::Head(Field::Endpoint(Role::ReportTo, Part::Whole))
+            }
+            Role::ReportTo => Stage::Head(Field::Primary(PrimaryField::Timestamp)),
+        }
+    }
+}
+
+/// Canonical blocks (RFC 9171 section 4.3.2).
+impl Draft {
+    ghost use Rattle.link_bundle.specs.Fits.{stage_fits, Follows, KeepsCheck};
+    ghost use Rattle.link_bundle.specs.Left.{Judges, JudgesAt, ContentBegins};
+
+    /// Judges a head of a canonical block, with `next` the place behind it.
+    pub fn canonical(
+        &mut self,
+        field: CanonicalField,
+        head: Head,
+        next: u64,
+    ) -> Result<Stage, BundleFault>
+        requires { IsTrue (stage_fits (Stage.Head (Field.Canonical field)) self.old) }
+        ensures judges { JudgesAt next (Field.Canonical field) self.old head result self.new }
+        ensures follows { Follows result self.new }
+        ensures keeps { IfOk result (λ stage. KeepsCheck self.old.check stage self.new.check) }
+    {
+        match field {
+            CanonicalField::Block => self.block(head),
+            CanonicalField::Type => self.block_type(head),
+            CanonicalField::Number => self.block_number(head),
+            CanonicalField::Flags => self.block_flags(head),
+            CanonicalField::CheckType => self.block_check_type(head),
+            CanonicalField::Data => self.data(head, next),
+        }
+    }
+
+    #[tactic(auto, using(crate::proofs::Heads::heads), unfolding(crate::specs::Left::field_left, crate::specs::Left::stage_left))]
+    fn block(&mut self, head: Head) -> Result<Stage, BundleFault>
+        requires { IsTrue (stage_fits (Stage.Head (Field.Canonical CanonicalField.Block)) self.old) }
+        ensures judges { Judges (Field.Canonical CanonicalField.Block) self.old head result self.new }
+        ensures follows { Follows result self.new }
+        ensures keeps { IfOk result (λ stage. KeepsCheck self.old.check stage self.new.check) }
+    {
+        self.count = row::block(head)?;
+        if self.numbers.is_full() {
+            return Err(BundleFault::TooManyBlocks);
+        }
+        Ok(Stage::Head(Field::Canonical(CanonicalField::Type)))
+    }
+
+    #[tactic(auto, using(crate::proofs::Heads::heads), unfolding(crate::specs::Left::field_left, crate::specs::Left::stage_left, crate::specs::Left::type_left))]
+    fn block_type(&mut self, head: Head) -> Result<Stage, BundleFault>
+        requires { IsTrue (stage_fits (Stage.Head (Field.Canonical CanonicalField.Type)) self.old) }
+        ensures judges { Judges (Field.Canonical CanonicalField.Type) self.old head result self.new }
+        ensures follows { Follows result self.new }
+        ensures keeps { IfOk result (λ stage. KeepsCheck self.old.check stage self.new.check) }
+    {
+        self.block_type = row::unsigned(head)?;
+        Ok(Stage::Head(Field::Canonical(CanonicalField::Number)))
+    }
+
+    #[tactic(auto, using(crate::proofs::Heads::heads), unfolding(crate::specs::Left::field_left, crate::specs::Left::stage_left, crate::specs::Left::number_left))]
+    fn block_number(&mut self, head: Head) -> Result<Stage, BundleFault>
+        requires { IsTrue (stage_fits (Stage.Head (Field.Canonical CanonicalField.Number)) self.old) }
+        ensures judges { Judges (Field.Canonical CanonicalField.Number) self.old head result self.new }
+        ensures follows { Follows result self.new }
+        ensures keeps { IfOk result (λ stage. KeepsCheck self.old.check stage self.new.check) }
+    {
+        let number = row::block_number(self.block_type, &self.numbers, head)?;
+        self.numbers.push(number);
+        Ok(Stage::Head(Field::Canonical(CanonicalField::Flags)))
+    }
+
+    #[tactic(auto, using(crate::proofs::Heads::heads), unfolding(crate::specs::Left::field_left, crate::specs::Left::stage_left, crate::specs::Left::block_flags_left))]
+    fn block_flags(&mut self, head: Head) -> Result<Stage, BundleFault>
+        requires { IsTrue (stage_fits (Stage.Head (Field.Canonical CanonicalField.Flags)) self.old) }
+        ensures judges { Judges (Field.Canonical CanonicalField.Flags) self.old head result self.new }
+        ensures follows { Follows result self.new }
+        ensures keeps { IfOk result (λ stage. KeepsCheck self.old.check stage self.new.check) }
+    {
+        row::unsigned(head)?;
+        Ok(Stage::Head(Field::Canonical(CanonicalField::CheckType)))
+    }
+
+    #[tactic(auto, using(crate::proofs::Heads::heads), unfolding(crate::specs::Left::field_left, crate::specs::Left::stage_left, crate::specs::Left::block_check_left))]
+    fn block_check_type(&mut self, head: Head) -> Result<Stage, BundleFault>
+        requires { IsTrue (stage_fits (Stage.Head (Field.Canonical CanonicalField.CheckType)) self.old) }
+        ensures judges { Judges (Field.Canonical CanonicalField.CheckType) self.old head result self.new }
+        ensures follows { Follows result self.new }
+        ensures keeps { IfOk result (λ stage. KeepsCheck self.old.check stage self.new.check) }
+    {
+        self.check = CheckType::Is(row::block_check_type(self.count, head)?);
+        Ok(Stage::Head(Field::Canonical(CanonicalField::Data)))
+    }
+
+    #[tactic(auto, using(crate::proofs::Heads::heads), unfolding(crate::specs::Left::field_left, crate::specs::Left::stage_left, crate::specs::Left::data_left))]
+    fn data(&mut self, head: Head, next: u64) -> Result<Stage, BundleFault>
+        requires { IsTrue (stage_fits (Stage.Head (Field.Canonical CanonicalField.Data)) self.old) }
+        ensures judges { JudgesAt next (Field.Canonical CanonicalField.Data) self.old head result self.new }
+        ensures follows { Follows result self.new }
+        ensures keeps { IfOk result (λ stage. KeepsCheck self.old.check stage self.new.check) }
+    {
+        let size = row::byte_string(head)?;
+        self.payload = (self.block_type == row::PAYLOAD_TYPE).then_some((next, size));
+        Ok(self.content(size))
+    }
+
+    /// What stands behind the head of data of this size.
+    #[tactic(auto, using(crate::proofs::Heads::no_content), unfolding(crate::specs::Left::stage_left))]
+    fn content(&mut self, size: u64) -> Stage
+        ensures reads { ContentBegins size self.old result self.new }
+        ensures fits { IsTrue (stage_fits result self.new) }
+        ensures keeps { KeepsCheck self.old.check result self.new.check }
+    {
+        match size {
+            0 => self.behind_fields(),
+            left => Stage::Content(left),
+        }
+    }
+}

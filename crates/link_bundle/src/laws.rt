@@ -1,0 +1,9 @@
+//! Laws over the definitions alone. The functions do nothing when they run: their contracts are the laws.
+ghost use Rattle.link_bundle.specs.Laws.{FaultLasts, TrailingLasts};
+
+/// A fault other than that the bytes end inside the bundle stays what it is, at its place, however the bytes go on. A
+/// bundle with a byte behind it is trailing bytes at the bundle's length, whatever follows.
+pub fn verdict_lasts()
+    ensures fault { FaultLasts }
+    ensures trailing { TrailingLasts }
+{}

@@ -1,0 +1,243 @@
+ghost use Rattle.std.specs.Prelude.{◌≡◌, ℕ, ◌+◌, ◌-◌, ◌^◌, ◌<◌, IfOk, IsTrue, List, ◌∷◌, [], ◌++◌};
+ghost use Rattle.link_bundle.specs.Fits.{scan_fits, stage_fits, Follows, KeepsCheck};
+ghost use Rattle.link_bundle.specs.Left.{JudgesWith};
+
+use crate::cursor::Cursor;
+use crate::draft::Draft;
+use crate::fault::{BundleFault, State};
+use crate::info::BundleInfo;
+use crate::row;
+use crate::stage::{CheckType, Field, PrimaryField, Role, Stage};
+use link_cbor::{Head, HeadStep, Piecewise};
+
+/// The first byte of a bundle: it opens an array of indefinite length (RFC 9171 section 4.1).
+const OPENING: u8 = 0x9f;
+
+/// Scans one bundle, byte by byte in any pieces. It holds what [`BundleInfo`] says and no bytes of the data.
+#[derive(Debug, Drop)]
+pub struct BundleScan {
+    stage: Stage,
+    cursor: Cursor,
+    draft: Draft,
+    ghost fits: { IsTrue (scan_fits stage cursor draft) },
+}
+
+/// Judges a whole head at a field: what comes next, or the fault.
+#[tactic(auto, using(crate::proofs::Heads::heads), unfolding(crate::specs::Left::field_left, crate::specs::Left::stage_left))]
+fn judge(draft: &mut Draft, cursor: &Cursor, field: Field, head: Head) -> Result<Stage, BundleFault>
+    requires { IsTrue (stage_fits (Stage.Head field) draft.old) }
+    ensures judges { JudgesWith cursor.now.checks cursor.now.place cursor.now.count field draft.old head result draft.new }
+    ensures follows { Follows result draft.new }
+    ensures keeps { IfOk result (λ stage. KeepsCheck draft.old.check stage draft.new.check) }
+{
+    match field {
+        Field::Primary(which) => draft.primary(which, head),
+        Field::Endpoint(role, part) => draft.endpoint(role, part, head),
+        Field::Canonical(which) => draft.canonical(which, head, cursor.count),
+        Field::Check(kind) => {
+            row::check_field(kind, head)?;
+            // Nothing more of the block is checked.
+            draft.check = CheckType::Is(None);
+            Ok(Stage::Stored {
+                place: cursor.place,
+                left: row::check_width(kind),
+                stored: 0,
+                expected: cursor.checks.zeroed(kind),
+            })
+        }
+        Field::Closing => {
+            row::closing(head)?;
+            Ok(Stage::Ended)
+        }
+    }
+}
+
+impl BundleScan {
+    ghost use Rattle.link_bundle.specs.Bundle.{verdict, state_of, payload_span};
+    ghost use Rattle.link_bundle.specs.Scan.{HasScanned, scan_size, may_scan};
+    ghost use Rattle.link_bundle.specs.Stages.{takes_bytes};
+
+    /// A scan that has seen nothing.
+    pub fn new() -> BundleScan
+        ensures seen { HasScanned result [] }
+        ensures size { scan_size result ≡ 0 }
+        ensures may_step { IsTrue (may_scan result) }
+    {
+        BundleScan {
+            stage: Stage::Start,
+            cursor: Cursor::new(),
+            draft: Draft::new(),
+        }
+    }
+
+    /// Where the scan stands: what the verdict on the bytes seen says.
+    pub fn state(&self) -> State
+        ensures seen { (seen : List ℕ) → HasScanned self.now seen → result ≡ state_of (verdict seen) }
+        // Where it has not failed it may be stepped.
+        ensures may_step { may_scan self.now ≡ takes_bytes result }
+    {
+        self.stage.state()
+    }
+
+    /// The verdict on the bytes seen: the bundle that they are, or their fault and its place.
+    pub fn finish(&self) -> Result<BundleInfo, (BundleFault, u64)>
+        ensures { (seen : List ℕ) → HasScanned self.now seen → result ≡ verdict seen }
+    {
+        match self.stage.state() {
+            State::Going => Err((BundleFault::Cut, self.cursor.count)),
+            State::Ended => Ok(self.draft.info()),
+            State::Failed(fault, place) => Err((fault, place)),
+        }
+    }
+
+    /// Where the payload's first byte stands, and how many bytes of it have come. `None` until the head of the payload
+    /// block's data is whole and accepted. A later fault leaves the answer.
+    pub fn payload_seen(&self) -> Option<(u64, u64)>
+        ensures { (seen : List ℕ) → HasScanned self.now seen → result ≡ payload_span seen }
+    {
+        let (place, size) = self.draft.payload?;
+        Some((place, size.min(self.cursor.count.saturating_sub(place))))
+    }
+
+    /// The first byte.
+    fn open(&mut self, byte: u8)
+        requires stage { self.old.stage ≡ Stage.Start }
+        requires room { self.old.cursor.count < 2 ^ 63 - 1 }
+        ensures size { scan_size self.new ≡ scan_size self.old + 1 }
+        ensures seen { (seen : List ℕ) → HasScanned self.old seen → HasScanned self.new (seen ++ byte ∷ []) }
+    {
+        self.cursor.count += 1;
+        if byte == OPENING {
+            self.stage = Stage::Head(Field::Primary(PrimaryField::Block));
+            self.cursor.enter(self.stage);
+        } else {
+            self.stage = Stage::Failed(BundleFault::NotABundle, 0);
+        }
+    }
+
+    /// A byte of a head.
+    fn head_byte(&mut self, field: Field, byte: u8)
+        requires stage { self.old.stage ≡ Stage.Head field }
+        requires room { self.old.cursor.count < 2 ^ 63 - 1 }
+        ensures size { scan_size self.new ≡ scan_size self.old + 1 }
+        ensures seen { (seen : List ℕ) → HasScanned self.old seen → HasScanned self.new (seen ++ byte ∷ []) }
+    {
+        match self.cursor.head_byte(self.draft.check, byte) {
+            HeadStep::More => {}
+            HeadStep::Bad => {
+                self.stage = Stage::Failed(BundleFault::BadHead, self.cursor.place);
+            }
+            HeadStep::Done(head) => match judge(&mut self.draft, &self.cursor, field, head) {
+                Ok(stage) => {
+                    self.cursor.enter(stage);
+                    self.stage = stage;
+                }
+                Err(fault) => self.stage = Stage::Failed(fault, self.cursor.place),
+            },
+        }
+    }
+
+    /// A byte of a dtn name.
+    fn name_byte(&mut self, role: Role, left: u64, byte: u8)
+        requires stage { self.old.stage ≡ Stage.Name role left }
+        requires room { self.old.cursor.count < 2 ^ 63 - 1 }
+        ensures size { scan_size self.new ≡ scan_size self.old + 1 }
+        ensures seen { (seen : List ℕ) → HasScanned self.old seen → HasScanned self.new (seen ++ byte ∷ []) }
+    {
+        self.cursor.content_byte(self.draft.check, byte);
+        let stage = self.draft.name_byte(role, left, byte);
+        self.cursor.enter(stage);
+        self.stage = stage;
+    }
+
+    /// A byte of a block's data.
+    fn content_byte(&mut self, left: u64, byte: u8)
+        requires stage { self.old.stage ≡ Stage.Content left }
+        requires room { self.old.cursor.count < 2 ^ 63 - 1 }
+        ensures size { scan_size self.new ≡ scan_size self.old + 1 }
+        ensures seen { (seen : List ℕ) → HasScanned self.old seen → HasScanned self.new (seen ++ byte ∷ []) }
+    {
+        self.cursor.content_byte(self.draft.check, byte);
+        if left > 1 {
+            self.stage = Stage::Content(left - 1);
+        } else {
+            let stage = self.draft.behind_fields();
+            self.cursor.enter(stage);
+            self.stage = stage;
+        }
+    }
+
+    /// A byte of a check field's content.
+    fn stored_byte(&mut self, place: u64, left: u64, stored: u32, expected: u32, byte: u8)
+        requires stage { self.old.stage ≡ Stage.Stored place left stored expected }
+        requires room { self.old.cursor.count < 2 ^ 63 - 1 }
+        ensures size { scan_size self.new ≡ scan_size self.old + 1 }
+        ensures seen { (seen : List ℕ) → HasScanned self.old seen → HasScanned self.new (seen ++ byte ∷ []) }
+    {
+        self.cursor.count += 1;
+        let stored = stored * 256 + u32::from(byte);
+        if left > 1 {
+            self.stage = Stage::Stored {
+                place,
+                left: left - 1,
+                stored,
+                expected,
+            };
+        } else if stored == expected {
+            let stage = self.draft.behind_block();
+            self.cursor.enter(stage);
+            self.stage = stage;
+        } else {
+            self.stage = Stage::Failed(BundleFault::CheckDiffers, place);
+        }
+    }
+
+    /// A byte behind the bundle.
+    fn trailing_byte(&mut self, byte: u8)
+        requires stage { self.old.stage ≡ Stage.Ended }
+        requires room { self.old.cursor.count < 2 ^ 63 - 1 }
+        ensures size { scan_size self.new ≡ scan_size self.old + 1 }
+        ensures seen { (seen : List ℕ) → HasScanned self.old seen → HasScanned self.new (seen ++ byte ∷ []) }
+    {
+        self.stage = Stage::Failed(BundleFault::Trailing, self.cursor.place);
+        self.cursor.count += 1;
+    }
+}
+
+impl Piecewise for BundleScan {
+    ghost use Rattle.link_bundle.specs.Bundle.{bundle_goes};
+    ghost use Rattle.link_bundle.specs.Scan.{HasScanned, scan_size, may_scan};
+
+    ghost has_seen = { HasScanned };
+
+    ghost size = { scan_size };
+
+    ghost goes = { bundle_goes };
+
+    ghost may_step = { may_scan };
+
+    fn going(&self) -> bool {
+        matches!(self.state(), State::Going)
+    }
+
+    fn count(&self) -> u64 {
+        self.cursor.count
+    }
+
+    fn step(&mut self, byte: u8) {
+        match self.stage {
+            Stage::Start => self.open(byte),
+            Stage::Head(field) => self.head_byte(field, byte),
+            Stage::Name(role, left) => self.name_byte(role, left, byte),
+            Stage::Content(left) => self.content_byte(left, byte),
+            Stage::Stored {
+                place,
+                left,
+                stored,
+                expected,
+            } => self.stored_byte(place, left, stored, expected, byte),
+            Stage::Ended => self.trailing_byte(byte),
+            Stage::Failed(..) => unreachable!(),
+        }
+    }
+}

@@ -1,0 +1,142 @@
+ghost use Rattle.std.specs.Prelude.{◌≡◌};
+
+use crate::fault::{BundleFault, State};
+use link_cbor::CheckKind;
+
+/// An endpoint ID of the primary block.
+#[derive(Clone, Copy, Debug)]
+pub(crate) enum Role {
+    Destination,
+    Source,
+    ReportTo,
+}
+
+/// An endpoint scheme (RFC 9171 section 4.2.5.1).
+#[derive(Clone, Copy, Debug)]
+pub(crate) enum Scheme {
+    Dtn,
+    Ipn,
+}
+
+/// A head inside an endpoint ID.
+#[derive(Clone, Copy, Debug)]
+pub(crate) enum Part {
+    /// The array of scheme and specific part.
+    Whole,
+    Scheme,
+    /// The specific part of this scheme.
+    Specific(Scheme),
+    Node,
+    /// The service number behind this node number.
+    Service(u64),
+}
+
+/// A head of the primary block (RFC 9171 section 4.3.1), but for its endpoint IDs and its check field.
+#[derive(Clone, Copy, Debug)]
+pub(crate) enum PrimaryField {
+    Block,
+    Version,
+    Flags,
+    CheckType,
+    Timestamp,
+    Time,
+    Sequence,
+    Lifetime,
+    FragmentOffset,
+    TotalLength,
+}
+
+/// A head of a canonical block (RFC 9171 section 4.3.2), but for its check field.
+#[derive(Clone, Copy, Debug)]
+pub(crate) enum CanonicalField {
+    Block,
+    Type,
+    Number,
+    Flags,
+    CheckType,
+    Data,
+}
+
+/// Which head comes next.
+#[derive(Clone, Copy, Debug)]
+pub(crate) enum Field {
+    Primary(PrimaryField),
+    Endpoint(Role, Part),
+    Canonical(CanonicalField),
+    /// The check field of a block with a check of this kind.
+    Check(CheckKind),
+    /// The break behind the payload block.
+    Closing,
+}
+
+/// Where the scan stands in the bundle.
+#[derive(Clone, Copy, Debug)]
+pub(crate) enum Stage {
+    /// Before the first byte.
+    Start,
+    /// At a head.
+    Head(Field),
+    /// In a dtn name, of which so many bytes are left.
+    Name(Role, u64),
+    /// In a block's data, of which so many bytes are left.
+    Content(u64),
+    /// In the content of the check field at `place`, of which `left` bytes are left. Those before spell `stored`.
+    Stored {
+        place: u64,
+        left: u64,
+        stored: u32,
+        expected: u32,
+    },
+    Ended,
+    Failed(BundleFault, u64),
+}
+
+impl Stage {
+    ghost use Rattle.link_bundle.specs.Fits.{is_block};
+    ghost use Rattle.link_bundle.specs.Stages.{stage_state};
+
+    /// What a caller sees of the stage.
+    pub fn state(self) -> State
+        ensures { result ≡ stage_state self }
+    {
+        match self {
+            Stage::Ended => State::Ended,
+            Stage::Failed(fault, place) => State::Failed(fault, place),
+            _ => State::Going,
+        }
+    }
+
+    /// At the head of a block's array, where its checks begin.
+    pub fn is_block(self) -> bool
+        ensures { result ≡ is_block self }
+    {
+        match self {
+            Stage::Head(Field::Primary(PrimaryField::Block)) => true,
+            Stage::Head(Field::Canonical(CanonicalField::Block)) => true,
+            _ => false,
+        }
+    }
+}
+
+/// What is known of the present block's check.
+#[derive(Clone, Copy, Debug)]
+pub(crate) enum CheckType {
+    /// The check type's head has not come.
+    Unread,
+    /// The check type, `None` for a block without check field.
+    Is(Option<CheckKind>),
+}
+
+impl CheckType {
+    ghost use Rattle.link_bundle.specs.CheckKinds.{kind_of};
+
+    /// The check that a field of the block has to hold.
+    pub fn kind(self) -> Option<CheckKind>
+        ensures { result ≡ kind_of self }
+    {
+        match self {
+            CheckType::Unread => None,
+            CheckType::Is(kind) => kind,
+        }
+    }
+}

@@ -1,0 +1,395 @@
+//! Verdicts, however the bytes are cut: at once, byte by byte, and in two pieces cut at every place.
+ghost use Rattle.std.specs.Prelude.{◌+◌, ◌-◌, ◌*◌, ◌^◌, ◌<◌, ◌≤◌, length};
+ghost use Rattle.link_bundle.specs.Scan.{scan_size};
+
+use super::*;
+use link_cbor::Piecewise;
+use std::alloc::{AllocError, Global};
+use std::process::Abort;
+use std::test::Fail;
+
+mod outside;
+
+use outside::{BUNDLES, LARGE_FRONT, LARGE_REST};
+
+/// The fault and its place, of what is no bundle.
+type Fault = Option<(BundleFault, u64)>;
+
+/// A bundle without checks: destination ipn:2.1, source ipn:1.1, report-to dtn:none, payload `hello`.
+const PLAIN: &[u8] =
+    b"\x9f\x88\x07\x00\x00\x82\x02\x82\x02\x01\x82\x02\x82\x01\x01\x82\x01\x00\x82\x00\x00\x00\x85\x01\x01\x00\x00\x45\x68\x65\x6c\x6c\x6f\xff";
+
+const VERDICTS: [(&[u8], Fault); 34] = [
+    // the plain bundle
+    (
+        b"\x9f\x88\x07\x00\x00\x82\x02\x82\x02\x01\x82\x02\x82\x01\x01\x82\x01\x00\x82\x00\x00\x00\x85\x01\x01\x00\x00\x45\x68\x65\x6c\x6c\x6f\xff",
+        None,
+    ),
+    // with a check
+    (
+        b"\x9f\x88\x07\x00\x00\x82\x02\x82\x02\x01\x82\x02\x82\x01\x01\x82\x01\x00\x82\x00\x00\x00\x86\x01\x01\x00\x01\x45\x68\x65\x6c\x6c\x6f\x42\x4b\xf3\xff",
+        None,
+    ),
+    // another byte under the check
+    (
+        b"\x9f\x88\x07\x00\x00\x82\x02\x82\x02\x01\x82\x02\x82\x01\x01\x82\x01\x00\x82\x00\x00\x00\x86\x01\x01\x00\x01\x45\x69\x65\x6c\x6c\x6f\x42\x4b\xf3\xff",
+        Some((BundleFault::CheckDiffers, 33)),
+    ),
+    // a check of three bytes
+    (
+        b"\x9f\x88\x07\x00\x00\x82\x02\x82\x02\x01\x82\x02\x82\x01\x01\x82\x01\x00\x82\x00\x00\x00\x86\x01\x01\x00\x01\x45\x68\x65\x6c\x6c\x6f\x43\x4b\xf3\x00\xff",
+        Some((BundleFault::BadCheckLength, 33)),
+    ),
+    // a byte behind the break
+    (
+        b"\x9f\x88\x07\x00\x00\x82\x02\x82\x02\x01\x82\x02\x82\x01\x01\x82\x01\x00\x82\x00\x00\x00\x85\x01\x01\x00\x00\x45\x68\x65\x6c\x6c\x6f\xff\x00",
+        Some((BundleFault::Trailing, 34)),
+    ),
+    // without its last byte
+    (
+        b"\x9f\x88\x07\x00\x00\x82\x02\x82\x02\x01\x82\x02\x82\x01\x01\x82\x01\x00\x82\x00\x00\x00\x85\x01\x01\x00\x00\x45\x68\x65\x6c\x6c\x6f",
+        Some((BundleFault::Cut, 33)),
+    ),
+    // no byte
+    (b"", Some((BundleFault::Cut, 0))),
+    // no array of indefinite length
+    (
+        b"\x85\x88\x07\x00\x00\x82\x02\x82\x02\x01\x82\x02\x82\x01\x01\x82\x01\x00\x82\x00\x00\x00\x85\x01\x01\x00\x00\x45\x68\x65\x6c\x6c\x6f\xff",
+        Some((BundleFault::NotABundle, 0)),
+    ),
+    // seven elements
+    (
+        b"\x9f\x87\x07\x00\x00\x82\x02\x82\x02\x01\x82\x02\x82\x01\x01\x82\x01\x00\x82\x00\x00\x00\x85\x01\x01\x00\x00\x45\x68\x65\x6c\x6c\x6f\xff",
+        Some((BundleFault::BadCount, 1)),
+    ),
+    // version 6
+    (
+        b"\x9f\x88\x06\x00\x00\x82\x02\x82\x02\x01\x82\x02\x82\x01\x01\x82\x01\x00\x82\x00\x00\x00\x85\x01\x01\x00\x00\x45\x68\x65\x6c\x6c\x6f\xff",
+        Some((BundleFault::BadVersion, 2)),
+    ),
+    // an ill-formed head
+    (
+        b"\x9f\x88\x07\x1c\x00\x82\x02\x82\x02\x01\x82\x02\x82\x01\x01\x82\x01\x00\x82\x00\x00\x00\x85\x01\x01\x00\x00\x45\x68\x65\x6c\x6c\x6f\xff",
+        Some((BundleFault::BadHead, 3)),
+    ),
+    // bytes in place of the flags
+    (
+        b"\x9f\x88\x07\x40\x00\x82\x02\x82\x02\x01\x82\x02\x82\x01\x01\x82\x01\x00\x82\x00\x00\x00\x85\x01\x01\x00\x00\x45\x68\x65\x6c\x6c\x6f\xff",
+        Some((BundleFault::WrongKind, 3)),
+    ),
+    // check type 3
+    (
+        b"\x9f\x88\x07\x00\x03\x82\x02\x82\x02\x01\x82\x02\x82\x01\x01\x82\x01\x00\x82\x00\x00\x00\x85\x01\x01\x00\x00\x45\x68\x65\x6c\x6c\x6f\xff",
+        Some((BundleFault::BadCheckType, 4)),
+    ),
+    // a check type without its field
+    (
+        b"\x9f\x88\x07\x00\x01\x82\x02\x82\x02\x01\x82\x02\x82\x01\x01\x82\x01\x00\x82\x00\x00\x00\x85\x01\x01\x00\x00\x45\x68\x65\x6c\x6c\x6f\xff",
+        Some((BundleFault::BadCount, 4)),
+    ),
+    // scheme 3
+    (
+        b"\x9f\x88\x07\x00\x00\x82\x03\x82\x02\x01\x82\x02\x82\x01\x01\x82\x01\x00\x82\x00\x00\x00\x85\x01\x01\x00\x00\x45\x68\x65\x6c\x6c\x6f\xff",
+        Some((BundleFault::BadScheme, 6)),
+    ),
+    // no array in scheme ipn
+    (
+        b"\x9f\x88\x07\x00\x00\x82\x02\x00\x02\x01\x82\x02\x82\x01\x01\x82\x01\x00\x82\x00\x00\x00\x85\x01\x01\x00\x00\x45\x68\x65\x6c\x6c\x6f\xff",
+        Some((BundleFault::BadSpecificPart, 7)),
+    ),
+    // a payload block of number 2
+    (
+        b"\x9f\x88\x07\x00\x00\x82\x02\x82\x02\x01\x82\x02\x82\x01\x01\x82\x01\x00\x82\x00\x00\x00\x85\x01\x02\x00\x00\x45\x68\x65\x6c\x6c\x6f\xff",
+        Some((BundleFault::BadBlockNumber, 24)),
+    ),
+    // a long spelling of the version
+    (
+        b"\x9f\x88\x1a\x00\x00\x00\x07\x00\x00\x82\x02\x82\x02\x01\x82\x02\x82\x01\x01\x82\x01\x00\x82\x00\x00\x00\x85\x01\x01\x00\x00\x45\x68\x65\x6c\x6c\x6f\xff",
+        None,
+    ),
+    // a simple value below 32 in two bytes
+    (
+        b"\x9f\x88\x07\xf8\x1f\x00\x82\x02\x82\x02\x01\x82\x02\x82\x01\x01\x82\x01\x00\x82\x00\x00\x00\x85\x01\x01\x00\x00\x45\x68\x65\x6c\x6c\x6f\xff",
+        Some((BundleFault::BadHead, 3)),
+    ),
+    // a simple value
+    (
+        b"\x9f\x88\x07\xf8\x20\x00\x82\x02\x82\x02\x01\x82\x02\x82\x01\x01\x82\x01\x00\x82\x00\x00\x00\x85\x01\x01\x00\x00\x45\x68\x65\x6c\x6c\x6f\xff",
+        Some((BundleFault::WrongKind, 3)),
+    ),
+    // a name of 1,025 bytes
+    (
+        b"\x9f\x88\x07\x00\x00\x82\x01\x79\x04\x01",
+        Some((BundleFault::EidTooLong, 7)),
+    ),
+    // a block number twice
+    (
+        b"\x9f\x88\x07\x00\x00\x82\x02\x82\x02\x01\x82\x02\x82\x01\x01\x82\x01\x00\x82\x00\x00\x00\x85\x0a\x02\x00\x00\x40\x85\x0a\x02\x00\x00\x40\x85\x01\x01\x00\x00\x45\x68\x65\x6c\x6c\x6f\xff",
+        Some((BundleFault::RepeatedBlockNumber, 30)),
+    ),
+    // a block behind the payload block
+    (
+        b"\x9f\x88\x07\x00\x00\x82\x02\x82\x02\x01\x82\x02\x82\x01\x01\x82\x01\x00\x82\x00\x00\x00\x85\x01\x01\x00\x00\x45\x68\x65\x6c\x6c\x6f\x85\x0a\x02\x00\x00\x40\xff",
+        Some((BundleFault::NoPayloadLast, 33)),
+    ),
+    // no payload block
+    (
+        b"\x9f\x88\x07\x00\x00\x82\x02\x82\x02\x01\x82\x02\x82\x01\x01\x82\x01\x00\x82\x00\x00\x00\xff",
+        Some((BundleFault::NoPayloadLast, 22)),
+    ),
+    // a fragment
+    (
+        b"\x9f\x8a\x07\x01\x00\x82\x02\x82\x02\x01\x82\x02\x82\x01\x01\x82\x01\x00\x82\x00\x00\x00\x05\x0a\x85\x01\x01\x00\x00\x45\x68\x65\x6c\x6c\x6f\xff",
+        None,
+    ),
+    // a dtn name
+    (
+        b"\x9f\x88\x07\x00\x00\x82\x01\x68\x2f\x2f\x6e\x6f\x64\x65\x2f\x61\x82\x02\x82\x01\x01\x82\x01\x00\x82\x00\x00\x00\x85\x01\x01\x00\x00\x45\x68\x65\x6c\x6c\x6f\xff",
+        None,
+    ),
+    // a payload of 2^64 - 1 bytes
+    (
+        b"\x9f\x88\x07\x00\x00\x82\x02\x82\x02\x01\x82\x02\x82\x01\x01\x82\x01\x00\x82\x00\x00\x00\x85\x01\x01\x00\x00\x5b\xff\xff\xff\xff\xff\xff\xff\xff\x01\x02\x03",
+        Some((BundleFault::Cut, 39)),
+    ),
+    // a block of 2^64 - 1 elements
+    (
+        b"\x9f\x9b\xff\xff\xff\xff\xff\xff\xff\xff",
+        Some((BundleFault::BadCount, 1)),
+    ),
+    // a cut head behind the payload
+    (
+        b"\x9f\x88\x07\x00\x00\x82\x02\x82\x02\x01\x82\x02\x82\x01\x01\x82\x01\x00\x82\x00\x00\x00\x85\x01\x01\x00\x00\x45\x68\x65\x6c\x6c\x6f\x1b\x00",
+        Some((BundleFault::Cut, 35)),
+    ),
+    // an ill-formed head behind the payload
+    (
+        b"\x9f\x88\x07\x00\x00\x82\x02\x82\x02\x01\x82\x02\x82\x01\x01\x82\x01\x00\x82\x00\x00\x00\x85\x01\x01\x00\x00\x45\x68\x65\x6c\x6c\x6f\xf8\x1f",
+        Some((BundleFault::BadHead, 33)),
+    ),
+    // a number spelled long, twice
+    (
+        b"\x9f\x88\x07\x00\x00\x82\x02\x82\x02\x01\x82\x02\x82\x01\x01\x82\x01\x00\x82\x00\x00\x00\x85\x0a\x02\x00\x00\x40\x85\x0a\x18\x02\x00\x00\x40\x85\x01\x01\x00\x00\x45\x68\x65\x6c\x6c\x6f\xff",
+        Some((BundleFault::RepeatedBlockNumber, 30)),
+    ),
+    // a number that differs above 32 bits
+    (
+        b"\x9f\x88\x07\x00\x00\x82\x02\x82\x02\x01\x82\x02\x82\x01\x01\x82\x01\x00\x82\x00\x00\x00\x85\x0a\x02\x00\x00\x40\x85\x0a\x1b\x00\x00\x00\x01\x00\x00\x00\x02\x00\x00\x40\x85\x01\x01\x00\x00\x45\x68\x65\x6c\x6c\x6f\xff",
+        None,
+    ),
+    // type 1 with the number of an earlier block
+    (
+        b"\x9f\x88\x07\x00\x00\x82\x02\x82\x02\x01\x82\x02\x82\x01\x01\x82\x01\x00\x82\x00\x00\x00\x85\x0a\x02\x00\x00\x40\x85\x01\x02\x00\x00\x45\x68\x65\x6c\x6c\x6f\xff",
+        Some((BundleFault::BadBlockNumber, 30)),
+    ),
+    // a check field spelled longer than the check says
+    (
+        b"\x9f\x88\x07\x00\x00\x82\x02\x82\x02\x01\x82\x02\x82\x01\x01\x82\x01\x00\x82\x00\x00\x00\x86\x01\x01\x00\x01\x45\x68\x65\x6c\x6c\x6f\x58\x02\x4b\xf3\xff",
+        Some((BundleFault::CheckDiffers, 33)),
+    ),
+];
+
+/// Where the payload begins, and how much of it there is.
+const PAYLOADS: [(&[u8], Option<(u64, u64)>); 9] = [
+    // nothing of the payload block
+    (
+        b"\x9f\x88\x07\x00\x00\x82\x02\x82\x02\x01\x82\x02\x82\x01\x01\x82\x01\x00\x82\x00\x00\x00",
+        None,
+    ),
+    // the data's head to come
+    (
+        b"\x9f\x88\x07\x00\x00\x82\x02\x82\x02\x01\x82\x02\x82\x01\x01\x82\x01\x00\x82\x00\x00\x00\x85\x01\x01\x00\x00",
+        None,
+    ),
+    // the data's head alone
+    (
+        b"\x9f\x88\x07\x00\x00\x82\x02\x82\x02\x01\x82\x02\x82\x01\x01\x82\x01\x00\x82\x00\x00\x00\x85\x01\x01\x00\x00\x45",
+        Some((28, 0)),
+    ),
+    // cut behind the payload
+    (
+        b"\x9f\x88\x07\x00\x00\x82\x02\x82\x02\x01\x82\x02\x82\x01\x01\x82\x01\x00\x82\x00\x00\x00\x85\x01\x01\x00\x00\x45\x68\x65\x6c\x6c\x6f",
+        Some((28, 5)),
+    ),
+    // whole
+    (
+        b"\x9f\x88\x07\x00\x00\x82\x02\x82\x02\x01\x82\x02\x82\x01\x01\x82\x01\x00\x82\x00\x00\x00\x85\x01\x01\x00\x00\x45\x68\x65\x6c\x6c\x6f\xff",
+        Some((28, 5)),
+    ),
+    // a check that differs
+    (
+        b"\x9f\x88\x07\x00\x00\x82\x02\x82\x02\x01\x82\x02\x82\x01\x01\x82\x01\x00\x82\x00\x00\x00\x86\x01\x01\x00\x01\x45\x69\x65\x6c\x6c\x6f\x42\x4b\xf3\xff",
+        Some((28, 5)),
+    ),
+    // trailing bytes
+    (
+        b"\x9f\x88\x07\x00\x00\x82\x02\x82\x02\x01\x82\x02\x82\x01\x01\x82\x01\x00\x82\x00\x00\x00\x85\x01\x01\x00\x00\x45\x68\x65\x6c\x6c\x6f\xff\x00\x00",
+        Some((28, 5)),
+    ),
+    // a fault before the payload
+    (
+        b"\x9f\x88\x07\x40\x00\x82\x02\x82\x02\x01\x82\x02\x82\x01\x01\x82\x01\x00\x82\x00\x00\x00\x85\x01\x01\x00\x00\x45\x68\x65\x6c\x6c\x6f\xff",
+        None,
+    ),
+    // three of 2^64 - 1 bytes
+    (
+        b"\x9f\x88\x07\x00\x00\x82\x02\x82\x02\x01\x82\x02\x82\x01\x01\x82\x01\x00\x82\x00\x00\x00\x85\x01\x01\x00\x00\x5b\xff\xff\xff\xff\xff\xff\xff\xff\x01\x02\x03",
+        Some((36, 3)),
+    ),
+];
+
+/// An endpoint ID, with a name as its bytes.
+#[derive(Clone, Copy)]
+enum Text {
+    None,
+    Dtn(&'static [u8]),
+    Ipn(u64, u64),
+}
+
+/// A bundle of another encoder, and what it says.
+#[derive(Clone, Copy)]
+struct Expected {
+    bytes: &'static [u8],
+    destination: Text,
+    source: Text,
+    /// Flags, time, sequence number, lifetime, blocks and payload length.
+    numbers: [u64; 6],
+    fragment: Option<(u64, u64)>,
+}
+
+/// Feeds a piece; where the bundle has ended and a byte is left, that byte goes in by a step.
+fn give(scan: &mut BundleScan, bytes: &[u8])
+    requires { scan_size scan.old + length bytes.now ≤ 2 ^ 63 - 1 }
+    ensures { scan_size scan.new ≤ scan_size scan.old + length bytes.now }
+{
+    let taken = scan.feed(bytes);
+    if matches!(scan.state(), State::Ended) && taken < bytes.len() {
+        scan.step(bytes[taken]);
+    }
+}
+
+fn in_two(bytes: &[u8], cut: usize) -> BundleScan
+    requires short { length bytes.now < 2 ^ 32 }
+    requires within { cut ≤ length bytes.now }
+{
+    let mut scan = BundleScan::new();
+    give(&mut scan, &bytes[..cut]);
+    give(&mut scan, &bytes[cut..]);
+    scan
+}
+
+fn by_bytes(bytes: &[u8]) -> BundleScan
+    requires { length bytes.now < 2 ^ 32 }
+{
+    let mut scan = BundleScan::new();
+    for byte in bytes {
+        give(&mut scan, &[*byte]);
+    }
+    scan
+}
+
+fn expect_fault(rt: &impl Abort, bytes: &[u8], fault: Fault) {
+    assert!(rt; bytes.len() < 100_000);
+    assert_eq!(rt; by_bytes(bytes).finish().err(), fault);
+    for cut in 0..bytes.len() {
+        assert_eq!(rt; in_two(bytes, cut).finish().err(), fault, "cut at {cut}");
+    }
+}
+
+#[test]
+fn verdicts(rt: HostRuntime) {
+    for (bytes, fault) in VERDICTS {
+        expect_fault(&rt, bytes, fault);
+    }
+}
+
+#[test]
+fn payloads(rt: HostRuntime) {
+    for (bytes, payload) in PAYLOADS {
+        assert!(rt; bytes.len() < 1_000);
+        assert_eq!(rt; by_bytes(bytes).payload_seen(), payload);
+    }
+}
+
+#[test]
+fn steps_past_the_end(rt: HostRuntime) {
+    let mut scan = BundleScan::new();
+    assert_eq!(rt; scan.state(), State::Going);
+    assert_eq!(rt; scan.finish(), Err((BundleFault::Cut, 0)));
+    assert_eq!(rt; scan.feed(PLAIN), PLAIN.len());
+    assert!(rt; matches!(scan.state(), State::Ended));
+    scan.step(0);
+    assert_eq!(rt; scan.state(), State::Failed(BundleFault::Trailing, 34));
+    assert_eq!(rt; scan.feed(&[0]), 0);
+}
+
+fn is_text(eid: &Eid, text: Text) -> bool {
+    match (eid, text) {
+        (Eid::DtnNone, Text::None) => true,
+        (Eid::Dtn(name), Text::Dtn(bytes)) => name.as_slice() == bytes,
+        (Eid::Ipn(node, service), Text::Ipn(n, s)) => *node == n && *service == s,
+        _ => false,
+    }
+}
+
+#[test]
+fn bundles_of_another_encoder(rt: HostRuntime) {
+    for expected in BUNDLES {
+        expect_fault(&rt, expected.bytes, None);
+        assert!(rt; expected.bytes.len() < 10_000);
+        match by_bytes(expected.bytes).finish() {
+            Ok(info) => {
+                assert!(rt; is_text(&info.destination, expected.destination));
+                assert!(rt; is_text(&info.source, expected.source));
+                let numbers = [
+                    info.flags,
+                    info.time,
+                    info.sequence,
+                    info.lifetime,
+                    info.blocks,
+                    info.payload,
+                ];
+                assert_eq!(rt; numbers, expected.numbers);
+                assert_eq!(rt; info.fragment, expected.fragment);
+            }
+            Err(_) => assert!(rt; false),
+        }
+    }
+}
+
+#[test]
+fn a_large_payload(rt: HostRuntime) {
+    let mut scan = BundleScan::new();
+    scan.feed(LARGE_FRONT);
+    scan.feed(&[0xa5; 70_000]);
+    scan.feed(LARGE_REST);
+    assert_eq!(rt; scan.finish().err(), None);
+    assert_eq!(rt;
+        scan.payload_seen(),
+        Some((LARGE_FRONT.len() as u64, 70_000))
+    );
+}
+
+/// The plain bundle with so many blocks before its payload block, from number 2 on.
+fn with_blocks(alloc: Global, blocks: u8) -> Result<Vec<u8>, AllocError>
+    requires { blocks ≤ 64 }
+{
+    let mut bytes = PLAIN[..22].to_vec(alloc)?;
+    for number in 2..blocks + 2 {
+        if number < 24 {
+            bytes.extend_from_slice(&[0x85, 0x0a, number, 0x00, 0x00, 0x40])?;
+        } else {
+            bytes.extend_from_slice(&[0x85, 0x0a, 0x18, number, 0x00, 0x00, 0x40])?;
+        }
+    }
+    bytes.extend_from_slice(&PLAIN[22..])?;
+    Ok(bytes)
+}
+
+#[test]
+fn sixty_four_blocks(rt: HostRuntime) -> Result<(), Fail> {
+    expect_fault(&rt, &with_blocks(rt.alloc(), 63)?, None);
+    let fault = Some((BundleFault::TooManyBlocks, 448));
+    expect_fault(&rt, &with_blocks(rt.alloc(), 64)?, fault);
+    Ok(())
+}

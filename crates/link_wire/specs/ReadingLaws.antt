@@ -1,0 +1,151 @@
+-- Every list of bytes has exactly one reading.
+use Rattle.std.proofs.Common.{◌≡◌, ℕ, zero, suc, ◌+◌, ◌<◌, ◌≤◌, true, false, List, [], ◌∷◌, ◌++◌, length, take, drop, Option, Some, None, Result, Ok, Err, nat_lt, arith, refl, ap, sym, ◌∙◌, subst, append_assoc, length-append, length-drop, ⊎_elim}
+use Rattle.std.proofs.lemmas.Bool.{cases_lt, lt-ltb, le-ltb}
+use Rattle.std.proofs.lemmas.List.{take-append-drop, length-take-le}
+use Rattle.std.proofs.Math.Seq.{take-append_seam, drop-append_seam}
+use Rattle.link_wire.specs.Bytes.{AreBytes, AreBytes-take}
+use Rattle.link_wire.specs.Part.{Part}
+use Rattle.link_wire.specs.PartSizes.{shrinks_message}
+use Rattle.link_wire.specs.Message.{contact_at, message_at, data_length}
+use Rattle.link_wire.specs.Spelled.{Spelling, ContactSpelled, HeadSpelled}
+use Rattle.link_wire.specs.SpelledLaws.{Only, both, only_contact, only_message}
+use Rattle.link_wire.specs.SpelledLawsFound.{AreBytes-behind, found_contact, found_message}
+use Rattle.link_wire.specs.SpelledStream.{NoneBegins, IsStream, IsReadingBy, IsReading}
+use Rattle.link_wire.specs.Stream.{Entry, End, Clean, Cut, Fault, Stream, ended, with_entry, with_data_of, stream_at, Reading, reading_by, reading_of}
+use Rattle.link_wire.specs.StreamLaws.{stream_at-nil, stream_at-head, stream_at-fault}
+use Rattle.link_wire.specs.declared.fault.WireFault.{WireFault}
+use Rattle.link_wire.specs.declared.message.Contact.{Contact}
+use Rattle.link_wire.specs.declared.message.Message.{Message}
+
+-- whole data behind a head
+with_data-whole : (offset : ℕ) (message : Message) (content more : List ℕ) (rest : ℕ → List ℕ → Stream) → length content ≡ data_length message
+    → with_data_of offset message (content ++ more) (rest (data_length message) (drop (data_length message) (content ++ more)))
+    ≡ with_entry (record { offset = offset; message = message; content = content }) (rest (data_length message) more)
+with_data-whole offset message content more rest size =
+    let whole : nat_lt (length (content ++ more)) (length content) ≡ false = le-ltb (length (content ++ more)) (length content) (omega (arith, length-append content more)) in
+    rw (← size, whole, take-append_seam, drop-append_seam) refl
+
+only_stream : (entries : List Entry) (end : End) (offset : ℕ) (bytes : List ℕ) → IsStream entries end offset bytes → stream_at offset bytes ≡ record { entries = entries; end = end }
+only_stream [] Clean offset bytes is = ap (stream_at offset) is ∙ stream_at-nil offset
+only_stream [] (Cut at message content) offset bytes is =
+    let head = is.2.front in
+    let told = (only_message message).by head is.2.is_first in
+    let whole : bytes ≡ head ++ content = is.2.parts ∙ ap (λ all. head ++ all) is.2.is_second.1 in
+    let short : nat_lt (length content) (data_length message) ≡ true = lt-ltb (length content) (data_length message) is.1 in
+    ap (stream_at offset) whole ∙ stream_at-head offset head message told content ∙ rw (short, is.0) refl
+only_stream [] (Fault at fault) offset [] is = absurd (is.1 refl)
+only_stream [] (Fault at fault) offset (b ∷ bytes) is = stream_at-fault offset b bytes fault is.3 ∙ ap (λ place. ended (Fault place fault)) (sym is.0)
+only_stream (entry ∷ entries) end offset bytes is =
+    let head = is.is_entry.1.front in
+    let told = (only_message entry.message).by head is.is_entry.1.is_first in
+    let front : is.front ≡ head ++ entry.content = is.is_entry.1.parts ∙ ap (λ all. head ++ all) is.is_entry.1.is_second.1 in
+    let whole : bytes ≡ head ++ (entry.content ++ is.behind) = is.parts ∙ ap (λ all. all ++ is.behind) front ∙ append_assoc head entry.content is.behind in
+    let place : offset + length head + data_length entry.message ≡ offset + length is.front = omega (arith, ap length front, length-append head entry.content, is.is_entry.0) in
+    ap (stream_at offset) whole
+    ∙ stream_at-head offset head entry.message told (entry.content ++ is.behind)
+    ∙ with_data-whole offset entry.message entry.content is.behind (λ size. stream_at (offset + length head + size)) is.is_entry.0
+    ∙ ap (λ at. with_entry (record { offset = offset; message = entry.message; content = entry.content }) (stream_at at is.behind)) place
+    ∙ ap (with_entry (record { offset = offset; message = entry.message; content = entry.content })) (only_stream entries end (offset + length is.front) is.behind is.is_rest)
+    ∙ ap (λ at. record { entries = record { offset = at; message = entry.message; content = entry.content } ∷ entries; end = end }) (sym is.place)
+
+only_by : (contact : Option Contact) (entries : List Entry) (end : End) (bytes : List ℕ) → IsReadingBy contact entries end bytes → reading_of bytes ≡ record { contact = contact; entries = entries; end = end }
+unfolding reading_of
+only_by (Some contact) entries end bytes is =
+    let told = (only_contact contact).by is.front is.is_first is.behind in
+    let streams : stream_at 6 is.behind ≡ record { entries = entries; end = end } = only_stream entries end 6 is.behind is.is_second in
+    ap (λ all. reading_by (contact_at all)) is.parts ∙ ap reading_by told
+    ∙ ap (λ (rest : Stream). record { contact = Some contact; entries = rest.entries; end = rest.end }) streams
+only_by None entries end bytes is =
+    ap reading_by is.2.2 ∙ rw (is.0, is.2.1) refl
+
+-- a reading of these bytes is the reading of them
+pub only_reading : (bytes : List ℕ) (reading : Reading) → IsReading bytes reading → reading ≡ reading_of bytes
+only_reading bytes reading is = sym (only_by reading.contact reading.entries reading.end bytes is)
+
+-- where the head of a part is read as a fault, no spelling of the part begins the bytes
+none_begins : {A : Type 0} (part : List ℕ → Part A) (value : A) (spelled : Spelling) (bytes : List ℕ) (fault : WireFault) → Only part value spelled → part bytes ≡ Err fault → NoneBegins spelled bytes
+none_begins part value spelled bytes fault only is = λ front more spells same.
+    let never = sym is ∙ ap part same ∙ only.by front spells more in absurd (cc)
+
+-- the stream that these bytes are read as stands in them
+abbrev StandsIn : ℕ → List ℕ → Stream → Type 0
+StandsIn offset bytes stream = IsStream stream.entries stream.end offset bytes
+
+-- a message whose head was read, with the data behind it
+module _ (offset : ℕ) (message : Message) (head rest : List ℕ) (spells : HeadSpelled message head) (are : AreBytes rest) where
+  with_data-stands : (later : ℕ → List ℕ → Stream)
+      → (let behind = drop (data_length message) rest in (at : ℕ) → StandsIn at behind (later at behind))
+      → StandsIn offset (head ++ rest) (with_data_of offset message rest (later (offset + length head + data_length message) (drop (data_length message) rest)))
+  with_data-stands later stands = ⊎_elim
+      (λ less.
+      let short : nat_lt (length rest) (data_length message) ≡ true = lt-ltb (length rest) (data_length message) less in
+      rw short (refl, less, both head rest spells (are, refl)))
+      (λ enough.
+      let whole : nat_lt (length rest) (data_length message) ≡ false = le-ltb (length rest) (data_length message) enough in
+      let size = length-take-le (data_length message) rest enough in
+      let content = take (data_length message) rest in
+      let behind = drop (data_length message) rest in
+      let place : offset + length head + data_length message ≡ offset + length (head ++ content) = omega (arith, length-append head content) in
+      let next = later (offset + length head + data_length message) behind in
+      let P : ℕ → Type 0 = λ at. IsStream next.entries next.end at behind in
+      rw whole (record {
+        place = refl;
+        front = head ++ content;
+        behind = behind;
+        is_entry = (size, both head content spells (AreBytes-take (data_length message) rest are, refl));
+        is_rest = subst P place (stands (offset + length head + data_length message));
+        parts = ap (λ all. head ++ all) (sym (take-append-drop (data_length message) rest)) ∙ sym (append_assoc head content behind);
+      }))
+      (cases_lt (length rest) (data_length message))
+
+stream_at-bad : (offset : ℕ) (bytes : List ℕ) (fault : WireFault) → 0 < length bytes → message_at bytes ≡ Err fault → stream_at offset bytes ≡ ended (Fault offset fault)
+stream_at-bad offset [] fault some is = absurd (omega arith)
+stream_at-bad offset (b ∷ bytes) fault some is = stream_at-fault offset b bytes fault is
+
+module _ (offset : ℕ) (bytes : List ℕ) where
+  stands_by : {other : Stream} → stream_at offset bytes ≡ other → StandsIn offset bytes other → StandsIn offset bytes (stream_at offset bytes)
+  stands_by {other} same stands = let P : Stream → Type 0 = λ stream. StandsIn offset bytes stream in subst P (sym same) stands
+
+  head_stands : 0 < length bytes → AreBytes bytes → ((at : ℕ) (behind : List ℕ) → length behind < length bytes → AreBytes behind → StandsIn at behind (stream_at at behind))
+      → (read : Result (Message × List ℕ) WireFault) → message_at bytes ≡ read → StandsIn offset bytes (stream_at offset bytes)
+  head_stands some are next (Err fault) is =
+      stands_by (stream_at-bad offset bytes fault some is)
+      (refl, (λ none. let never : length bytes ≡ 0 = ap length none in absurd (omega arith)), (λ message. none_begins message_at message (HeadSpelled message) bytes fault (only_message message) is), is)
+  head_stands some are next (Ok (message, rest)) is =
+      let fewer = shrinks_message.by bytes message rest is in
+      let found = found_message.by bytes message rest are is in
+      let whole : bytes ≡ found.front ++ rest = found.parts ∙ ap (λ all. found.front ++ all) found.is_second in
+      let behind : AreBytes rest = AreBytes-behind found.front rest (subst AreBytes whole are) in
+      let told = (only_message message).by found.front found.is_first in
+      let size = data_length message in
+      let last : AreBytes (drop size rest) = AreBytes-behind (take size rest) (drop size rest) (subst AreBytes (sym (take-append-drop size rest)) behind) in
+      let P : List ℕ → Type 0 = λ all. StandsIn offset all (stream_at offset all) in
+      let Q : Stream → Type 0 = λ stream. StandsIn offset (found.front ++ rest) stream in
+      subst P (sym whole) (subst Q (sym (stream_at-head offset found.front message told rest))
+      (with_data-stands offset message found.front rest found.is_first behind stream_at (λ at. next at (drop size rest) (omega (arith, length-drop size rest)) last)))
+
+-- the reading of bytes, of which there are `count` at most, stands in them
+stream_stands : (count offset : ℕ) (bytes : List ℕ) → length bytes ≤ count → AreBytes bytes → StandsIn offset bytes (stream_at offset bytes)
+stream_stands count offset [] few are = stands_by offset [] (stream_at-nil offset) refl
+stream_stands zero offset (b ∷ bytes) few are = absurd (omega arith)
+stream_stands (suc count) offset (b ∷ bytes) few are =
+    head_stands offset (b ∷ bytes) (omega arith) are (λ at behind fewer. stream_stands count at behind (omega arith)) (message_at (b ∷ bytes)) refl
+
+reading_by-stands : (bytes : List ℕ) → AreBytes bytes → (read : Result (Contact × List ℕ) WireFault) → contact_at bytes ≡ read → IsReading bytes (reading_by read)
+reading_by-stands bytes are (Err fault) is =
+    (refl, (λ contact. none_begins contact_at contact (ContactSpelled contact) bytes fault (only_contact contact) is), (fault, refl, is))
+reading_by-stands bytes are (Ok (contact, rest)) is =
+    let found = found_contact.by bytes contact rest are is in
+    let whole : bytes ≡ found.front ++ rest = found.parts ∙ ap (λ all. found.front ++ all) found.is_second in
+    record {
+      front = found.front;
+      behind = rest;
+      is_first = found.is_first;
+      is_second = stream_stands (length rest) 6 rest (omega arith) (AreBytes-behind found.front rest (subst AreBytes whole are));
+      parts = whole;
+    }
+
+-- every list of bytes has its reading
+pub some_reading : (bytes : List ℕ) → AreBytes bytes → IsReading bytes (reading_of bytes)
+unfolding reading_of
+some_reading bytes are = reading_by-stands bytes are (contact_at bytes) refl

@@ -1,0 +1,108 @@
+-- How the contact header and the messages of TCPCLv4 are spelled as bytes (RFC 9174), field by field in written order.
+-- Nothing here reads: a list of bytes is a spelling, or it is not.
+use Rattle.std.specs.Prelude.{◌≡◌, ℕ, ◌^◌, ◌<◌, ◌≤◌, Bool, true, false, List, [], ◌∷◌, ◌++◌, length, Option, Some, None, if◌then◌else◌}
+use Rattle.arrayvec.specs.ArrayVec.{ArrayVec}
+use Rattle.byteorder.specs.Endian.{big_bytes, big_number}
+use Rattle.link_wire.specs.Bytes.{AreBytes}
+use Rattle.link_wire.specs.Message.{gives_total, has_start, data_length}
+use Rattle.link_wire.specs.declared.message.TheConstants.{MAX_NODE_ID, MAX_LIST_LENGTH, MAX_ITEMS}
+use Rattle.link_wire.specs.declared.message.Contact.{Contact}
+use Rattle.link_wire.specs.declared.message.Item.{Item}
+use Rattle.link_wire.specs.declared.message.Message.{Message}
+use Rattle.link_wire.specs.declared.message.Message.TheVariants.{SessInit, Segment, Ack, Refuse, Keepalive, SessTerm, MsgReject}
+
+-- what the lists of bytes are that spell something
+abbrev pub Spelling : Type 1
+Spelling = List ℕ → Type 0
+
+-- one spelling, and behind it another
+pub record FollowedBy (first second : Spelling) (bytes : List ℕ) : Type 0 where
+  pub front : List ℕ
+  pub behind : List ℕ
+  pub is_first : first front
+  pub is_second : second behind
+  pub parts : bytes ≡ front ++ behind
+
+infixr 30 ◌⨾◌
+abbrev pub ◌⨾◌ : Spelling → Spelling → Spelling
+(first ⨾ second) bytes = FollowedBy first second bytes
+
+-- the k bytes whose value is n, the highest first
+abbrev pub be : ℕ → ℕ → List ℕ
+be k n = big_bytes k n
+
+-- unsigned numbers of one, two, four and eight bytes
+abbrev pub U8 : ℕ → Spelling
+U8 n bytes = (n < 2 ^ 8) × (bytes ≡ be 1 n)
+
+abbrev pub U16 : ℕ → Spelling
+U16 n bytes = (n < 2 ^ 16) × (bytes ≡ be 2 n)
+
+abbrev pub U32 : ℕ → Spelling
+U32 n bytes = (n < 2 ^ 32) × (bytes ≡ be 4 n)
+
+abbrev pub U64 : ℕ → Spelling
+U64 n bytes = (n < 2 ^ 64) × (bytes ≡ be 8 n)
+
+-- exactly these bytes
+abbrev pub These : List ℕ → Spelling
+These content bytes = AreBytes content × (bytes ≡ content)
+
+-- the contact header (section 4.2): `dtn!`, version 4, and the flags
+abbrev pub ContactSpelled : Contact → Spelling
+ContactSpelled contact bytes = (contact.flags < 2 ^ 8) × (bytes ≡ 0x64 ∷ 0x74 ∷ 0x6e ∷ 0x21 ∷ 4 ∷ contact.flags ∷ [])
+
+-- a node ID (section 4.6): its length, and its bytes
+abbrev pub NodeSpelled : ArrayVec ℕ → Spelling
+NodeSpelled node bytes = (length node.items ≤ MAX_NODE_ID) × (U16 (length node.items) ⨾ These node.items) bytes
+
+-- what stands in front of an extension item's value (sections 4.8 and 5.2.5): flags, type and length
+abbrev pub ItemHeadSpelled : (flags kind size : ℕ) → Spelling
+ItemHeadSpelled flags kind size = U8 flags ⨾ U16 kind ⨾ U16 size
+
+-- the number that a value tells: that of a Transfer Length item (section 5.2.5.1), and of no other
+abbrev pub total_of : (is_transfer : Bool) (kind size : ℕ) → List ℕ → Option ℕ
+total_of is_transfer kind size value = if gives_total is_transfer kind size then Some (big_number 8 value) else None
+
+-- an extension item's value: any bytes, as many as the item's length says
+abbrev pub ValueSpelled : (is_transfer : Bool) (kind size : ℕ) → Option ℕ → Spelling
+ValueSpelled is_transfer kind size total value = AreBytes value × (length value ≡ size) × (total ≡ total_of is_transfer kind size value)
+
+-- an extension item, of a transfer's list or of a session's
+abbrev pub ItemSpelled : (is_transfer : Bool) → Item → Spelling
+ItemSpelled is_transfer item = ItemHeadSpelled item.flags item.kind item.length ⨾ ValueSpelled is_transfer item.kind item.length item.total
+
+-- items one after another
+abbrev pub ItemsSpelled : (is_transfer : Bool) → List Item → Spelling
+ItemsSpelled is_transfer [] bytes = bytes ≡ []
+ItemsSpelled is_transfer (item ∷ items) bytes = (ItemSpelled is_transfer item ⨾ ItemsSpelled is_transfer items) bytes
+
+-- an extension list: its length in bytes, and its items, which fill those bytes
+pub record ListSpelled (is_transfer : Bool) (items : ArrayVec Item) (bytes : List ℕ) : Type 0 where
+  pub body : List ℕ
+  pub is_body : ItemsSpelled is_transfer items.items body
+  pub few : length items.items ≤ MAX_ITEMS
+  pub short : length body ≤ MAX_LIST_LENGTH
+  pub is_list : (U32 (length body) ⨾ These body) bytes
+
+-- the extension list of a segment, which stands there only with START
+abbrev pub SegmentItemsSpelled : (start : Bool) → ArrayVec Item → Spelling
+SegmentItemsSpelled true items bytes = ListSpelled true items bytes
+SegmentItemsSpelled false items bytes = (items.items ≡ []) × (bytes ≡ [])
+
+-- The head of a message: its type byte (section 4.5) and its fields, of a segment all but its data. The rows are
+-- XFER_SEGMENT (section 5.2.2), XFER_ACK (5.2.3), XFER_REFUSE (5.2.4), KEEPALIVE (5.1.1), SESS_TERM (6.1), MSG_REJECT
+-- (5.1.2) and SESS_INIT (4.6).
+abbrev pub HeadSpelled : Message → Spelling
+HeadSpelled (Segment head) = U8 1 ⨾ U8 head.flags ⨾ U64 head.id ⨾ SegmentItemsSpelled (has_start head.flags) head.items ⨾ U64 head.length
+HeadSpelled (Ack flags id size) = U8 2 ⨾ U8 flags ⨾ U64 id ⨾ U64 size
+HeadSpelled (Refuse reason id) = U8 3 ⨾ U8 reason ⨾ U64 id
+HeadSpelled Keepalive = U8 4
+HeadSpelled (SessTerm flags reason) = U8 5 ⨾ U8 flags ⨾ U8 reason
+HeadSpelled (MsgReject reason header) = U8 6 ⨾ U8 reason ⨾ U8 header
+HeadSpelled (SessInit keepalive segment_mru transfer_mru node items) =
+    U8 7 ⨾ U16 keepalive ⨾ U64 segment_mru ⨾ U64 transfer_mru ⨾ NodeSpelled node ⨾ ListSpelled false items
+
+-- a message and its data: of a segment as many bytes as its head says, of every other message none
+abbrev pub Spelled : Message → (content : List ℕ) → Spelling
+Spelled message content bytes = (length content ≡ data_length message) × (HeadSpelled message ⨾ These content) bytes

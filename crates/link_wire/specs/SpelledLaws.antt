@@ -1,0 +1,287 @@
+-- What is spelled is read as what it spells, whatever follows.
+use Rattle.std.proofs.Common.{◌≡◌, ℕ, zero, suc, ◌+◌, ◌-◌, ◌^◌, ◌<◌, ◌≤◌, Bool, true, false, eqb, List, [], ◌∷◌, ◌++◌, length, Option, Some, None, Result, Ok, nat_lt, if◌then◌else◌, arith, refl, ap, sym, ◌∙◌, subst, append_assoc, append-nil, length-append}
+use Rattle.std.proofs.lemmas.List.{nil_from_length}
+use Rattle.std.proofs.lemmas.Bool.{le-ltb, ne_eqb}
+use Rattle.std.proofs.lemmas.Bool.Decides.{nat_tests}
+use Rattle.arrayvec.specs.ArrayVec.{ArrayVec}
+use Rattle.byteorder.specs.Endian.{big_number}
+use Rattle.byteorder.specs.Numbers.{big_number-reads_back, length-bytes_high_first}
+use Rattle.link_wire.specs.Part.{Part, ◌>>=◌, bytes_at, number_at}
+use Rattle.link_wire.specs.PartLaws.{bytes_at-there, array_vec_of}
+use Rattle.link_wire.specs.Spelled.{Spelling, be, U8, U16, U32, U64, These, ◌⨾◌, ContactSpelled, NodeSpelled, ItemHeadSpelled, ValueSpelled, ItemsSpelled, ListSpelled, SegmentItemsSpelled, HeadSpelled, Spelled}
+use Rattle.link_wire.specs.Message.{contact_at, skipped_at, total_at, item_head_at, items_at, items_of, list_at, node_bytes_at, node_at, segment_items_at, segment_at, ack_at, refuse_at, sess_term_at, msg_reject_at, sess_init_at, fields_at, message_at, has_start, gives_total, data_length}
+use Rattle.link_wire.specs.declared.fault.WireFault.{WireFault}
+use Rattle.link_wire.specs.declared.message.TheConstants.{MAX_NODE_ID, MAX_LIST_LENGTH, MAX_ITEMS}
+use Rattle.link_wire.specs.declared.message.Contact.{Contact}
+use Rattle.link_wire.specs.declared.message.Item.{Item}
+use Rattle.link_wire.specs.declared.message.SegmentHead.{SegmentHead}
+use Rattle.link_wire.specs.declared.message.Message.{Message}
+use Rattle.link_wire.specs.declared.message.Message.TheVariants.{SessInit, Segment, Ack, Refuse, Keepalive, SessTerm, MsgReject}
+
+-- how long a spelling is
+pub length_front : {first second : Spelling} (bytes : List ℕ) (is : (first ⨾ second) bytes) → length bytes ≡ length is.front + length is.behind
+length_front bytes is = ap length is.parts ∙ length-append is.front is.behind
+
+module _ {first second : Spelling} where
+  -- two spellings, one behind the other
+  pub both : (front behind : List ℕ) → first front → second behind → (first ⨾ second) (front ++ behind)
+  both front behind one two = record { front = front; behind = behind; is_first = one; is_second = two; parts = refl }
+
+-- the last spelling of a part
+pub last : (spelled : Spelling) (front : List ℕ) → spelled front → spelled (front ++ [])
+last spelled front is = subst spelled (sym (append-nil front)) is
+
+-- three spellings one behind the other
+pub then_assoc : {first second third : Spelling} (bytes : List ℕ) → ((first ⨾ second) ⨾ third) bytes → (first ⨾ (second ⨾ third)) bytes
+then_assoc bytes is = record {
+  front = is.is_first.front;
+  behind = is.is_first.behind ++ is.behind;
+  is_first = is.is_first.is_first;
+  is_second = record { front = is.is_first.behind; behind = is.behind; is_first = is.is_first.is_second; is_second = is.is_second; parts = refl };
+  parts = is.parts ∙ ap (λ front. front ++ is.behind) is.is_first.parts ∙ append_assoc is.is_first.front is.is_first.behind is.behind;
+}
+
+-- a spelling is read as this value, whatever follows
+pub record Only {A : Type 0} (part : List ℕ → Part A) (value : A) (spelled : Spelling) : Type 0 where
+  pub by : (bytes : List ℕ) → spelled bytes → (more : List ℕ) → part (bytes ++ more) ≡ Ok (value, more)
+
+-- what was read is one
+pub same_part : {A : Type 0} {value other : A} {bytes more : List ℕ} → (let read : Result (A × List ℕ) WireFault = Ok (value, bytes) in read) ≡ Ok (other, more) → (value ≡ other) × (bytes ≡ more)
+same_part {A} {value} {other} {bytes} {more} is =
+    let both : (value, bytes) ≡ (other, more) = cc in
+    (ap (λ (p : A × List ℕ). p.0) both, ap (λ (p : A × List ℕ). p.1) both)
+
+module _ {A B : Type 0} (part : List ℕ → Part A) (next : A × List ℕ → Part B) {value : A} {given : B} where
+  pub only_then : {first second : Spelling} → Only part value first → Only (λ bytes. next (value, bytes)) given second → Only (λ bytes. part bytes >>= next) given (first ⨾ second)
+  only_then head rest = record {
+    by = λ bytes is more.
+        ap (λ all. part (all ++ more) >>= next) is.parts
+        ∙ ap (λ all. part all >>= next) (append_assoc is.front is.behind more)
+        ∙ ap (λ read. read >>= next) (head.by is.front is.is_first (is.behind ++ more))
+        ∙ rest.by is.behind is.is_second more;
+  }
+
+  pub only_last : {spelled : Spelling} → Only part value spelled → ((more : List ℕ) → next (value, more) ≡ Ok (given, more)) → Only (λ bytes. part bytes >>= next) given spelled
+  only_last field rest = record { by = λ bytes is more. ap (λ read. read >>= next) (field.by bytes is more) ∙ rest more }
+
+module _ {A : Type 0} (part other : List ℕ → Part A) {value : A} {spelled : Spelling} where
+  pub only_if : (test : Bool) → test ≡ true → Only part value spelled → Only (λ bytes. if test then part bytes else other bytes) value spelled
+  only_if true is only = only
+  only_if false is only = absurd (cc)
+
+  pub only_else : (test : Bool) → test ≡ false → Only other value spelled → Only (λ bytes. if test then part bytes else other bytes) value spelled
+  only_else true is only = absurd (cc)
+  only_else false is only = only
+
+pub only_such : {A : Type 0} {part : List ℕ → Part A} {value : A} {spelled : Spelling} → ((bytes : List ℕ) → spelled bytes → Only part value (λ all. all ≡ bytes)) → Only part value spelled
+only_such only = record { by = λ bytes is more. (only bytes is).by bytes refl more }
+
+pub only_bytes : (content : List ℕ) (n : ℕ) → length content ≡ n → Only (bytes_at n) content (λ bytes. bytes ≡ content)
+only_bytes content n size = record {
+  by = λ bytes is more.
+      ap (λ all. bytes_at n (all ++ more)) is ∙ ap (λ k. bytes_at k (content ++ more)) (sym size) ∙ bytes_at-there content more;
+}
+
+pub only_number : (k n : ℕ) → n < 256 ^ k → Only (number_at k) n (λ bytes. bytes ≡ be k n)
+unfolding number_at
+only_number k n fits = only_last _ _ (only_bytes (be k n) k (length-bytes_high_first k n)) (λ more.
+    ap (λ m. Ok (m, more)) (ap (big_number k) (sym (append-nil (be k n))) ∙ big_number-reads_back k n [] fits))
+
+only_field : (k n : ℕ) → Only (number_at k) n (λ bytes. (n < 256 ^ k) × (bytes ≡ be k n))
+only_field k n = record { by = λ bytes is more. (only_number k n is.0).by bytes is.1 more }
+
+pub only_u8 : (n : ℕ) → Only (number_at 1) n (U8 n)
+only_u8 n = only_field 1 n
+
+pub only_u16 : (n : ℕ) → Only (number_at 2) n (U16 n)
+only_u16 n = only_field 2 n
+
+pub only_u32 : (n : ℕ) → Only (number_at 4) n (U32 n)
+only_u32 n = only_field 4 n
+
+pub only_u64 : (n : ℕ) → Only (number_at 8) n (U64 n)
+only_u64 n = only_field 8 n
+
+pub only_contact : (contact : Contact) → Only contact_at contact (ContactSpelled contact)
+unfolding contact_at
+only_contact contact = record {
+  by = λ bytes is more.
+      let header : List ℕ = 0x64 ∷ 0x74 ∷ 0x6e ∷ 0x21 ∷ 4 ∷ contact.flags ∷ [] in
+      (only_last _ _ (only_bytes header 6 refl) (λ rest. refl)).by bytes is.1 more;
+}
+
+pub only_node_bytes : (node : ArrayVec ℕ) → Only (node_bytes_at (length node.items)) node (These node.items)
+unfolding node_bytes_at
+only_node_bytes node = record {
+  by = λ bytes is more.
+      (only_last _ _ (only_bytes node.items (length node.items) refl) (λ rest. refl)).by bytes is.1 more;
+}
+
+pub only_node : (node : ArrayVec ℕ) → Only node_at node (NodeSpelled node)
+unfolding node_at
+only_node node = record {
+  by = λ bytes is more.
+      (only_then _ _ (only_u16 (length node.items)) (only_else _ _ (nat_lt MAX_NODE_ID (length node.items)) (le-ltb MAX_NODE_ID (length node.items) is.0) (only_node_bytes node))).by bytes is.1 more;
+}
+
+-- an item's head that ends within its list
+pub only_item_head : (left flags kind size : ℕ) → 5 + size ≤ left → Only (item_head_at left) (record { flags = flags; kind = kind; length = size }) (ItemHeadSpelled flags kind size)
+unfolding item_head_at
+only_item_head left flags kind size fits =
+    only_else _ _ (nat_lt left 5) (le-ltb left 5 (omega arith))
+    (only_then _ _ (only_u8 flags)
+    (only_then _ _ (only_u16 kind)
+    (only_last _ _ (only_u16 size) (λ more.
+    let within : nat_lt (left - 5) size ≡ false = le-ltb (left - 5) size (omega arith) in rw within refl))))
+
+pub only_skipped : (value : List ℕ) (n : ℕ) → length value ≡ n → Only (skipped_at n) tt (λ bytes. bytes ≡ value)
+unfolding skipped_at
+only_skipped value n size = only_last _ _ (only_bytes value n size) (λ rest. refl)
+
+pub total_size : (is_transfer : Bool) (kind size : ℕ) → gives_total is_transfer kind size ≡ true → size ≡ 8
+total_size is_transfer kind size is = grind (arith, nat_tests)
+
+-- the number in a field, whatever number it is
+pub only_field_of : (value : List ℕ) (n : ℕ) → length value ≡ n → Only (number_at n) (big_number n value) (λ bytes. bytes ≡ value)
+unfolding number_at
+only_field_of value n size = only_last _ _ (only_bytes value n size) (λ more. refl)
+
+module _ (is_transfer : Bool) (kind size : ℕ) (total : Option ℕ) where
+  value_by : (test : Bool) → gives_total is_transfer kind size ≡ test → Only (total_at is_transfer kind size) total (ValueSpelled is_transfer kind size total)
+  unfolding total_at
+  value_by true told = only_such (λ value is.
+      let number : total ≡ Some (big_number 8 value) = is.2 ∙ ap (λ test. if test then Some (big_number 8 value) else None) told in
+      only_if _ _ (gives_total is_transfer kind size) told
+      (only_last _ _ (only_field_of value 8 (is.1 ∙ total_size is_transfer kind size told)) (λ rest. ap (λ t. Ok (t, rest)) (sym number))))
+  value_by false told = only_such (λ value is.
+      let number : total ≡ None = is.2 ∙ ap (λ test. if test then Some (big_number 8 value) else None) told in
+      only_else _ _ (gives_total is_transfer kind size) told
+      (only_last _ _ (only_skipped value size is.1) (λ rest. ap (λ t. Ok (t, rest)) (sym number))))
+
+  pub only_value : Only (total_at is_transfer kind size) total (ValueSpelled is_transfer kind size total)
+  only_value = value_by (gives_total is_transfer kind size) refl
+
+-- an item is five bytes and its value
+pub length_item_head : (flags kind size : ℕ) (bytes : List ℕ) → ItemHeadSpelled flags kind size bytes → length bytes ≡ 5
+length_item_head flags kind size bytes is =
+    let whole = length_front bytes is in
+    let behind = length_front is.behind is.is_second in
+    let one : length is.front ≡ 1 = ap length is.is_first.1 in
+    let two : length is.is_second.front ≡ 2 = ap length is.is_second.is_first.1 in
+    let three : length is.is_second.behind ≡ 2 = ap length is.is_second.is_second.1 in
+    omega arith
+
+-- the items of a list of `left` bytes
+abbrev pub ItemsFilling : Bool → List Item → ℕ → Spelling
+ItemsFilling is_transfer items left bytes = ItemsSpelled is_transfer items bytes × (length bytes ≡ left)
+
+module _ (is_transfer : Bool) where
+  pub only_items : (items : List Item) (room left : ℕ) → length items ≤ room → Only (items_at is_transfer room left) items (ItemsFilling is_transfer items left)
+  unfolding items_at
+  only_items [] zero left few = record { by = λ bytes is more. let none : left ≡ 0 = sym is.1 ∙ ap length is.0 in rw (none, is.0) refl }
+  only_items [] (suc room) left few = record { by = λ bytes is more. let none : left ≡ 0 = sym is.1 ∙ ap length is.0 in rw (none, is.0) refl }
+  only_items (item ∷ items) zero left few = absurd (omega arith)
+  only_items (item ∷ items) (suc room) left few = record {
+    by = λ bytes is more.
+        let all = length_front bytes is.0 in
+        let one = length_front is.0.front is.0.is_first in
+        let head = length_item_head item.flags item.kind item.length is.0.is_first.front is.0.is_first.is_first in
+        let value : length is.0.is_first.behind ≡ item.length = is.0.is_first.is_second.1 in
+        let size : length is.0.behind ≡ left - (5 + item.length) = omega arith in
+        let fits : 5 + item.length ≤ left = omega arith in
+        let some : 0 < left = omega arith in
+        let only : Only (items_at is_transfer (suc room) left) (item ∷ items) (ItemHeadSpelled item.flags item.kind item.length ⨾ ValueSpelled is_transfer item.kind item.length item.total ⨾ ItemsFilling is_transfer items (left - (5 + item.length))) =
+        only_else _ _ (eqb left 0) (ne_eqb left 0 (λ none. absurd (omega arith)))
+        (only_then _ _ (only_item_head left item.flags item.kind item.length fits)
+        (only_then _ _ (only_value is_transfer item.kind item.length item.total)
+        (only_last _ _ (only_items items room (left - (5 + item.length)) (omega arith)) (λ rest. refl)))) in
+        only.by bytes (then_assoc bytes (record { front = is.0.front; behind = is.0.behind; is_first = is.0.is_first; is_second = (is.0.is_second, size); parts = is.0.parts })) more;
+  }
+
+  only_items_of : (items : ArrayVec Item) (left : ℕ) → length items.items ≤ MAX_ITEMS → Only (items_of is_transfer left) items (ItemsFilling is_transfer items.items left)
+  unfolding items_of
+  only_items_of items left few = only_last _ _ (only_items items.items MAX_ITEMS left few) (λ rest. refl)
+
+  pub only_list : (items : ArrayVec Item) → Only (list_at is_transfer) items (ListSpelled is_transfer items)
+  unfolding list_at
+  only_list items = record {
+    by = λ bytes is more.
+        let size = length is.body in
+        let body : ItemsFilling is_transfer items.items size is.is_list.behind = rw is.is_list.is_second.1 (is.is_body, refl) in
+        let only : Only (list_at is_transfer) items (U32 size ⨾ ItemsFilling is_transfer items.items size) =
+        only_then _ _ (only_u32 size) (only_else _ _ (nat_lt MAX_LIST_LENGTH size) (le-ltb MAX_LIST_LENGTH size is.short) (only_items_of items size is.few)) in
+        only.by bytes (record { front = is.is_list.front; behind = is.is_list.behind; is_first = is.is_list.is_first; is_second = body; parts = is.is_list.parts }) more;
+  }
+
+only_segment_items : (flags : ℕ) (items : ArrayVec Item) (start : Bool) → has_start flags ≡ start → Only (segment_items_at flags) items (SegmentItemsSpelled start items)
+unfolding segment_items_at
+only_segment_items flags items true told = only_if _ _ (has_start flags) told (only_list true items)
+only_segment_items flags items false told = only_else _ _ (has_start flags) told (record {
+  by = λ bytes is more.
+      let none : items ≡ record { items = [] } = array_vec_of items [] is.0 in rw (is.1, none) refl;
+})
+
+only_segment : (head : SegmentHead) → Only segment_at (Segment head) (U8 head.flags ⨾ U64 head.id ⨾ SegmentItemsSpelled (has_start head.flags) head.items ⨾ U64 head.length)
+unfolding segment_at
+only_segment head =
+    only_then _ _ (only_u8 head.flags)
+    (only_then _ _ (only_u64 head.id)
+    (only_then _ _ (only_segment_items head.flags head.items (has_start head.flags) refl)
+    (only_last _ _ (only_u64 head.length) (λ more. refl))))
+
+only_ack : (flags id size : ℕ) → Only ack_at (Ack flags id size) (U8 flags ⨾ U64 id ⨾ U64 size)
+unfolding ack_at
+only_ack flags id size = only_then _ _ (only_u8 flags) (only_then _ _ (only_u64 id) (only_last _ _ (only_u64 size) (λ more. refl)))
+
+only_refuse : (reason id : ℕ) → Only refuse_at (Refuse reason id) (U8 reason ⨾ U64 id)
+unfolding refuse_at
+only_refuse reason id = only_then _ _ (only_u8 reason) (only_last _ _ (only_u64 id) (λ more. refl))
+
+only_sess_term : (flags reason : ℕ) → Only sess_term_at (SessTerm flags reason) (U8 flags ⨾ U8 reason)
+unfolding sess_term_at
+only_sess_term flags reason = only_then _ _ (only_u8 flags) (only_last _ _ (only_u8 reason) (λ more. refl))
+
+only_msg_reject : (reason header : ℕ) → Only msg_reject_at (MsgReject reason header) (U8 reason ⨾ U8 header)
+unfolding msg_reject_at
+only_msg_reject reason header = only_then _ _ (only_u8 reason) (only_last _ _ (only_u8 header) (λ more. refl))
+
+only_sess_init : (keepalive segment_mru transfer_mru : ℕ) (node : ArrayVec ℕ) (items : ArrayVec Item)
+    → Only sess_init_at (SessInit keepalive segment_mru transfer_mru node items) (U16 keepalive ⨾ U64 segment_mru ⨾ U64 transfer_mru ⨾ NodeSpelled node ⨾ ListSpelled false items)
+unfolding sess_init_at
+only_sess_init keepalive segment_mru transfer_mru node items =
+    only_then _ _ (only_u16 keepalive)
+    (only_then _ _ (only_u64 segment_mru)
+    (only_then _ _ (only_u64 transfer_mru)
+    (only_then _ _ (only_node node)
+    (only_last _ _ (only_list false items) (λ more. refl)))))
+
+-- the head of a message is read as that message, whatever follows
+pub only_message : (message : Message) → Only message_at message (HeadSpelled message)
+unfolding message_at fields_at
+only_message (Segment head) = only_then _ _ (only_u8 1) (only_segment head)
+only_message (Ack flags id size) = only_then _ _ (only_u8 2) (only_ack flags id size)
+only_message (Refuse reason id) = only_then _ _ (only_u8 3) (only_refuse reason id)
+only_message Keepalive = only_last _ _ (only_u8 4) (λ more. refl)
+only_message (SessTerm flags reason) = only_then _ _ (only_u8 5) (only_sess_term flags reason)
+only_message (MsgReject reason header) = only_then _ _ (only_u8 6) (only_msg_reject reason header)
+only_message (SessInit keepalive segment_mru transfer_mru node items) = only_then _ _ (only_u8 7) (only_sess_init keepalive segment_mru transfer_mru node items)
+
+-- a message and its data, in front of anything
+pub only_spelled : (message : Message) (content bytes : List ℕ) → Spelled message content bytes → (more : List ℕ) → message_at (bytes ++ more) ≡ Ok (message, content ++ more)
+only_spelled message content bytes is more =
+    ap (λ all. message_at (all ++ more)) is.1.parts
+    ∙ ap message_at (append_assoc is.1.front is.1.behind more)
+    ∙ (only_message message).by is.1.front is.1.is_first (is.1.behind ++ more)
+    ∙ ap (λ all. Ok (message, all ++ more)) is.1.is_second.1
+
+-- No bytes spell two messages, and no spelling of a message begins another.
+pub one_spelling : (a x : List ℕ) (m : Message) (d : List ℕ) (n : Message) (e : List ℕ) → Spelled m d a → Spelled n e (a ++ x) → (x ≡ []) × (m ≡ n) × (d ≡ e)
+one_spelling a x m d n e first second =
+    let one : message_at (a ++ x) ≡ Ok (m, d ++ x) = only_spelled m d a first x in
+    let other : message_at (a ++ x) ≡ Ok (n, e ++ []) = ap message_at (sym (append-nil (a ++ x))) ∙ only_spelled n e (a ++ x) second [] in
+    let same = same_part (sym one ∙ other) in
+    let message : m ≡ n = same.0 in
+    let content : d ++ x ≡ e ++ [] = same.1 in
+    let size : length x ≡ 0 = omega (arith, ap length content, length-append d x, length-append e [], ap data_length message, first.0, second.0) in
+    let none : x ≡ [] = nil_from_length x size in
+    (none, message, sym (append-nil d) ∙ ap (λ all. d ++ all) (sym none) ∙ content ∙ append-nil e)

@@ -1,0 +1,370 @@
+-- What is read was spelled.
+use Rattle.std.proofs.Common.{◌≡◌, ℕ, zero, suc, ◌+◌, ◌-◌, ◌*◌, ◌%◌, ◌^◌, ◌<◌, ◌≤◌, Bool, true, false, eqb, List, [], ◌∷◌, ◌++◌, slice_index, length, take, drop, Some, None, Ok, Err, nat_lt, if◌then◌else◌, arith, refl, ap, sym, ◌∙◌, subst, append_assoc, append-nil, length-append, ⊎_elim}
+use Rattle.std.proofs.Math.Nat.{add-mul, mul_assoc, pow-succ'}
+use Rattle.std.proofs.lemmas.Nat.{div-mul-add}
+use Rattle.std.proofs.lemmas.List.{take-append-drop, length-take-le}
+use Rattle.std.proofs.lemmas.Bool.{cases_lt, ltb-false, eqb-true}
+use Rattle.std.specs.Int.{byte_at, bytes_high_first}
+use Rattle.byteorder.specs.Endian.{big_number, big_from}
+use Rattle.byteorder.specs.Numbers.{big_from-cons, big_from-lt}
+use Rattle.link_wire.specs.Bytes.{AreBytes}
+use Rattle.link_wire.specs.Part.{Part, ◌>>=◌, bytes_at, number_at}
+use Rattle.link_wire.specs.PartLaws.{bytes_at-short, bytes_at-enough}
+use Rattle.link_wire.specs.PartSizes.{both_read}
+use Rattle.link_wire.specs.Spelled.{Spelling, be, U8, U16, U32, U64, These, FollowedBy, ContactSpelled, NodeSpelled, ItemHeadSpelled, ValueSpelled, total_of, ItemSpelled, ItemsSpelled, ListSpelled, SegmentItemsSpelled, HeadSpelled}
+use Rattle.link_wire.specs.SpelledLaws.{both, last, same_part, ItemsFilling, total_size, length_item_head}
+use Rattle.link_wire.specs.Message.{contact_at, skipped_at, total_at, item_head_at, items_at, items_of, list_at, node_bytes_at, node_at, segment_items_at, segment_at, ack_at, refuse_at, sess_term_at, msg_reject_at, sess_init_at, fields_at, message_at, has_start, gives_total}
+use Rattle.link_wire.specs.declared.fault.WireFault.{WireFault}
+use Rattle.link_wire.specs.declared.message.TheConstants.{MAX_NODE_ID, MAX_LIST_LENGTH, MAX_ITEMS}
+use Rattle.link_wire.specs.declared.fault.WireFault.TheVariants.{BadMagic, BadVersion, UnknownType, NodeIdTooLong, ListTooLong, TooManyItems, ItemsOverrun}
+use Rattle.link_wire.specs.declared.message.Item.{Item}
+use Rattle.link_wire.specs.declared.list.ItemHead.{ItemHead}
+use Rattle.link_wire.specs.declared.message.Message.TheVariants.{SessInit, Segment, Ack, Refuse, Keepalive, SessTerm, MsgReject}
+
+pub AreBytes-front : (xs ys : List ℕ) → AreBytes (xs ++ ys) → AreBytes xs
+AreBytes-front [] ys are = tt
+AreBytes-front (x ∷ xs) ys are = (are.0, AreBytes-front xs ys are.1)
+
+pub AreBytes-behind : (xs ys : List ℕ) → AreBytes (xs ++ ys) → AreBytes ys
+AreBytes-behind [] ys are = are
+AreBytes-behind (x ∷ xs) ys are = AreBytes-behind xs ys are.1
+
+AreBytes-index : (xs : List ℕ) → AreBytes xs → (k : ℕ) → slice_index xs k < 256
+AreBytes-index [] are k = omega arith
+AreBytes-index (x ∷ xs) are zero = are.0
+AreBytes-index (x ∷ xs) are (suc k) = AreBytes-index xs are.1 k
+
+-- a byte of a number, by its place
+byte_at-pow : (k top low : ℕ) → low < 256 ^ k → byte_at k (top * 256 ^ k + low) ≡ top % 256
+byte_at-pow zero top low fits = let none : top * 1 + low ≡ top = omega arith in rw none refl
+byte_at-pow (suc k) top low fits = ap (λ (n : ℕ). n % 256) (div-mul-add top (256 ^ suc k) low fits)
+
+-- the bytes of a number are those that it was read from, whatever stands above them
+bytes_of_number : (xs : List ℕ) (top : ℕ) → AreBytes xs → bytes_high_first (length xs) (top * 256 ^ length xs + big_from 0 (length xs) xs) ≡ xs
+bytes_of_number [] top are = refl
+bytes_of_number (x ∷ xs) top are =
+    let k = length xs in
+    let low = big_from-lt 0 k xs (AreBytes-index xs are.1) in
+    let moved = big_from-cons 0 k x xs in
+    let split : top * 256 ^ suc k + (x * 256 ^ k + big_from 1 k (x ∷ xs)) ≡ (top * 256 + x) * 256 ^ k + big_from 0 k xs =
+    rw (moved, pow-succ' 256 k, add-mul (top * 256) x (256 ^ k), mul_assoc top 256 (256 ^ k)) (omega arith) in
+    let byte : byte_at k ((top * 256 + x) * 256 ^ k + big_from 0 k xs) ≡ x =
+    byte_at-pow k (top * 256 + x) (big_from 0 k xs) low ∙ omega arith in
+    ap (λ n. byte_at k n ∷ bytes_high_first k n) split ∙ ap (λ b. b ∷ bytes_high_first k ((top * 256 + x) * 256 ^ k + big_from 0 k xs)) byte ∙ ap (λ bytes. x ∷ bytes) (bytes_of_number xs (top * 256 + x) are.1)
+
+-- the k bytes of the number in k bytes
+pub be-number : (k : ℕ) (xs : List ℕ) → AreBytes xs → length xs ≡ k → xs ≡ be k (big_number k xs)
+be-number k xs are size =
+    let bare : 0 * 256 ^ length xs + big_from 0 (length xs) xs ≡ big_from 0 (length xs) xs = omega arith in
+    sym (ap (λ n. be n (big_number n xs)) (sym size) ∙ ap (bytes_high_first (length xs)) (sym bare) ∙ bytes_of_number xs 0 are)
+
+-- what was read stands spelled in front of what is behind it
+pub record Found {A : Type 0} (part : List ℕ → Part A) (spelled : A → Spelling) : Type 0 where
+  pub by : (bytes : List ℕ) (value : A) (rest : List ℕ) → AreBytes bytes → part bytes ≡ Ok (value, rest) → FollowedBy (spelled value) (λ behind. behind ≡ rest) bytes
+
+pub found_pure : {A : Type 0} (value : A) {spelled : A → Spelling} → spelled value [] → Found (λ bytes. Ok (value, bytes)) spelled
+found_pure {A} value {spelled} is = record {
+  by = λ bytes other rest are read.
+      let same = same_part read in
+      let P : A → Type 0 = λ x. spelled x [] in
+      record { front = []; behind = bytes; is_first = subst P same.0 is; is_second = same.1; parts = refl };
+}
+
+pub found_err : {A : Type 0} (fault : WireFault) {spelled : A → Spelling} → Found (λ bytes. let part : Part A = Err fault in part) spelled
+found_err fault = record { by = λ bytes other rest are read. absurd (cc) }
+
+-- what is found behind a front
+in_front : (spelled : Spelling) (rest bytes front behind : List ℕ) → bytes ≡ front ++ behind → FollowedBy (λ more. spelled (front ++ more)) (λ more. more ≡ rest) behind → FollowedBy spelled (λ more. more ≡ rest) bytes
+in_front spelled rest bytes front behind whole is = record {
+  front = front ++ is.front;
+  behind = is.behind;
+  is_first = is.is_first;
+  is_second = is.is_second;
+  parts = whole ∙ ap (λ all. front ++ all) is.parts ∙ sym (append_assoc front is.front is.behind);
+}
+
+module _ {A B : Type 0} (part : List ℕ → Part A) (next : A × List ℕ → Part B) {first : A → Spelling} {spelled : B → Spelling} where
+  pub found_then : Found part first → ((value : A) (front : List ℕ) → first value front → Found (λ bytes. next (value, bytes)) (λ given behind. spelled given (front ++ behind))) → Found (λ bytes. part bytes >>= next) spelled
+  found_then found more = record {
+    by = λ bytes given rest are is.
+        let read = both_read (part bytes) next (given, rest) is in
+        let one = found.by bytes read.0.0 read.0.1 are read.1 in
+        let whole : bytes ≡ one.front ++ read.0.1 = one.parts ∙ ap (λ all. one.front ++ all) one.is_second in
+        let behind : AreBytes read.0.1 = AreBytes-behind one.front read.0.1 (subst AreBytes whole are) in
+        in_front (spelled given) rest bytes one.front read.0.1 whole ((more read.0.0 one.front one.is_first).by read.0.1 given rest behind read.2);
+  }
+
+module _ {A : Type 0} (part other : List ℕ → Part A) {spelled : A → Spelling} where
+  pub found_if : (test : Bool) → (test ≡ true → Found part spelled) → (test ≡ false → Found other spelled) → Found (λ bytes. if test then part bytes else other bytes) spelled
+  found_if true first second = first refl
+  found_if false first second = second refl
+
+-- n bytes
+abbrev pub ManyBytes : ℕ → List ℕ → Spelling
+ManyBytes n content bytes = AreBytes content × (bytes ≡ content) × (length content ≡ n)
+
+pub found_bytes : (n : ℕ) → Found (bytes_at n) (ManyBytes n)
+found_bytes n = record {
+  by = λ bytes value rest are is. ⊎_elim
+      (λ short. let never = sym (bytes_at-short n bytes short) ∙ is in absurd (cc))
+      (λ enough.
+      let same = same_part (sym (bytes_at-enough n bytes enough) ∙ is) in
+      let whole : bytes ≡ take n bytes ++ drop n bytes = sym (take-append-drop n bytes) in
+      let are_front : AreBytes (take n bytes) = AreBytes-front (take n bytes) (drop n bytes) (subst AreBytes whole are) in
+      record {
+        front = take n bytes;
+        behind = drop n bytes;
+        is_first = (subst AreBytes same.0 are_front, same.0, ap length (sym same.0) ∙ length-take-le n bytes enough);
+        is_second = same.1;
+        parts = whole;
+      })
+      (cases_lt (length bytes) n);
+}
+
+pub found_number : (k : ℕ) → Found (number_at k) (λ n bytes. (n < 256 ^ k) × (bytes ≡ be k n))
+unfolding number_at
+found_number k = found_then _ _ (found_bytes k) (λ field front is. found_pure (big_number k field)
+    (big_from-lt 0 k field (AreBytes-index field is.0), append-nil front ∙ is.1 ∙ be-number k field is.0 is.2))
+
+pub found_u8 : Found (number_at 1) U8
+found_u8 = found_number 1
+
+pub found_u16 : Found (number_at 2) U16
+found_u16 = found_number 2
+
+pub found_u32 : Found (number_at 4) U32
+found_u32 = found_number 4
+
+pub found_u64 : Found (number_at 8) U64
+found_u64 = found_number 8
+
+found_node_bytes : (size : ℕ) → Found (node_bytes_at size) (λ node bytes. (length node.items ≡ size) × These node.items bytes)
+unfolding node_bytes_at
+found_node_bytes size =
+    found_then _ _ (found_bytes size) (λ content front is.
+    found_pure (record { items = content }) (is.2, (is.0, append-nil front ∙ is.1)))
+
+found_node : Found node_at NodeSpelled
+unfolding node_at
+found_node =
+    found_then _ _ found_u16 (λ size front one.
+    found_if _ _ (nat_lt MAX_NODE_ID size)
+    (λ long. found_err (NodeIdTooLong size))
+    (λ fits. record {
+      by = λ bytes node rest are is.
+          let found = (found_node_bytes size).by bytes node rest are is in
+          let short : length node.items ≤ MAX_NODE_ID = omega (arith, found.is_first.0, ltb-false MAX_NODE_ID size fits) in
+          record {
+            front = found.front;
+            behind = found.behind;
+            is_first = (short, both front found.front (rw found.is_first.0 one) found.is_first.1);
+            is_second = found.is_second;
+            parts = found.parts;
+          };
+    }))
+
+abbrev HeadWithin : ℕ → ItemHead → Spelling
+HeadWithin left head bytes = ItemHeadSpelled head.flags head.kind head.length bytes × (5 + head.length ≤ left)
+
+found_item_head : (left : ℕ) → Found (item_head_at left) (HeadWithin left)
+unfolding item_head_at
+found_item_head left =
+    found_if _ _ (nat_lt left 5) (λ short. found_err ItemsOverrun) (λ room.
+    found_then _ _ found_u8 (λ flags first one.
+    found_then _ _ found_u16 (λ kind second two.
+    found_then _ _ found_u16 (λ size third three.
+    found_if _ _ (nat_lt (left - 5) size) (λ over. found_err ItemsOverrun) (λ fits.
+    found_pure (record { flags = flags; kind = kind; length = size })
+    (both first _ one (both second _ two (last (U16 size) third three)), omega (arith, ltb-false left 5 room, ltb-false (left - 5) size fits)))))))
+
+found_skipped : (n : ℕ) → Found (skipped_at n) (λ nothing bytes. AreBytes bytes × (length bytes ≡ n))
+unfolding skipped_at
+found_skipped n =
+    found_then _ _ (found_bytes n) (λ content front is.
+    let same : front ++ [] ≡ content = append-nil front ∙ is.1 in
+    found_pure tt (subst AreBytes (sym same) is.0, ap length same ∙ is.2))
+
+-- a number, and the bytes that it was read from
+abbrev NumberOf : ℕ → ℕ → Spelling
+NumberOf n number bytes = AreBytes bytes × (length bytes ≡ n) × (number ≡ big_number n bytes)
+
+found_number_of : (n : ℕ) → Found (number_at n) (NumberOf n)
+unfolding number_at
+found_number_of n =
+    found_then _ _ (found_bytes n) (λ content front is.
+    let same : front ++ [] ≡ content = append-nil front ∙ is.1 in
+    found_pure (big_number n content) (subst AreBytes (sym same) is.0, ap length same ∙ is.2, ap (big_number n) (sym same)))
+
+module _ (is_transfer : Bool) (kind size : ℕ) where
+  told_by : (test : Bool) (value : List ℕ) → gives_total is_transfer kind size ≡ test → (if test then Some (big_number 8 value) else None) ≡ total_of is_transfer kind size value
+  told_by test value told = ap (λ test. if test then Some (big_number 8 value) else None) (sym told)
+
+  found_value : Found (total_at is_transfer kind size) (ValueSpelled is_transfer kind size)
+  unfolding total_at
+  found_value =
+      found_if _ _ (gives_total is_transfer kind size)
+      (λ told. found_then _ _ (found_number_of 8) (λ n front is.
+      found_pure (Some n) (last (ValueSpelled is_transfer kind size (Some n)) front
+      (is.0, is.1 ∙ sym (total_size is_transfer kind size told), ap Some is.2 ∙ told_by true front told))))
+      (λ told. found_then _ _ (found_skipped size) (λ nothing front is.
+      found_pure None (last (ValueSpelled is_transfer kind size None) front (is.0, is.1, told_by false front told))))
+
+-- the items of a list, no more of them than there is room
+abbrev ItemsWithin : Bool → ℕ → ℕ → List Item → Spelling
+ItemsWithin is_transfer room left items bytes = ItemsFilling is_transfer items left bytes × (length items ≤ room)
+
+module _ (is_transfer : Bool) where
+  found_none : (room left : ℕ) → eqb left 0 ≡ true → Found (λ bytes. Ok ([], bytes)) (ItemsWithin is_transfer room left)
+  found_none room left none = found_pure [] ((refl, sym (eqb-true left 0 none)), omega arith)
+
+  found_items : (room left : ℕ) → Found (items_at is_transfer room left) (ItemsWithin is_transfer room left)
+  unfolding items_at
+  found_items zero left =
+      found_if _ _ (eqb left 0) (λ none. found_none zero left none) (λ some.
+      found_then _ _ (found_item_head left) (λ head first one. found_err TooManyItems))
+  found_items (suc room) left =
+      found_if _ _ (eqb left 0) (λ none. found_none (suc room) left none) (λ some.
+      found_then _ _ (found_item_head left) (λ head first one.
+      found_then _ _ (found_value is_transfer head.kind head.length) (λ total second two.
+      found_then _ _ (found_items room (left - (5 + head.length))) (λ items third three.
+      let item : Item = record { flags = head.flags; kind = head.kind; length = head.length; total = total } in
+      let item_is : ItemSpelled is_transfer item (first ++ second) = both first second one.0 two in
+      let all_is : ItemsSpelled is_transfer (item ∷ items) ((first ++ second) ++ third) = both (first ++ second) third item_is three.0.0 in
+      let all : first ++ (second ++ (third ++ [])) ≡ (first ++ second) ++ third = ap (λ bytes. first ++ (second ++ bytes)) (append-nil third) ∙ sym (append_assoc first second third) in
+      let five = length_item_head head.flags head.kind head.length first one.0 in
+      let size : length ((first ++ second) ++ third) ≡ left = omega (arith, one.1, two.1, three.0.1, length-append (first ++ second) third, length-append first second) in
+      found_pure (item ∷ items) (subst (ItemsFilling is_transfer (item ∷ items) left) (sym all) (all_is, size), omega (arith, three.1))))))
+
+  found_items_of : (size : ℕ) → Found (items_of is_transfer size) (λ items. ItemsWithin is_transfer MAX_ITEMS size items.items)
+  unfolding items_of
+  found_items_of size =
+      found_then _ _ (found_items MAX_ITEMS size) (λ items front is.
+      found_pure (record { items = items }) (last (ItemsWithin is_transfer MAX_ITEMS size items) front is))
+
+  found_list : Found (list_at is_transfer) (ListSpelled is_transfer)
+  unfolding list_at items_of
+  found_list =
+      found_then _ _ found_u32 (λ size first one.
+      found_if _ _ (nat_lt MAX_LIST_LENGTH size) (λ long. found_err (ListTooLong size)) (λ short. record {
+        by = λ bytes items rest are is.
+            let found = (found_items_of size).by bytes items rest are is in
+            let front : AreBytes found.front = AreBytes-front found.front found.behind (subst AreBytes found.parts are) in
+            record {
+              front = found.front;
+              behind = found.behind;
+              is_first = record {
+                body = found.front;
+                is_body = found.is_first.0.0;
+                few = found.is_first.1;
+                short = omega (arith, found.is_first.0.1, ltb-false MAX_LIST_LENGTH size short);
+                is_list = both first found.front (rw found.is_first.0.1 one) (front, refl);
+              };
+              is_second = found.is_second;
+              parts = found.parts;
+            };
+      }))
+
+found_segment_items : (flags : ℕ) → Found (segment_items_at flags) (SegmentItemsSpelled (has_start flags))
+unfolding segment_items_at
+found_segment_items flags =
+    found_if _ _ (has_start flags)
+    (λ told. let P : Bool → Type 0 = λ start. Found (list_at true) (SegmentItemsSpelled start) in subst P (sym told) (found_list true))
+    (λ told. found_pure (record { items = [] }) (let P : Bool → Type 0 = λ start. SegmentItemsSpelled start (record { items = [] }) [] in subst P (sym told) (refl, refl)))
+
+-- what follows the type byte of a message, in front of which that byte stands
+module _ (front : List ℕ) where
+  found_segment : U8 1 front → Found segment_at (λ message behind. HeadSpelled message (front ++ behind))
+  unfolding segment_at
+  found_segment kind =
+      found_then _ _ found_u8 (λ flags first one.
+      found_then _ _ found_u64 (λ id second two.
+      found_then _ _ (found_segment_items flags) (λ items third three.
+      found_then _ _ found_u64 (λ size fourth four.
+      found_pure (Segment (record { flags = flags; id = id; items = items; length = size }))
+      (both front _ kind (both first _ one (both second _ two (both third _ three (last (U64 size) fourth four)))))))))
+
+  found_ack : U8 2 front → Found ack_at (λ message behind. HeadSpelled message (front ++ behind))
+  unfolding ack_at
+  found_ack kind =
+      found_then _ _ found_u8 (λ flags first one.
+      found_then _ _ found_u64 (λ id second two.
+      found_then _ _ found_u64 (λ size third three.
+      found_pure (Ack flags id size) (both front _ kind (both first _ one (both second _ two (last (U64 size) third three)))))))
+
+  found_refuse : U8 3 front → Found refuse_at (λ message behind. HeadSpelled message (front ++ behind))
+  unfolding refuse_at
+  found_refuse kind =
+      found_then _ _ found_u8 (λ reason first one.
+      found_then _ _ found_u64 (λ id second two.
+      found_pure (Refuse reason id) (both front _ kind (both first _ one (last (U64 id) second two)))))
+
+  found_sess_term : U8 5 front → Found sess_term_at (λ message behind. HeadSpelled message (front ++ behind))
+  unfolding sess_term_at
+  found_sess_term kind =
+      found_then _ _ found_u8 (λ flags first one.
+      found_then _ _ found_u8 (λ reason second two.
+      found_pure (SessTerm flags reason) (both front _ kind (both first _ one (last (U8 reason) second two)))))
+
+  found_msg_reject : U8 6 front → Found msg_reject_at (λ message behind. HeadSpelled message (front ++ behind))
+  unfolding msg_reject_at
+  found_msg_reject kind =
+      found_then _ _ found_u8 (λ reason first one.
+      found_then _ _ found_u8 (λ header second two.
+      found_pure (MsgReject reason header) (both front _ kind (both first _ one (last (U8 header) second two)))))
+
+  found_sess_init : U8 7 front → Found sess_init_at (λ message behind. HeadSpelled message (front ++ behind))
+  unfolding sess_init_at
+  found_sess_init kind =
+      found_then _ _ found_u16 (λ keepalive first one.
+      found_then _ _ found_u64 (λ segment_mru second two.
+      found_then _ _ found_u64 (λ transfer_mru third three.
+      found_then _ _ found_node (λ node fourth four.
+      found_then _ _ (found_list false) (λ items fifth five.
+      found_pure (SessInit keepalive segment_mru transfer_mru node items)
+      (both front _ kind (both first _ one (both second _ two (both third _ three (both fourth _ four (last (ListSpelled false items) fifth five)))))))))))
+
+  -- the type byte is this number
+  is_kind : (kind n : ℕ) → eqb kind n ≡ true → U8 kind front → U8 n front
+  is_kind kind n told is = let same : kind ≡ n = eqb-true kind n told in let P : ℕ → Type 0 = λ k. U8 k front in subst P same is
+
+  found_fields : (kind : ℕ) → U8 kind front → Found (fields_at kind) (λ message behind. HeadSpelled message (front ++ behind))
+  unfolding fields_at
+  found_fields kind is =
+      found_if _ _ (eqb kind 1) (λ told. found_segment (is_kind kind 1 told is)) (λ _.
+      found_if _ _ (eqb kind 2) (λ told. found_ack (is_kind kind 2 told is)) (λ _.
+      found_if _ _ (eqb kind 3) (λ told. found_refuse (is_kind kind 3 told is)) (λ _.
+      found_if _ _ (eqb kind 4) (λ told. found_pure Keepalive (last (U8 4) front (is_kind kind 4 told is))) (λ _.
+      found_if _ _ (eqb kind 5) (λ told. found_sess_term (is_kind kind 5 told is)) (λ _.
+      found_if _ _ (eqb kind 6) (λ told. found_msg_reject (is_kind kind 6 told is)) (λ _.
+      found_if _ _ (eqb kind 7) (λ told. found_sess_init (is_kind kind 7 told is)) (λ _.
+      found_err (UnknownType kind))))))))
+
+-- the head of a message that is read was spelled in front of what is behind it
+pub found_message : Found message_at HeadSpelled
+unfolding message_at
+found_message = found_then _ _ found_u8 (λ kind front is. found_fields front kind is)
+
+-- the six bytes of a contact header
+six_bytes : (header : List ℕ) → AreBytes header → length header ≡ 6 → big_number 4 header ≡ 0x64746e21 → slice_index header 4 ≡ 4
+    → (slice_index header 5 < 256) × (header ≡ 0x64 ∷ 0x74 ∷ 0x6e ∷ 0x21 ∷ 4 ∷ slice_index header 5 ∷ [])
+six_bytes [] are size magic version = absurd (omega arith)
+six_bytes (a ∷ []) are size magic version = absurd (omega arith)
+six_bytes (a ∷ b ∷ []) are size magic version = absurd (omega arith)
+six_bytes (a ∷ b ∷ c ∷ []) are size magic version = absurd (omega arith)
+six_bytes (a ∷ b ∷ c ∷ d ∷ []) are size magic version = absurd (omega arith)
+six_bytes (a ∷ b ∷ c ∷ d ∷ e ∷ []) are size magic version = absurd (omega arith)
+six_bytes (a ∷ b ∷ c ∷ d ∷ e ∷ f ∷ []) are size magic version =
+    let four : a ∷ b ∷ c ∷ d ∷ [] ≡ be 4 0x64746e21 = be-number 4 (a ∷ b ∷ c ∷ d ∷ []) (are.0, (are.1.0, (are.1.1.0, (are.1.1.1.0, tt)))) refl ∙ ap (be 4) magic in
+    (are.1.1.1.1.1.0, ap (λ (xs : List ℕ). xs ++ (e ∷ f ∷ [])) four ∙ ap (λ (v : ℕ). 0x64 ∷ 0x74 ∷ 0x6e ∷ 0x21 ∷ v ∷ f ∷ []) version)
+six_bytes (a ∷ b ∷ c ∷ d ∷ e ∷ f ∷ g ∷ more) are size magic version = absurd (omega arith)
+
+-- the contact header that is read was spelled in front of what is behind it
+pub found_contact : Found contact_at ContactSpelled
+unfolding contact_at
+found_contact =
+    found_then _ _ (found_bytes 6) (λ header front is.
+    found_if _ _ (eqb (big_number 4 header) 0x64746e21) (λ magic.
+    found_if _ _ (eqb (slice_index header 4) 4) (λ version.
+    let six = six_bytes header is.0 is.2 (eqb-true (big_number 4 header) 0x64746e21 magic) (eqb-true (slice_index header 4) 4 version) in
+    found_pure (record { flags = slice_index header 5 }) (six.0, append-nil front ∙ is.1 ∙ six.1))
+    (λ _. found_err (BadVersion (slice_index header 4)))) (λ _. found_err BadMagic))

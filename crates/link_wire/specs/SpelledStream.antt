@@ -1,0 +1,44 @@
+-- The reading of a whole recorded stream (RFC 9174 section 4), as what is spelled in it: a contact header, messages one
+-- after another, and an end.
+use Rattle.std.specs.Prelude.{◌≡◌, ◌≢◌, ℕ, ◌+◌, ◌<◌, List, [], ◌∷◌, ◌++◌, length, Option, Some, None, Err}
+use Rattle.link_wire.specs.Message.{contact_at, message_at, data_length}
+use Rattle.link_wire.specs.Spelled.{Spelling, These, ◌⨾◌, ContactSpelled, HeadSpelled, Spelled}
+use Rattle.link_wire.specs.Stream.{Entry, End, Clean, Cut, Fault, Reading}
+use Rattle.link_wire.specs.declared.fault.WireFault.{WireFault}
+use Rattle.link_wire.specs.declared.message.Contact.{Contact}
+use Rattle.link_wire.specs.declared.message.Message.{Message}
+
+-- nothing that is spelled so begins the bytes
+abbrev pub NoneBegins : Spelling → List ℕ → Type 0
+NoneBegins spelled bytes = (front more : List ℕ) → spelled front → bytes ≢ front ++ more
+
+-- What is left at an offset: nothing; the whole head of a segment, and less data behind it than its length; or bytes that
+-- begin with no whole head, and the fault in them.
+abbrev pub IsEnd : End → ℕ → Spelling
+IsEnd Clean offset bytes = bytes ≡ []
+IsEnd (Cut at message content) offset bytes = (at ≡ offset) × (length content < data_length message) × (HeadSpelled message ⨾ These content) bytes
+IsEnd (Fault at fault) offset bytes = (at ≡ offset) × (bytes ≢ []) × ((message : Message) → NoneBegins (HeadSpelled message) bytes) × (message_at bytes ≡ Err fault)
+
+-- a message that stands at an offset with its data, and what stands behind it
+pub record EntrySpelled (entry : Entry) (rest : ℕ → Spelling) (offset : ℕ) (bytes : List ℕ) : Type 0 where
+  pub place : entry.offset ≡ offset
+  pub front : List ℕ
+  pub behind : List ℕ
+  pub is_entry : Spelled entry.message entry.content front
+  pub is_rest : rest (offset + length front) behind
+  pub parts : bytes ≡ front ++ behind
+
+-- messages from an offset on, one after another, and the end
+abbrev pub IsStream : List Entry → End → ℕ → Spelling
+IsStream [] end = IsEnd end
+IsStream (entry ∷ entries) end = EntrySpelled entry (IsStream entries end)
+
+-- the contact header's six bytes and what follows them, or a contact header that is refused
+abbrev pub IsReadingBy : Option Contact → List Entry → End → Spelling
+IsReadingBy (Some contact) entries end bytes = (ContactSpelled contact ⨾ IsStream entries end 6) bytes
+IsReadingBy None entries end bytes =
+    (entries ≡ []) × ((contact : Contact) → NoneBegins (ContactSpelled contact) bytes) × ((fault : WireFault) × (end ≡ Fault 0 fault) × (contact_at bytes ≡ Err fault))
+
+-- these bytes are read so
+abbrev pub IsReading : List ℕ → Reading → Type 0
+IsReading bytes reading = IsReadingBy reading.contact reading.entries reading.end bytes

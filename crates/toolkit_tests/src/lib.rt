@@ -1,0 +1,19 @@
+//! Tests that cross crates: devices that move bytes in small pieces and fail where a test wants it, and worked
+//! streams with the texts that they must give.
+#![tactic(auto)]
+
+mod device;
+#[cfg(test)]
+mod failures;
+#[cfg(test)]
+mod listings;
+mod pace;
+#[cfg(test)]
+mod rows;
+#[cfg(test)]
+mod std_devices;
+#[cfg(test)]
+mod stream;
+
+pub use device::{TestReader, TestWriter};
+pub use pace::Failing;

@@ -1,0 +1,59 @@
+//! Pieces of recorded streams (RFC 9174) and of the lines that list them.
+
+use std::alloc::Global;
+use std::str;
+use std::test::Fail;
+
+/// The contact header (section 4.2).
+pub const CONTACT: &[u8] = b"dtn!\x04\x00";
+
+/// A SESS_INIT up to its MRUs (section 4.6): type, keepalive of 60 s, 64 KiB, 1 MiB.
+pub const PARAMETERS: &[u8] =
+    b"\x07\x00\x3c\x00\x00\x00\x00\x00\x01\x00\x00\x00\x00\x00\x00\x00\x10\x00\x00";
+
+/// A node ID with its length.
+pub const NODE: &[u8] = b"\x00\x07ipn:1.0";
+
+/// An empty extension list (section 4.8).
+pub const NO_ITEMS: &[u8] = b"\x00\x00\x00\x00";
+
+/// A segment's flags START and END, transfer 0, no items (section 5.2.2): its data length follows.
+pub const WHOLE_TRANSFER: &[u8] = b"\x01\x03\x00\x00\x00\x00\x00\x00\x00\x00\x00\x00\x00\x00";
+
+/// A segment's flag START and transfer 0: its extension list follows.
+pub const FIRST_SEGMENT: &[u8] = b"\x01\x02\x00\x00\x00\x00\x00\x00\x00\x00";
+
+/// A segment's flag END and transfer 0: its data length follows.
+pub const LAST_SEGMENT: &[u8] = b"\x01\x01\x00\x00\x00\x00\x00\x00\x00\x00";
+
+/// The data lengths 34 and 17.
+pub const LENGTH_34: &[u8] = b"\x00\x00\x00\x00\x00\x00\x00\x22";
+
+pub const LENGTH_17: &[u8] = b"\x00\x00\x00\x00\x00\x00\x00\x11";
+
+/// A bundle of 34 bytes in two halves (RFC 9171 section 4): from ipn:1.1 to ipn:2.1, with the payload `hello`.
+pub const FRONT: &[u8] = b"\x9f\x88\x07\x00\x00\x82\x02\x82\x02\x01\x82\x02\x82\x01\x01\x82\x01";
+
+pub const BACK: &[u8] = b"\x00\x82\x00\x00\x00\x85\x01\x01\x00\x00\x45hello\xff";
+
+pub const CONTACT_LINE: &[u8] = b"0 contact version=4 flags=00\n";
+
+/// The line of a SESS_INIT at offset 6, up to its node ID.
+pub const SESSION_WORDS: &[u8] = b"6 sess-init keepalive=60 segment-mru=65536 transfer-mru=1048576";
+
+pub const SESSION_LINE: &[u8] =
+    b"6 sess-init keepalive=60 segment-mru=65536 transfer-mru=1048576 node=ipn:1.0 items=0\n";
+
+/// The pieces, one behind another.
+pub fn joined(alloc: Global, pieces: &[&[u8]]) -> Result<Vec<u8>, Fail> {
+    let mut bytes = Vec::new(alloc);
+    for piece in pieces {
+        bytes.extend_from_slice(piece)?;
+    }
+    Ok(bytes)
+}
+
+/// A text that was written, as an assertion shows it.
+pub fn text(bytes: &[u8]) -> Result<&str, Fail> {
+    Ok(str::from_utf8(bytes)?)
+}

@@ -1,0 +1,109 @@
+#!/usr/bin/env python3
+"""Makes the recordings of this folder: `python3 make.py [FOLDER]`.
+
+Each recording is what one entity sent in a TCPCLv4 session (RFC 9174): a contact header, then messages. Numbers on the
+wire are unsigned and big-endian. Only python's standard library is used.
+"""
+
+import struct
+import sys
+from pathlib import Path
+
+# RFC 9174 section 4.2: `dtn!`, version 4, flags 00
+CONTACT = b"dtn!" + bytes([4, 0x00])
+
+# Flags of XFER_SEGMENT (section 5.2.2)
+END = 0x01
+START = 0x02
+
+
+def item(flags, kind, value):
+    """An extension item (sections 4.8 and 5.2.5): flags, type, length, value."""
+    return struct.pack(">BHH", flags, kind, len(value)) + value
+
+
+def extensions(*items):
+    """An extension list: its length in bytes, and its items."""
+    joined = b"".join(items)
+    return struct.pack(">I", len(joined)) + joined
+
+
+def sess_init(*items):
+    """SESS_INIT (section 4.6): keepalive of 60 s, MRUs of 64 KiB and 1 MiB, node ID `ipn:1.0`."""
+    node = b"ipn:1.0"
+    return struct.pack(">BHQQH", 0x07, 60, 65536, 1048576, len(node)) + node + extensions(*items)
+
+
+def xfer_segment(flags, transfer, data, *items):
+    """XFER_SEGMENT (section 5.2.2): only with START it has an extension list."""
+    listed = extensions(*items) if flags & START else b""
+    return struct.pack(">BBQ", 0x01, flags, transfer) + listed + struct.pack(">Q", len(data)) + data
+
+
+def xfer_ack(flags, transfer, length):
+    """XFER_ACK (section 5.2.3)."""
+    return struct.pack(">BBQQ", 0x02, flags, transfer, length)
+
+
+def xfer_refuse(reason, transfer):
+    """XFER_REFUSE (section 5.2.4)."""
+    return struct.pack(">BBQ", 0x03, reason, transfer)
+
+
+# KEEPALIVE (section 5.1.1)
+KEEPALIVE = bytes([0x04])
+
+
+def sess_term(flags, reason):
+    """SESS_TERM (section 6.1)."""
+    return bytes([0x05, flags, reason])
+
+
+def msg_reject(reason, header):
+    """MSG_REJECT (section 5.1.2)."""
+    return bytes([0x06, reason, header])
+
+
+# A bundle of 34 bytes (RFC 9171 section 4) from ipn:1.1 to ipn:2.1 with the payload `hello` and no check fields:
+# the primary block, the payload block, and the break.
+BUNDLE = bytes.fromhex(
+    "9f"
+    "88 07 00 00 82 02 82 02 01 82 02 82 01 01 82 01 00 82 00 00 00"
+    "85 01 01 00 00 45 68 65 6c 6c 6f"
+    "ff"
+)
+
+# The shortest recording with a bundle: one transfer in one segment.
+PRELUDE_AND_TRANSFER = CONTACT + sess_init() + xfer_segment(START | END, 0, BUNDLE)
+
+# Every kind of message. The session's list has an item that is critical and one that is not, both of types that no
+# RFC gives out; the transfer's list announces its length (section 5.2.5.1).
+EVERY_MESSAGE = b"".join(
+    [
+        CONTACT,
+        sess_init(item(0x01, 0x1234, b"\xaa"), item(0x00, 0xABCD, b"")),
+        xfer_segment(START, 0, BUNDLE[:17], item(0x00, 0x0001, struct.pack(">Q", len(BUNDLE)))),
+        xfer_segment(END, 0, BUNDLE[17:]),
+        xfer_ack(END, 0, len(BUNDLE)),
+        xfer_refuse(0x02, 0),
+        KEEPALIVE,
+        sess_term(0x01, 0x03),
+        msg_reject(0x01, 0x16),
+        sess_term(0x00, 0x7F),
+    ]
+)
+
+RECORDINGS = {
+    "prelude-and-transfer.tcpcl": PRELUDE_AND_TRANSFER,
+    "every-message.tcpcl": EVERY_MESSAGE,
+}
+
+
+def main():
+    folder = Path(sys.argv[1]) if len(sys.argv) > 1 else Path(__file__).resolve().parent
+    for name, recording in RECORDINGS.items():
+        (folder / name).write_bytes(recording)
+
+
+if __name__ == "__main__":
+    main()
