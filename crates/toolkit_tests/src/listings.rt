@@ -2,7 +2,7 @@
 
 ghost use Rattle.std.specs.Prelude.{◌<◌};
 
-use crate::rows::{MESSAGE_LINES, MESSAGES, ROWS, Row};
+use crate::rows::{FAULTS, MESSAGE_LINES, MESSAGES, Row, SESSIONS, TRANSFERS};
 use crate::stream::{
     CONTACT, CONTACT_LINE, NO_ITEMS, NODE, PARAMETERS, SESSION_WORDS, joined, text,
 };
@@ -47,9 +47,9 @@ fn gives(
     Ok(())
 }
 
-#[test]
-fn worked_streams(rt: HostRuntime) -> Result<(), Fail> {
-    for row in &ROWS {
+/// Lists each row's stream, with its bytes moved all at once and one by one.
+fn all_given(rt: &(impl Abort + AllocGlobal), rows: &[Row]) -> Result<(), Fail> {
+    for row in rows {
         let stream = joined(rt.alloc(), row.stream)?;
         let output = joined(rt.alloc(), row.output)?;
         let want = Listing {
@@ -57,10 +57,25 @@ fn worked_streams(rt: HostRuntime) -> Result<(), Fail> {
             report: row.report,
             status: row.status,
         };
-        gives(&rt, row.name, &stream, usize::MAX, &want)?;
-        gives(&rt, row.name, &stream, 1, &want)?;
+        gives(rt, row.name, &stream, usize::MAX, &want)?;
+        gives(rt, row.name, &stream, 1, &want)?;
     }
     Ok(())
+}
+
+#[test]
+fn sessions(rt: HostRuntime) -> Result<(), Fail> {
+    all_given(&rt, &SESSIONS)
+}
+
+#[test]
+fn transfers(rt: HostRuntime) -> Result<(), Fail> {
+    all_given(&rt, &TRANSFERS)
+}
+
+#[test]
+fn faults(rt: HostRuntime) -> Result<(), Fail> {
+    all_given(&rt, &FAULTS)
 }
 
 /// A node ID of 1,024 bytes, each of which is escaped.
