@@ -10,3 +10,4 @@ pub mod Opening
 pub mod Verdicts
 pub mod Steady
 pub mod Lengths
+pub mod Notes

@@ -142,7 +142,7 @@ compared-stays kind bytes more start place content =
     same (rw (now, later, drop-append-le content bytes more within, take-append-le (check_width kind) (drop content bytes) more fits, slice-stays bytes more start content within) refl))
     (cases_lt (length bytes) (content + check_width kind))
 
-field_at-stays : (check : Option CheckKind) (start : ℕ) (bytes more : List ℕ) (place : ℕ)
+pub field_at-stays : (check : Option CheckKind) (start : ℕ) (bytes more : List ℕ) (place : ℕ)
     → Stays (field_at check start bytes place) (field_at check start (bytes ++ more) place)
 unfolding field_at
 field_at-stays None start bytes more place = same refl
@@ -150,14 +150,14 @@ field_at-stays (Some kind) start bytes more place =
     stays-then (row_at (check_field kind) bytes place) (row_at (check_field kind) (bytes ++ more) place) _ _ (row_at-stays (check_field kind) bytes more place)
     (λ (_, content). compared-stays kind bytes more start place content)
 
-content_at-stays : (size : ℕ) (check : Option CheckKind) (start : ℕ) (bytes more : List ℕ) (place : ℕ)
+pub content_at-stays : (size : ℕ) (check : Option CheckKind) (start : ℕ) (bytes more : List ℕ) (place : ℕ)
     → Stays (content_at size check start bytes place) (content_at size check start (bytes ++ more) place)
 unfolding content_at
 content_at-stays size check start bytes more place =
     stays-then (bytes_at size bytes place) (bytes_at size (bytes ++ more) place) _ _ (bytes_at-stays size bytes more place)
     (λ (_, place). field_at-stays check start bytes more place)
 
-primary_at-stays : (bytes more : List ℕ) (place : ℕ) → Stays (primary_at bytes place) (primary_at (bytes ++ more) place)
+pub primary_at-stays : (bytes more : List ℕ) (place : ℕ) → Stays (primary_at bytes place) (primary_at (bytes ++ more) place)
 unfolding primary_at
 primary_at-stays bytes more place =
     stays-then (row_at primary_block bytes place) (row_at primary_block (bytes ++ more) place) _ _ (row_at-stays primary_block bytes more place)
@@ -209,7 +209,7 @@ blocks_at-stays (suc left) numbers primary bytes more start =
     (stays-then (content_at size check start bytes place) (content_at size check start (bytes ++ more) place) _ _ (content_at-stays size check start bytes more place)
     (λ (_, place). blocks_at-stays left (numbers ++ number ∷ []) primary bytes more place))))))))
 
-opening_at-stays : (bytes more : List ℕ) → Stays (opening_at bytes) (opening_at (bytes ++ more))
+pub opening_at-stays : (bytes more : List ℕ) → Stays (opening_at bytes) (opening_at (bytes ++ more))
 unfolding opening_at
 opening_at-stays [] more = cuts refl
 opening_at-stays (first ∷ rest) more = same refl

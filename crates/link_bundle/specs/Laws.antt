@@ -1,11 +1,11 @@
 -- how a verdict lasts, over the definitions alone
 
-use Rattle.std.specs.Prelude.{◌≡◌, ℕ, List, ◌∷◌, ◌++◌, length, Ok, Err, IsTrue}
+use Rattle.std.specs.Prelude.{◌≡◌, ℕ, List, ◌∷◌, ◌++◌, length, Some, Ok, Err, IsTrue}
 use Rattle.link_bundle.specs.declared.fault.BundleFault.{BundleFault}
 use Rattle.link_bundle.specs.declared.fault.BundleFault.TheVariants.{Trailing}
 use Rattle.link_bundle.specs.declared.info.BundleInfo.{BundleInfo}
 use Rattle.link_bundle.specs.Faults.{lasts}
-use Rattle.link_bundle.specs.Bundle.{verdict}
+use Rattle.link_bundle.specs.Bundle.{judged, verdict, noted}
 
 -- a fault stays, unless it is that the bytes end inside the bundle
 abbrev pub FaultLasts : Type 0
@@ -18,3 +18,9 @@ abbrev pub TrailingLasts : Type 0
 TrailingLasts =
     (bytes more : List ℕ) (byte : ℕ) (info : BundleInfo) →
     verdict bytes ≡ Ok info → verdict (bytes ++ byte ∷ more) ≡ Err (Trailing, length bytes)
+
+-- where the payload's bytes begin, and how many its head says, stays known
+abbrev pub PayloadLasts : Type 0
+PayloadLasts =
+    (bytes more : List ℕ) (payload : ℕ × ℕ) →
+    noted (judged bytes) ≡ Some payload → noted (judged (bytes ++ more)) ≡ Some payload

@@ -184,7 +184,13 @@ module _ {R W E : Type 0} (in_look : R → Input) (out_look : W → Output) (rep
   data_stop buffer (stop.Wire offset fault) (Err failure) got failed =
       report_failed in_look out_look report_look start mid new history (reading_of history) offset fault failure (cut_mid got.takes) refl
       (ap end_lines got.cut ∙ ap (λ f. fault_text (Wire offset f)) (sym got.kind)) failed
-  data_stop buffer (stop.Io fault) result got stops = failed_inside fault result got stops
+  data_stop buffer (stop.Io fault) result got stops =
+      failed_inside fault result (record {
+        taken = [];
+        stops = got.stops;
+        same = rw append-nil (record { contact = refl; entries = refl });
+        stopped = got.stopped;
+      }) stops
 
   -- the stream ends between two messages
   pub message_end : (status : Status) → status.0 ≡ 0 → GaveEnd in_look run.session mid.session history → GaveAnswer in_look out_look report_look listing start (devices_of mid) status

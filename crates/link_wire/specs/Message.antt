@@ -4,7 +4,6 @@ use Rattle.std.specs.Prelude.{ℕ, zero, suc, ◌+◌, ◌-◌, Bool, true, fals
 use Rattle.arrayvec.specs.ArrayVec.{ArrayVec}
 use Rattle.byteorder.specs.Endian.{big_number}
 use Rattle.link_wire.specs.Part.{Part, ◌>>=◌, bytes_at, number_at}
-use Rattle.link_wire.specs.declared.message.TheConstants.{MAX_NODE_ID, MAX_LIST_LENGTH, MAX_ITEMS}
 use Rattle.link_wire.specs.declared.fault.WireFault.TheVariants.{BadMagic, BadVersion, UnknownType, NodeIdTooLong, ListTooLong, TooManyItems, ItemsOverrun}
 use Rattle.link_wire.specs.declared.message.Contact.{Contact}
 use Rattle.link_wire.specs.declared.message.Item.{Item}
@@ -28,11 +27,11 @@ node_bytes_at size bytes = do
   node ← bytes_at size bytes
   Ok (record { items = node.0 }, node.1)
 
--- a node ID (section 4.6): its length, at most MAX_NODE_ID, and its bytes
+-- a node ID (section 4.6): its length, at most 1,024, and its bytes
 unfoldable pub node_at : List ℕ → Part (ArrayVec ℕ)
 node_at bytes = do
   size ← number_at 2 bytes
-  if nat_lt MAX_NODE_ID size.0 then Err (NodeIdTooLong size.0) else node_bytes_at size.0 size.1
+  if nat_lt 1024 size.0 then Err (NodeIdTooLong size.0) else node_bytes_at size.0 size.1
 
 -- the next n bytes, whatever they are
 unfoldable pub skipped_at : ℕ → List ℕ → Part (Unit {0})
@@ -86,17 +85,17 @@ items_at is_transfer (suc room) left bytes =
       others ← items_at is_transfer room (left - (5 + head.0.length)) total.1
       Ok (record { flags = head.0.flags; kind = head.0.kind; length = head.0.length; total = total.0 } ∷ others.0, others.1))
 
--- the items of a list of `size` bytes, at most MAX_ITEMS
+-- the items of a list of `size` bytes, at most 16
 unfoldable pub items_of : Bool → ℕ → List ℕ → Part (ArrayVec Item)
 items_of is_transfer size bytes = do
-  items ← items_at is_transfer MAX_ITEMS size bytes
+  items ← items_at is_transfer 16 size bytes
   Ok (record { items = items.0 }, items.1)
 
--- an extension list (section 4.8): its length in bytes, at most MAX_LIST_LENGTH, and its items
+-- an extension list (section 4.8): its length in bytes, at most 4,096, and its items
 unfoldable pub list_at : Bool → List ℕ → Part (ArrayVec Item)
 list_at is_transfer bytes = do
   size ← number_at 4 bytes
-  if nat_lt MAX_LIST_LENGTH size.0 then Err (ListTooLong size.0) else items_of is_transfer size.0 size.1
+  if nat_lt 4096 size.0 then Err (ListTooLong size.0) else items_of is_transfer size.0 size.1
 
 -- flag 01 of XFER_SEGMENT (section 5.2.2): the transfer's last segment
 abbrev pub has_end : ℕ → Bool

@@ -4,7 +4,6 @@ use Rattle.std.proofs.lemmas.Bool.{cases_lt}
 use Rattle.link_wire.specs.Part.{Part, ◌>>=◌, bytes_at, number_at}
 use Rattle.link_wire.specs.PartLaws.{bytes_at-short, bytes_at-enough}
 use Rattle.link_wire.specs.Message.{skipped_at, total_at, item_head_at, items_at, items_of, list_at, node_bytes_at, node_at, segment_items_at, segment_at, ack_at, refuse_at, sess_term_at, msg_reject_at, sess_init_at, fields_at, message_at, has_start, gives_total}
-use Rattle.link_wire.specs.declared.message.TheConstants.{MAX_NODE_ID, MAX_LIST_LENGTH, MAX_ITEMS}
 use Rattle.link_wire.specs.declared.fault.WireFault.{WireFault}
 
 -- a part that was read in two steps
@@ -92,13 +91,13 @@ shrinks_items is_transfer (suc room) left =
 
 pub shrinks_items_of : (is_transfer : Bool) (size : ℕ) → Shrinks 0 (items_of is_transfer size)
 unfolding items_of
-shrinks_items_of is_transfer size = shrinks_then 0 _ _ (shrinks_items is_transfer MAX_ITEMS size) (λ items. shrinks_pure _)
+shrinks_items_of is_transfer size = shrinks_then 0 _ _ (shrinks_items is_transfer 16 size) (λ items. shrinks_pure _)
 
 pub shrinks_list : (is_transfer : Bool) → Shrinks 0 (list_at is_transfer)
 unfolding list_at
 shrinks_list is_transfer =
     shrinks_then 0 _ _ (shrinks_field 4) (λ size.
-    shrinks_if (nat_lt MAX_LIST_LENGTH size) _ _ (shrinks_err _) (shrinks_items_of is_transfer size))
+    shrinks_if (nat_lt 4096 size) _ _ (shrinks_err _) (shrinks_items_of is_transfer size))
 
 pub shrinks_node_bytes : (size : ℕ) → Shrinks 0 (node_bytes_at size)
 unfolding node_bytes_at
@@ -108,7 +107,7 @@ pub shrinks_node : Shrinks 0 node_at
 unfolding node_at
 shrinks_node =
     shrinks_then 0 _ _ (shrinks_field 2) (λ size.
-    shrinks_if (nat_lt MAX_NODE_ID size) _ _ (shrinks_err _) (shrinks_node_bytes size))
+    shrinks_if (nat_lt 1024 size) _ _ (shrinks_err _) (shrinks_node_bytes size))
 
 pub shrinks_segment_items : (flags : ℕ) → Shrinks 0 (segment_items_at flags)
 unfolding segment_items_at

@@ -177,10 +177,15 @@ module _ {R : Type 0} where
     pub cut : (reading_of history).end ≡ Cut offset message content
     pub stopped : new.stop ≡ Some (stop.Wire offset fault)
 
+  -- a failure inside the data: nothing was taken
+  pub record StoppedData (look : R → Input) (old new : Session R) (fault : IoFault) : Type 0 where
+    pub stops : StopsAfter look old.source new.source [] fault
+    pub stopped : new.stop ≡ Some (stop.Io fault)
+
   abbrev pub GivesData : (R → Input) → Session R → Session R → List ℕ → List ℕ → Result ℕ Stop → Type 0
   GivesData look old new history buffer (Ok n) = GaveData look old new history buffer n
   GivesData look old new history buffer (Err (stop.Wire offset fault)) = GaveCut look old new history offset fault
-  GivesData look old new history buffer (Err (stop.Io fault)) = GaveStop look old new history fault
+  GivesData look old new history buffer (Err (stop.Io fault)) = StoppedData look old new fault
 
   -- how many bytes of data are to come
   abbrev pub left_of : Session R → ℕ

@@ -5,7 +5,6 @@ use Rattle.arrayvec.specs.ArrayVec.{ArrayVec}
 use Rattle.byteorder.specs.Endian.{big_bytes, big_number}
 use Rattle.link_wire.specs.Bytes.{AreBytes}
 use Rattle.link_wire.specs.Message.{gives_total, has_start, data_length}
-use Rattle.link_wire.specs.declared.message.TheConstants.{MAX_NODE_ID, MAX_LIST_LENGTH, MAX_ITEMS}
 use Rattle.link_wire.specs.declared.message.Contact.{Contact}
 use Rattle.link_wire.specs.declared.message.Item.{Item}
 use Rattle.link_wire.specs.declared.message.Message.{Message}
@@ -54,7 +53,7 @@ ContactSpelled contact bytes = (contact.flags < 2 ^ 8) × (bytes ≡ 0x64 ∷ 0x
 
 -- a node ID (section 4.6): its length, and its bytes
 abbrev pub NodeSpelled : ArrayVec ℕ → Spelling
-NodeSpelled node bytes = (length node.items ≤ MAX_NODE_ID) × (U16 (length node.items) ⨾ These node.items) bytes
+NodeSpelled node bytes = (length node.items ≤ 1024) × (U16 (length node.items) ⨾ These node.items) bytes
 
 -- what stands in front of an extension item's value (sections 4.8 and 5.2.5): flags, type and length
 abbrev pub ItemHeadSpelled : (flags kind size : ℕ) → Spelling
@@ -81,8 +80,8 @@ ItemsSpelled is_transfer (item ∷ items) bytes = (ItemSpelled is_transfer item 
 pub record ListSpelled (is_transfer : Bool) (items : ArrayVec Item) (bytes : List ℕ) : Type 0 where
   pub body : List ℕ
   pub is_body : ItemsSpelled is_transfer items.items body
-  pub few : length items.items ≤ MAX_ITEMS
-  pub short : length body ≤ MAX_LIST_LENGTH
+  pub few : length items.items ≤ 16
+  pub short : length body ≤ 4096
   pub is_list : (U32 (length body) ⨾ These body) bytes
 
 -- the extension list of a segment, which stands there only with START

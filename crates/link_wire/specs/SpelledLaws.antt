@@ -11,7 +11,6 @@ use Rattle.link_wire.specs.PartLaws.{bytes_at-there, array_vec_of}
 use Rattle.link_wire.specs.Spelled.{Spelling, be, U8, U16, U32, U64, These, ◌⨾◌, ContactSpelled, NodeSpelled, ItemHeadSpelled, ValueSpelled, ItemsSpelled, ListSpelled, SegmentItemsSpelled, HeadSpelled, Spelled}
 use Rattle.link_wire.specs.Message.{contact_at, skipped_at, total_at, item_head_at, items_at, items_of, list_at, node_bytes_at, node_at, segment_items_at, segment_at, ack_at, refuse_at, sess_term_at, msg_reject_at, sess_init_at, fields_at, message_at, has_start, gives_total, data_length}
 use Rattle.link_wire.specs.declared.fault.WireFault.{WireFault}
-use Rattle.link_wire.specs.declared.message.TheConstants.{MAX_NODE_ID, MAX_LIST_LENGTH, MAX_ITEMS}
 use Rattle.link_wire.specs.declared.message.Contact.{Contact}
 use Rattle.link_wire.specs.declared.message.Item.{Item}
 use Rattle.link_wire.specs.declared.message.SegmentHead.{SegmentHead}
@@ -121,7 +120,7 @@ pub only_node : (node : ArrayVec ℕ) → Only node_at node (NodeSpelled node)
 unfolding node_at
 only_node node = record {
   by = λ bytes is more.
-      (only_then _ _ (only_u16 (length node.items)) (only_else _ _ (nat_lt MAX_NODE_ID (length node.items)) (le-ltb MAX_NODE_ID (length node.items) is.0) (only_node_bytes node))).by bytes is.1 more;
+      (only_then _ _ (only_u16 (length node.items)) (only_else _ _ (nat_lt 1024 (length node.items)) (le-ltb 1024 (length node.items) is.0) (only_node_bytes node))).by bytes is.1 more;
 }
 
 -- an item's head that ends within its list
@@ -198,9 +197,9 @@ module _ (is_transfer : Bool) where
         only.by bytes (then_assoc bytes (record { front = is.0.front; behind = is.0.behind; is_first = is.0.is_first; is_second = (is.0.is_second, size); parts = is.0.parts })) more;
   }
 
-  only_items_of : (items : ArrayVec Item) (left : ℕ) → length items.items ≤ MAX_ITEMS → Only (items_of is_transfer left) items (ItemsFilling is_transfer items.items left)
+  only_items_of : (items : ArrayVec Item) (left : ℕ) → length items.items ≤ 16 → Only (items_of is_transfer left) items (ItemsFilling is_transfer items.items left)
   unfolding items_of
-  only_items_of items left few = only_last _ _ (only_items items.items MAX_ITEMS left few) (λ rest. refl)
+  only_items_of items left few = only_last _ _ (only_items items.items 16 left few) (λ rest. refl)
 
   pub only_list : (items : ArrayVec Item) → Only (list_at is_transfer) items (ListSpelled is_transfer items)
   unfolding list_at
@@ -209,7 +208,7 @@ module _ (is_transfer : Bool) where
         let size = length is.body in
         let body : ItemsFilling is_transfer items.items size is.is_list.behind = rw is.is_list.is_second.1 (is.is_body, refl) in
         let only : Only (list_at is_transfer) items (U32 size ⨾ ItemsFilling is_transfer items.items size) =
-        only_then _ _ (only_u32 size) (only_else _ _ (nat_lt MAX_LIST_LENGTH size) (le-ltb MAX_LIST_LENGTH size is.short) (only_items_of items size is.few)) in
+        only_then _ _ (only_u32 size) (only_else _ _ (nat_lt 4096 size) (le-ltb 4096 size is.short) (only_items_of items size is.few)) in
         only.by bytes (record { front = is.is_list.front; behind = is.is_list.behind; is_first = is.is_list.is_first; is_second = body; parts = is.is_list.parts }) more;
   }
 

@@ -15,7 +15,6 @@ use Rattle.link_wire.specs.Spelled.{Spelling, be, U8, U16, U32, U64, These, Foll
 use Rattle.link_wire.specs.SpelledLaws.{both, last, same_part, ItemsFilling, total_size, length_item_head}
 use Rattle.link_wire.specs.Message.{contact_at, skipped_at, total_at, item_head_at, items_at, items_of, list_at, node_bytes_at, node_at, segment_items_at, segment_at, ack_at, refuse_at, sess_term_at, msg_reject_at, sess_init_at, fields_at, message_at, has_start, gives_total}
 use Rattle.link_wire.specs.declared.fault.WireFault.{WireFault}
-use Rattle.link_wire.specs.declared.message.TheConstants.{MAX_NODE_ID, MAX_LIST_LENGTH, MAX_ITEMS}
 use Rattle.link_wire.specs.declared.fault.WireFault.TheVariants.{BadMagic, BadVersion, UnknownType, NodeIdTooLong, ListTooLong, TooManyItems, ItemsOverrun}
 use Rattle.link_wire.specs.declared.message.Item.{Item}
 use Rattle.link_wire.specs.declared.list.ItemHead.{ItemHead}
@@ -148,12 +147,12 @@ found_node : Found node_at NodeSpelled
 unfolding node_at
 found_node =
     found_then _ _ found_u16 (λ size front one.
-    found_if _ _ (nat_lt MAX_NODE_ID size)
+    found_if _ _ (nat_lt 1024 size)
     (λ long. found_err (NodeIdTooLong size))
     (λ fits. record {
       by = λ bytes node rest are is.
           let found = (found_node_bytes size).by bytes node rest are is in
-          let short : length node.items ≤ MAX_NODE_ID = omega (arith, found.is_first.0, ltb-false MAX_NODE_ID size fits) in
+          let short : length node.items ≤ 1024 = omega (arith, found.is_first.0, ltb-false 1024 size fits) in
           record {
             front = found.front;
             behind = found.behind;
@@ -235,17 +234,17 @@ module _ (is_transfer : Bool) where
       let size : length ((first ++ second) ++ third) ≡ left = omega (arith, one.1, two.1, three.0.1, length-append (first ++ second) third, length-append first second) in
       found_pure (item ∷ items) (subst (ItemsFilling is_transfer (item ∷ items) left) (sym all) (all_is, size), omega (arith, three.1))))))
 
-  found_items_of : (size : ℕ) → Found (items_of is_transfer size) (λ items. ItemsWithin is_transfer MAX_ITEMS size items.items)
+  found_items_of : (size : ℕ) → Found (items_of is_transfer size) (λ items. ItemsWithin is_transfer 16 size items.items)
   unfolding items_of
   found_items_of size =
-      found_then _ _ (found_items MAX_ITEMS size) (λ items front is.
-      found_pure (record { items = items }) (last (ItemsWithin is_transfer MAX_ITEMS size items) front is))
+      found_then _ _ (found_items 16 size) (λ items front is.
+      found_pure (record { items = items }) (last (ItemsWithin is_transfer 16 size items) front is))
 
   found_list : Found (list_at is_transfer) (ListSpelled is_transfer)
   unfolding list_at items_of
   found_list =
       found_then _ _ found_u32 (λ size first one.
-      found_if _ _ (nat_lt MAX_LIST_LENGTH size) (λ long. found_err (ListTooLong size)) (λ short. record {
+      found_if _ _ (nat_lt 4096 size) (λ long. found_err (ListTooLong size)) (λ short. record {
         by = λ bytes items rest are is.
             let found = (found_items_of size).by bytes items rest are is in
             let front : AreBytes found.front = AreBytes-front found.front found.behind (subst AreBytes found.parts are) in
@@ -256,7 +255,7 @@ module _ (is_transfer : Bool) where
                 body = found.front;
                 is_body = found.is_first.0.0;
                 few = found.is_first.1;
-                short = omega (arith, found.is_first.0.1, ltb-false MAX_LIST_LENGTH size short);
+                short = omega (arith, found.is_first.0.1, ltb-false 4096 size short);
                 is_list = both first found.front (rw found.is_first.0.1 one) (front, refl);
               };
               is_second = found.is_second;

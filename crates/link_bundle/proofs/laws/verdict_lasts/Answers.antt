@@ -1,4 +1,5 @@
 use Rattle.link_bundle.proofs.Lengths.{FaultLasts-holds, TrailingLasts-holds}
+use Rattle.link_bundle.proofs.Notes.{PayloadLasts-holds}
 use Rattle.link_bundle.proofs.laws.verdict_lasts.Goals as goal
 
 pub returns-clause-fault : goal.returns-clause-fault
@@ -6,3 +7,6 @@ returns-clause-fault c = FaultLasts-holds
 
 pub returns-clause-trailing : goal.returns-clause-trailing
 returns-clause-trailing c = TrailingLasts-holds
+
+pub returns-clause-payload : goal.returns-clause-payload
+returns-clause-payload c = PayloadLasts-holds
