@@ -4,11 +4,11 @@
 
 use link_bundle::BundleScan;
 use link_cbor::{Check, CheckKind, Piecewise};
-use std::env;
-use std::io;
+use std::{env, io};
 
 /// A bundle up to the data of its payload block, whose head says 64 MiB and whose check type is CRC-32C.
-const FRONT: &[u8] = b"\x9f\x88\x07\x00\x00\x82\x02\x82\x02\x01\x82\x02\x82\x01\x01\x82\x01\x00\x82\x00\x00\x00\x86\x01\x01\x00\x02\x5a\x04\x00\x00\x00";
+const FRONT: &[u8] =
+    b"\x9f\x88\x07\x00\x00\x82\x02\x82\x02\x01\x82\x02\x82\x01\x01\x82\x01\x00\x82\x00\x00\x00\x86\x01\x01\x00\x02\x5a\x04\x00\x00\x00";
 
 /// How many pieces of 4,096 bytes the payload has.
 const PIECES: u32 = 16_384;
