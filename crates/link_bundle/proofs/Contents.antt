@@ -1,10 +1,11 @@
 -- one more byte of a name, of data, of a check field's content, and behind the bundle
 
-use Rattle.std.proofs.Common.{◌≡◌, ℕ, ◌+◌, ◌-◌, ◌*◌, ◌<◌, Bool, true, false, List, [], ◌∷◌, ◌++◌, length, drop, Option, None, Some, Ok, Err, refl, sym, ap, ◌∙◌, length-append, arith}
-use Rattle.std.specs.Prelude.{is_some, ◌==◌, if◌then◌else◌}
-use Rattle.std.proofs.lemmas.Bool.{ne_eqb, false≢true}
-use Rattle.std.proofs.lemmas.List.{drop-append-le}
+use Rattle.std.proofs.Common.{◌≡◌, ℕ, ◌+◌, ◌-◌, ◌*◌, ◌<◌, ◌≤◌, Bool, true, false, List, [], ◌∷◌, ◌++◌, length, replicate, take, drop, Option, None, Some, Ok, Err, refl, sym, ap, subst, ◌∙◌, append_assoc, length-append, length-drop, arith}
+use Rattle.std.specs.Prelude.{is_some, ◌==◌, slice_range, if◌then◌else◌}
+use Rattle.std.proofs.lemmas.Bool.{ne_eqb}
+use Rattle.std.proofs.lemmas.List.{drop-append-le, take-append-le, replicate_more}
 use Rattle.link_cbor.specs.declared.check.CheckKind.{CheckKind}
+use Rattle.link_cbor.specs.Crc.{crc}
 use Rattle.link_bundle.specs.declared.cursor.Cursor.{Cursor}
 use Rattle.link_bundle.specs.declared.draft.Draft.{Draft}
 use Rattle.link_bundle.specs.declared.fault.BundleFault.TheVariants.{Trailing, CheckDiffers}
@@ -12,18 +13,17 @@ use Rattle.link_bundle.specs.declared.info.BundleInfo.{BundleInfo}
 use Rattle.link_bundle.specs.declared.stage.Role.{Role}
 use Rattle.link_bundle.specs.declared.stage.Stage.{Stage}
 use Rattle.link_bundle.specs.declared.stage.Stage.TheVariants.{Name, Content, Stored, Ended, Failed}
-use Rattle.link_bundle.specs.declared.checks.BlockChecks.{BlockChecks}
 use Rattle.link_bundle.specs.declared.stage.CheckType.{CheckType}
-use Rattle.link_bundle.specs.declared.stage.CheckType.TheVariants.{Unread, Is}
-use Rattle.link_bundle.specs.CheckKinds.{kind_of, is_settled}
+use Rattle.link_bundle.specs.declared.stage.CheckType.TheVariants.{Is}
+use Rattle.link_bundle.specs.CheckKinds.{kind_of}
 use Rattle.link_bundle.specs.Covers.{Covers}
 use Rattle.link_bundle.specs.Fits.{KeepsCheck}
 use Rattle.link_bundle.specs.Rows.{◌>>=◌}
 use Rattle.link_bundle.specs.Reading.{stopped, Reading, bytes_at}
 use Rattle.link_bundle.specs.Blocks.{field_at, content_at}
 use Rattle.link_bundle.specs.Bundle.{ends, judged}
-use Rattle.link_bundle.specs.Left.{span_of, bundle_of, ends_of, with_note, behind_field, stored_left, stage_left, BlockEnds, FieldsEnd, NameGoesOn}
-use Rattle.link_bundle.specs.Scan.{HasCome, IsInside}
+use Rattle.link_bundle.specs.Left.{span_of, bundle_of, ends_of, with_note, behind_field, zeroed_check, stored_left, stage_left, BlockEnds, FieldsEnd, NameGoesOn}
+use Rattle.link_bundle.specs.Scan.{HasCome, IsInside, IsInStored}
 use Rattle.link_bundle.proofs.Fields.{stored_left-step, stored_left-last}
 use Rattle.link_bundle.proofs.Heads.{ends_of-stopped}
 use Rattle.link_bundle.proofs.Runs.{with_byte, bytes_at-step, bytes_at-last}
@@ -121,78 +121,124 @@ grown_name role left old grown_cursor new draft after stage seen byte come small
     ∙ goes bytes more come.start old.place (length seen) (next_byte seen more byte)
     ∙ ap (λ (place : ℕ). stage_left stage after come.start place bytes place) (sym longer))
 
+-- the checks take a byte of a check field's content as zero
+pub record TakesZero (check : CheckType) (old new : Cursor) : Type 0 where
+  pub count : new.count ≡ old.count + 1
+  pub place : new.place ≡ old.place
+  pub checks : (covered : List ℕ) → Covers check old.checks covered → Covers check new.checks (covered ++ 0 ∷ [])
+
+-- the part of a block that has come stays as it is
+slice_kept : (seen more : List ℕ) (start place : ℕ) → start ≤ length seen → place ≤ length seen
+    → slice_range (seen ++ more) start place ≡ slice_range seen start place
+slice_kept seen more start place within bound =
+    ap (λ (bytes : List ℕ). take (place - start) bytes) (drop-append-le start seen more within)
+    ∙ take-append-le (place - start) (drop start seen) more (omega (arith, length-drop start seen))
+
+stored_grown : (check : CheckType) (old new : Cursor) (start : ℕ) (seen : List ℕ) (byte : ℕ)
+    → IsInStored old check start seen → TakesZero check old new → IsInStored new check start (seen ++ byte ∷ [])
+stored_grown check old new start seen byte at takes =
+    let front = slice_range seen start old.place in
+    let count = length seen - old.place in
+    let longer : length (seen ++ byte ∷ []) - old.place ≡ count + 1 = omega (arith, length-grown seen byte, at.in_bytes) in
+    record {
+      in_block = omega (arith, length-grown seen byte, at.in_block);
+      in_bytes = omega (arith, length-grown seen byte, at.in_bytes, takes.place);
+      checks = rw (takes.place, slice_kept seen (byte ∷ []) start old.place at.in_block at.in_bytes, longer)
+          (subst (λ (covered : List ℕ). Covers check new.checks covered)
+          (append_assoc front (replicate count 0) (0 ∷ []) ∙ ap (λ (zeros : List ℕ). front ++ zeros) (replicate_more count 0))
+          (takes.checks (front ++ replicate count 0) at.checks));
+    }
+
 -- the content of a check field, with more of it to come
-pub grown_stored : (field left stored expected : ℕ) (old new : Cursor) (draft : Draft) (seen : List ℕ) (byte : ℕ)
-    → HasCome (Stored field left stored expected) old draft seen → byte < 256 → 0 < left → new.count ≡ old.count + 1
-    → HasCome (Stored field (left - 1) (stored * 256 + byte) expected) new draft (seen ++ byte ∷ [])
+pub grown_stored : (field left stored : ℕ) (kind : CheckKind) (old new : Cursor) (draft : Draft) (seen : List ℕ) (byte : ℕ)
+    → HasCome (Stored field left stored kind) old draft seen → byte < 256 → 0 < left → TakesZero draft.check old new
+    → HasCome (Stored field (left - 1) (stored * 256 + byte) kind) new draft (seen ++ byte ∷ [])
 unfolding stage_left
-grown_stored field left stored expected old new draft seen byte come small some counts =
+grown_stored field left stored kind old new draft seen byte come small some takes =
     let longer = length-grown seen byte in
+    let zeros : length (seen ++ byte ∷ []) + (left - 1) - old.place ≡ length seen + left - old.place = omega (arith, longer, some) in
     record {
       all_bytes = all_grown seen byte come.all_bytes small;
-      count = counts ∙ ap (λ (count : ℕ). count + 1) come.count ∙ sym longer;
+      count = takes.count ∙ ap (λ (count : ℕ). count + 1) come.count ∙ sym longer;
       start = come.start;
       reads = λ more.
           let bytes = (seen ++ byte ∷ []) ++ more in
-          regrown (λ (all : List ℕ). stage_left (Stored field left stored expected) draft come.start old.place all (length seen)) seen byte come.reads more
+          let check = zeroed_check kind come.start old.place (length seen + left - old.place) bytes in
+          regrown (λ (all : List ℕ). stage_left (Stored field left stored kind) draft come.start old.place all (length seen)) seen byte come.reads more
           ∙ ap (λ (reading : Reading Bool). ends_of bytes (with_note draft.payload (behind_field draft bytes reading)))
-          (stored_left-step left stored expected field bytes more byte (length seen) (next_byte seen more byte) some
-          ∙ ap (λ (place : ℕ). stored_left (left - 1) (stored * 256 + byte) expected field bytes place) (sym longer));
-      stands = tt;
+          (stored_left-step left stored check field bytes more byte (length seen) (next_byte seen more byte) some
+          ∙ rw (takes.place, zeros, longer) refl);
+      stands = stored_grown draft.check old new come.start seen byte come.stands takes;
     }
 
+-- what the checks say of the block and of zeros for its check field's content
+pub record Checks (kind : CheckKind) (check : CheckType) (cursor : Cursor) (expected : ℕ) : Type 0 where
+  pub is : check ≡ Is (Some kind)
+  pub told : (covered : List ℕ) → Covers (Is (Some kind)) cursor.checks covered → expected ≡ crc kind covered
+
+checked : (kind : CheckKind) (check : CheckType) (cursor : Cursor) (expected start : ℕ) (seen more : List ℕ)
+    → IsInStored cursor check start seen → Checks kind check cursor expected
+    → zeroed_check kind start cursor.place (length seen - cursor.place) (seen ++ more) ≡ expected
+unfolding zeroed_check
+checked kind check cursor expected start seen more at checks =
+    let covered = slice_range seen start cursor.place ++ replicate (length seen - cursor.place) 0 in
+    rw (slice_kept seen more start cursor.place at.in_block at.in_bytes)
+    (sym (checks.told covered (subst (λ (check : CheckType). Covers check cursor.checks covered) checks.is at.checks)))
+
 -- what the check field's last byte makes of the reading
-last_stored : (field left stored expected : ℕ) (old : Cursor) (draft : Draft) (seen more : List ℕ) (byte : ℕ)
-    → (come : HasCome (Stored field left stored expected) old draft seen) → left ≡ 1
+last_stored : (field left stored expected : ℕ) (kind : CheckKind) (old new : Cursor) (draft : Draft) (seen more : List ℕ) (byte : ℕ)
+    → (come : HasCome (Stored field left stored kind) old draft seen) → left ≡ 1
+    → TakesZero draft.check old new → Checks kind draft.check new expected
     → judged ((seen ++ byte ∷ []) ++ more)
     ≡ ends_of ((seen ++ byte ∷ []) ++ more) (with_note draft.payload (behind_field draft ((seen ++ byte ∷ []) ++ more)
     (if stored * 256 + byte == expected then Ok (true, length (seen ++ byte ∷ [])) else Err (stopped CheckDiffers field))))
 unfolding stage_left
-last_stored field left stored expected old draft seen more byte come one =
+last_stored field left stored expected kind old new draft seen more byte come one takes checks =
     let bytes = (seen ++ byte ∷ []) ++ more in
-    regrown (λ (all : List ℕ). stage_left (Stored field left stored expected) draft come.start old.place all (length seen)) seen byte come.reads more
-    ∙ ap (λ (reading : Reading Bool). ends_of bytes (with_note draft.payload (behind_field draft bytes reading)))
-    (stored_left-last left stored expected field bytes more byte (length seen) (next_byte seen more byte) one
-    ∙ ap (λ (place : ℕ). if stored * 256 + byte == expected then Ok (true, place) else Err (stopped CheckDiffers field)) (sym (length-grown seen byte)))
-
-settled : (check : CheckType) (checks : BlockChecks) (covered : List ℕ) → is_settled check ≡ true → Covers check checks covered
-settled Unread checks covered told = absurd (false≢true told)
-settled (Is None) checks covered told = tt
-settled (Is (Some kind)) checks covered told = absurd (false≢true told)
-
--- the check is there
-pub equal_stored : (field left stored expected : ℕ) (old grown_cursor new : Cursor) (draft after : Draft) (stage : Stage) (seen : List ℕ) (byte : ℕ)
-    → HasCome (Stored field left stored expected) old draft seen → byte < 256 → left ≡ 1 → (stored * 256 + byte == expected) ≡ true
-    → is_settled draft.check ≡ true → grown_cursor.count ≡ old.count + 1
-    → BlockEnds draft stage after → KeepsCheck draft.check stage after.check → Enters stage grown_cursor new
-    → HasCome stage new after (seen ++ byte ∷ [])
-equal_stored field left stored expected old grown_cursor new draft after stage seen byte come small one same told counts ends keeps enters =
     let longer = length-grown seen byte in
-    entered stage grown_cursor new draft.check after 0 (seen ++ byte ∷ []) (all_grown seen byte come.all_bytes small)
-    (counts ∙ ap (λ (count : ℕ). count + 1) come.count ∙ sym longer) (omega arith)
-    (settled draft.check grown_cursor.checks (drop 0 (seen ++ byte ∷ [])) told) keeps enters
+    let zeros : length seen + left - old.place ≡ length (seen ++ byte ∷ []) - new.place = omega (arith, longer, one, takes.place) in
+    let check : zeroed_check kind come.start old.place (length seen + left - old.place) bytes ≡ expected =
+    rw (zeros, sym takes.place)
+    (checked kind draft.check new expected come.start (seen ++ byte ∷ []) more
+    (stored_grown draft.check old new come.start seen byte come.stands takes) checks) in
+    regrown (λ (all : List ℕ). stage_left (Stored field left stored kind) draft come.start old.place all (length seen)) seen byte come.reads more
+    ∙ ap (λ (reading : Reading Bool). ends_of bytes (with_note draft.payload (behind_field draft bytes reading)))
+    (ap (λ (check : ℕ). stored_left left stored check field bytes (length seen)) check
+    ∙ stored_left-last left stored expected field bytes more byte (length seen) (next_byte seen more byte) one
+    ∙ ap (λ (place : ℕ). if stored * 256 + byte == expected then Ok (true, place) else Err (stopped CheckDiffers field)) (sym longer))
+
+-- the check is there, and nothing more of the block is checked
+pub equal_stored : (field left stored expected : ℕ) (kind : CheckKind) (old grown_cursor new : Cursor) (draft after : Draft) (stage : Stage) (seen : List ℕ) (byte : ℕ)
+    → HasCome (Stored field left stored kind) old draft seen → byte < 256 → left ≡ 1 → (stored * 256 + byte == expected) ≡ true
+    → TakesZero draft.check old grown_cursor → Checks kind draft.check grown_cursor expected
+    → BlockEnds (record draft { check = Is None }) stage after → KeepsCheck (Is None) stage after.check → Enters stage grown_cursor new
+    → HasCome stage new after (seen ++ byte ∷ [])
+equal_stored field left stored expected kind old grown_cursor new draft after stage seen byte come small one same takes checks ends keeps enters =
+    let longer = length-grown seen byte in
+    entered stage grown_cursor new (Is None) after 0 (seen ++ byte ∷ []) (all_grown seen byte come.all_bytes small)
+    (takes.count ∙ ap (λ (count : ℕ). count + 1) come.count ∙ sym longer) (omega arith) tt keeps enters
     (λ more.
     let bytes = (seen ++ byte ∷ []) ++ more in
-    last_stored field left stored expected old draft seen more byte come one
+    last_stored field left stored expected kind old grown_cursor draft seen more byte come one takes checks
     ∙ ap (λ (is : Bool). ends_of bytes (with_note draft.payload (behind_field draft bytes
     (if is then Ok (true, length (seen ++ byte ∷ [])) else Err (stopped CheckDiffers field))))) same
     ∙ ends bytes 0 (length (seen ++ byte ∷ [])))
 
 -- the check differs
-pub other_stored : (field left stored expected : ℕ) (old new : Cursor) (draft : Draft) (seen : List ℕ) (byte : ℕ)
-    → HasCome (Stored field left stored expected) old draft seen → byte < 256 → left ≡ 1 → (stored * 256 + byte == expected) ≡ false
-    → new.count ≡ old.count + 1
+pub other_stored : (field left stored expected : ℕ) (kind : CheckKind) (old new : Cursor) (draft : Draft) (seen : List ℕ) (byte : ℕ)
+    → HasCome (Stored field left stored kind) old draft seen → byte < 256 → left ≡ 1 → (stored * 256 + byte == expected) ≡ false
+    → TakesZero draft.check old new → Checks kind draft.check new expected
     → HasCome (Failed CheckDiffers field) new draft (seen ++ byte ∷ [])
 unfolding stage_left
-other_stored field left stored expected old new draft seen byte come small one differs counts =
+other_stored field left stored expected kind old new draft seen byte come small one differs takes checks =
     let longer = length-grown seen byte in
     record {
       all_bytes = all_grown seen byte come.all_bytes small;
-      count = counts ∙ ap (λ (count : ℕ). count + 1) come.count ∙ sym longer;
+      count = takes.count ∙ ap (λ (count : ℕ). count + 1) come.count ∙ sym longer;
       start = come.start;
       reads = λ more.
           let bytes = (seen ++ byte ∷ []) ++ more in
-          last_stored field left stored expected old draft seen more byte come one
+          last_stored field left stored expected kind old new draft seen more byte come one takes checks
           ∙ ap (λ (is : Bool). ends_of bytes (with_note draft.payload (behind_field draft bytes
           (if is then Ok (true, length (seen ++ byte ∷ [])) else Err (stopped CheckDiffers field))))) differs
           ∙ ends_of-stopped draft.payload bytes (stopped CheckDiffers field);

@@ -1,7 +1,7 @@
 -- the content of a check field
 
 use Rattle.std.proofs.Common.{◌≡◌, ℕ, zero, suc, ◌+◌, ◌-◌, ◌*◌, ◌^◌, ◌<◌, Bool, true, false, ◌&&◌, List, ◌∷◌, drop, None, Some, Ok, Err, refl, ap, ◌∙◌, arith}
-use Rattle.std.specs.Prelude.{IsTrue, nat_lt, nat_le, ◌==◌, slice_range, if◌then◌else◌}
+use Rattle.std.specs.Prelude.{IsTrue, nat_lt, nat_le, ◌==◌, if◌then◌else◌}
 use Rattle.std.proofs.lemmas.Bool.Decides.{nat_tests}
 use Rattle.std.proofs.lemmas.Bool.{ltb-true, false≢true}
 use Rattle.link_cbor.specs.declared.check.CheckKind.{CheckKind}
@@ -11,11 +11,10 @@ use Rattle.link_bundle.specs.declared.fault.BundleFault.TheVariants.{CheckDiffer
 use Rattle.link_bundle.specs.declared.stage.CheckType.{CheckType}
 use Rattle.link_bundle.specs.declared.stage.CheckType.TheVariants.{Unread, Is}
 use Rattle.link_bundle.specs.CheckKinds.{kind_of, is_kind}
-use Rattle.link_bundle.specs.Covers.{zeroed_check}
 use Rattle.link_bundle.specs.Rows.{◌>>=◌, check_width, check_field}
 use Rattle.link_bundle.specs.Reading.{stopped, Reading, head_at, bytes_at}
 use Rattle.link_bundle.specs.Blocks.{number_from, check_of, field_at}
-use Rattle.link_bundle.specs.Left.{stored_left}
+use Rattle.link_bundle.specs.Left.{zeroed_check, stored_left}
 use Rattle.link_bundle.proofs.Heads.{row_at-told}
 use Rattle.link_bundle.proofs.Runs.{with_byte, bytes_at-step, bytes_at-last}
 
@@ -29,13 +28,13 @@ same_check (Is (Some Crc32)) Crc16 told = cc
 same_check (Is (Some Crc32)) Crc32 told = refl
 
 -- behind the field's head the content is read, and compared with the check
-pub field_at-told : (kind : CheckKind) (bytes : List ℕ) (start place next width expected : ℕ) (head : Head) (count : ℕ)
-    → head_at bytes place ≡ Ok (head, next) → check_field kind head ≡ Ok count
-    → width ≡ check_width kind → expected ≡ zeroed_check kind (slice_range bytes start next)
-    → field_at (Some kind) start bytes place ≡ stored_left width 0 expected place bytes next
+pub field_at-told : (kind : CheckKind) (bytes : List ℕ) (start place next width : ℕ) (head : Head) (count : ℕ)
+    → head_at bytes place ≡ Ok (head, next) → check_field kind head ≡ Ok count → width ≡ check_width kind
+    → field_at (Some kind) start bytes place ≡ stored_left width 0 (zeroed_check kind start next (next + width - next) bytes) place bytes next
 unfolding field_at stored_left check_of zeroed_check
-field_at-told kind bytes start place next width expected head count told judged is_width is_check =
-    rw (row_at-told (check_field kind) bytes place next head count told judged, is_width, is_check) refl
+field_at-told kind bytes start place next width head count told judged is_width =
+    let all : next + width - next ≡ check_width kind = omega (arith, is_width) in
+    rw (row_at-told (check_field kind) bytes place next head count told judged, all, is_width) refl
 
 -- what a content is compared with, behind a byte
 compared : ℕ → ℕ → ℕ → Reading (List ℕ) → Reading Bool

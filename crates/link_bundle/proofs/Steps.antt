@@ -1,11 +1,12 @@
 -- one more byte, stage by stage
 
-use Rattle.std.proofs.Common.{◌≡◌, ℕ, ◌+◌, ◌-◌, ◌<◌, ◌≤◌, Bool, true, false, List, [], ◌∷◌, ◌++◌, length, take, drop, None, Some, Result, Ok, Err, refl, sym, ap, subst, ◌∙◌, append_assoc, length-append, length-drop, ◌⊎◌, inl, inr, ⊎_elim, arith}
+use Rattle.std.proofs.Common.{◌≡◌, ℕ, ◌+◌, ◌<◌, ◌≤◌, Bool, true, false, List, [], ◌∷◌, ◌++◌, length, take, drop, None, Some, Result, Ok, Err, refl, sym, ap, subst, ◌∙◌, append_assoc, append-nil, length-append, length-drop, ◌⊎◌, inl, inr, ⊎_elim, arith}
 use Rattle.std.proofs.lemmas.Bool.{false≢true}
 use Rattle.std.specs.Prelude.{slice_range}
 use Rattle.std.specs.Bool.{MatchBool}
 use Rattle.std.proofs.lemmas.List.{drop-append-le}
-use Rattle.std.proofs.Math.Seq.{drop-append_seam, drop-length, take-append_seam}
+use Rattle.std.proofs.Math.Nat.{sub_self}
+use Rattle.std.proofs.Math.Seq.{drop-append_seam, drop-length, take-length}
 use Rattle.std.proofs.lemmas.List.Elements.{All-push}
 use Rattle.link_cbor.specs.declared.head.Head.{Head as HeadItem}
 use Rattle.link_cbor.specs.Head.{AreBytes, Cut as CutHead, IllFormed, Whole, head_front}
@@ -30,10 +31,10 @@ use Rattle.link_bundle.specs.Covers.{Covers}
 use Rattle.link_bundle.specs.Fits.{is_block, KeepsCheck}
 use Rattle.link_bundle.specs.Bundle.{Bundle, judged}
 use Rattle.link_bundle.specs.Reading.{Stop, stopped, head_at}
-use Rattle.link_bundle.specs.Left.{block_start, field_left, ends_of, with_note, stage_left, goes_on, JudgesWith}
+use Rattle.link_bundle.specs.Left.{block_start, field_left, ends_of, with_note, stage_left, goes_on, JudgesFrom}
 use Rattle.link_bundle.proofs.Heads.{ends_of-stopped}
 use Rattle.link_bundle.proofs.Stops.{field_left-stopped}
-use Rattle.link_bundle.specs.Scan.{HasCome, Stands, IsAtHead, IsInHead, IsInside}
+use Rattle.link_bundle.specs.Scan.{HasCome, Stands, IsAtHead, IsInHead, IsInside, IsInStored}
 
 -- the bytes with one more, and those that follow
 pub grown : (seen more : List ℕ) (byte : ℕ) → (seen ++ byte ∷ []) ++ more ≡ seen ++ (byte ∷ more)
@@ -45,11 +46,9 @@ length-grown seen byte = length-append seen (byte ∷ [])
 pub next_byte : (seen more : List ℕ) (byte : ℕ) → drop (length seen) ((seen ++ byte ∷ []) ++ more) ≡ byte ∷ more
 next_byte seen more byte = ap (λ (bytes : List ℕ). drop (length seen) bytes) (grown seen more byte) ∙ drop-append_seam seen (byte ∷ more)
 
-pub slice_seen : (seen more : List ℕ) (start : ℕ) → start ≤ length seen → slice_range (seen ++ more) start (length seen) ≡ drop start seen
-slice_seen seen more start within =
-    ap (λ (bytes : List ℕ). take (length seen - start) bytes) (drop-append-le start seen more within)
-    ∙ ap (λ (count : ℕ). take count (drop start seen ++ more)) (sym (length-drop start seen))
-    ∙ take-append_seam (drop start seen) more
+up_to_the_end : (seen : List ℕ) (start : ℕ) → slice_range seen start (length seen) ≡ drop start seen
+up_to_the_end seen start =
+    ap (λ (count : ℕ). take count (drop start seen)) (sym (length-drop start seen)) ∙ take-length (drop start seen)
 
 -- the checks that are wanted
 narrowed : (check : CheckType) (checks : BlockChecks) (covered : List ℕ) → Covers Unread checks covered → Covers check checks covered
@@ -143,6 +142,17 @@ stands_inside old new check after start seen within covers keeps same = record {
   checks = subst (λ (checks : BlockChecks). Covers after checks (drop start seen)) (sym same) (kept check after old.checks (drop start seen) keeps covers);
 }
 
+stands_stored : (old new : Cursor) (check after : CheckType) (start : ℕ) (seen : List ℕ)
+    → old.count ≡ length seen → start ≤ length seen → Covers check old.checks (drop start seen)
+    → (is_unread check ≡ false → (checks : BlockChecks) (covered : List ℕ) → Covers check checks covered → Covers after checks covered)
+    → new.place ≡ length seen → new.checks ≡ old.checks → IsInStored new after start seen
+stands_stored old new check after start seen counted within covers keeps here same = record {
+  in_block = within;
+  in_bytes = omega (arith, here);
+  checks = rw (here, same, up_to_the_end seen start, sub_self (length seen), append-nil (drop start seen))
+      (kept check after old.checks (drop start seen) keeps covers);
+}
+
 stands_entered : (stage : Stage) (old new : Cursor) (check after : CheckType) (start : ℕ) (seen : List ℕ)
     → old.count ≡ length seen → start ≤ length seen → Covers check old.checks (drop start seen)
     → KeepsCheck check stage after → Enters stage old new → Stands stage new after start seen
@@ -153,7 +163,8 @@ stands_entered (Name role left) old new check after start seen counted within co
     stands_inside old new check after start seen within covers (keeps.1 refl) enters.checks
 stands_entered (Content left) old new check after start seen counted within covers keeps enters =
     stands_inside old new check after start seen within covers (keeps.1 refl) enters.checks
-stands_entered (Stored place left stored expected) old new check after start seen counted within covers keeps enters = tt
+stands_entered (Stored place left stored kind) old new check after start seen counted within covers keeps enters =
+    stands_stored old new check after start seen counted within covers (keeps.1 refl) (enters.place ∙ counted) enters.checks
 stands_entered Ended old new check after start seen counted within covers keeps enters = enters.place ∙ counted
 stands_entered (Failed fault place) old new check after start seen counted within covers keeps enters = tt
 
@@ -265,23 +276,21 @@ bad_head which cursor draft seen come told = record {
 -- a head that is whole and judged
 judged_head : (which : Field) (cursor : Cursor) (draft new : Draft) (head : HeadItem) (result : Result Stage BundleFault) (seen : List ℕ)
     → (come : HeadCame which cursor draft seen) → head_front (drop cursor.place seen) ≡ Whole head (length (drop cursor.place seen))
-    → JudgesWith cursor.checks cursor.place cursor.count which draft head result new
+    → JudgesFrom cursor.place cursor.count which draft head result new
     → (more : List ℕ) → judged (seen ++ more)
     ≡ goes_on result new (block_start which come.start cursor.place) cursor.place (length seen) (seen ++ more)
 unfolding stage_left
 judged_head which cursor draft new head result seen come told judges more =
     let at = come.at in
     let whole = head_at-whole cursor.place seen more head at.in_bytes told in
-    let covered = slice_seen seen more (block_start which come.start cursor.place) at.in_block in
     come.reads more
     ∙ subst (λ (count : ℕ). ends_of (seen ++ more) (with_note draft.payload (field_left which draft (block_start which come.start cursor.place) (seen ++ more) cursor.place))
     ≡ goes_on result new (block_start which come.start cursor.place) cursor.place count (seen ++ more)) come.count
-    (judges (seen ++ more) come.start (rw come.count whole) (omega (arith, length-append seen more, come.count))
-    (rw (come.count, covered) at.checks))
+    (judges (seen ++ more) come.start (rw come.count whole) (omega (arith, length-append seen more, come.count)))
 
 pub went_on : (which : Field) (old cursor : Cursor) (draft new : Draft) (head : HeadItem) (stage : Stage) (seen : List ℕ)
     → HeadCame which old draft seen → head_front (drop old.place seen) ≡ Whole head (length (drop old.place seen))
-    → JudgesWith old.checks old.place old.count which draft head (Ok stage) new
+    → JudgesFrom old.place old.count which draft head (Ok stage) new
     → KeepsCheck draft.check stage new.check → Enters stage old cursor → HasCome stage cursor new seen
 went_on which old cursor draft new head stage seen come told judges keeps enters =
     entered stage old cursor draft.check new (block_start which come.start old.place) seen come.all_bytes come.count
@@ -290,7 +299,7 @@ went_on which old cursor draft new head stage seen come told judges keeps enters
 
 pub refused : (which : Field) (cursor : Cursor) (draft new : Draft) (head : HeadItem) (fault : BundleFault) (seen : List ℕ)
     → HeadCame which cursor draft seen → head_front (drop cursor.place seen) ≡ Whole head (length (drop cursor.place seen))
-    → JudgesWith cursor.checks cursor.place cursor.count which draft head (Err fault) new
+    → JudgesFrom cursor.place cursor.count which draft head (Err fault) new
     → HasCome (Failed fault cursor.place) cursor new seen
 unfolding stage_left
 refused which cursor draft new head fault seen come told judges = record {

@@ -11,7 +11,7 @@ use Rattle.link_bundle.specs.declared.fault.BundleFault.TheVariants.{Cut}
 use Rattle.link_bundle.specs.declared.fault.State.TheVariants as state
 use Rattle.link_bundle.specs.declared.stage.Stage.{Stage}
 use Rattle.link_bundle.specs.declared.stage.Stage.TheVariants.{Start, Head, Name, Content, Stored, Ended, Failed}
-use Rattle.link_bundle.specs.CheckKinds.{is_settled}
+use Rattle.link_bundle.specs.CheckKinds.{kind_of, is_kind}
 use Rattle.link_bundle.specs.Fits.{scan_fits}
 use Rattle.link_bundle.specs.Reading.{Stop, stopped, cut_short, head_at}
 use Rattle.link_bundle.specs.Blocks.{content_at}
@@ -55,9 +55,9 @@ going_cut (Name role left) cursor draft seen come fits going =
 going_cut (Content left) cursor draft seen come fits going =
     read_now (Content left) cursor draft seen come
     ∙ rw (bytes_at-cut left seen (length seen) (ltb-true 0 left fits) refl) (ends_of-stopped draft.payload seen (stopped Cut (length seen)))
-going_cut (Stored field left stored expected) cursor draft seen come fits going =
-    read_now (Stored field left stored expected) cursor draft seen come
-    ∙ rw (bytes_at-cut left seen (length seen) (has_room (is_settled draft.check) left stored 0 fits (omega arith)).wants refl)
+going_cut (Stored field left stored kind) cursor draft seen come fits going =
+    read_now (Stored field left stored kind) cursor draft seen come
+    ∙ rw (bytes_at-cut left seen (length seen) (has_room (is_kind (kind_of draft.check) kind) left stored 0 fits (omega arith)).wants refl)
     (ends_of-stopped draft.payload seen (stopped Cut (length seen)))
 going_cut Ended cursor draft seen come fits going = cc
 going_cut (Failed fault place) cursor draft seen come fits going = cc
@@ -92,7 +92,7 @@ verdict-ended Start cursor draft seen come is = cc
 verdict-ended (Head which) cursor draft seen come is = cc
 verdict-ended (Name role left) cursor draft seen come is = cc
 verdict-ended (Content left) cursor draft seen come is = cc
-verdict-ended (Stored field left stored expected) cursor draft seen come is = cc
+verdict-ended (Stored field left stored kind) cursor draft seen come is = cc
 verdict-ended Ended cursor draft seen come is = ap told (ended_whole cursor draft seen come)
 verdict-ended (Failed fault place) cursor draft seen come is = cc
 
@@ -103,7 +103,7 @@ verdict-failed Start cursor draft seen fault place come is = cc
 verdict-failed (Head which) cursor draft seen fault place come is = cc
 verdict-failed (Name role left) cursor draft seen fault place come is = cc
 verdict-failed (Content left) cursor draft seen fault place come is = cc
-verdict-failed (Stored field left stored expected) cursor draft seen fault place come is = cc
+verdict-failed (Stored field left stored kind) cursor draft seen fault place come is = cc
 verdict-failed Ended cursor draft seen fault place come is = cc
 verdict-failed (Failed told_fault at) cursor draft seen fault place come is =
     let same : told_fault ≡ fault = cc in
@@ -118,8 +118,8 @@ state_of-seen Start cursor draft seen come fits = sym (ap state_of (verdict-goin
 state_of-seen (Head which) cursor draft seen come fits = sym (ap state_of (verdict-going (Head which) cursor draft seen come fits refl))
 state_of-seen (Name role left) cursor draft seen come fits = sym (ap state_of (verdict-going (Name role left) cursor draft seen come fits refl))
 state_of-seen (Content left) cursor draft seen come fits = sym (ap state_of (verdict-going (Content left) cursor draft seen come fits refl))
-state_of-seen (Stored field left stored expected) cursor draft seen come fits =
-    sym (ap state_of (verdict-going (Stored field left stored expected) cursor draft seen come fits refl))
+state_of-seen (Stored field left stored kind) cursor draft seen come fits =
+    sym (ap state_of (verdict-going (Stored field left stored kind) cursor draft seen come fits refl))
 state_of-seen Ended cursor draft seen come fits = sym (ap state_of (verdict-ended Ended cursor draft seen come refl))
 state_of-seen (Failed fault place) cursor draft seen come fits =
     sym (ap state_of (verdict-failed (Failed fault place) cursor draft seen fault place come refl) ∙ rw fits refl)
@@ -143,8 +143,8 @@ noted-seen (Name role left) cursor draft seen come fits =
     ap noted (going_cut (Name role left) cursor draft seen come fits refl) ∙ noted-stopped draft.payload Cut (length seen)
 noted-seen (Content left) cursor draft seen come fits =
     ap noted (going_cut (Content left) cursor draft seen come fits refl) ∙ noted-stopped draft.payload Cut (length seen)
-noted-seen (Stored field left stored expected) cursor draft seen come fits =
-    ap noted (going_cut (Stored field left stored expected) cursor draft seen come fits refl) ∙ noted-stopped draft.payload Cut (length seen)
+noted-seen (Stored field left stored kind) cursor draft seen come fits =
+    ap noted (going_cut (Stored field left stored kind) cursor draft seen come fits refl) ∙ noted-stopped draft.payload Cut (length seen)
 noted-seen Ended cursor draft seen come fits = ap noted (ended_whole cursor draft seen come) ∙ span_back draft.payload draft cursor.place refl fits
 noted-seen (Failed fault place) cursor draft seen come fits =
     ap noted (failed_stop fault place cursor draft seen come) ∙ noted-stopped draft.payload fault place

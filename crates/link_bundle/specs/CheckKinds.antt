@@ -14,12 +14,6 @@ abbrev pub is_unread : CheckType → Bool
 is_unread Unread = true
 is_unread (Is kind) = false
 
--- no check is wanted
-abbrev pub is_settled : CheckType → Bool
-is_settled Unread = false
-is_settled (Is None) = true
-is_settled (Is (Some kind)) = false
-
 abbrev pub same_kind : CheckKind → CheckKind → Bool
 same_kind Crc16 Crc16 = true
 same_kind Crc16 Crc32 = false

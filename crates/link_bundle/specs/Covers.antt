@@ -1,14 +1,11 @@
 -- what the checks of a block have been given
 
-use Rattle.std.specs.Prelude.{ℕ, List, ◌++◌, None, Some, replicate}
-use Rattle.link_cbor.specs.declared.check.CheckKind.{CheckKind}
+use Rattle.std.specs.Prelude.{ℕ, List, None, Some}
 use Rattle.link_cbor.specs.declared.check.CheckKind.TheVariants.{Crc16, Crc32}
-use Rattle.link_cbor.specs.Crc.{crc}
 use Rattle.link_cbor.specs.Pushed.{HasPushed}
 use Rattle.link_bundle.specs.declared.checks.BlockChecks.{BlockChecks}
 use Rattle.link_bundle.specs.declared.stage.CheckType.{CheckType}
 use Rattle.link_bundle.specs.declared.stage.CheckType.TheVariants.{Unread, Is}
-use Rattle.link_bundle.specs.Rows.{check_width}
 
 -- those that may be wanted were given exactly these bytes
 abbrev pub Covers : CheckType → BlockChecks → List ℕ → Type 0
@@ -16,7 +13,3 @@ Covers Unread checks covered = HasPushed Crc16 checks.crc16 covered × HasPushed
 Covers (Is None) checks covered = Unit {0}
 Covers (Is (Some Crc16)) checks covered = HasPushed Crc16 checks.crc16 covered
 Covers (Is (Some Crc32)) checks covered = HasPushed Crc32 checks.crc32 covered
-
--- the check of these bytes and of zeros in the place of its field's content
-unfoldable pub zeroed_check : CheckKind → List ℕ → ℕ
-zeroed_check kind covered = crc kind (covered ++ replicate (check_width kind) 0)

@@ -17,7 +17,7 @@ use Rattle.link_bundle.specs.declared.stage.CanonicalField.{CanonicalField}
 use Rattle.link_bundle.specs.declared.stage.CanonicalField.TheVariants as canonical
 use Rattle.link_bundle.specs.declared.stage.CheckType.{CheckType}
 use Rattle.link_bundle.specs.declared.checks.BlockChecks.{BlockChecks}
-use Rattle.link_bundle.specs.CheckKinds.{kind_of, is_unread, is_settled, is_kind}
+use Rattle.link_bundle.specs.CheckKinds.{kind_of, is_unread, is_kind}
 use Rattle.link_bundle.specs.Covers.{Covers}
 
 -- before the check type's head both checks run
@@ -56,8 +56,8 @@ stage_fits Start draft = is_none draft.payload && (is_unread draft.check && leng
 stage_fits (Head which) draft = field_fits which draft
 stage_fits (Name role left) draft = nat_lt 0 left && nat_le (length draft.name.items + left) 1024
 stage_fits (Content left) draft = nat_lt 0 left
-stage_fits (Stored place left stored expected) draft =
-    is_settled draft.check && (nat_lt 0 left && (nat_le left 4 && nat_lt stored (256 ^ (4 - left))))
+stage_fits (Stored place left stored kind) draft =
+    is_kind (kind_of draft.check) kind && (nat_lt 0 left && (nat_le left 4 && nat_lt stored (256 ^ (4 - left))))
 stage_fits Ended draft = is_some draft.payload
 stage_fits (Failed fault place) draft = lasts fault
 
@@ -85,7 +85,7 @@ is_block (Head (field.Check kind)) = false
 is_block (Head field.Closing) = false
 is_block (Name role left) = false
 is_block (Content left) = false
-is_block (Stored place left stored expected) = false
+is_block (Stored place left stored kind) = false
 is_block Ended = false
 is_block (Failed fault place) = false
 
@@ -94,7 +94,7 @@ is_begun Start = false
 is_begun (Head which) = true
 is_begun (Name role left) = true
 is_begun (Content left) = true
-is_begun (Stored place left stored expected) = true
+is_begun (Stored place left stored kind) = true
 is_begun Ended = true
 is_begun (Failed fault place) = true
 
@@ -113,7 +113,7 @@ head_fits Start head = true
 head_fits (Head which) head = may_scan head
 head_fits (Name role left) head = true
 head_fits (Content left) head = true
-head_fits (Stored place left stored expected) head = true
+head_fits (Stored place left stored kind) head = true
 head_fits Ended head = true
 head_fits (Failed fault place) head = true
 

@@ -1,9 +1,10 @@
 -- What is left to be read where a scan stands: the reading of Blocks and Bundle from there on. A draft has what the heads
 -- before gave. This joins the code to `judged`, and the promises need none of it.
 
-use Rattle.std.specs.Prelude.{◌≡◌, ◌≤◌, ℕ, ◌+◌, ◌-◌, ◌==◌, Bool, true, List, [], ◌∷◌, ◌++◌, length, drop, slice_range, unwrap_or, Option, Some, None, Result, Ok, Err, if◌then◌else◌}
+use Rattle.std.specs.Prelude.{◌≡◌, ◌≤◌, ℕ, ◌+◌, ◌-◌, ◌==◌, Bool, true, List, [], ◌∷◌, ◌++◌, length, replicate, slice_range, drop, unwrap_or, Option, Some, None, Result, Ok, Err, if◌then◌else◌}
 use Rattle.link_cbor.specs.declared.check.CheckKind.{CheckKind}
 use Rattle.link_cbor.specs.declared.head.Head.{Head as HeadItem}
+use Rattle.link_cbor.specs.Crc.{crc}
 use Rattle.link_bundle.specs.declared.eid.Eid.{Eid}
 use Rattle.link_bundle.specs.declared.eid.Eid.TheVariants.{Dtn, Ipn}
 use Rattle.link_bundle.specs.declared.draft.Draft.{Draft}
@@ -22,9 +23,7 @@ use Rattle.link_bundle.specs.declared.stage.Part.TheVariants as part
 use Rattle.link_bundle.specs.declared.stage.CheckType.TheVariants.{Is}
 use Rattle.link_bundle.specs.declared.fault.BundleFault.{BundleFault}
 use Rattle.link_bundle.specs.declared.fault.BundleFault.TheVariants.{CheckDiffers}
-use Rattle.link_bundle.specs.declared.checks.BlockChecks.{BlockChecks}
 use Rattle.link_bundle.specs.CheckKinds.{kind_of}
-use Rattle.link_bundle.specs.Covers.{Covers}
 use Rattle.link_bundle.specs.Rows.{◌>>=◌, unsigned, byte_string, pair, scheme, version, is_fragment, primary_block, primary_check_type, block_number, block_check_type, closing}
 use Rattle.link_bundle.specs.Reading.{Stop, stopped, Reading, head_at, row_at, bytes_at}
 use Rattle.link_bundle.specs.EndpointId.{specific_at, eid_at}
@@ -253,6 +252,11 @@ ends_of bytes reading = do
   bundle ← reading
   ends bytes bundle
 
+-- the check of a block from its start to its check field's content, and of so many zeros
+unfoldable pub zeroed_check : CheckKind → ℕ → ℕ → ℕ → List ℕ → ℕ
+zeroed_check kind start content zeros bytes = crc kind (slice_range bytes start content ++ replicate zeros 0)
+
+-- in the content of a check field, whose head is at `field`
 unfoldable pub stored_left : ℕ → ℕ → ℕ → ℕ → List ℕ → ℕ → Reading Bool
 stored_left left stored expected field bytes place = do
   (rest, next) ← bytes_at left bytes place
@@ -289,8 +293,9 @@ stage_left (Name role left) draft start field bytes place =
     ends_of bytes (with_note draft.payload (behind_primary draft start bytes (behind_eid role draft bytes (name_left draft left bytes place))))
 stage_left (Content left) draft start field bytes place =
     ends_of bytes (with_note draft.payload (behind_field draft bytes (content_at left (kind_of draft.check) start bytes place)))
-stage_left (Stored field left stored expected) draft start head bytes place =
-    ends_of bytes (with_note draft.payload (behind_field draft bytes (stored_left left stored expected field bytes place)))
+stage_left (Stored field left stored kind) draft start content bytes place =
+    let check = zeroed_check kind start content (place + left - content) bytes in
+    ends_of bytes (with_note draft.payload (behind_field draft bytes (stored_left left stored check field bytes place)))
 stage_left Ended draft start field bytes place = ends bytes (bundle_of draft field)
 stage_left (Failed fault at) draft start field bytes place = with_note draft.payload (Err (stopped fault at))
 
@@ -309,11 +314,10 @@ JudgesAt next which old head result new =
 abbrev pub Judges : Field → Draft → HeadItem → Result Stage BundleFault → Draft → Type 0
 Judges which old head result new = (next : ℕ) → JudgesAt next which old head result new
 
--- the same where the checks have been given the block so far
-abbrev pub JudgesWith : BlockChecks → ℕ → ℕ → Field → Draft → HeadItem → Result Stage BundleFault → Draft → Type 0
-JudgesWith checks place next which old head result new =
+-- the same of a head at this place
+abbrev pub JudgesFrom : ℕ → ℕ → Field → Draft → HeadItem → Result Stage BundleFault → Draft → Type 0
+JudgesFrom place next which old head result new =
     (bytes : List ℕ) (start : ℕ) → head_at bytes place ≡ Ok (head, next) → next ≤ length bytes →
-    Covers old.check checks (slice_range bytes (block_start which start place) next) →
     ends_of bytes (with_note old.payload (field_left which old (block_start which start place) bytes place))
     ≡ goes_on result new (block_start which start place) place next bytes
 

@@ -1,7 +1,7 @@
 -- What a scan of a bundle has seen. The promises need no more of it than that `new` has seen nothing and that a step adds
 -- its byte.
 
-use Rattle.std.specs.Prelude.{◌≡◌, ℕ, ◌≤◌, Bool, List, [], ◌++◌, length, drop}
+use Rattle.std.specs.Prelude.{◌≡◌, ℕ, ◌≤◌, Bool, ◌-◌, List, [], ◌++◌, length, replicate, slice_range, drop}
 use Rattle.link_cbor.specs.Head.{AreBytes, Cut, head_front}
 use Rattle.link_cbor.specs.HeadScan.{HasScanned as HasScannedHead}
 use Rattle.link_bundle.specs.declared.cursor.Cursor.{Cursor}
@@ -33,6 +33,12 @@ pub record IsInside (cursor : Cursor) (check : CheckType) (start : ℕ) (seen : 
   pub in_block : start ≤ length seen
   pub checks : Covers check cursor.checks (drop start seen)
 
+-- in a check field's content, which begins at `cursor.place`: the checks take it as zeros
+pub record IsInStored (cursor : Cursor) (check : CheckType) (start : ℕ) (seen : List ℕ) : Type 0 where
+  pub in_block : start ≤ length seen
+  pub in_bytes : cursor.place ≤ length seen
+  pub checks : Covers check cursor.checks (slice_range seen start cursor.place ++ replicate (length seen - cursor.place) 0)
+
 -- before the first byte
 pub record IsFresh (cursor : Cursor) (check : CheckType) (seen : List ℕ) : Type 0 where
   pub nothing : seen ≡ []
@@ -44,7 +50,7 @@ Stands Start cursor check start seen = IsFresh cursor check seen
 Stands (Head field) cursor check start seen = IsInHead field cursor check start seen
 Stands (Name role left) cursor check start seen = IsInside cursor check start seen
 Stands (Content left) cursor check start seen = IsInside cursor check start seen
-Stands (Stored place left stored expected) cursor check start seen = Unit {0}
+Stands (Stored place left stored kind) cursor check start seen = IsInStored cursor check start seen
 Stands Ended cursor check start seen = cursor.place ≡ length seen
 Stands (Failed fault place) cursor check start seen = Unit {0}
 

@@ -11,7 +11,7 @@ stage_state Start = state.Going
 stage_state (Head field) = state.Going
 stage_state (Name role left) = state.Going
 stage_state (Content left) = state.Going
-stage_state (Stored place left stored expected) = state.Going
+stage_state (Stored place left stored kind) = state.Going
 stage_state Ended = state.Ended
 stage_state (Failed fault place) = state.Failed fault place
 

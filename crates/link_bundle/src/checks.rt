@@ -12,7 +12,8 @@ pub(crate) struct BlockChecks {
 }
 
 impl BlockChecks {
-    ghost use Rattle.link_bundle.specs.Covers.{Covers, zeroed_check};
+    ghost use Rattle.link_bundle.specs.Covers.{Covers};
+    ghost use Rattle.link_cbor.specs.Crc.{crc};
 
     /// The checks of a block of which no byte has come.
     pub fn new() -> BlockChecks
@@ -39,21 +40,13 @@ impl BlockChecks {
         }
     }
 
-    /// The check of the block up to its check field's content, with that content as zeros.
-    pub fn zeroed(&self, kind: CheckKind) -> u32
-        ensures { (covered : List ℕ) → Covers (CheckType.Is (Some kind)) self.now covered → result ≡ zeroed_check kind covered }
+    /// The check of this kind, where it is wanted, of the bytes taken.
+    pub fn value(&self, kind: CheckKind) -> u32
+        ensures { (covered : List ℕ) → Covers (CheckType.Is (Some kind)) self.now covered → result ≡ crc kind covered }
     {
         match kind {
-            CheckKind::Crc16 => {
-                let mut check = self.crc16;
-                check.push_slice(&[0; 2]);
-                check.value()
-            }
-            CheckKind::Crc32 => {
-                let mut check = self.crc32;
-                check.push_slice(&[0; 4]);
-                check.value()
-            }
+            CheckKind::Crc16 => self.crc16.value(),
+            CheckKind::Crc32 => self.crc32.value(),
         }
     }
 }

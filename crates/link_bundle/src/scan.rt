@@ -1,6 +1,6 @@
 ghost use Rattle.std.specs.Prelude.{◌≡◌, ℕ, ◌+◌, ◌-◌, ◌^◌, ◌<◌, IfOk, IsTrue, List, ◌∷◌, [], ◌++◌};
 ghost use Rattle.link_bundle.specs.Fits.{scan_fits, stage_fits, Follows, KeepsCheck};
-ghost use Rattle.link_bundle.specs.Left.{JudgesWith};
+ghost use Rattle.link_bundle.specs.Left.{JudgesFrom};
 
 use crate::cursor::Cursor;
 use crate::draft::Draft;
@@ -8,7 +8,7 @@ use crate::fault::{BundleFault, State};
 use crate::info::BundleInfo;
 use crate::row;
 use crate::stage::{CheckType, Field, PrimaryField, Role, Stage};
-use link_cbor::{Head, HeadStep, Piecewise};
+use link_cbor::{CheckKind, Head, HeadStep, Piecewise};
 
 /// The first byte of a bundle: it opens an array of indefinite length (RFC 9171 section 4.1).
 const OPENING: u8 = 0x9f;
@@ -26,7 +26,7 @@ pub struct BundleScan {
 #[tactic(auto, using(crate::proofs::Heads::heads), unfolding(crate::specs::Left::field_left, crate::specs::Left::stage_left))]
 fn judge(draft: &mut Draft, cursor: &Cursor, field: Field, head: Head) -> Result<Stage, BundleFault>
     requires { IsTrue (stage_fits (Stage.Head field) draft.old) }
-    ensures judges { JudgesWith cursor.now.checks cursor.now.place cursor.now.count field draft.old head result draft.new }
+    ensures judges { JudgesFrom cursor.now.place cursor.now.count field draft.old head result draft.new }
     ensures follows { Follows result draft.new }
     ensures keeps { IfOk result (λ stage. KeepsCheck draft.old.check stage draft.new.check) }
 {
@@ -36,13 +36,11 @@ fn judge(draft: &mut Draft, cursor: &Cursor, field: Field, head: Head) -> Result
         Field::Canonical(which) => draft.canonical(which, head, cursor.count),
         Field::Check(kind) => {
             row::check_field(kind, head)?;
-            // Nothing more of the block is checked.
-            draft.check = CheckType::Is(None);
             Ok(Stage::Stored {
                 place: cursor.place,
                 left: row::check_width(kind),
                 stored: 0,
-                expected: cursor.checks.zeroed(kind),
+                kind,
             })
         }
         Field::Closing => {
@@ -167,23 +165,25 @@ impl BundleScan {
         }
     }
 
-    /// A byte of a check field's content.
-    fn stored_byte(&mut self, place: u64, left: u64, stored: u32, expected: u32, byte: u8)
-        requires stage { self.old.stage ≡ Stage.Stored place left stored expected }
+    /// A byte of a check field's content, which the check takes as zero.
+    fn stored_byte(&mut self, place: u64, left: u64, stored: u32, kind: CheckKind, byte: u8)
+        requires stage { self.old.stage ≡ Stage.Stored place left stored kind }
         requires room { self.old.cursor.count < 2 ^ 63 - 1 }
         ensures size { scan_size self.new ≡ scan_size self.old + 1 }
         ensures seen { (seen : List ℕ) → HasScanned self.old seen → HasScanned self.new (seen ++ byte ∷ []) }
     {
-        self.cursor.count += 1;
+        self.cursor.content_byte(self.draft.check, 0);
         let stored = stored * 256 + u32::from(byte);
         if left > 1 {
             self.stage = Stage::Stored {
                 place,
                 left: left - 1,
                 stored,
-                expected,
+                kind,
             };
-        } else if stored == expected {
+        } else if stored == self.cursor.checks.value(kind) {
+            // Nothing more of the block is checked.
+            self.draft.check = CheckType::Is(None);
             let stage = self.draft.behind_block();
             self.cursor.enter(stage);
             self.stage = stage;
@@ -234,8 +234,8 @@ impl Piecewise for BundleScan {
                 place,
                 left,
                 stored,
-                expected,
-            } => self.stored_byte(place, left, stored, expected, byte),
+                kind,
+            } => self.stored_byte(place, left, stored, kind, byte),
             Stage::Ended => self.trailing_byte(byte),
             Stage::Failed(..) => unreachable!(),
         }

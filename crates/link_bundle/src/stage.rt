@@ -85,7 +85,7 @@ pub(crate) enum Stage {
         place: u64,
         left: u64,
         stored: u32,
-        expected: u32,
+        kind: CheckKind,
     },
     Ended,
     Failed(BundleFault, u64),

@@ -5,6 +5,7 @@ ghost use Rattle.link_bundle.specs.Scan.{scan_size};
 use super::*;
 use link_cbor::Piecewise;
 use std::alloc::{AllocError, Global};
+use std::ops::Range;
 use std::process::Abort;
 use std::test::Fail;
 
@@ -21,10 +22,7 @@ const PLAIN: &[u8] =
 
 const VERDICTS: [(&[u8], Fault); 34] = [
     // the plain bundle
-    (
-        b"\x9f\x88\x07\x00\x00\x82\x02\x82\x02\x01\x82\x02\x82\x01\x01\x82\x01\x00\x82\x00\x00\x00\x85\x01\x01\x00\x00\x45\x68\x65\x6c\x6c\x6f\xff",
-        None,
-    ),
+    (PLAIN, None),
     // with a check
     (
         b"\x9f\x88\x07\x00\x00\x82\x02\x82\x02\x01\x82\x02\x82\x01\x01\x82\x01\x00\x82\x00\x00\x00\x86\x01\x01\x00\x01\x45\x68\x65\x6c\x6c\x6f\x42\x4b\xf3\xff",
@@ -212,10 +210,7 @@ const PAYLOADS: [(&[u8], Option<(u64, u64)>); 9] = [
         Some((28, 5)),
     ),
     // whole
-    (
-        b"\x9f\x88\x07\x00\x00\x82\x02\x82\x02\x01\x82\x02\x82\x01\x01\x82\x01\x00\x82\x00\x00\x00\x85\x01\x01\x00\x00\x45\x68\x65\x6c\x6c\x6f\xff",
-        Some((28, 5)),
-    ),
+    (PLAIN, Some((28, 5))),
     // a check that differs
     (
         b"\x9f\x88\x07\x00\x00\x82\x02\x82\x02\x01\x82\x02\x82\x01\x01\x82\x01\x00\x82\x00\x00\x00\x86\x01\x01\x00\x01\x45\x69\x65\x6c\x6c\x6f\x42\x4b\xf3\xff",
@@ -288,12 +283,18 @@ fn by_bytes(bytes: &[u8]) -> BundleScan
     scan
 }
 
+fn expect_cuts(rt: &impl Abort, bytes: &[u8], cuts: Range<usize>, fault: Fault) {
+    assert!(rt; bytes.len() < 100_000);
+    for cut in cuts {
+        assert!(rt; cut < bytes.len());
+        assert_eq!(rt; in_two(bytes, cut).finish().err(), fault, "cut at {cut}");
+    }
+}
+
 fn expect_fault(rt: &impl Abort, bytes: &[u8], fault: Fault) {
     assert!(rt; bytes.len() < 100_000);
     assert_eq!(rt; by_bytes(bytes).finish().err(), fault);
-    for cut in 0..bytes.len() {
-        assert_eq!(rt; in_two(bytes, cut).finish().err(), fault, "cut at {cut}");
-    }
+    expect_cuts(rt, bytes, 0..bytes.len(), fault);
 }
 
 #[test]
@@ -357,17 +358,48 @@ fn bundles_of_another_encoder(rt: HostRuntime) {
     }
 }
 
+/// The bundle with a payload of 70,000 bytes.
+fn large(alloc: Global) -> Result<Vec<u8>, AllocError> {
+    let mut bytes = LARGE_FRONT.to_vec(alloc)?;
+    bytes.extend_from_slice(&[0xa5; 70_000])?;
+    bytes.extend_from_slice(LARGE_REST)?;
+    Ok(bytes)
+}
+
 #[test]
-fn a_large_payload(rt: HostRuntime) {
-    let mut scan = BundleScan::new();
-    scan.feed(LARGE_FRONT);
-    scan.feed(&[0xa5; 70_000]);
-    scan.feed(LARGE_REST);
+fn a_large_payload_by_bytes(rt: HostRuntime) -> Result<(), Fail> {
+    let bytes = large(rt.alloc())?;
+    assert!(rt; bytes.len() < 100_000);
+    let scan = by_bytes(&bytes);
     assert_eq!(rt; scan.finish().err(), None);
-    assert_eq!(rt;
-        scan.payload_seen(),
-        Some((LARGE_FRONT.len() as u64, 70_000))
-    );
+    let place = LARGE_FRONT.len() as u64;
+    assert_eq!(rt; scan.payload_seen(), Some((place, 70_000)));
+    Ok(())
+}
+
+#[test]
+fn a_large_payload_cut_in_its_first_quarter(rt: HostRuntime) -> Result<(), Fail> {
+    expect_cuts(&rt, &large(rt.alloc())?, 0..17_500, None);
+    Ok(())
+}
+
+#[test]
+fn a_large_payload_cut_in_its_second_quarter(rt: HostRuntime) -> Result<(), Fail> {
+    expect_cuts(&rt, &large(rt.alloc())?, 17_500..35_000, None);
+    Ok(())
+}
+
+#[test]
+fn a_large_payload_cut_in_its_third_quarter(rt: HostRuntime) -> Result<(), Fail> {
+    expect_cuts(&rt, &large(rt.alloc())?, 35_000..52_500, None);
+    Ok(())
+}
+
+#[test]
+fn a_large_payload_cut_in_its_last_quarter(rt: HostRuntime) -> Result<(), Fail> {
+    let bytes = large(rt.alloc())?;
+    expect_cuts(&rt, &bytes, 52_500..bytes.len(), None);
+    Ok(())
 }
 
 /// The plain bundle with so many blocks before its payload block, from number 2 on.

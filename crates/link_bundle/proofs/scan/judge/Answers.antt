@@ -1,17 +1,11 @@
-use Rattle.std.proofs.Common.{◌∙◌, Bool, sym, ap, subst}
+use Rattle.std.proofs.Common.{◌∙◌, Bool, sym, ap}
 use Rattle.std.proofs.lemmas.Result.{err_from_is_err_and}
-use Rattle.std.specs.Prelude.{IsTrue, slice_range}
-use Rattle.link_bundle.specs.declared.stage.CheckType.{CheckType}
-use Rattle.link_bundle.specs.declared.stage.Field.{Field}
-use Rattle.link_bundle.specs.declared.stage.Stage.TheVariants.{Head}
 use Rattle.link_bundle.specs.Rows.{check_field}
 use Rattle.link_bundle.specs.Reading.{Reading, stopped}
 use Rattle.link_bundle.specs.Blocks.{field_at}
-use Rattle.link_bundle.specs.Covers.{Covers}
-use Rattle.link_bundle.specs.Fits.{stage_fits}
 use Rattle.link_bundle.specs.Left.{field_left, stage_left, ends_of, with_note, behind_field}
 use Rattle.link_bundle.proofs.Heads.{row_at-refused, ends_of-stopped}
-use Rattle.link_bundle.proofs.Fields.{same_check, field_at-told}
+use Rattle.link_bundle.proofs.Fields.{field_at-told}
 use Rattle.link_bundle.proofs.scan.judge.Goals as goal
 
 pub returns-in_err-check_field-in-Check-clause-judges : goal.returns-in_err-check_field-in-Check-clause-judges
@@ -19,7 +13,7 @@ unfolding field_left stage_left field_at
 returns-in_err-check_field-in-Check-clause-judges c =
     let exit = err_from_is_err_and c.from_residual.result c.from_residual.ensures.1 in
     rw (c.in-Check.is, exit.1, exit.2)
-    (λ bytes start told within covers.
+    (λ bytes start told within.
     rw (row_at-refused (check_field c.in-Check.kind) bytes c.args.cursor.now.place c.args.cursor.now.count c.args.head c.in_err-check_field-in-Check.field-0.0 told (sym c.check_field.ensures.judged ∙ c.in_err-check_field-in-Check.was))
     (ends_of-stopped c.args.draft.now.payload bytes (stopped c.in_err-check_field-in-Check.field-0.0 c.args.cursor.now.place)))
 
@@ -28,11 +22,8 @@ unfolding field_left stage_left
 returns-in_ok-check_field-in-Check-clause-judges c =
     let now = c.args.draft.now in
     let cursor = c.args.cursor.now in
-    let same = same_check now.check c.in-Check.kind (subst (λ (which : Field). IsTrue (stage_fits (Head which) now)) c.in-Check.is c.requires) in
     rw c.in-Check.is
-    (λ bytes start told within covers.
-    let covered = slice_range bytes start cursor.count in
+    (λ bytes start told within.
     ap (λ (field : Reading Bool). ends_of bytes (with_note now.payload (behind_field now bytes field)))
-    (field_at-told c.in-Check.kind bytes start cursor.place cursor.count c.check_width.result c.zeroed.result c.args.head c.in_ok-check_field-in-Check.field-0
-    told (sym c.check_field.ensures.judged ∙ c.in_ok-check_field-in-Check.was) c.check_width.ensures
-    (c.zeroed.ensures covered (subst (λ (check : CheckType). Covers check cursor.checks covered) same covers))))
+    (field_at-told c.in-Check.kind bytes start cursor.place cursor.count c.check_width.result c.args.head c.in_ok-check_field-in-Check.field-0
+    told (sym c.check_field.ensures.judged ∙ c.in_ok-check_field-in-Check.was) c.check_width.ensures))
