@@ -5,7 +5,7 @@ use link_cbor::{Check, CheckKind};
 
 /// The checks that run along a block from its array's head (RFC 9171 section 4.2.1). Both run until the check type has
 /// come, since it stands behind other heads; then the one that is wanted.
-#[derive(Debug, Drop)]
+#[derive(Drop)]
 pub(crate) struct BlockChecks {
     crc16: Check,
     crc32: Check,

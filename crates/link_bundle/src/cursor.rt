@@ -10,7 +10,7 @@ use crate::stage::{CheckType, Stage};
 use link_cbor::{HeadScan, HeadStep, Piecewise};
 
 /// How far a scan has come in its bytes.
-#[derive(Debug, Drop)]
+#[derive(Drop)]
 pub(crate) struct Cursor {
     /// How many bytes have come.
     pub count: u64,

@@ -9,7 +9,7 @@ use arrayvec::ArrayVec;
 use link_cbor::Head;
 
 /// What the heads so far have given.
-#[derive(Debug, Drop)]
+#[derive(Drop)]
 pub(crate) struct Draft {
     /// How many elements the present block has.
     pub count: u64,

@@ -9,12 +9,13 @@ use crate::info::BundleInfo;
 use crate::row;
 use crate::stage::{CheckType, Field, PrimaryField, Role, Stage};
 use link_cbor::{CheckKind, Head, HeadStep, Piecewise};
+use std::fmt;
 
 /// The first byte of a bundle: it opens an array of indefinite length (RFC 9171 section 4.1).
 const OPENING: u8 = 0x9f;
 
 /// Scans one bundle, byte by byte in any pieces. It holds what [`BundleInfo`] says and no bytes of the data.
-#[derive(Debug, Drop)]
+#[derive(Drop)]
 pub struct BundleScan {
     stage: Stage,
     cursor: Cursor,
@@ -201,6 +202,16 @@ impl BundleScan {
     {
         self.stage = Stage::Failed(BundleFault::Trailing, self.cursor.place);
         self.cursor.count += 1;
+    }
+}
+
+/// Shows the state and the count, and not what is held.
+impl fmt::Debug for BundleScan {
+    fn fmt<W: fmt::Write>(&self, f: &mut fmt::Formatter<W>) -> fmt::Result {
+        f.debug_struct("BundleScan")
+            .field("state", &self.state())
+            .field("count", &self.cursor.count)
+            .finish_non_exhaustive()
     }
 }
 

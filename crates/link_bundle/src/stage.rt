@@ -4,7 +4,7 @@ use crate::fault::{BundleFault, State};
 use link_cbor::CheckKind;
 
 /// An endpoint ID of the primary block.
-#[derive(Clone, Copy, Debug)]
+#[derive(Clone, Copy)]
 pub(crate) enum Role {
     Destination,
     Source,
@@ -12,14 +12,14 @@ pub(crate) enum Role {
 }
 
 /// An endpoint scheme (RFC 9171 section 4.2.5.1).
-#[derive(Clone, Copy, Debug)]
+#[derive(Clone, Copy)]
 pub(crate) enum Scheme {
     Dtn,
     Ipn,
 }
 
 /// A head inside an endpoint ID.
-#[derive(Clone, Copy, Debug)]
+#[derive(Clone, Copy)]
 pub(crate) enum Part {
     /// The array of scheme and specific part.
     Whole,
@@ -32,7 +32,7 @@ pub(crate) enum Part {
 }
 
 /// A head of the primary block (RFC 9171 section 4.3.1), but for its endpoint IDs and its check field.
-#[derive(Clone, Copy, Debug)]
+#[derive(Clone, Copy)]
 pub(crate) enum PrimaryField {
     Block,
     Version,
@@ -47,7 +47,7 @@ pub(crate) enum PrimaryField {
 }
 
 /// A head of a canonical block (RFC 9171 section 4.3.2), but for its check field.
-#[derive(Clone, Copy, Debug)]
+#[derive(Clone, Copy)]
 pub(crate) enum CanonicalField {
     Block,
     Type,
@@ -58,7 +58,7 @@ pub(crate) enum CanonicalField {
 }
 
 /// Which head comes next.
-#[derive(Clone, Copy, Debug)]
+#[derive(Clone, Copy)]
 pub(crate) enum Field {
     Primary(PrimaryField),
     Endpoint(Role, Part),
@@ -70,7 +70,7 @@ pub(crate) enum Field {
 }
 
 /// Where the scan stands in the bundle.
-#[derive(Clone, Copy, Debug)]
+#[derive(Clone, Copy)]
 pub(crate) enum Stage {
     /// Before the first byte.
     Start,
@@ -119,7 +119,7 @@ impl Stage {
 }
 
 /// What is known of the present block's check.
-#[derive(Clone, Copy, Debug)]
+#[derive(Clone, Copy)]
 pub(crate) enum CheckType {
     /// The check type's head has not come.
     Unread,

@@ -313,6 +313,15 @@ fn payloads(rt: HostRuntime) {
 }
 
 #[test]
+fn a_scan_shows_its_state_and_count(rt: HostRuntime) -> Result<(), Fail> {
+    let mut scan = BundleScan::new();
+    scan.feed(&PLAIN[..3]);
+    let text = format!(in rt.alloc(); "{scan:?}")?;
+    assert_eq!(rt; text.as_str(), "BundleScan { state: Going, count: 3, .. }");
+    Ok(())
+}
+
+#[test]
 fn steps_past_the_end(rt: HostRuntime) {
     let mut scan = BundleScan::new();
     assert_eq!(rt; scan.state(), State::Going);
