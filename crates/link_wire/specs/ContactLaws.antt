@@ -3,8 +3,8 @@ use Rattle.std.proofs.Common.{◌≡◌, ℕ, ◌+◌, Bool, true, false, List, 
 use Rattle.std.proofs.lemmas.Bool.{cases_lt}
 use Rattle.byteorder.specs.Endian.{big_number}
 use Rattle.link_wire.specs.Part.{bytes_at}
-use Rattle.link_wire.specs.PartLaws.{bytes_at-short, bytes_at-enough}
-use Rattle.link_wire.specs.PartSizes.{both_read, same_rest}
+use Rattle.link_wire.specs.PartLaws.{bytes_at-short, bytes_at-enough, same_part}
+use Rattle.link_wire.specs.PartSizes.{both_read}
 use Rattle.link_wire.specs.Message.{contact_at}
 use Rattle.link_wire.specs.Stream.{Fault, stream_at, reading_of, reading_by}
 use Rattle.link_wire.specs.declared.fault.WireFault.{WireFault}
@@ -28,7 +28,7 @@ contact_size bytes contact rest is =
     let found = sym (bytes_at-enough 6 bytes enough) ∙ read.1 in
     let pair = passed (eqb (big_number 4 header.0) 0x64746e21) (eqb (slice_index header.0 4) 4) _ (contact, rest) _ _ read.2 in
     let behind : header.1 ≡ rest = ap (λ (p : Contact × List ℕ). p.1) pair in
-    omega (arith, ap length behind, ap length (same_rest found), length-drop 6 bytes))
+    omega (arith, ap length behind, ap length (same_part found).1, length-drop 6 bytes))
     (cases_lt (length bytes) 6)
 
 module _ (taken : List ℕ) (contact : Contact) (is : (more : List ℕ) → contact_at (taken ++ more) ≡ Ok (contact, more)) where

@@ -4,7 +4,7 @@ use Rattle.std.proofs.lemmas.Bool.{lt-ltb, le-ltb}
 use Rattle.std.proofs.Math.Seq.{take-append_seam, drop-append_seam}
 use Rattle.arrayvec.specs.ArrayVec.{ArrayVec}
 use Rattle.byteorder.specs.Endian.{big_number}
-use Rattle.link_wire.specs.Part.{◌>>=◌, bytes_at, number_at}
+use Rattle.link_wire.specs.Part.{Part, ◌>>=◌, bytes_at, number_at}
 use Rattle.link_wire.specs.declared.fault.WireFault.TheVariants.{Truncated}
 
 pub bytes_at-short : (n : ℕ) (bytes : List ℕ) → length bytes < n → bytes_at n bytes ≡ Err Truncated
@@ -33,3 +33,9 @@ unfolding number_at
 number_at-byte b rest =
     let one : b * 1 + 0 ≡ b = omega arith in
     ap (λ read. read >>= λ field. Ok (big_number 1 field.0, field.1)) (bytes_at-there (b ∷ []) rest) ∙ ap (λ n. Ok (n, rest)) one
+
+-- what was read is one
+pub same_part : {A : Type 0} {value other : A} {bytes more : List ℕ} → (let read : Part A = Ok (value, bytes) in read) ≡ Ok (other, more) → (value ≡ other) × (bytes ≡ more)
+same_part {A} {value} {other} {bytes} {more} is =
+    let both : (value, bytes) ≡ (other, more) = cc in
+    (ap (λ (p : A × List ℕ). p.0) both, ap (λ (p : A × List ℕ). p.1) both)

@@ -2,7 +2,7 @@
 use Rattle.std.proofs.Common.{◌≡◌, ℕ, zero, suc, ◌+◌, ◌-◌, ◌≤◌, Bool, true, false, eqb, List, length, drop, Result, Ok, Err, nat_lt, if◌then◌else◌, arith, refl, ap, sym, ◌∙◌, length-drop, ⊎_elim}
 use Rattle.std.proofs.lemmas.Bool.{cases_lt}
 use Rattle.link_wire.specs.Part.{Part, ◌>>=◌, bytes_at, number_at}
-use Rattle.link_wire.specs.PartLaws.{bytes_at-short, bytes_at-enough}
+use Rattle.link_wire.specs.PartLaws.{bytes_at-short, bytes_at-enough, same_part}
 use Rattle.link_wire.specs.Message.{skipped_at, total_at, item_head_at, items_at, items_of, list_at, node_bytes_at, node_at, segment_items_at, segment_at, ack_at, refuse_at, sess_term_at, msg_reject_at, sess_init_at, fields_at, message_at, has_start, gives_total}
 use Rattle.link_wire.specs.declared.fault.WireFault.{WireFault}
 
@@ -15,12 +15,8 @@ both_read (Err fault) next value is = absurd (cc)
 pub record Shrinks {A : Type 0} (less : ℕ) (part : List ℕ → Part A) : Type 0 where
   pub by : (bytes : List ℕ) (value : A) (rest : List ℕ) → part bytes ≡ Ok (value, rest) → length rest + less ≤ length bytes
 
--- the bytes behind two parts that are one
-pub same_rest : {A : Type 0} {first second : A × List ℕ} → (let read : Result (A × List ℕ) WireFault = Ok first in read) ≡ Ok second → first.1 ≡ second.1
-same_rest {A} {first} {second} is = let pair : first ≡ second = cc in ap (λ (p : A × List ℕ). p.1) pair
-
 pub shrinks_pure : {A : Type 0} (value : A) → Shrinks 0 (λ bytes. Ok (value, bytes))
-shrinks_pure value = record { by = λ bytes other rest is. let same : bytes ≡ rest = same_rest is in omega (arith, ap length same) }
+shrinks_pure value = record { by = λ bytes other rest is. let same : bytes ≡ rest = (same_part is).1 in omega (arith, ap length same) }
 
 pub shrinks_err : {A : Type 0} (fault : WireFault) → Shrinks 0 (λ bytes. let part : Part A = Err fault in part)
 shrinks_err fault = record { by = λ bytes other rest is. absurd (cc) }
@@ -44,7 +40,7 @@ pub shrinks_bytes : (n : ℕ) → Shrinks n (bytes_at n)
 shrinks_bytes n = record {
   by = λ bytes value rest is. ⊎_elim
       (λ short. let never = sym (bytes_at-short n bytes short) ∙ is in absurd (cc))
-      (λ enough. let found = sym (bytes_at-enough n bytes enough) ∙ is in let same : drop n bytes ≡ rest = same_rest found in omega (arith, ap length same, length-drop n bytes))
+      (λ enough. let found = sym (bytes_at-enough n bytes enough) ∙ is in let same : drop n bytes ≡ rest = (same_part found).1 in omega (arith, ap length same, length-drop n bytes))
       (cases_lt (length bytes) n);
 }
 

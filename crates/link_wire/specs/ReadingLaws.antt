@@ -2,8 +2,9 @@
 use Rattle.std.proofs.Common.{◌≡◌, ℕ, zero, suc, ◌+◌, ◌<◌, ◌≤◌, true, false, List, [], ◌∷◌, ◌++◌, length, take, drop, Option, Some, None, Result, Ok, Err, nat_lt, arith, refl, ap, sym, ◌∙◌, subst, append_assoc, length-append, length-drop, ⊎_elim}
 use Rattle.std.proofs.lemmas.Bool.{cases_lt, lt-ltb, le-ltb}
 use Rattle.std.proofs.lemmas.List.{take-append-drop, length-take-le}
+use Rattle.std.proofs.lemmas.List.Elements.{All-take}
 use Rattle.std.proofs.Math.Seq.{take-append_seam, drop-append_seam}
-use Rattle.link_wire.specs.Bytes.{AreBytes, AreBytes-take}
+use Rattle.link_wire.specs.Bytes.{IsByte, AreBytes}
 use Rattle.link_wire.specs.Part.{Part}
 use Rattle.link_wire.specs.PartSizes.{shrinks_message}
 use Rattle.link_wire.specs.Message.{contact_at, message_at, data_length}
@@ -92,7 +93,7 @@ module _ (offset : ℕ) (message : Message) (head rest : List ℕ) (spells : Hea
         place = refl;
         front = head ++ content;
         behind = behind;
-        is_entry = (size, both head content spells (AreBytes-take (data_length message) rest are, refl));
+        is_entry = (size, both head content spells (All-take IsByte (data_length message) rest are, refl));
         is_rest = subst P place (stands (offset + length head + data_length message));
         parts = ap (λ all. head ++ all) (sym (take-append-drop (data_length message) rest)) ∙ sym (append_assoc head content behind);
       }))

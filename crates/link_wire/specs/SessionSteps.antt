@@ -1,6 +1,6 @@
 -- What each call of a session does to where it stands.
 use Rattle.std.proofs.Common.{◌≡◌, ℕ, ◌+◌, List, [], ◌∷◌, ◌++◌, length, Some, None, Ok, Err, arith, refl, ap, sym, ◌∙◌, subst, append_assoc, append-nil, length-append}
-use Rattle.link_wire.specs.Bytes.{no_bytes}
+use Rattle.std.proofs.lemmas.List.{nil_from_length}
 use Rattle.link_wire.specs.Device.{Input}
 use Rattle.link_wire.specs.Message.{contact_at, message_at, fields_at, data_length}
 use Rattle.link_wire.specs.MessageLaws.{message_at-kind}
@@ -184,7 +184,7 @@ module _ {R : Type 0} {look : R → Input} where
     read_by : (end : End) → IsLeft old.offset old.left end → IsReadBy end
     unfolding IsReadBy
     read_by Clean is =
-        let none : bytes ≡ [] = no_bytes bytes (omega arith) in
+        let none : bytes ≡ [] = nil_from_length bytes (omega arith) in
         (omega arith, λ more. rw (none, append-nil) refl)
     read_by (Cut from message content) is =
         let place : length (history ++ bytes) ≡ length history + length bytes = length-append history bytes in (

@@ -1,5 +1,5 @@
 -- What is spelled is read as what it spells, whatever follows.
-use Rattle.std.proofs.Common.{◌≡◌, ℕ, zero, suc, ◌+◌, ◌-◌, ◌^◌, ◌<◌, ◌≤◌, Bool, true, false, eqb, List, [], ◌∷◌, ◌++◌, length, Option, Some, None, Result, Ok, nat_lt, if◌then◌else◌, arith, refl, ap, sym, ◌∙◌, subst, append_assoc, append-nil, length-append}
+use Rattle.std.proofs.Common.{◌≡◌, ℕ, zero, suc, ◌+◌, ◌-◌, ◌^◌, ◌<◌, ◌≤◌, Bool, true, false, eqb, List, [], ◌∷◌, ◌++◌, length, Option, Some, None, Ok, nat_lt, if◌then◌else◌, arith, refl, ap, sym, ◌∙◌, subst, append_assoc, append-nil, length-append}
 use Rattle.std.proofs.lemmas.List.{nil_from_length}
 use Rattle.std.proofs.lemmas.Bool.{le-ltb, ne_eqb}
 use Rattle.std.proofs.lemmas.Bool.Decides.{nat_tests}
@@ -7,10 +7,9 @@ use Rattle.arrayvec.specs.ArrayVec.{ArrayVec}
 use Rattle.byteorder.specs.Endian.{big_number}
 use Rattle.byteorder.specs.Numbers.{big_number-reads_back, length-bytes_high_first}
 use Rattle.link_wire.specs.Part.{Part, ◌>>=◌, bytes_at, number_at}
-use Rattle.link_wire.specs.PartLaws.{bytes_at-there, array_vec_of}
+use Rattle.link_wire.specs.PartLaws.{bytes_at-there, array_vec_of, same_part}
 use Rattle.link_wire.specs.Spelled.{Spelling, be, U8, U16, U32, U64, These, ◌⨾◌, ContactSpelled, NodeSpelled, ItemHeadSpelled, ValueSpelled, ItemsSpelled, ListSpelled, SegmentItemsSpelled, HeadSpelled, Spelled}
 use Rattle.link_wire.specs.Message.{contact_at, skipped_at, total_at, item_head_at, items_at, items_of, list_at, node_bytes_at, node_at, segment_items_at, segment_at, ack_at, refuse_at, sess_term_at, msg_reject_at, sess_init_at, fields_at, message_at, has_start, gives_total, data_length}
-use Rattle.link_wire.specs.declared.fault.WireFault.{WireFault}
 use Rattle.link_wire.specs.declared.message.Contact.{Contact}
 use Rattle.link_wire.specs.declared.message.Item.{Item}
 use Rattle.link_wire.specs.declared.message.SegmentHead.{SegmentHead}
@@ -43,12 +42,6 @@ then_assoc bytes is = record {
 -- a spelling is read as this value, whatever follows
 pub record Only {A : Type 0} (part : List ℕ → Part A) (value : A) (spelled : Spelling) : Type 0 where
   pub by : (bytes : List ℕ) → spelled bytes → (more : List ℕ) → part (bytes ++ more) ≡ Ok (value, more)
-
--- what was read is one
-pub same_part : {A : Type 0} {value other : A} {bytes more : List ℕ} → (let read : Result (A × List ℕ) WireFault = Ok (value, bytes) in read) ≡ Ok (other, more) → (value ≡ other) × (bytes ≡ more)
-same_part {A} {value} {other} {bytes} {more} is =
-    let both : (value, bytes) ≡ (other, more) = cc in
-    (ap (λ (p : A × List ℕ). p.0) both, ap (λ (p : A × List ℕ). p.1) both)
 
 module _ {A B : Type 0} (part : List ℕ → Part A) (next : A × List ℕ → Part B) {value : A} {given : B} where
   pub only_then : {first second : Spelling} → Only part value first → Only (λ bytes. next (value, bytes)) given second → Only (λ bytes. part bytes >>= next) given (first ⨾ second)

@@ -2,17 +2,19 @@
 use Rattle.std.proofs.Common.{◌≡◌, ℕ, zero, suc, ◌+◌, ◌-◌, ◌*◌, ◌%◌, ◌^◌, ◌<◌, ◌≤◌, Bool, true, false, eqb, List, [], ◌∷◌, ◌++◌, slice_index, length, take, drop, Some, None, Ok, Err, nat_lt, if◌then◌else◌, arith, refl, ap, sym, ◌∙◌, subst, append_assoc, append-nil, length-append, ⊎_elim}
 use Rattle.std.proofs.Math.Nat.{add-mul, mul_assoc, pow-succ'}
 use Rattle.std.proofs.lemmas.Nat.{div-mul-add}
-use Rattle.std.proofs.lemmas.List.{take-append-drop, length-take-le}
+use Rattle.std.proofs.Math.Seq.{drop-append_seam, take-append_seam}
+use Rattle.std.proofs.lemmas.List.{get_or_past, take-append-drop, length-take-le}
+use Rattle.std.proofs.lemmas.List.Elements.{All-drop, All-get_or, All-head, All-tail, All-take}
 use Rattle.std.proofs.lemmas.Bool.{cases_lt, ltb-false, eqb-true}
 use Rattle.std.specs.Int.{byte_at, bytes_high_first}
 use Rattle.byteorder.specs.Endian.{big_number, big_from}
 use Rattle.byteorder.specs.Numbers.{big_from-cons, big_from-lt}
-use Rattle.link_wire.specs.Bytes.{AreBytes}
+use Rattle.link_wire.specs.Bytes.{IsByte, AreBytes}
 use Rattle.link_wire.specs.Part.{Part, ◌>>=◌, bytes_at, number_at}
-use Rattle.link_wire.specs.PartLaws.{bytes_at-short, bytes_at-enough}
+use Rattle.link_wire.specs.PartLaws.{bytes_at-short, bytes_at-enough, same_part}
 use Rattle.link_wire.specs.PartSizes.{both_read}
 use Rattle.link_wire.specs.Spelled.{Spelling, be, U8, U16, U32, U64, These, FollowedBy, ContactSpelled, NodeSpelled, ItemHeadSpelled, ValueSpelled, total_of, ItemSpelled, ItemsSpelled, ListSpelled, SegmentItemsSpelled, HeadSpelled}
-use Rattle.link_wire.specs.SpelledLaws.{both, last, same_part, ItemsFilling, total_size, length_item_head}
+use Rattle.link_wire.specs.SpelledLaws.{both, last, ItemsFilling, total_size, length_item_head}
 use Rattle.link_wire.specs.Message.{contact_at, skipped_at, total_at, item_head_at, items_at, items_of, list_at, node_bytes_at, node_at, segment_items_at, segment_at, ack_at, refuse_at, sess_term_at, msg_reject_at, sess_init_at, fields_at, message_at, has_start, gives_total}
 use Rattle.link_wire.specs.declared.fault.WireFault.{WireFault}
 use Rattle.link_wire.specs.declared.fault.WireFault.TheVariants.{BadMagic, BadVersion, UnknownType, NodeIdTooLong, ListTooLong, TooManyItems, ItemsOverrun}
@@ -20,18 +22,15 @@ use Rattle.link_wire.specs.declared.message.Item.{Item}
 use Rattle.link_wire.specs.declared.list.ItemHead.{ItemHead}
 use Rattle.link_wire.specs.declared.message.Message.TheVariants.{SessInit, Segment, Ack, Refuse, Keepalive, SessTerm, MsgReject}
 
-pub AreBytes-front : (xs ys : List ℕ) → AreBytes (xs ++ ys) → AreBytes xs
-AreBytes-front [] ys are = tt
-AreBytes-front (x ∷ xs) ys are = (are.0, AreBytes-front xs ys are.1)
+AreBytes-front : (xs ys : List ℕ) → AreBytes (xs ++ ys) → AreBytes xs
+AreBytes-front xs ys are = subst AreBytes (take-append_seam xs ys) (All-take IsByte (length xs) (xs ++ ys) are)
 
 pub AreBytes-behind : (xs ys : List ℕ) → AreBytes (xs ++ ys) → AreBytes ys
-AreBytes-behind [] ys are = are
-AreBytes-behind (x ∷ xs) ys are = AreBytes-behind xs ys are.1
+AreBytes-behind xs ys are = subst AreBytes (drop-append_seam xs ys) (All-drop IsByte (length xs) (xs ++ ys) are)
 
 AreBytes-index : (xs : List ℕ) → AreBytes xs → (k : ℕ) → slice_index xs k < 256
-AreBytes-index [] are k = omega arith
-AreBytes-index (x ∷ xs) are zero = are.0
-AreBytes-index (x ∷ xs) are (suc k) = AreBytes-index xs are.1 k
+AreBytes-index xs are k =
+    ⊎_elim (λ within. All-get_or IsByte xs k 0 within are) (λ past. rw (get_or_past xs k 0 past) (omega arith)) (cases_lt k (length xs))
 
 -- a byte of a number, by its place
 byte_at-pow : (k top low : ℕ) → low < 256 ^ k → byte_at k (top * 256 ^ k + low) ≡ top % 256
@@ -43,13 +42,13 @@ bytes_of_number : (xs : List ℕ) (top : ℕ) → AreBytes xs → bytes_high_fir
 bytes_of_number [] top are = refl
 bytes_of_number (x ∷ xs) top are =
     let k = length xs in
-    let low = big_from-lt 0 k xs (AreBytes-index xs are.1) in
+    let low = big_from-lt 0 k xs (AreBytes-index xs (All-tail IsByte x xs are)) in
     let moved = big_from-cons 0 k x xs in
     let split : top * 256 ^ suc k + (x * 256 ^ k + big_from 1 k (x ∷ xs)) ≡ (top * 256 + x) * 256 ^ k + big_from 0 k xs =
     rw (moved, pow-succ' 256 k, add-mul (top * 256) x (256 ^ k), mul_assoc top 256 (256 ^ k)) (omega arith) in
     let byte : byte_at k ((top * 256 + x) * 256 ^ k + big_from 0 k xs) ≡ x =
-    byte_at-pow k (top * 256 + x) (big_from 0 k xs) low ∙ omega arith in
-    ap (λ n. byte_at k n ∷ bytes_high_first k n) split ∙ ap (λ b. b ∷ bytes_high_first k ((top * 256 + x) * 256 ^ k + big_from 0 k xs)) byte ∙ ap (λ bytes. x ∷ bytes) (bytes_of_number xs (top * 256 + x) are.1)
+    byte_at-pow k (top * 256 + x) (big_from 0 k xs) low ∙ omega (arith, All-head IsByte x xs are) in
+    ap (λ n. byte_at k n ∷ bytes_high_first k n) split ∙ ap (λ b. b ∷ bytes_high_first k ((top * 256 + x) * 256 ^ k + big_from 0 k xs)) byte ∙ ap (λ bytes. x ∷ bytes) (bytes_of_number xs (top * 256 + x) (All-tail IsByte x xs are))
 
 -- the k bytes of the number in k bytes
 pub be-number : (k : ℕ) (xs : List ℕ) → AreBytes xs → length xs ≡ k → xs ≡ be k (big_number k xs)
@@ -109,7 +108,7 @@ found_bytes n = record {
       (λ enough.
       let same = same_part (sym (bytes_at-enough n bytes enough) ∙ is) in
       let whole : bytes ≡ take n bytes ++ drop n bytes = sym (take-append-drop n bytes) in
-      let are_front : AreBytes (take n bytes) = AreBytes-front (take n bytes) (drop n bytes) (subst AreBytes whole are) in
+      let are_front : AreBytes (take n bytes) = All-take IsByte n bytes are in
       record {
         front = take n bytes;
         behind = drop n bytes;
@@ -353,8 +352,8 @@ six_bytes (a ∷ b ∷ c ∷ []) are size magic version = absurd (omega arith)
 six_bytes (a ∷ b ∷ c ∷ d ∷ []) are size magic version = absurd (omega arith)
 six_bytes (a ∷ b ∷ c ∷ d ∷ e ∷ []) are size magic version = absurd (omega arith)
 six_bytes (a ∷ b ∷ c ∷ d ∷ e ∷ f ∷ []) are size magic version =
-    let four : a ∷ b ∷ c ∷ d ∷ [] ≡ be 4 0x64746e21 = be-number 4 (a ∷ b ∷ c ∷ d ∷ []) (are.0, (are.1.0, (are.1.1.0, (are.1.1.1.0, tt)))) refl ∙ ap (be 4) magic in
-    (are.1.1.1.1.1.0, ap (λ (xs : List ℕ). xs ++ (e ∷ f ∷ [])) four ∙ ap (λ (v : ℕ). 0x64 ∷ 0x74 ∷ 0x6e ∷ 0x21 ∷ v ∷ f ∷ []) version)
+    let four : a ∷ b ∷ c ∷ d ∷ [] ≡ be 4 0x64746e21 = be-number 4 (a ∷ b ∷ c ∷ d ∷ []) (All-take IsByte 4 (a ∷ b ∷ c ∷ d ∷ e ∷ f ∷ []) are) refl ∙ ap (be 4) magic in
+    (are 5 0 (omega arith), ap (λ (xs : List ℕ). xs ++ (e ∷ f ∷ [])) four ∙ ap (λ (v : ℕ). 0x64 ∷ 0x74 ∷ 0x6e ∷ 0x21 ∷ v ∷ f ∷ []) version)
 six_bytes (a ∷ b ∷ c ∷ d ∷ e ∷ f ∷ g ∷ more) are size magic version = absurd (omega arith)
 
 -- the contact header that is read was spelled in front of what is behind it

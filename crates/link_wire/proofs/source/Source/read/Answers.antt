@@ -1,5 +1,6 @@
 use Rattle.std.proofs.Common.{◌≡◌, ◌+◌, length, take, arith, length-take, sym, ap}
-use Rattle.link_wire.specs.Bytes.{AreBytes-from_index, AreBytes-take}
+use Rattle.std.proofs.lemmas.List.Elements.{All-take, All-from_get_or}
+use Rattle.link_wire.specs.Bytes.{IsByte}
 use Rattle.link_wire.proofs.source.Source.read.Goals as goal
 
 -- the bytes read are the next ones, at most as many as there is room for
@@ -9,7 +10,7 @@ returns-in-Ok g c =
     record {
       room = c.in-Ok.ensures.bound;
       takes = record {
-        bytes_fit = AreBytes-take _ _ (AreBytes-from_index _ (λ k. omega (arith, c.type_inv.buffer k)));
+        bytes_fit = All-take IsByte _ _ (All-from_get_or IsByte _ 0 (λ k within. omega (arith, c.type_inv.buffer k)));
         next = c.in-Ok.ensures.bytes.0;
         count = ap (λ n. c.args.self.now.taken + n) (sym given);
         device = c.in-Ok.ensures.failed;
