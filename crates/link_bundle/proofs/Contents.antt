@@ -1,6 +1,6 @@
 -- one more byte of a name, of data, of a check field's content, and behind the bundle
 
-use Rattle.std.proofs.Common.{◌≡◌, ℕ, ◌+◌, ◌-◌, ◌*◌, ◌<◌, ◌≤◌, Bool, true, false, List, [], ◌∷◌, ◌++◌, length, replicate, take, drop, Option, None, Some, Ok, Err, refl, sym, ap, subst, ◌∙◌, append_assoc, length-append, length-drop, arith}
+use Rattle.std.proofs.Common.{◌≡◌, ℕ, ◌+◌, ◌-◌, ◌*◌, ◌<◌, ◌≤◌, Bool, true, false, List, [], ◌∷◌, ◌++◌, length, replicate, take, drop, Option, None, Some, Result, Ok, Err, refl, sym, ap, subst, ◌∙◌, append_assoc, length-append, length-drop, arith}
 use Rattle.std.specs.Prelude.{is_some, ◌==◌, slice_range, if◌then◌else◌}
 use Rattle.std.proofs.lemmas.Bool.{ne_eqb}
 use Rattle.std.proofs.lemmas.List.{drop-append-le, take-append-le, replicate_more}
@@ -19,15 +19,23 @@ use Rattle.link_bundle.specs.CheckKinds.{kind_of}
 use Rattle.link_bundle.specs.Covers.{Covers}
 use Rattle.link_bundle.specs.Fits.{KeepsCheck}
 use Rattle.link_bundle.specs.Rows.{◌>>=◌}
-use Rattle.link_bundle.specs.Reading.{stopped, Reading, bytes_at}
+use Rattle.link_bundle.specs.Reading.{Stop, stopped, Reading, bytes_at}
 use Rattle.link_bundle.specs.Blocks.{field_at, content_at}
-use Rattle.link_bundle.specs.Bundle.{ends, judged}
+use Rattle.link_bundle.specs.Bundle.{Bundle, ends, judged}
 use Rattle.link_bundle.specs.Left.{span_of, bundle_of, ends_of, with_note, behind_field, zeroed_check, stored_left, stage_left, BlockEnds, FieldsEnd, NameGoesOn}
 use Rattle.link_bundle.specs.Scan.{HasCome, IsInside, IsInStored}
 use Rattle.link_bundle.proofs.Fields.{stored_left-step, stored_left-last}
 use Rattle.link_bundle.proofs.Heads.{ends_of-stopped}
 use Rattle.link_bundle.proofs.Runs.{with_byte, bytes_at-step, bytes_at-last}
 use Rattle.link_bundle.proofs.Steps.{Enters, entered, regrown, all_grown, length-grown, next_byte}
+
+-- the bundle, by what stands behind its present block's data
+abbrev by_field : Draft → List ℕ → Reading Bool → Result Bundle Stop
+by_field draft bytes field = ends_of bytes (with_note draft.payload (behind_field draft bytes field))
+
+-- what a check field at `field` says, whose content ends at `place`
+abbrev check_told : Bool → ℕ → ℕ → Reading Bool
+check_told same place field = if same then Ok (true, place) else Err (stopped CheckDiffers field)
 
 -- the first byte of the content, and then the rest
 skipped : Option CheckKind → ℕ → List ℕ → Reading (List ℕ) → Reading Bool
@@ -78,7 +86,7 @@ grown_content left old new draft seen byte come small some counts covers =
       reads = λ more.
           let bytes = (seen ++ byte ∷ []) ++ more in
           regrown (λ (all : List ℕ). stage_left (Content left) draft come.start old.place all (length seen)) seen byte come.reads more
-          ∙ ap (λ (field : Reading Bool). ends_of bytes (with_note draft.payload (behind_field draft bytes field)))
+          ∙ ap (λ (field : Reading Bool). by_field draft bytes field)
           (content_at-step left (kind_of draft.check) come.start bytes more byte (length seen) (next_byte seen more byte) some
           ∙ ap (λ (place : ℕ). content_at (left - 1) (kind_of draft.check) come.start bytes place) (sym longer));
       stands = inside_grown draft old new come.start seen byte come.stands covers;
@@ -99,7 +107,7 @@ ended_content left old grown_cursor new draft after stage seen byte come small o
     (λ more.
     let bytes = (seen ++ byte ∷ []) ++ more in
     regrown (λ (all : List ℕ). stage_left (Content left) draft come.start old.place all (length seen)) seen byte come.reads more
-    ∙ ap (λ (field : Reading Bool). ends_of bytes (with_note draft.payload (behind_field draft bytes field)))
+    ∙ ap (λ (field : Reading Bool). by_field draft bytes field)
     (content_at-last left (kind_of draft.check) come.start bytes more byte (length seen) (next_byte seen more byte) one
     ∙ ap (λ (place : ℕ). field_at (kind_of draft.check) come.start bytes place) (sym longer))
     ∙ ends bytes come.start (length (seen ++ byte ∷ [])))
@@ -165,7 +173,7 @@ grown_stored field left stored kind old new draft seen byte come small some take
           let bytes = (seen ++ byte ∷ []) ++ more in
           let check = zeroed_check kind come.start old.place (length seen + left - old.place) bytes in
           regrown (λ (all : List ℕ). stage_left (Stored field left stored kind) draft come.start old.place all (length seen)) seen byte come.reads more
-          ∙ ap (λ (reading : Reading Bool). ends_of bytes (with_note draft.payload (behind_field draft bytes reading)))
+          ∙ ap (λ (reading : Reading Bool). by_field draft bytes reading)
           (stored_left-step left stored check field bytes more byte (length seen) (next_byte seen more byte) some
           ∙ rw (takes.place, zeros, longer) refl);
       stands = stored_grown draft.check old new come.start seen byte come.stands takes;
@@ -190,8 +198,7 @@ last_stored : (field left stored expected : ℕ) (kind : CheckKind) (old new : C
     → (come : HasCome (Stored field left stored kind) old draft seen) → left ≡ 1
     → TakesZero draft.check old new → Checks kind draft.check new expected
     → judged ((seen ++ byte ∷ []) ++ more)
-    ≡ ends_of ((seen ++ byte ∷ []) ++ more) (with_note draft.payload (behind_field draft ((seen ++ byte ∷ []) ++ more)
-    (if stored * 256 + byte == expected then Ok (true, length (seen ++ byte ∷ [])) else Err (stopped CheckDiffers field))))
+    ≡ by_field draft ((seen ++ byte ∷ []) ++ more) (check_told (stored * 256 + byte == expected) (length (seen ++ byte ∷ [])) field)
 unfolding stage_left
 last_stored field left stored expected kind old new draft seen more byte come one takes checks =
     let bytes = (seen ++ byte ∷ []) ++ more in
@@ -202,10 +209,10 @@ last_stored field left stored expected kind old new draft seen more byte come on
     (checked kind draft.check new expected come.start (seen ++ byte ∷ []) more
     (stored_grown draft.check old new come.start seen byte come.stands takes) checks) in
     regrown (λ (all : List ℕ). stage_left (Stored field left stored kind) draft come.start old.place all (length seen)) seen byte come.reads more
-    ∙ ap (λ (reading : Reading Bool). ends_of bytes (with_note draft.payload (behind_field draft bytes reading)))
+    ∙ ap (λ (reading : Reading Bool). by_field draft bytes reading)
     (ap (λ (check : ℕ). stored_left left stored check field bytes (length seen)) check
     ∙ stored_left-last left stored expected field bytes more byte (length seen) (next_byte seen more byte) one
-    ∙ ap (λ (place : ℕ). if stored * 256 + byte == expected then Ok (true, place) else Err (stopped CheckDiffers field)) (sym longer))
+    ∙ ap (λ (place : ℕ). check_told (stored * 256 + byte == expected) place field) (sym longer))
 
 -- the check is there, and nothing more of the block is checked
 pub equal_stored : (field left stored expected : ℕ) (kind : CheckKind) (old grown_cursor new : Cursor) (draft after : Draft) (stage : Stage) (seen : List ℕ) (byte : ℕ)
@@ -220,8 +227,7 @@ equal_stored field left stored expected kind old grown_cursor new draft after st
     (λ more.
     let bytes = (seen ++ byte ∷ []) ++ more in
     last_stored field left stored expected kind old grown_cursor draft seen more byte come one takes checks
-    ∙ ap (λ (is : Bool). ends_of bytes (with_note draft.payload (behind_field draft bytes
-    (if is then Ok (true, length (seen ++ byte ∷ [])) else Err (stopped CheckDiffers field))))) same
+    ∙ ap (λ (is : Bool). by_field draft bytes (check_told is (length (seen ++ byte ∷ [])) field)) same
     ∙ ends bytes 0 (length (seen ++ byte ∷ [])))
 
 -- the check differs
@@ -239,8 +245,7 @@ other_stored field left stored expected kind old new draft seen byte come small 
       reads = λ more.
           let bytes = (seen ++ byte ∷ []) ++ more in
           last_stored field left stored expected kind old new draft seen more byte come one takes checks
-          ∙ ap (λ (is : Bool). ends_of bytes (with_note draft.payload (behind_field draft bytes
-          (if is then Ok (true, length (seen ++ byte ∷ [])) else Err (stopped CheckDiffers field))))) differs
+          ∙ ap (λ (is : Bool). by_field draft bytes (check_told is (length (seen ++ byte ∷ [])) field)) differs
           ∙ ends_of-stopped draft.payload bytes (stopped CheckDiffers field);
       stands = tt;
     }

@@ -80,11 +80,16 @@ impl<R: InDevice> Session<R> {
         self.left
     }
 
-    /// Reads the contact header, of a new session.
+    /// Reads the contact header, of a new session. After a stop it answers that stop again, and reads
+    /// nothing.
     pub fn open(&mut self) -> Result<Contact, Stop>
         ensures settles { IfErr result (HasStopped self.new) }
         ensures gives { IsNew R.state self.old → GivesContact R.state self.old self.new result }
+        ensures stopped { (stop : _) → HasStopped self.old stop → (self.new ≡ self.old) × (result ≡ Err stop) }
     {
+        if let Some(stop) = self.stop {
+            return Err(stop);
+        }
         match contact(&mut self.source) {
             Ok(contact) => Ok(contact),
             Err(halt) => Err(self.stop_at(0, halt)),

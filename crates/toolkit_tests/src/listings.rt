@@ -4,7 +4,8 @@ ghost use Rattle.std.specs.Prelude.{◌<◌};
 
 use crate::rows::{FAULTS, MESSAGE_LINES, MESSAGES, Row, SESSIONS, TRANSFERS};
 use crate::stream::{
-    CONTACT, CONTACT_LINE, NO_ITEMS, NODE, PARAMETERS, SESSION_WORDS, joined, text,
+    CONTACT, CONTACT_LINE, NO_ITEMS, NODE, PARAMETERS, SESSION_LINE, SESSION_WORDS, WHOLE_TRANSFER,
+    joined, text,
 };
 use crate::{Failing, TestReader, TestWriter};
 use link_tools::{list, run_exit};
@@ -113,6 +114,28 @@ fn longest_item(rt: HostRuntime) -> Result<(), Fail> {
         status: 0,
     };
     gives(&rt, "the longest item", &stream, usize::MAX, &want)
+}
+
+/// A segment with more data than a run holds at once, and a message behind it.
+#[test]
+fn long_segment(rt: HostRuntime) -> Result<(), Fail> {
+    let length_9000 = b"\x00\x00\x00\x00\x00\x00\x23\x28";
+    let data = [0xa5; 9000];
+    let segment: &[&[u8]] = &[WHOLE_TRANSFER, length_9000, &data, b"\x04"];
+    let mut stream = joined(rt.alloc(), &[CONTACT, PARAMETERS, NODE, NO_ITEMS])?;
+    stream.extend_from_slice(&joined(rt.alloc(), segment)?)?;
+    let line = b"38 xfer-segment flags=03 id=0 items=0 length=9000\n";
+    let output = joined(
+        rt.alloc(),
+        &[CONTACT_LINE, SESSION_LINE, line, b"9060 keepalive\n"],
+    )?;
+    let want = Listing {
+        output: &output,
+        report: b"",
+        status: 0,
+    };
+    gives(&rt, "a long segment", &stream, usize::MAX, &want)?;
+    gives(&rt, "a long segment", &stream, 1, &want)
 }
 
 /// Where the contact header and each of the messages ends.

@@ -1,4 +1,4 @@
-use Rattle.std.proofs.Common.{◌≡◌, length, take, refl, arith, length-take}
+use Rattle.std.proofs.Common.{◌≡◌, ◌+◌, ◌-◌, length, take, refl, arith, length-take}
 use Rattle.link_wire.specs.SessionSteps.{data_stands}
 use Rattle.link_wire.proofs.session.Session.data.Goals as goal
 
@@ -9,12 +9,13 @@ returns-in-Ok-Some-clause-gives g c = λ history at.
     let bytes = take c.in-Ok-Some.n c.data_of.new.buffer in
     let within = bound.0 in
     let fits = bound.1 in
+    let left : c.args.self.now.left ≡ c.in-Ok-Some.n + (c.args.self.now.left - c.in-Ok-Some.n) = omega (arith, fits) in
     let size : length bytes ≡ c.in-Ok-Some.n = omega (arith, length-take c.in-Ok-Some.n c.data_of.new.buffer) in
     let stood = data_stands c.args.self.now _ history bytes at given.takes given.live at.going refl (omega arith) in
     record {
       room = within;
       takes = given.takes;
-      left = omega arith;
+      left = left;
       some = given.some;
       reading = stood.0;
       at = stood.1;
