@@ -64,9 +64,10 @@ impl Stage {
     fn without_argument(major: u8) -> Stage
         ensures { StandsAt 1 result (λ _. no_argument major) }
     {
-        match major {
-            0 | 1 | 6 => Stage::IllFormed,
-            _ => Stage::Whole(Head { major, value: None }),
+        if major < 2 || major == 6 {
+            Stage::IllFormed
+        } else {
+            Stage::Whole(Head { major, value: None })
         }
     }
 }

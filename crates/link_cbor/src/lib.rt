@@ -18,10 +18,10 @@
 //! pieces, the same bytes are taken.
 #![tactic(auto)]
 
-pub mod check;
-pub mod head;
-pub mod head_scan;
-pub mod piecewise;
+mod check;
+mod head;
+mod head_scan;
+mod piecewise;
 
 pub use check::{Check, CheckKind};
 pub use head::{Head, HeadStep};
