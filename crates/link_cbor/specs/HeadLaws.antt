@@ -1,15 +1,10 @@
 -- what follows from the definition of a head: for scans of what stands above one
 
-use Rattle.std.proofs.Common.{◌≡◌, ℕ, ◌+◌, ◌-◌, ◌*◌, ◌/◌, ◌%◌, ◌^◌, ◌<◌, ◌≤◌, true, false, ◌&&◌, ◌||◌, ◌==◌, nat_lt, List, [], ◌∷◌, ◌++◌, length, take, Some, refl, sym, ap, ◌∙◌, ⊎_elim, arith}
-use Rattle.std.specs.Prelude.{IfSome}
-use Rattle.std.proofs.lemmas.List.{take-append-le, length-append, length-take-le}
+use Rattle.std.proofs.Common.{◌≡◌, ℕ, ◌-◌, ◌/◌, ◌%◌, ◌^◌, ◌<◌, ◌≤◌, false, nat_lt, List, [], ◌∷◌, ◌++◌, length, take, Some, refl, sym, ap, ◌∙◌, ⊎_elim, arith}
+use Rattle.std.proofs.lemmas.List.{take-append-le, length-append}
 use Rattle.std.proofs.lemmas.Bool.{cases_Bool, cases_lt, ltb-true, ltb-false, lt-ltb, le-ltb, false≢true}
-use Rattle.std.proofs.lemmas.List.Elements.{All-head, All-tail, All-take}
-use Rattle.std.proofs.Math.Nat.{pow-suc, mul-le-mul_right, pow-le-pow_right}
-use Rattle.std.proofs.Math.Pow.{pow_mono}
 use Rattle.link_cbor.specs.declared.head.Head.{Head}
-use Rattle.link_cbor.specs.declared.head.HeadStep.TheVariants.{More}
-use Rattle.link_cbor.specs.Head.{AreBytes, HeadFront, Cut, IllFormed, Whole, big_endian, with_argument, argument_front, no_argument, front_by, head_front, step_at, step_of, is_cut}
+use Rattle.link_cbor.specs.Head.{Cut, IllFormed, Whole, big_endian, with_argument, argument_front, no_argument, front_by, head_front, is_cut}
 
 -- ---- the parts of a head, one by one
 
@@ -99,95 +94,3 @@ whole_stays seen more head size told = told_stays seen more (ap is_cut told) ∙
 
 pub ill_formed_stays : (seen more : List ℕ) → head_front seen ≡ IllFormed → head_front (seen ++ more) ≡ IllFormed
 ill_formed_stays seen more told = told_stays seen more (ap is_cut told) ∙ told
-
--- every front of a cut head is cut
-pub front-cut : (seen more : List ℕ) → is_cut (head_front (seen ++ more)) ≡ true → is_cut (head_front seen) ≡ true
-front-cut seen more cut =
-    ⊎_elim (λ now. now) (λ told. absurd (false≢true (sym told ∙ ap is_cut (sym (told_stays seen more told)) ∙ cut)))
-    (cases_Bool (is_cut (head_front seen)))
-
-cut_from : (front : HeadFront) → step_at front ≡ More → front ≡ Cut
-cut_from Cut more = refl
-cut_from IllFormed more = cc
-cut_from (Whole head size) more = cc
-
--- a scan that wants more has seen a cut head
-pub more-cut : (seen : List ℕ) → step_of seen ≡ More → head_front seen ≡ Cut
-more-cut seen more = cut_from (head_front seen) more
-
--- ---- how large a whole head is
-
-pub record IsWholeHead (bytes : List ℕ) (head : Head) (size : ℕ) : Type 0 where
-  pub least : 1 ≤ size
-  pub most : size ≤ 9
-  pub within : size ≤ length bytes
-  pub major : head.major < 8
-  pub value : IfSome head.value (λ value. value < 2 ^ 64)
-
-Bounded : List ℕ → HeadFront → Type 0
-Bounded bytes Cut = Unit {0}
-Bounded bytes IllFormed = Unit {0}
-Bounded bytes (Whole head size) = IsWholeHead bytes head size
-
-pub big_endian-lt : (bytes : List ℕ) → AreBytes bytes → big_endian bytes < 256 ^ length bytes
-unfolding big_endian
-big_endian-lt [] all = omega arith
-big_endian-lt (byte ∷ bytes) all =
-    let first : byte ≤ 255 = omega (arith, All-head (λ b. b < 256) byte bytes all) in
-    let rest : big_endian bytes < 256 ^ length bytes = big_endian-lt bytes (All-tail (λ b. b < 256) byte bytes all) in
-    let scaled : byte * 256 ^ length bytes ≤ 255 * 256 ^ length bytes = mul-le-mul_right (256 ^ length bytes) first in
-    rw (pow-suc 256 (length bytes)) (omega arith)
-
-with_argument-bounded : (bytes : List ℕ) (major size value : ℕ) → 1 + size ≤ length bytes → size ≤ 8 → major < 8
-    → value < 2 ^ 64 → Bounded bytes (with_argument major size value)
-unfolding with_argument Bounded
-with_argument-bounded bytes major size value within most below fits =
-    ⊎_elim (λ simple. rw simple tt) (λ plain. rw plain (record { least = omega arith; most = omega arith; within = within; major = below; value = fits }))
-    (cases_Bool ((major == 7) && ((size == 1) && nat_lt value 32)))
-
-argument-bounded : (first : ℕ) (rest : List ℕ) (major size : ℕ) → AreBytes rest → size ≤ 8 → major < 8
-    → Bounded (first ∷ rest) (argument_front major size rest)
-unfolding Bounded
-argument-bounded first rest major size all most below =
-    ⊎_elim (λ short. rw (argument_front-cut major size rest short) tt)
-    (λ there.
-    let fits : big_endian (take size rest) < 256 ^ length (take size rest) = big_endian-lt (take size rest) (All-take (λ b. b < 256) size rest all) in
-    let spelled : big_endian (take size rest) < 256 ^ size = rw (length-take-le size rest there) at fits in
-    let room : 256 ^ size ≤ 256 ^ 8 = pow-le-pow_right (omega arith) most in
-    rw (argument_front-there major size rest there)
-    (with_argument-bounded (first ∷ rest) major size (big_endian (take size rest)) (omega arith) most below (omega arith)))
-    (cases_lt (length rest) size)
-
-no_argument-bounded : (first : ℕ) (rest : List ℕ) (major : ℕ) → major < 8 → Bounded (first ∷ rest) (no_argument major)
-unfolding no_argument Bounded
-no_argument-bounded first rest major below =
-    ⊎_elim (λ wrong. rw wrong tt)
-    (λ right. rw right (record { least = omega arith; most = omega arith; within = omega arith; major = below; value = tt }))
-    (cases_Bool (nat_lt major 2 || (major == 6)))
-
-front-bounded : (first : ℕ) (rest : List ℕ) (major information : ℕ) → AreBytes rest → major < 8 → Kind information
-    → Bounded (first ∷ rest) (front_by major information rest)
-unfolding Bounded
-front-bounded first rest major information all below (small least) =
-    rw (front_by-small major information rest least)
-    (record { least = omega arith; most = omega arith; within = omega arith; major = below; value = omega arith })
-front-bounded first rest major information all below (argument least most) =
-    rw (front_by-argument major information rest least most)
-    (argument-bounded first rest major (2 ^ (information - 24)) all
-    (let near : information - 24 ≤ 3 = omega arith in let eight : 2 ^ (information - 24) ≤ 2 ^ 3 = pow_mono near in eight) below)
-front-bounded first rest major information all below (reserved least most) = rw (front_by-reserved major information rest least most) tt
-front-bounded first rest major information all below (none least) =
-    rw (front_by-none major information rest least) (no_argument-bounded first rest major below)
-
-head-bounded : (bytes : List ℕ) → AreBytes bytes → Bounded bytes (head_front bytes)
-unfolding head_front Bounded
-head-bounded [] all = tt
-head-bounded (first ∷ rest) all =
-    front-bounded first rest (first / 32) (first % 32) (All-tail (λ b. b < 256) first rest all)
-    (omega (arith, All-head (λ b. b < 256) first rest all)) (kind_of (first % 32))
-
--- a whole head has one to nine of the bytes, its major type is below 8 and its value in 64 bits
-pub whole-bounded : (bytes : List ℕ) (head : Head) (size : ℕ) → AreBytes bytes → head_front bytes ≡ Whole head size
-    → IsWholeHead bytes head size
-unfolding Bounded
-whole-bounded bytes head size all told = rw told at (head-bounded bytes all)

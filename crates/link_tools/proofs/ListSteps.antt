@@ -22,9 +22,6 @@ use Rattle.link_tools.specs.declared.run.Status.{Status}
 use Rattle.link_tools.proofs.RunLaws.{HasTold-then, told_as}
 
 module _ {R W E : Type 0} (in_look : R → Input) (out_look : W → Output) (report_look : E → Output) where
-  Tells : Devices R W E → Devices R W E → List ℕ → List ℕ → List ℕ → Type 0
-  Tells old new bytes output report = HasTold in_look out_look report_look old new bytes output report
-
   -- the session took bytes
   pub session_told : (run mid : ListRun R W E) (bytes : List ℕ) → mid.output ≡ run.output → mid.report ≡ run.report → Takes in_look run.session.source mid.session.source bytes → HasTold in_look out_look report_look (devices_of run) (devices_of mid) bytes [] []
   session_told run mid bytes output report took = record {

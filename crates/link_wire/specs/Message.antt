@@ -97,11 +97,7 @@ list_at is_transfer bytes = do
   size ← number_at 4 bytes
   if nat_lt 4096 size.0 then Err (ListTooLong size.0) else items_of is_transfer size.0 size.1
 
--- flag 01 of XFER_SEGMENT (section 5.2.2): the transfer's last segment
-abbrev pub has_end : ℕ → Bool
-has_end flags = bit_and flags 1 == 1
-
--- flag 02 of XFER_SEGMENT: the transfer's first segment
+-- flag 02 of XFER_SEGMENT (section 5.2.2): the transfer's first segment
 abbrev pub has_start : ℕ → Bool
 has_start flags = bit_and flags 2 == 2
 

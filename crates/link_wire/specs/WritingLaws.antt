@@ -1,14 +1,11 @@
 -- What is written in turn is written in one.
-use Rattle.std.proofs.Common.{ℕ, ◌+◌, List, [], ◌++◌, take, drop, ◌∙◌, refl}
+use Rattle.std.proofs.Common.{ℕ, ◌+◌, List, ◌++◌, take, drop, ◌∙◌}
 use Rattle.std.proofs.Math.Seq.{take-add}
-use Rattle.std.proofs.KnownBytes.{Appends-nil, Appends-trans}
+use Rattle.std.proofs.KnownBytes.{Appends-trans}
 use Rattle.link_wire.specs.Device.{Output}
 use Rattle.link_wire.specs.Writing.{Wrote}
 
 module _ {W : Type 0} (look : W → Output) where
-  pub Wrote-none : (w : W) → Wrote look w w []
-  Wrote-none w = record { written = Appends-nil (look w).written; device = refl }
-
   pub Wrote-then : (old mid new : W) (xs ys : List ℕ) → Wrote look old mid xs → Wrote look mid new ys → Wrote look old new (xs ++ ys)
   Wrote-then old mid new xs ys p q = record {
     written = Appends-trans (look old).written (look mid).written (look new).written xs ys p.written q.written;
