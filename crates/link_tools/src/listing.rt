@@ -6,7 +6,9 @@ ghost use Rattle.link_tools.specs.Listing.{listing};
 
 use crate::run::{Progress, RunEnd, Status};
 use link_report::{Fault, Line, contact_line, fault_line, message_line};
-use link_wire::{InDevice, IoFault, OutDevice, Session, Source, Stop, WireFault, write_whole};
+use link_wire::{
+    InDevice, IoFault, Message, OutDevice, Session, Source, Stop, WireFault, write_whole,
+};
 
 /// How many bytes of a segment's data one step takes at most.
 const PIECE: usize = 4096;
@@ -33,6 +35,8 @@ pub struct ListRun<R, W, E> {
     output: W,
     report: E,
     stage: Stage,
+    /// The message that was read last.
+    message: Message,
     /// The line to be written next: of a segment, it waits for the data.
     line: Line,
     /// Data that nobody asks for.
@@ -58,6 +62,7 @@ impl<R: InDevice, W: OutDevice, E: OutDevice> ListRun<R, W, E> {
             output,
             report,
             stage: Stage::Contact,
+            message: Message::Keepalive,
             line: Line::new(),
             piece: [0; PIECE],
         }
@@ -86,6 +91,7 @@ impl<R: InDevice, W: OutDevice, E: OutDevice> ListRun<R, W, E> {
             output,
             report,
             stage: _,
+            message: _,
             line: _,
             piece: _,
         } = self;
@@ -145,10 +151,10 @@ impl<R: InDevice, W: OutDevice, E: OutDevice> ListRun<R, W, E> {
         ensures settles { Settles self.new result }
         ensures gives { (start : Devices R W E) (history : List ℕ) → self.old.stage ≡ Stage.Message → IsListAt R.state W.state E.state start self.old history → GivesStep R.state W.state E.state start self.new history result }
     {
-        match self.session.next() {
-            Ok(Some((offset, message))) => {
+        match self.session.read_next(&mut self.message) {
+            Ok(Some(offset)) => {
                 self.line.clear();
-                message_line(&mut self.line, offset, &message);
+                message_line(&mut self.line, offset, &self.message);
                 self.go_on()
             }
             Ok(None) => {

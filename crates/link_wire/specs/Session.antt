@@ -1,7 +1,7 @@
 -- Where a session stands in the reading of the bytes that it has taken.
 use Rattle.std.specs.Prelude.{◌≡◌, ℕ, ◌+◌, ◌<◌, ◌≤◌, List, [], ◌∷◌, ◌++◌, length, take, drop, Option, Some, None, Result, Ok, Err, nat_lt, if◌then◌else◌}
 use Rattle.link_wire.specs.Device.{Input}
-use Rattle.link_wire.specs.Getting.{GotPart, MetFault}
+use Rattle.link_wire.specs.Getting.{MetFault}
 use Rattle.link_wire.specs.Message.{data_length, fields_at, message_at}
 use Rattle.link_wire.specs.Source.{IsSourceAt, IsLive, IsOver, HasEnded, Takes, StopsAfter}
 use Rattle.link_wire.specs.Stream.{End, Clean, Cut, Fault, Stream, ended, with_entry, stream_at, Reading, reading_of}
@@ -89,6 +89,12 @@ module _ {R : Type 0} where
   IsRead look source history (wire.ListTooLong n) reading = (more : List ℕ) → reading_of (history ++ more) ≡ reading
   IsRead look source history wire.TooManyItems reading = (more : List ℕ) → reading_of (history ++ more) ≡ reading
   IsRead look source history wire.ItemsOverrun reading = (more : List ℕ) → reading_of (history ++ more) ≡ reading
+
+-- what is answered of a message that the caller keeps
+abbrev pub with_message_read : Message → Result (Option ℕ) Stop → Result (Option (ℕ × Message)) Stop
+with_message_read message (Ok None) = Ok None
+with_message_read message (Ok (Some offset)) = Ok (Some (offset, message))
+with_message_read message (Err why) = Err why
 
 module _ {R : Type 0} where
   -- What a session gives, with the history that it has taken.
@@ -199,8 +205,8 @@ module _ {R : Type 0} where
   abbrev pub HasStopped : Session R → Stop → Type 0
   HasStopped s why = s.stop ≡ Some why
 
--- What a message that is asked for gives: nothing at the end of the input; the message; or what its type byte and the
--- bytes behind it show.
+-- What the type byte that is asked for gives: nothing at the end of the input, or the byte. And what stops a message: what
+-- its type byte and the bytes behind it show, or a failure.
 module _ {R : Type 0} where
   pub record GotNone (look : R → Input) (old new : Source R) : Type 0 where
     pub takes : Takes look old new []
@@ -227,8 +233,6 @@ module _ {R : Type 0} where
     pub stops : StopsAfter look old new taken fault
     pub is_cut : message_at taken ≡ Err wire.Truncated
 
-  abbrev pub GetsNext : (R → Input) → Source R → Source R → Result (Option Message) Halt → Type 0
-  GetsNext look old new (Ok None) = GotNone look old new
-  GetsNext look old new (Ok (Some message)) = GotPart look message_at old new message
-  GetsNext look old new (Err (halt.Wire fault)) = MetNext look old new fault
-  GetsNext look old new (Err (halt.Io fault)) = StopNext look old new fault
+  abbrev pub MeetsNext : (R → Input) → Source R → Source R → Halt → Type 0
+  MeetsNext look old new (halt.Wire fault) = MetNext look old new fault
+  MeetsNext look old new (halt.Io fault) = StopNext look old new fault

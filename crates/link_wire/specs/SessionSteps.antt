@@ -11,7 +11,7 @@ use Rattle.link_wire.specs.Getting.{Gets, GotPart, IsFaultOf, IsOverAt}
 use Rattle.link_wire.specs.Stream.{End, Clean, Cut, Fault, Stream, ended, stream_at, Reading, reading_of}
 use Rattle.link_wire.specs.StreamLaws.{stream_at-head, stream_at-fault}
 use Rattle.link_wire.specs.ContactLaws.{contact_taken, reading-contact, reading-refused}
-use Rattle.link_wire.specs.Session.{joined, data_after, with_data, rest_after, IsLeft, IsNew, IsSessionAt, SameMessages, IsRead, GaveContact, GivesContact, GaveMessage, GivesNext, GetsNext}
+use Rattle.link_wire.specs.Session.{joined, data_after, with_data, rest_after, IsLeft, IsNew, IsSessionAt, SameMessages, IsRead, GaveContact, GivesContact, GaveMessage, GivesNext, MeetsNext}
 use Rattle.link_wire.specs.SessionLaws.{appended, begun, begun_by, begun_left, data_by, data_left, clean_end, settled, goes_on_from}
 use Rattle.link_wire.specs.declared.fault.Stop.{Stop}
 use Rattle.link_wire.specs.declared.fault.WireFault.{WireFault}
@@ -152,7 +152,7 @@ module _ {R : Type 0} {look : R → Input} where
           entries = ap (λ (r : Reading). r.entries) read ∙ append-nil (reading_of history).entries;
         }
 
-    next_refused : (new : Session R) (why : Halt) → GetsNext look old.source new.source (Err why) → new.stop ≡ Some (stop_at (length history) why) → GivesNext look old new history (Err (stop_at (length history) why))
+    next_refused : (new : Session R) (why : Halt) → MeetsNext look old.source new.source why → new.stop ≡ Some (stop_at (length history) why) → GivesNext look old new history (Err (stop_at (length history) why))
     next_refused new (halt.Wire fault) met stopped = record {
       taken = met.kind ∷ met.fields.taken;
       takes = Takes-then look old.source met.mid new.source (met.kind ∷ []) met.fields.taken met.takes met.fields.takes;
@@ -167,9 +167,9 @@ module _ {R : Type 0} {look : R → Input} where
       stopped = stopped;
     }
 
-    pub message_refused : (new : Session R) (source : Source R) (why : Halt) (offset : ℕ) (result : Stop) → GetsNext look old.source source (Err why) → new.source ≡ source → new.stop ≡ Some result → result ≡ stop_at offset why → offset ≡ length history → GivesNext look old new history (Err result)
+    pub message_refused : (new : Session R) (source : Source R) (why : Halt) (offset : ℕ) (result : Stop) → MeetsNext look old.source source why → new.source ≡ source → new.stop ≡ Some result → result ≡ stop_at offset why → offset ≡ length history → GivesNext look old new history (Err result)
     message_refused new source why offset result met same stopped is here =
-        let P : Source R → Type 0 = λ s. GetsNext look old.source s (Err why) in
+        let P : Source R → Type 0 = λ s. MeetsNext look old.source s why in
         let told : result ≡ stop_at (length history) why = is ∙ ap (λ n. stop_at n why) here in
         rw told (next_refused new why (subst P (sym same) met) (stopped ∙ ap Some told))
 

@@ -4,7 +4,7 @@ ghost use Rattle.std.specs.Prelude.{◌≡◌, ◌≤◌, Ok, None};
 ghost use Rattle.link_wire.specs.Source.{HasEnded, IsLive};
 ghost use Rattle.link_wire.specs.Message.{contact_at, node_at, node_bytes_at, segment_items_at, segment_at, ack_at, refuse_at, sess_term_at, msg_reject_at, sess_init_at, fields_at};
 ghost use Rattle.link_wire.specs.Getting.{Gets};
-ghost use Rattle.link_wire.specs.Session.{GetsKind, GetsNext};
+ghost use Rattle.link_wire.specs.Session.{GetsKind};
 
 use crate::device::InDevice;
 use crate::fault::{IoFault, WireFault};
@@ -163,7 +163,7 @@ pub fn fields<R: InDevice>(source: &mut Source<R>, kind: u8) -> Result<Message, 
 
 /// The type byte of the next message, or `None` where the input ends in front of it.
 #[inline]
-fn kind<R: InDevice>(source: &mut Source<R>) -> Result<Option<u8>, IoFault>
+pub fn kind<R: InDevice>(source: &mut Source<R>) -> Result<Option<u8>, IoFault>
     ensures ended { HasEnded source.old → (source.new ≡ source.old) × (result ≡ Ok None) }
     ensures gives { IsLive R.state source.old → GetsKind R.state source.old source.new result }
 {
@@ -171,18 +171,5 @@ fn kind<R: InDevice>(source: &mut Source<R>) -> Result<Option<u8>, IoFault>
     match source.fill(&mut kind)? {
         Filled::Whole => Ok(Some(kind[0])),
         Filled::Ended(_) => Ok(None),
-    }
-}
-
-/// The next message, or `None` where the input ends in front of it.
-#[inline]
-pub fn message<R: InDevice>(source: &mut Source<R>) -> Result<Option<Message>, Halt>
-    ensures ended { HasEnded source.old → (source.new ≡ source.old) × (result ≡ Ok None) }
-    ensures gives { IsLive R.state source.old → GetsNext R.state source.old source.new result }
-{
-    match kind(source) {
-        Ok(Some(kind)) => Ok(Some(fields(source, kind)?)),
-        Ok(None) => Ok(None),
-        Err(fault) => Err(Halt::Io(fault)),
     }
 }

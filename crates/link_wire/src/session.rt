@@ -6,7 +6,7 @@ ghost use Rattle.link_wire.specs.Source.{IsLive, GivesSomeOf};
 use crate::device::InDevice;
 use crate::fault::{IoFault, Stop, WireFault};
 use crate::halt::Halt;
-use crate::head::{contact, message};
+use crate::head::{contact, fields, kind};
 use crate::message::{Contact, Message};
 use crate::source::Source;
 
@@ -44,7 +44,7 @@ impl<R: InDevice> Session<R> {
     ghost use Rattle.std.specs.Prelude.{◌≡◌, ◌≤◌, ◌<◌, true, false, length, take, List, ℕ, IfOk, IfErr, Some, None, Ok, Err};
     ghost use Rattle.link_wire.specs.Halt.{stop_at};
     ghost use Rattle.link_wire.specs.Source.{IsFresh};
-    ghost use Rattle.link_wire.specs.Session.{IsNew, IsSessionAt, HasEndedBetween, HasStopped, left_of, GivesContact, GivesNext, GivesData};
+    ghost use Rattle.link_wire.specs.Session.{IsNew, IsSessionAt, HasEndedBetween, HasStopped, left_of, with_message_read, GivesContact, GivesNext, GivesData};
 
     /// A session over a source that has taken nothing.
     pub fn new(source: Source<R>) -> Session<R>
@@ -100,24 +100,44 @@ impl<R: InDevice> Session<R> {
     /// end of a stream that ends between two messages, and again on each later call. It is asked for
     /// once the contact header and the data of the message before have come. After a stop it answers
     /// that stop again, and reads nothing.
-    #[inline]
     pub fn next(&mut self) -> Result<Option<(u64, Message)>, Stop>
         ensures settles { IfErr result (HasStopped self.new) }
         ensures again { HasEndedBetween self.old → (self.new ≡ self.old) × (result ≡ Ok None) }
         ensures gives { (history : List ℕ) → IsSessionAt R.state self.old history → left_of self.old ≡ 0 → GivesNext R.state self.old self.new history result }
         ensures stopped { (stop : _) → HasStopped self.old stop → (self.new ≡ self.old) × (result ≡ Err stop) }
     {
+        let mut message = Message::Keepalive;
+        match self.read_next(&mut message)? {
+            Some(offset) => Ok(Some((offset, message))),
+            None => Ok(None),
+        }
+    }
+
+    /// `next` into a message that the caller keeps, since a message is large: the offset of its type
+    /// byte. Without one, what the message says has no meaning.
+    #[inline]
+    pub fn read_next(&mut self, message: &mut Message) -> Result<Option<u64>, Stop>
+        ensures settles { IfErr result (HasStopped self.new) }
+        ensures again { HasEndedBetween self.old → (self.new ≡ self.old) × (result ≡ Ok None) }
+        ensures gives { (history : List ℕ) → IsSessionAt R.state self.old history → left_of self.old ≡ 0 → GivesNext R.state self.old self.new history (with_message_read message.new result) }
+        ensures stopped { (stop : _) → HasStopped self.old stop → (self.new ≡ self.old) × (result ≡ Err stop) }
+    {
         if let Some(stop) = self.stop {
             return Err(stop);
         }
         let offset = self.source.taken();
-        match message(&mut self.source) {
-            Ok(Some(message)) => {
+        let kind = match kind(&mut self.source) {
+            Ok(Some(kind)) => kind,
+            Ok(None) => return Ok(None),
+            Err(fault) => return Err(self.stop_at(offset, Halt::Io(fault))),
+        };
+        match fields(&mut self.source, kind) {
+            Ok(read) => {
                 self.offset = offset;
-                self.left = message.data_length();
-                Ok(Some((offset, message)))
+                self.left = read.data_length();
+                *message = read;
+                Ok(Some(offset))
             }
-            Ok(None) => Ok(None),
             Err(halt) => Err(self.stop_at(offset, halt)),
         }
     }
