@@ -62,7 +62,7 @@ module _ {R A : Type 0} where
   pub record Gets (look : R → Input) (part : List ℕ → Part A) (old new : Source R) (answer : Result A Halt) : Type 0 where
     pub by : AnswersPart look part old new answer
 
--- the answer of a function that reads into a buffer, with what it read
-abbrev pub with_bytes : List ℕ → Result (Unit {0}) Halt → Result (List ℕ) Halt
-with_bytes field (Ok done) = Ok field
-with_bytes field (Err stop) = Err stop
+-- the answer of a function that leaves what it read with its caller, and that value
+abbrev pub with_value : {A : Type 0} → A → Result (Unit {0}) Halt → Result A Halt
+with_value value (Ok done) = Ok value
+with_value value (Err stop) = Err stop

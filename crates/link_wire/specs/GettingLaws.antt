@@ -9,7 +9,7 @@ use Rattle.link_wire.specs.Message.{skipped_at}
 use Rattle.link_wire.specs.ListLaws.{skipped_at-there, skipped_at-add}
 use Rattle.link_wire.specs.Source.{IsLive}
 use Rattle.link_wire.specs.SourceLaws.{Takes-none, Takes-then, StopsAfter-then}
-use Rattle.link_wire.specs.Getting.{IsFaultOf, Gets}
+use Rattle.link_wire.specs.Getting.{IsFaultOf, Gets, with_value}
 use Rattle.link_wire.specs.declared.fault.WireFault.{WireFault}
 use Rattle.link_wire.specs.declared.fault.WireFault.TheVariants as wire
 use Rattle.link_wire.specs.declared.halt.Halt.{Halt}
@@ -106,6 +106,11 @@ module _ {R A : Type 0} {look : R → Input} where
   pub exiting : {part : List ℕ → Part A} {old new : Source R} {stop : Halt} (answer : Result A Halt) → IsErrAnd answer (λ e. e ≡ stop) → Gets look part old new (Err stop) → Gets look part old new answer
   exiting (Ok value) is met = absurd is
   exiting (Err e) is met = rw is met
+
+  -- the same in a function that leaves what it reads with its caller
+  pub leaving : {part : List ℕ → Part A} {old new : Source R} {stop : Halt} (value : A) (answer : Result (Unit {0}) Halt) → IsErrAnd answer (λ e. e ≡ stop) → Gets look part old new (Err stop) → Gets look part old new (with_value value answer)
+  leaving value (Ok done) is met = absurd is
+  leaving value (Err e) is met = rw is met
 
   -- no byte is needed
   pub pure : {source : Source R} {value : A} → IsLive look source → Gets look (λ bytes. Ok (value, bytes)) source source (Ok value)

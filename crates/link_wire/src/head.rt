@@ -3,7 +3,7 @@
 ghost use Rattle.std.specs.Prelude.{◌≡◌, ◌≤◌, Ok, None};
 ghost use Rattle.link_wire.specs.Source.{HasEnded, IsLive};
 ghost use Rattle.link_wire.specs.Message.{contact_at, node_at, node_bytes_at, segment_items_at, segment_at, ack_at, refuse_at, sess_term_at, msg_reject_at, sess_init_at, fields_at};
-ghost use Rattle.link_wire.specs.Getting.{Gets};
+ghost use Rattle.link_wire.specs.Getting.{Gets, with_value};
 ghost use Rattle.link_wire.specs.Session.{GetsKind};
 
 use crate::device::InDevice;
@@ -74,89 +74,102 @@ fn segment_items<R: InDevice>(source: &mut Source<R>, flags: u8) -> Result<Items
 
 /// XFER_SEGMENT, less its data.
 #[inline]
-fn segment<R: InDevice>(source: &mut Source<R>) -> Result<Message, Halt>
-    ensures { IsLive R.state source.old → Gets R.state segment_at source.old source.new result }
+fn segment<R: InDevice>(source: &mut Source<R>, message: &mut Message) -> Result<(), Halt>
+    ensures { IsLive R.state source.old → Gets R.state segment_at source.old source.new (with_value message.new result) }
 {
     let flags = number8(source)?;
     let id = number64(source)?;
     let items = segment_items(source, flags)?;
     let length = number64(source)?;
-    Ok(Message::Segment(SegmentHead {
+    *message = Message::Segment(SegmentHead {
         flags,
         id,
         items,
         length,
-    }))
+    });
+    Ok(())
 }
 
 /// XFER_ACK.
-fn ack<R: InDevice>(source: &mut Source<R>) -> Result<Message, Halt>
-    ensures { IsLive R.state source.old → Gets R.state ack_at source.old source.new result }
+fn ack<R: InDevice>(source: &mut Source<R>, message: &mut Message) -> Result<(), Halt>
+    ensures { IsLive R.state source.old → Gets R.state ack_at source.old source.new (with_value message.new result) }
 {
     let flags = number8(source)?;
     let id = number64(source)?;
     let length = number64(source)?;
-    Ok(Message::Ack { flags, id, length })
+    *message = Message::Ack { flags, id, length };
+    Ok(())
 }
 
 /// XFER_REFUSE.
-fn refuse<R: InDevice>(source: &mut Source<R>) -> Result<Message, Halt>
-    ensures { IsLive R.state source.old → Gets R.state refuse_at source.old source.new result }
+fn refuse<R: InDevice>(source: &mut Source<R>, message: &mut Message) -> Result<(), Halt>
+    ensures { IsLive R.state source.old → Gets R.state refuse_at source.old source.new (with_value message.new result) }
 {
     let reason = number8(source)?;
     let id = number64(source)?;
-    Ok(Message::Refuse { reason, id })
+    *message = Message::Refuse { reason, id };
+    Ok(())
 }
 
 /// SESS_TERM.
-fn sess_term<R: InDevice>(source: &mut Source<R>) -> Result<Message, Halt>
-    ensures { IsLive R.state source.old → Gets R.state sess_term_at source.old source.new result }
+fn sess_term<R: InDevice>(source: &mut Source<R>, message: &mut Message) -> Result<(), Halt>
+    ensures { IsLive R.state source.old → Gets R.state sess_term_at source.old source.new (with_value message.new result) }
 {
     let flags = number8(source)?;
     let reason = number8(source)?;
-    Ok(Message::SessTerm { flags, reason })
+    *message = Message::SessTerm { flags, reason };
+    Ok(())
 }
 
 /// MSG_REJECT.
-fn msg_reject<R: InDevice>(source: &mut Source<R>) -> Result<Message, Halt>
-    ensures { IsLive R.state source.old → Gets R.state msg_reject_at source.old source.new result }
+fn msg_reject<R: InDevice>(source: &mut Source<R>, message: &mut Message) -> Result<(), Halt>
+    ensures { IsLive R.state source.old → Gets R.state msg_reject_at source.old source.new (with_value message.new result) }
 {
     let reason = number8(source)?;
     let header = number8(source)?;
-    Ok(Message::MsgReject { reason, header })
+    *message = Message::MsgReject { reason, header };
+    Ok(())
 }
 
 /// SESS_INIT.
-fn sess_init<R: InDevice>(source: &mut Source<R>) -> Result<Message, Halt>
-    ensures { IsLive R.state source.old → Gets R.state sess_init_at source.old source.new result }
+fn sess_init<R: InDevice>(source: &mut Source<R>, message: &mut Message) -> Result<(), Halt>
+    ensures { IsLive R.state source.old → Gets R.state sess_init_at source.old source.new (with_value message.new result) }
 {
     let keepalive = number16(source)?;
     let segment_mru = number64(source)?;
     let transfer_mru = number64(source)?;
     let node = node(source)?;
     let items = list(source, false)?;
-    Ok(Message::SessInit {
+    *message = Message::SessInit {
         keepalive,
         segment_mru,
         transfer_mru,
         node,
         items,
-    })
+    };
+    Ok(())
 }
 
-/// What follows a message's type byte.
+/// What follows a message's type byte: the message, which is left with the caller, since it is large.
 #[inline]
-pub fn fields<R: InDevice>(source: &mut Source<R>, kind: u8) -> Result<Message, Halt>
-    ensures { IsLive R.state source.old → Gets R.state (fields_at kind) source.old source.new result }
+pub fn fields<R: InDevice>(
+    source: &mut Source<R>,
+    kind: u8,
+    message: &mut Message,
+) -> Result<(), Halt>
+    ensures { IsLive R.state source.old → Gets R.state (fields_at kind) source.old source.new (with_value message.new result) }
 {
     match kind {
-        1 => segment(source),
-        2 => ack(source),
-        3 => refuse(source),
-        4 => Ok(Message::Keepalive),
-        5 => sess_term(source),
-        6 => msg_reject(source),
-        7 => sess_init(source),
+        1 => segment(source, message),
+        2 => ack(source, message),
+        3 => refuse(source, message),
+        4 => {
+            *message = Message::Keepalive;
+            Ok(())
+        }
+        5 => sess_term(source, message),
+        6 => msg_reject(source, message),
+        7 => sess_init(source, message),
         _ => Err(Halt::Wire(WireFault::UnknownType(kind))),
     }
 }

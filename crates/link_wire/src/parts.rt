@@ -3,7 +3,7 @@
 ghost use Rattle.std.specs.Prelude.{◌≡◌, ◌<◌, length, MatchResult};
 ghost use Rattle.link_wire.specs.Source.{IsLive};
 ghost use Rattle.link_wire.specs.Part.{bytes_at, number_at};
-ghost use Rattle.link_wire.specs.Getting.{Gets, with_bytes};
+ghost use Rattle.link_wire.specs.Getting.{Gets, with_value};
 
 use crate::device::InDevice;
 use crate::fault::WireFault;
@@ -14,7 +14,7 @@ use byteorder::{BigEndian, ByteOrder};
 /// The next bytes, as many as the slice has room for.
 #[inline]
 pub fn bytes<R: InDevice>(source: &mut Source<R>, field: &mut [u8]) -> Result<(), Halt>
-    ensures { IsLive R.state source.old → Gets R.state (bytes_at (length field.new)) source.old source.new (with_bytes field.new result) }
+    ensures { IsLive R.state source.old → Gets R.state (bytes_at (length field.new)) source.old source.new (with_value field.new result) }
 {
     match source.fill(field) {
         Ok(Filled::Whole) => Ok(()),

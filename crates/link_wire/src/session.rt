@@ -131,11 +131,10 @@ impl<R: InDevice> Session<R> {
             Ok(None) => return Ok(None),
             Err(fault) => return Err(self.stop_at(offset, Halt::Io(fault))),
         };
-        match fields(&mut self.source, kind) {
-            Ok(read) => {
+        match fields(&mut self.source, kind, message) {
+            Ok(()) => {
                 self.offset = offset;
-                self.left = read.data_length();
-                *message = read;
+                self.left = message.data_length();
                 Ok(Some(offset))
             }
             Err(halt) => Err(self.stop_at(offset, halt)),

@@ -1,24 +1,24 @@
-use Rattle.link_wire.specs.GettingLaws.{exit, exiting, after, pure, is_live}
+use Rattle.link_wire.specs.GettingLaws.{exit, leaving, after, pure, is_live}
 use Rattle.link_wire.specs.Message.{ack_at}
 use Rattle.link_wire.proofs.head.ack.Goals as goal
 
 pub returns-in_err-flags : goal.returns-in_err-flags
 unfolding ack_at
 returns-in_err-flags g c = λ live.
-    exiting _ c.from_residual.ensures.1 (exit _ (c.in_err-flags.ensures live))
+    leaving _ _ c.from_residual.ensures.1 (exit _ (c.in_err-flags.ensures live))
 
 pub returns-in_err-id : goal.returns-in_err-id
 unfolding ack_at
 returns-in_err-id g c = λ live.
     let flags = c.in_ok-flags.ensures live in
-    exiting _ c.from_residual-in_err-id.ensures.1 (after _ flags (exit _ (c.in_err-id.ensures (is_live flags))))
+    leaving _ _ c.from_residual-in_err-id.ensures.1 (after _ flags (exit _ (c.in_err-id.ensures (is_live flags))))
 
 pub returns-in_err-length : goal.returns-in_err-length
 unfolding ack_at
 returns-in_err-length g c = λ live.
     let flags = c.in_ok-flags.ensures live in
     let id = c.in_ok-id.ensures (is_live flags) in
-    exiting _ c.from_residual-in_err-length.ensures.1 (after _ flags (after _ id (exit _ (c.in_err-length.ensures (is_live id)))))
+    leaving _ _ c.from_residual-in_err-length.ensures.1 (after _ flags (after _ id (exit _ (c.in_err-length.ensures (is_live id)))))
 
 pub returns : goal.returns
 unfolding ack_at

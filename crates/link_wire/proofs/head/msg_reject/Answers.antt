@@ -1,17 +1,17 @@
-use Rattle.link_wire.specs.GettingLaws.{exit, exiting, after, pure, is_live}
+use Rattle.link_wire.specs.GettingLaws.{exit, leaving, after, pure, is_live}
 use Rattle.link_wire.specs.Message.{msg_reject_at}
 use Rattle.link_wire.proofs.head.msg_reject.Goals as goal
 
 pub returns-in_err-reason : goal.returns-in_err-reason
 unfolding msg_reject_at
 returns-in_err-reason g c = λ live.
-    exiting _ c.from_residual.ensures.1 (exit _ (c.in_err-reason.ensures live))
+    leaving _ _ c.from_residual.ensures.1 (exit _ (c.in_err-reason.ensures live))
 
 pub returns-in_err-header : goal.returns-in_err-header
 unfolding msg_reject_at
 returns-in_err-header g c = λ live.
     let reason = c.in_ok-reason.ensures live in
-    exiting _ c.from_residual-in_err-header.ensures.1 (after _ reason (exit _ (c.in_err-header.ensures (is_live reason))))
+    leaving _ _ c.from_residual-in_err-header.ensures.1 (after _ reason (exit _ (c.in_err-header.ensures (is_live reason))))
 
 pub returns : goal.returns
 unfolding msg_reject_at

@@ -1,17 +1,17 @@
-use Rattle.link_wire.specs.GettingLaws.{exit, exiting, after, pure, is_live}
+use Rattle.link_wire.specs.GettingLaws.{exit, leaving, after, pure, is_live}
 use Rattle.link_wire.specs.Message.{refuse_at}
 use Rattle.link_wire.proofs.head.refuse.Goals as goal
 
 pub returns-in_err-reason : goal.returns-in_err-reason
 unfolding refuse_at
 returns-in_err-reason g c = λ live.
-    exiting _ c.from_residual.ensures.1 (exit _ (c.in_err-reason.ensures live))
+    leaving _ _ c.from_residual.ensures.1 (exit _ (c.in_err-reason.ensures live))
 
 pub returns-in_err-id : goal.returns-in_err-id
 unfolding refuse_at
 returns-in_err-id g c = λ live.
     let reason = c.in_ok-reason.ensures live in
-    exiting _ c.from_residual-in_err-id.ensures.1 (after _ reason (exit _ (c.in_err-id.ensures (is_live reason))))
+    leaving _ _ c.from_residual-in_err-id.ensures.1 (after _ reason (exit _ (c.in_err-id.ensures (is_live reason))))
 
 pub returns : goal.returns
 unfolding refuse_at

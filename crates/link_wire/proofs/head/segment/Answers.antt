@@ -1,24 +1,24 @@
-use Rattle.link_wire.specs.GettingLaws.{exit, exiting, after, pure, is_live}
+use Rattle.link_wire.specs.GettingLaws.{exit, leaving, after, pure, is_live}
 use Rattle.link_wire.specs.Message.{segment_at}
 use Rattle.link_wire.proofs.head.segment.Goals as goal
 
 pub returns-in_err-flags : goal.returns-in_err-flags
 unfolding segment_at
 returns-in_err-flags g c = λ live.
-    exiting _ c.from_residual.ensures.1 (exit _ (c.in_err-flags.ensures live))
+    leaving _ _ c.from_residual.ensures.1 (exit _ (c.in_err-flags.ensures live))
 
 pub returns-in_err-id : goal.returns-in_err-id
 unfolding segment_at
 returns-in_err-id g c = λ live.
     let flags = c.in_ok-flags.ensures live in
-    exiting _ c.from_residual-in_err-id.ensures.1 (after _ flags (exit _ (c.in_err-id.ensures (is_live flags))))
+    leaving _ _ c.from_residual-in_err-id.ensures.1 (after _ flags (exit _ (c.in_err-id.ensures (is_live flags))))
 
 pub returns-in_err-items : goal.returns-in_err-items
 unfolding segment_at
 returns-in_err-items g c = λ live.
     let flags = c.in_ok-flags.ensures live in
     let id = c.in_ok-id.ensures (is_live flags) in
-    exiting _ c.from_residual-in_err-items.ensures.1 (after _ flags (after _ id (exit _ (c.in_err-items.ensures (is_live id)))))
+    leaving _ _ c.from_residual-in_err-items.ensures.1 (after _ flags (after _ id (exit _ (c.in_err-items.ensures (is_live id)))))
 
 pub returns-in_err-length : goal.returns-in_err-length
 unfolding segment_at
@@ -26,7 +26,7 @@ returns-in_err-length g c = λ live.
     let flags = c.in_ok-flags.ensures live in
     let id = c.in_ok-id.ensures (is_live flags) in
     let items = c.in_ok-items.ensures (is_live id) in
-    exiting _ c.from_residual-in_err-length.ensures.1 (after _ flags (after _ id (after _ items (exit _ (c.in_err-length.ensures (is_live items))))))
+    leaving _ _ c.from_residual-in_err-length.ensures.1 (after _ flags (after _ id (after _ items (exit _ (c.in_err-length.ensures (is_live items))))))
 
 pub returns : goal.returns
 unfolding segment_at

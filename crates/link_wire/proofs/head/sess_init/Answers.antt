@@ -1,24 +1,24 @@
-use Rattle.link_wire.specs.GettingLaws.{exit, exiting, after, pure, is_live}
+use Rattle.link_wire.specs.GettingLaws.{exit, leaving, after, pure, is_live}
 use Rattle.link_wire.specs.Message.{sess_init_at}
 use Rattle.link_wire.proofs.head.sess_init.Goals as goal
 
 pub returns-in_err-keepalive : goal.returns-in_err-keepalive
 unfolding sess_init_at
 returns-in_err-keepalive g c = λ live.
-    exiting _ c.from_residual.ensures.1 (exit _ (c.in_err-keepalive.ensures live))
+    leaving _ _ c.from_residual.ensures.1 (exit _ (c.in_err-keepalive.ensures live))
 
 pub returns-in_err-segment_mru : goal.returns-in_err-segment_mru
 unfolding sess_init_at
 returns-in_err-segment_mru g c = λ live.
     let keepalive = c.in_ok-keepalive.ensures live in
-    exiting _ c.from_residual-in_err-segment_mru.ensures.1 (after _ keepalive (exit _ (c.in_err-segment_mru.ensures (is_live keepalive))))
+    leaving _ _ c.from_residual-in_err-segment_mru.ensures.1 (after _ keepalive (exit _ (c.in_err-segment_mru.ensures (is_live keepalive))))
 
 pub returns-in_err-transfer_mru : goal.returns-in_err-transfer_mru
 unfolding sess_init_at
 returns-in_err-transfer_mru g c = λ live.
     let keepalive = c.in_ok-keepalive.ensures live in
     let segment_mru = c.in_ok-segment_mru.ensures (is_live keepalive) in
-    exiting _ c.from_residual-in_err-transfer_mru.ensures.1 (after _ keepalive (after _ segment_mru (exit _ (c.in_err-transfer_mru.ensures (is_live segment_mru)))))
+    leaving _ _ c.from_residual-in_err-transfer_mru.ensures.1 (after _ keepalive (after _ segment_mru (exit _ (c.in_err-transfer_mru.ensures (is_live segment_mru)))))
 
 pub returns-in_err-node : goal.returns-in_err-node
 unfolding sess_init_at
@@ -26,7 +26,7 @@ returns-in_err-node g c = λ live.
     let keepalive = c.in_ok-keepalive.ensures live in
     let segment_mru = c.in_ok-segment_mru.ensures (is_live keepalive) in
     let transfer_mru = c.in_ok-transfer_mru.ensures (is_live segment_mru) in
-    exiting _ c.from_residual-in_err-node.ensures.1 (after _ keepalive (after _ segment_mru (after _ transfer_mru (exit _ (c.in_err-node.ensures (is_live transfer_mru))))))
+    leaving _ _ c.from_residual-in_err-node.ensures.1 (after _ keepalive (after _ segment_mru (after _ transfer_mru (exit _ (c.in_err-node.ensures (is_live transfer_mru))))))
 
 pub returns-in_err-items : goal.returns-in_err-items
 unfolding sess_init_at
@@ -35,7 +35,7 @@ returns-in_err-items g c = λ live.
     let segment_mru = c.in_ok-segment_mru.ensures (is_live keepalive) in
     let transfer_mru = c.in_ok-transfer_mru.ensures (is_live segment_mru) in
     let node = c.in_ok-node.ensures (is_live transfer_mru) in
-    exiting _ c.from_residual-in_err-items.ensures.1 (after _ keepalive (after _ segment_mru (after _ transfer_mru (after _ node (exit _ (c.in_err-items.ensures (is_live node)))))))
+    leaving _ _ c.from_residual-in_err-items.ensures.1 (after _ keepalive (after _ segment_mru (after _ transfer_mru (after _ node (exit _ (c.in_err-items.ensures (is_live node)))))))
 
 pub returns : goal.returns
 unfolding sess_init_at

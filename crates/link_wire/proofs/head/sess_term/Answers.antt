@@ -1,17 +1,17 @@
-use Rattle.link_wire.specs.GettingLaws.{exit, exiting, after, pure, is_live}
+use Rattle.link_wire.specs.GettingLaws.{exit, leaving, after, pure, is_live}
 use Rattle.link_wire.specs.Message.{sess_term_at}
 use Rattle.link_wire.proofs.head.sess_term.Goals as goal
 
 pub returns-in_err-flags : goal.returns-in_err-flags
 unfolding sess_term_at
 returns-in_err-flags g c = λ live.
-    exiting _ c.from_residual.ensures.1 (exit _ (c.in_err-flags.ensures live))
+    leaving _ _ c.from_residual.ensures.1 (exit _ (c.in_err-flags.ensures live))
 
 pub returns-in_err-reason : goal.returns-in_err-reason
 unfolding sess_term_at
 returns-in_err-reason g c = λ live.
     let flags = c.in_ok-flags.ensures live in
-    exiting _ c.from_residual-in_err-reason.ensures.1 (after _ flags (exit _ (c.in_err-reason.ensures (is_live flags))))
+    leaving _ _ c.from_residual-in_err-reason.ensures.1 (after _ flags (exit _ (c.in_err-reason.ensures (is_live flags))))
 
 pub returns : goal.returns
 unfolding sess_term_at

@@ -8,7 +8,7 @@ returns-in-Ok-clause-gives g c = λ history at none.
     let first = rw c.in-Ok-Some.field-0-is at (c.in-Ok-Some.ensures.gives at.live) in
     let came = got_message first (c.in-Ok.ensures first.live) in
     let here : c.taken-offset.result ≡ length history = c.taken-offset.ensures ∙ at.at.taken in
-    rw here (message_came c.args.self.now history at none _ c.in-Ok.read came refl c.data_length-self.ensures at.going)
+    rw here (message_came c.args.self.now history at none _ c.fields.new.message came refl c.data_length-self.ensures at.going)
 
 pub returns-in-Err-fields-clause-gives : goal.returns-in-Err-fields-clause-gives
 returns-in-Err-fields-clause-gives g c = λ history at none.
