@@ -11,6 +11,8 @@ mod pace;
 #[cfg(test)]
 mod rows;
 #[cfg(test)]
+mod sessions;
+#[cfg(test)]
 mod std_devices;
 #[cfg(test)]
 mod stream;
