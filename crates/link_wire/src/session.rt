@@ -113,8 +113,8 @@ impl<R: InDevice> Session<R> {
         }
     }
 
-    /// `next` into a message that the caller keeps, since a message is large: the offset of its type
-    /// byte. Without one, what the message says has no meaning.
+    /// As `next`, into a message that the caller keeps, since a message is large: answers the offset of
+    /// its type byte. Where none is answered, what stands in `message` means nothing.
     #[inline]
     pub fn read_next(&mut self, message: &mut Message) -> Result<Option<u64>, Stop>
         ensures settles { IfErr result (HasStopped self.new) }
