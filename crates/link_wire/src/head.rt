@@ -21,6 +21,21 @@ const MAGIC: u32 = 0x6474_6e21;
 /// The version that is read.
 const VERSION: u8 = 4;
 
+/// Message types (RFC 9174 section 4.5).
+const XFER_SEGMENT: u8 = 1;
+
+const XFER_ACK: u8 = 2;
+
+const XFER_REFUSE: u8 = 3;
+
+const KEEPALIVE: u8 = 4;
+
+const SESS_TERM: u8 = 5;
+
+const MSG_REJECT: u8 = 6;
+
+const SESS_INIT: u8 = 7;
+
 /// Flag START of a segment: a transfer begins.
 const START: u8 = 2;
 
@@ -160,16 +175,16 @@ pub fn fields<R: InDevice>(
     ensures { IsLive R.state source.old → Gets R.state (fields_at kind) source.old source.new (with_value message.new result) }
 {
     match kind {
-        1 => segment(source, message),
-        2 => ack(source, message),
-        3 => refuse(source, message),
-        4 => {
+        XFER_SEGMENT => segment(source, message),
+        XFER_ACK => ack(source, message),
+        XFER_REFUSE => refuse(source, message),
+        KEEPALIVE => {
             *message = Message::Keepalive;
             Ok(())
         }
-        5 => sess_term(source, message),
-        6 => msg_reject(source, message),
-        7 => sess_init(source, message),
+        SESS_TERM => sess_term(source, message),
+        MSG_REJECT => msg_reject(source, message),
+        SESS_INIT => sess_init(source, message),
         _ => Err(Halt::Wire(WireFault::UnknownType(kind))),
     }
 }

@@ -15,6 +15,9 @@ use crate::source::Source;
 /// Values that nobody asks for are passed over in pieces of this many bytes.
 const PIECE: usize = 256;
 
+/// How many bytes stand in front of an item's value: its flags, type and length.
+const ITEM_HEAD: u32 = 5;
+
 /// The type of a Transfer Length item (RFC 9174 section 5.2.5.1).
 const TRANSFER_LENGTH: u16 = 1;
 
@@ -71,13 +74,13 @@ fn item_head<R: InDevice>(source: &mut Source<R>, left: u32) -> Result<ItemHead,
     ensures gets { IsLive R.state source.old → Gets R.state (item_head_at left) source.old source.new result }
     ensures within { IfOk result (λ head. 5 + head.length ≤ left) }
 {
-    if left < 5 {
+    if left < ITEM_HEAD {
         return Err(Halt::Wire(WireFault::ItemsOverrun));
     }
     let flags = number8(source)?;
     let kind = number16(source)?;
     let length = number16(source)?;
-    if u32::from(length) > left - 5 {
+    if u32::from(length) > left - ITEM_HEAD {
         return Err(Halt::Wire(WireFault::ItemsOverrun));
     }
     Ok(ItemHead {
@@ -105,7 +108,7 @@ fn items<R: InDevice>(source: &mut Source<R>, is_transfer: bool, length: u32) ->
             length: head.length,
             total,
         });
-        left -= 5 + u32::from(head.length);
+        left -= ITEM_HEAD + u32::from(head.length);
     }
     Ok(items)
 }

@@ -4,28 +4,28 @@ use Rattle.link_wire.specs.GettingLaws.{exit, exiting, after, pure, refuse, is_l
 use Rattle.link_wire.specs.Message.{item_head_at}
 use Rattle.link_wire.proofs.list.item_head.Goals as goal
 
-pub returns-then-left-lt5-clause-gets : goal.returns-then-left-lt5-clause-gets
+pub returns-then-left-lt-ITEM_HEAD-clause-gets : goal.returns-then-left-lt-ITEM_HEAD-clause-gets
 unfolding item_head_at
-returns-then-left-lt5-clause-gets g c = λ live.
-    if_true _ _ (lt-ltb _ _ c.if-left-lt5.true) (refuse (λ e. cc))
+returns-then-left-lt-ITEM_HEAD-clause-gets g c = λ live.
+    if_true _ _ (lt-ltb _ _ c.if-left-lt-ITEM_HEAD.true) (refuse (λ e. cc))
 
 pub returns-in_err-flags-clause-gets : goal.returns-in_err-flags-clause-gets
 unfolding item_head_at
 returns-in_err-flags-clause-gets g c = λ live.
-    exiting _ c.from_residual.ensures.1 (if_false _ _ (le-ltb _ _ c.if-left-lt5.false) (exit _ (c.in_err-flags.ensures live)))
+    exiting _ c.from_residual.ensures.1 (if_false _ _ (le-ltb _ _ c.if-left-lt-ITEM_HEAD.false) (exit _ (c.in_err-flags.ensures live)))
 
 pub returns-in_err-kind-clause-gets : goal.returns-in_err-kind-clause-gets
 unfolding item_head_at
 returns-in_err-kind-clause-gets g c = λ live.
     let flags = c.in_ok-flags.ensures live in
-    exiting _ c.from_residual-in_err-kind.ensures.1 (if_false _ _ (le-ltb _ _ c.if-left-lt5.false) (after _ flags (exit _ (c.in_err-kind.ensures (is_live flags)))))
+    exiting _ c.from_residual-in_err-kind.ensures.1 (if_false _ _ (le-ltb _ _ c.if-left-lt-ITEM_HEAD.false) (after _ flags (exit _ (c.in_err-kind.ensures (is_live flags)))))
 
 pub returns-in_err-length-clause-gets : goal.returns-in_err-length-clause-gets
 unfolding item_head_at
 returns-in_err-length-clause-gets g c = λ live.
     let flags = c.in_ok-flags.ensures live in
     let kind = c.in_ok-kind.ensures (is_live flags) in
-    exiting _ c.from_residual-in_err-length.ensures.1 (if_false _ _ (le-ltb _ _ c.if-left-lt5.false) (after _ flags (after _ kind (exit _ (c.in_err-length.ensures (is_live kind))))))
+    exiting _ c.from_residual-in_err-length.ensures.1 (if_false _ _ (le-ltb _ _ c.if-left-lt-ITEM_HEAD.false) (after _ flags (after _ kind (exit _ (c.in_err-length.ensures (is_live kind))))))
 
 pub returns-then-from-left-clause-gets : goal.returns-then-from-left-clause-gets
 unfolding item_head_at
@@ -34,7 +34,7 @@ returns-then-from-left-clause-gets g c = λ live.
     let kind = c.in_ok-kind.ensures (is_live flags) in
     let size = c.in_ok-length.ensures (is_live kind) in
     let over : c.args.left - 5 < c.in_ok-length.length = omega arith in
-    if_false _ _ (le-ltb _ _ c.if-left-lt5.false) (after _ flags (after _ kind (after _ size (if_true _ _ (lt-ltb _ _ over) (refuse (λ e. cc))))))
+    if_false _ _ (le-ltb _ _ c.if-left-lt-ITEM_HEAD.false) (after _ flags (after _ kind (after _ size (if_true _ _ (lt-ltb _ _ over) (refuse (λ e. cc))))))
 
 pub returns-clause-gets : goal.returns-clause-gets
 unfolding item_head_at
@@ -43,4 +43,4 @@ returns-clause-gets g c = λ live.
     let kind = c.in_ok-kind.ensures (is_live flags) in
     let size = c.in_ok-length.ensures (is_live kind) in
     let within : c.in_ok-length.length ≤ c.args.left - 5 = omega arith in
-    if_false _ _ (le-ltb _ _ c.if-left-lt5.false) (after _ flags (after _ kind (after _ size (if_false _ _ (le-ltb _ _ within) (pure (is_live size))))))
+    if_false _ _ (le-ltb _ _ c.if-left-lt-ITEM_HEAD.false) (after _ flags (after _ kind (after _ size (if_false _ _ (le-ltb _ _ within) (pure (is_live size))))))
