@@ -451,29 +451,56 @@ fn a_large_payload_by_bytes(rt: HostRuntime) -> Result<(), Fail> {
     Ok(())
 }
 
-#[test]
-fn a_large_payload_cut_in_its_first_quarter(rt: HostRuntime) -> Result<(), Fail> {
-    expect_cuts(&rt, &large(rt.alloc())?, 0..17_500, None);
-    Ok(())
-}
-
-#[test]
-fn a_large_payload_cut_in_its_second_quarter(rt: HostRuntime) -> Result<(), Fail> {
-    expect_cuts(&rt, &large(rt.alloc())?, 17_500..35_000, None);
-    Ok(())
-}
-
-#[test]
-fn a_large_payload_cut_in_its_third_quarter(rt: HostRuntime) -> Result<(), Fail> {
-    expect_cuts(&rt, &large(rt.alloc())?, 35_000..52_500, None);
-    Ok(())
-}
-
-#[test]
-fn a_large_payload_cut_in_its_last_quarter(rt: HostRuntime) -> Result<(), Fail> {
+/// Cuts the bundle with the large payload in two, at each place of one of its eighths.
+fn cut_in_eighth(rt: &(impl Abort + AllocGlobal), eighth: usize) -> Result<(), Fail>
+    requires { eighth < 8 }
+{
     let bytes = large(rt.alloc())?;
-    expect_cuts(&rt, &bytes, 52_500..bytes.len(), None);
+    assert!(rt; bytes.len() < 100_000);
+    let size = bytes.len().div_ceil(8);
+    let end = bytes.len().min((eighth + 1) * size);
+    expect_cuts(rt, &bytes, eighth * size..end, None);
     Ok(())
+}
+
+#[test]
+fn a_large_payload_cut_in_its_first_eighth(rt: HostRuntime) -> Result<(), Fail> {
+    cut_in_eighth(&rt, 0)
+}
+
+#[test]
+fn a_large_payload_cut_in_its_second_eighth(rt: HostRuntime) -> Result<(), Fail> {
+    cut_in_eighth(&rt, 1)
+}
+
+#[test]
+fn a_large_payload_cut_in_its_third_eighth(rt: HostRuntime) -> Result<(), Fail> {
+    cut_in_eighth(&rt, 2)
+}
+
+#[test]
+fn a_large_payload_cut_in_its_fourth_eighth(rt: HostRuntime) -> Result<(), Fail> {
+    cut_in_eighth(&rt, 3)
+}
+
+#[test]
+fn a_large_payload_cut_in_its_fifth_eighth(rt: HostRuntime) -> Result<(), Fail> {
+    cut_in_eighth(&rt, 4)
+}
+
+#[test]
+fn a_large_payload_cut_in_its_sixth_eighth(rt: HostRuntime) -> Result<(), Fail> {
+    cut_in_eighth(&rt, 5)
+}
+
+#[test]
+fn a_large_payload_cut_in_its_seventh_eighth(rt: HostRuntime) -> Result<(), Fail> {
+    cut_in_eighth(&rt, 6)
+}
+
+#[test]
+fn a_large_payload_cut_in_its_last_eighth(rt: HostRuntime) -> Result<(), Fail> {
+    cut_in_eighth(&rt, 7)
 }
 
 /// The plain bundle with so many blocks before its payload block, from number 2 on.
