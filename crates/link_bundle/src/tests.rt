@@ -451,7 +451,8 @@ fn a_large_payload_by_bytes(rt: HostRuntime) -> Result<(), Fail> {
     Ok(())
 }
 
-/// Cuts the bundle with the large payload in two, at each place of one of its eighths.
+/// Cuts the bundle with the large payload in two, at each place of one of its eighths: a test of all 70,042 places would be
+/// near its time limit.
 fn cut_in_eighth(rt: &(impl Abort + AllocGlobal), eighth: usize) -> Result<(), Fail>
     requires { eighth < 8 }
 {

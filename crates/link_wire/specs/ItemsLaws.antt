@@ -1,5 +1,5 @@
 -- The items of a list, one after another.
-use Rattle.std.proofs.Common.{◌≡◌, ℕ, zero, suc, ◌+◌, ◌-◌, ◌<◌, Bool, List, [], ◌∷◌, ◌++◌, Option, Result, Ok, Err, arith, refl, ap, sym, append_assoc}
+use Rattle.std.proofs.Common.{◌≡◌, ℕ, zero, suc, ◌+◌, ◌-◌, ◌<◌, Bool, List, [], ◌∷◌, ◌++◌, Option, Result, Ok, Err, eqb, false, arith, refl, ap, sym, append_assoc}
 use Rattle.std.proofs.lemmas.Bool.{ne_eqb}
 use Rattle.link_wire.specs.Device.{Input}
 use Rattle.link_wire.specs.Source.{IsLive}
@@ -25,6 +25,9 @@ with_front-append xs ys (Err stop) = refl
 abbrev pub item_of : ItemHead → Option ℕ → Item
 item_of head total = record { flags = head.flags; kind = head.kind; length = head.length; total = total }
 
+some_left : (left : ℕ) → 0 < left → eqb left 0 ≡ false
+some_left left some = ne_eqb left 0 (λ none. omega arith)
+
 module _ {R : Type 0} {look : R → Input} (is_transfer : Bool) where
   -- the list is done
   none_left : (room : ℕ) {source : Source R} → IsLive look source → Gets look (items_at is_transfer room 0) source source (Ok [])
@@ -39,13 +42,13 @@ module _ {R : Type 0} {look : R → Input} (is_transfer : Bool) where
     -- the head of the next item was not read
     pub items_exit : (room : ℕ) {stop : Halt} → Gets look (item_head_at left) old mid (Err stop) → Gets look (items_at is_transfer room left) old mid (Err stop)
     unfolding items_at
-    items_exit zero met = if_false _ _ (ne_eqb left 0 (λ none. omega arith)) (exit _ met)
-    items_exit (suc room) met = if_false _ _ (ne_eqb left 0 (λ none. omega arith)) (exit _ met)
+    items_exit zero met = if_false _ _ (some_left left some) (exit _ met)
+    items_exit (suc room) met = if_false _ _ (some_left left some) (exit _ met)
 
     module _ {head : ItemHead} (got : Gets look (item_head_at left) old mid (Ok head)) where
       no_room : Gets look (items_at is_transfer 0 left) old mid (Err (halt.Wire wire.TooManyItems))
       unfolding items_at
-      no_room = if_false _ _ (ne_eqb left 0 (λ none. omega arith)) (after _ got (refuse (λ e. cc)))
+      no_room = if_false _ _ (some_left left some) (after _ got (refuse (λ e. cc)))
 
       -- there is no room for the next item
       pub items_full : (room : ℕ) → room ≡ 0 → Gets look (items_at is_transfer room left) old mid (Err (halt.Wire wire.TooManyItems))
@@ -53,7 +56,7 @@ module _ {R : Type 0} {look : R → Input} (is_transfer : Bool) where
 
       value_unread : (room : ℕ) {new : Source R} {stop : Halt} → Gets look (total_at is_transfer head.kind head.length) mid new (Err stop) → Gets look (items_at is_transfer (suc room) left) old new (Err stop)
       unfolding items_at
-      value_unread room met = if_false _ _ (ne_eqb left 0 (λ none. omega arith)) (after _ got (exit _ met))
+      value_unread room met = if_false _ _ (some_left left some) (after _ got (exit _ met))
 
       -- the value of the next item was not read
       pub items_exit_total : (room less : ℕ) {new : Source R} {stop : Halt} → room ≡ suc less → Gets look (total_at is_transfer head.kind head.length) mid new (Err stop) → Gets look (items_at is_transfer room left) old new (Err stop)
@@ -61,8 +64,8 @@ module _ {R : Type 0} {look : R → Input} (is_transfer : Bool) where
 
       others_read : (room : ℕ) {next new : Source R} (total : Option ℕ) (answer : Result (List Item) Halt) → Gets look (total_at is_transfer head.kind head.length) mid next (Ok total) → Gets look (items_at is_transfer room (left - (5 + head.length))) next new answer → Gets look (items_at is_transfer (suc room) left) old new (with_front (item_of head total ∷ []) answer)
       unfolding items_at
-      others_read room total (Ok items) told others = if_false _ _ (ne_eqb left 0 (λ none. omega arith)) (after _ got (after _ told (after _ others (pure (is_live others)))))
-      others_read room total (Err stop) told met = if_false _ _ (ne_eqb left 0 (λ none. omega arith)) (after _ got (after _ told (exit _ met)))
+      others_read room total (Ok items) told others = if_false _ _ (some_left left some) (after _ got (after _ told (after _ others (pure (is_live others)))))
+      others_read room total (Err stop) told met = if_false _ _ (some_left left some) (after _ got (after _ told (exit _ met)))
 
       -- the next item, and those behind it
       pub items_more : (room less : ℕ) {next new : Source R} (total : Option ℕ) (answer : Result (List Item) Halt) → room ≡ suc less → Gets look (total_at is_transfer head.kind head.length) mid next (Ok total) → Gets look (items_at is_transfer less (left - (5 + head.length))) next new answer → Gets look (items_at is_transfer room left) old new (with_front (item_of head total ∷ []) answer)
