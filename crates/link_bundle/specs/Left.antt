@@ -304,22 +304,21 @@ abbrev pub goes_on : Result Stage BundleFault → Draft → ℕ → ℕ → ℕ 
 goes_on (Ok stage) draft start place next bytes = stage_left stage draft start next bytes next
 goes_on (Err fault) draft start place next bytes = with_note draft.payload (Err (stopped fault place))
 
-abbrev pub JudgesAt : ℕ → Field → Draft → HeadItem → Result Stage BundleFault → Draft → Type 0
-JudgesAt next which old head result new =
-    (bytes : List ℕ) (start place : ℕ) → head_at bytes place ≡ Ok (head, next) → next ≤ length bytes →
-    ends_of bytes (with_note old.payload (field_left which old (block_start which start place) bytes place))
-    ≡ goes_on result new (block_start which start place) place next bytes
-
--- the head is judged as the reading judges it, and the stage and the draft are those behind it
-abbrev pub Judges : Field → Draft → HeadItem → Result Stage BundleFault → Draft → Type 0
-Judges which old head result new = (next : ℕ) → JudgesAt next which old head result new
-
--- the same of a head at this place
+-- the head at this place, with `next` behind it, is judged as the reading judges it: the stage and the draft are those
+-- behind it
 abbrev pub JudgesFrom : ℕ → ℕ → Field → Draft → HeadItem → Result Stage BundleFault → Draft → Type 0
 JudgesFrom place next which old head result new =
     (bytes : List ℕ) (start : ℕ) → head_at bytes place ≡ Ok (head, next) → next ≤ length bytes →
     ends_of bytes (with_note old.payload (field_left which old (block_start which start place) bytes place))
     ≡ goes_on result new (block_start which start place) place next bytes
+
+-- wherever it begins
+abbrev pub JudgesAt : ℕ → Field → Draft → HeadItem → Result Stage BundleFault → Draft → Type 0
+JudgesAt next which old head result new = (place : ℕ) → JudgesFrom place next which old head result new
+
+-- and wherever it ends
+abbrev pub Judges : Field → Draft → HeadItem → Result Stage BundleFault → Draft → Type 0
+Judges which old head result new = (next : ℕ) → JudgesAt next which old head result new
 
 -- what stands behind a block, behind its fields and behind an endpoint ID
 

@@ -10,7 +10,7 @@ use Rattle.link_bundle.proofs.draft.Draft.block.Goals as goal
 
 pub returns-in_err-self-clause-judges : goal.returns-in_err-self-clause-judges
 unfolding field_left stage_left
-returns-in_err-self-clause-judges c = λ next bytes start place told within.
+returns-in_err-self-clause-judges c = λ next place bytes start told within.
     let now = c.args.self.now in
     let fault = c.in_err-self.field-0.0 in
     let exit = err_from_is_err_and c.from_residual.result c.from_residual.ensures.1 in
@@ -21,7 +21,7 @@ returns-in_err-self-clause-judges c = λ next bytes start place told within.
 
 pub returns-then-is_full-clause-judges : goal.returns-then-is_full-clause-judges
 unfolding field_left stage_left
-returns-then-is_full-clause-judges c = λ next bytes start place told within.
+returns-then-is_full-clause-judges c = λ next place bytes start told within.
     let now = c.args.self.now in
     ap (λ (reading : Result Bundle Stop). ends_of bytes (with_note now.payload reading))
     (blocks_at-full (64 - length now.numbers.items) now.numbers.items (primary_of now) bytes place next c.args.head c.in_ok-self.field-0
@@ -30,7 +30,7 @@ returns-then-is_full-clause-judges c = λ next bytes start place told within.
 
 pub returns-clause-judges : goal.returns-clause-judges
 unfolding field_left stage_left
-returns-clause-judges c = λ next bytes start place told within.
+returns-clause-judges c = λ next place bytes start told within.
     let now = c.args.self.now in
     ap (λ (reading : Result Bundle Stop). ends_of bytes (with_note now.payload reading))
     (blocks_at-open now bytes place next c.args.head c.in_ok-self.field-0

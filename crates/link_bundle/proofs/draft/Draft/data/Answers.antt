@@ -10,7 +10,7 @@ use Rattle.link_bundle.proofs.draft.Draft.data.Goals as goal
 
 pub returns-clause-judges : goal.returns-clause-judges
 unfolding field_left stage_left data_left
-returns-clause-judges c = λ bytes start place told within.
+returns-clause-judges c = λ place bytes start told within.
     let now = c.args.self.now in
     rw (row_at-told byte_string bytes place c.args.next c.args.head c.in_ok-size.size told (sym c.byte_string.ensures.judged ∙ c.in_ok-size.was))
     (ap (λ (r : Result Bundle Stop). ends_of bytes r)

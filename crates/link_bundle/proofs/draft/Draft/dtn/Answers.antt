@@ -12,19 +12,19 @@ use Rattle.link_bundle.proofs.draft.Draft.dtn.Goals as goal
 
 pub returns-in-None-clause-judges : goal.returns-in-None-clause-judges
 unfolding field_left stage_left specific_at dtn_at
-returns-in-None-clause-judges c = λ next bytes start place told within.
+returns-in-None-clause-judges c = λ next place bytes start told within.
     rw (row_at-told dtn_part bytes place next c.args.head None told (sym c.dtn_part.ensures.judged ∙ c.in_ok-dtn_part.was ∙ ap Ok c.in-None.is))
     (c.behind_eid.ensures.reads bytes start next)
 
 pub returns-in-Some-eq0-clause-judges : goal.returns-in-Some-eq0-clause-judges
 unfolding field_left stage_left specific_at dtn_at
-returns-in-Some-eq0-clause-judges c = λ next bytes start place told within.
+returns-in-Some-eq0-clause-judges c = λ next place bytes start told within.
     rw (row_at-told dtn_part bytes place next c.args.head (Some 0) told (sym c.dtn_part.ensures.judged ∙ c.in_ok-dtn_part.was ∙ ap Ok (c.in-Some-eq0.is ∙ ap Some c.in-Some-eq0.field-0-test)))
     (rw (bytes_at-none bytes next within, ← c.new.ensures) (c.behind_eid-in-Some-eq0.ensures.reads bytes start next))
 
 pub returns-in-Some-clause-judges : goal.returns-in-Some-clause-judges
 unfolding field_left stage_left specific_at
-returns-in-Some-clause-judges c = λ next bytes start place told within.
+returns-in-Some-clause-judges c = λ next place bytes start told within.
     let now = c.args.self.now in
     rw (row_at-told dtn_part bytes place next c.args.head (Some c.in-Some.left) told (sym c.dtn_part.ensures.judged ∙ c.in_ok-dtn_part.was ∙ ap Ok c.in-Some.is))
     (ap (λ (reading : Reading (Primary × Option CheckKind)). ends_of bytes (with_note now.payload (behind_primary now start bytes reading)))

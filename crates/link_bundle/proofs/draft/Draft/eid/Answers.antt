@@ -7,5 +7,5 @@ use Rattle.link_bundle.proofs.draft.Draft.eid.Goals as goal
 
 pub returns-clause-judges : goal.returns-clause-judges
 unfolding field_left stage_left eid_at scheme_left
-returns-clause-judges c = λ next bytes start place told within.
+returns-clause-judges c = λ next place bytes start told within.
     rw (row_at-told pair bytes place next c.args.head c.in_ok-pair.field-0 told (sym c.pair.ensures.judged ∙ c.in_ok-pair.was)) refl

@@ -6,5 +6,5 @@ use Rattle.link_bundle.proofs.draft.Draft.flags.Goals as goal
 
 pub returns-clause-judges : goal.returns-clause-judges
 unfolding field_left stage_left flags_left
-returns-clause-judges c = λ next bytes start place told within.
+returns-clause-judges c = λ next place bytes start told within.
     rw (row_at-told unsigned bytes place next c.args.head c.in_ok-self.field-0 told (sym c.unsigned.ensures.judged ∙ c.in_ok-self.was)) refl

@@ -6,5 +6,5 @@ use Rattle.link_bundle.proofs.draft.Draft.primary_block.Goals as goal
 
 pub returns-clause-judges : goal.returns-clause-judges
 unfolding field_left stage_left primary_block_left
-returns-clause-judges c = λ next bytes start place told within.
+returns-clause-judges c = λ next place bytes start told within.
     rw (row_at-told primary_block bytes place next c.args.head c.in_ok-self.field-0 told (sym c.primary_block.ensures.judged ∙ c.in_ok-self.was)) refl

@@ -6,5 +6,5 @@ use Rattle.link_bundle.proofs.draft.Draft.primary_check_type.Goals as goal
 
 pub returns-clause-judges : goal.returns-clause-judges
 unfolding field_left stage_left check_type_left destination_left
-returns-clause-judges c = λ next bytes start place told within.
+returns-clause-judges c = λ next place bytes start told within.
     rw (row_at-told (primary_check_type c.args.self.now.count c.args.self.now.flags) bytes place next c.args.head c.in_ok-primary_check_type.field-0 told (sym c.primary_check_type.ensures.judged ∙ c.in_ok-primary_check_type.was)) refl
