@@ -5,8 +5,8 @@ use Rattle.link_wire.specs.Device.{Input, Output}
 use Rattle.link_wire.specs.Stream.{Entry, End, Clean, Cut, Fault, Stream, Reading, reading_of}
 use Rattle.link_wire.specs.Source.{Takes}
 use Rattle.link_wire.specs.Session.{joined, IsSessionAt, IsLeft, SameMessages, GaveContact, GivesContact, left_of}
-use Rattle.link_wire.specs.ContactLaws.{reading-none}
-use Rattle.link_wire.specs.ReadLaws.{whole_read}
+use Rattle.link_wire.proofs.Contacts.{reading-none}
+use Rattle.link_wire.proofs.Wholes.{whole_read}
 use Rattle.link_wire.specs.declared.fault.IoFault.{IoFault}
 use Rattle.link_wire.specs.declared.fault.Stop.{Stop}
 use Rattle.link_wire.specs.declared.fault.Stop.TheVariants as stop

@@ -8,7 +8,7 @@ use Rattle.link_wire.specs.Message.{data_length}
 use Rattle.link_wire.specs.Stream.{Entry, End, Clean, Cut, Fault, ended, with_entry, Reading, reading_of}
 use Rattle.link_wire.specs.Source.{Takes}
 use Rattle.link_wire.specs.Session.{joined, data_after, IsSessionAt, IsLeft, GaveMessage, GaveEnd, GivesNext, GaveData, GivesData, GaveStop, IsRead}
-use Rattle.link_wire.specs.ReadLaws.{IsWhole, whole_over, whole_read}
+use Rattle.link_wire.proofs.Wholes.{IsWhole, whole_over, whole_read}
 use Rattle.link_wire.specs.declared.fault.IoFault.{IoFault}
 use Rattle.link_wire.specs.declared.fault.Stop.{Stop}
 use Rattle.link_wire.specs.declared.fault.Stop.TheVariants as stop

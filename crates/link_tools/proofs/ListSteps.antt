@@ -6,7 +6,7 @@ use Rattle.std.proofs.Math.Seq.{take-length}
 use Rattle.link_wire.specs.Device.{Input, Output}
 use Rattle.link_wire.specs.Source.{Takes, StopsAfter, HasCause}
 use Rattle.link_wire.specs.Stream.{Reading, reading_of}
-use Rattle.link_wire.specs.ReadLaws.{IsWhole}
+use Rattle.link_wire.proofs.Wholes.{IsWhole}
 use Rattle.link_wire.specs.declared.fault.IoFault.{IoFault}
 use Rattle.link_wire.specs.declared.fault.IoFault.TheVariants as io
 use Rattle.link_wire.specs.declared.fault.WireFault.{WireFault}

@@ -1,64 +1,61 @@
 -- A part that is read from a source, against its definition over lists.
-use Rattle.std.specs.Prelude.{◌≡◌, ℕ, List, ◌++◌, Result, Ok, Err}
+use Rattle.std.specs.Prelude.{◌≡◌, ℕ, ◌<◌, List, [], ◌∷◌, ◌++◌, length, take, Option, Some, None, Result, Ok, Err}
 use Rattle.link_wire.specs.Device.{Input}
 use Rattle.link_wire.specs.Part.{Part}
 use Rattle.link_wire.specs.Source.{IsLive, IsOver, Takes, StopsAfter}
 use Rattle.link_wire.specs.declared.fault.IoFault.{IoFault}
 use Rattle.link_wire.specs.declared.fault.WireFault.{WireFault}
-use Rattle.link_wire.specs.declared.fault.WireFault.TheVariants as wire
+use Rattle.link_wire.specs.declared.fault.WireFault.TheVariants.{Truncated}
 use Rattle.link_wire.specs.declared.halt.Halt.{Halt}
 use Rattle.link_wire.specs.declared.halt.Halt.TheVariants as halt
 use Rattle.link_wire.specs.declared.source.Source.{Source}
 
--- these bytes show the fault: a missing field only where nothing follows them, any other whatever follows
-abbrev pub IsFaultOf : {A : Type 0} → (List ℕ → Part A) → List ℕ → WireFault → Type 0
-IsFaultOf part taken wire.Truncated = part taken ≡ Err wire.Truncated
-IsFaultOf part taken wire.BadMagic = (more : List ℕ) → part (taken ++ more) ≡ Err wire.BadMagic
-IsFaultOf part taken (wire.BadVersion n) = (more : List ℕ) → part (taken ++ more) ≡ Err (wire.BadVersion n)
-IsFaultOf part taken (wire.UnknownType n) = (more : List ℕ) → part (taken ++ more) ≡ Err (wire.UnknownType n)
-IsFaultOf part taken (wire.NodeIdTooLong n) = (more : List ℕ) → part (taken ++ more) ≡ Err (wire.NodeIdTooLong n)
-IsFaultOf part taken (wire.ListTooLong n) = (more : List ℕ) → part (taken ++ more) ≡ Err (wire.ListTooLong n)
-IsFaultOf part taken wire.TooManyItems = (more : List ℕ) → part (taken ++ more) ≡ Err wire.TooManyItems
-IsFaultOf part taken wire.ItemsOverrun = (more : List ℕ) → part (taken ++ more) ≡ Err wire.ItemsOverrun
+-- what may follow bytes that show a fault: nothing where a field is missing, and anything else
+abbrev pub MayFollow : WireFault → List ℕ → Type 0
+MayFollow fault more = fault ≡ Truncated → more ≡ []
 
--- the input is over where a field is missing
-abbrev pub IsOverAt : Type 0 → WireFault → Type 0
-IsOverAt over wire.Truncated = over
-IsOverAt over wire.BadMagic = Unit {0}
-IsOverAt over (wire.BadVersion n) = Unit {0}
-IsOverAt over (wire.UnknownType n) = Unit {0}
-IsOverAt over (wire.NodeIdTooLong n) = Unit {0}
-IsOverAt over (wire.ListTooLong n) = Unit {0}
-IsOverAt over wire.TooManyItems = Unit {0}
-IsOverAt over wire.ItemsOverrun = Unit {0}
+module _ {A : Type 0} where
+  -- these bytes are needed to the last: any fewer of them are cut
+  abbrev pub Needs : (List ℕ → Part A) → List ℕ → Type 0
+  Needs part bytes = (count : ℕ) → count < length bytes → part (take count bytes) ≡ Err Truncated
+
+  -- these bytes are the part, whatever follows them
+  pub record IsPart (part : List ℕ → Part A) (bytes : List ℕ) (value : A) : Type 0 where
+    pub is_part : (more : List ℕ) → part (bytes ++ more) ≡ Ok (value, more)
+    pub needs : Needs part bytes
+
+  -- these bytes show the fault, and their last byte is the first that does
+  pub record IsFault (part : List ℕ → Part A) (bytes : List ℕ) (fault : WireFault) : Type 0 where
+    pub is_fault : (more : List ℕ) → MayFollow fault more → part (bytes ++ more) ≡ Err fault
+    pub needs : Needs part bytes
 
 module _ {R A : Type 0} where
-  -- the bytes taken are the part, whatever follows them
+  -- the bytes given are the part
   pub record GotPart (look : R → Input) (part : List ℕ → Part A) (old new : Source R) (value : A) : Type 0 where
-    pub taken : List ℕ
-    pub takes : Takes look old new taken
+    pub given : List ℕ
+    pub takes : Takes look old new given
     pub live : IsLive look new
-    pub is_part : (more : List ℕ) → part (taken ++ more) ≡ Ok (value, more)
+    pub is : IsPart part given value
 
-  -- the bytes taken show the fault
+  -- the bytes given show the fault; where a field is missing the input is over
   pub record MetFault (look : R → Input) (part : List ℕ → Part A) (old new : Source R) (fault : WireFault) : Type 0 where
-    pub taken : List ℕ
-    pub takes : Takes look old new taken
-    pub is_fault : IsFaultOf part taken fault
-    pub over : IsOverAt (IsOver look new) fault
+    pub given : List ℕ
+    pub takes : Takes look old new given
+    pub is : IsFault part given fault
+    pub over : fault ≡ Truncated → IsOver look new
 
   -- the source stopped inside the part
   pub record MetStop (look : R → Input) (part : List ℕ → Part A) (old new : Source R) (fault : IoFault) : Type 0 where
-    pub taken : List ℕ
-    pub stops : StopsAfter look old new taken fault
-    pub is_cut : part taken ≡ Err wire.Truncated
+    pub given : List ℕ
+    pub stops : StopsAfter look old new given fault
+    pub is_cut : part given ≡ Err Truncated
 
   abbrev pub AnswersPart : (R → Input) → (List ℕ → Part A) → Source R → Source R → Result A Halt → Type 0
   AnswersPart look part old new (Ok value) = GotPart look part old new value
   AnswersPart look part old new (Err (halt.Wire fault)) = MetFault look part old new fault
   AnswersPart look part old new (Err (halt.Io fault)) = MetStop look part old new fault
 
-  -- what a function that reads the part answers
+  -- what a function that reads the part returns
   pub record Gets (look : R → Input) (part : List ℕ → Part A) (old new : Source R) (answer : Result A Halt) : Type 0 where
     pub by : AnswersPart look part old new answer
 
@@ -66,3 +63,19 @@ module _ {R A : Type 0} where
 abbrev pub with_value : {A : Type 0} → A → Result (Unit {0}) Halt → Result A Halt
 with_value value (Ok done) = Ok value
 with_value value (Err stop) = Err stop
+
+-- What the type byte that is asked for gives: nothing where the input has ended, or the byte.
+module _ {R : Type 0} where
+  pub record GotNone (look : R → Input) (old new : Source R) : Type 0 where
+    pub takes : Takes look old new []
+    pub live : IsLive look new
+    pub over : IsOver look new
+
+  pub record GotKind (look : R → Input) (old new : Source R) (kind : ℕ) : Type 0 where
+    pub takes : Takes look old new (kind ∷ [])
+    pub live : IsLive look new
+
+  abbrev pub GetsKind : (R → Input) → Source R → Source R → Result (Option ℕ) IoFault → Type 0
+  GetsKind look old new (Ok None) = GotNone look old new
+  GetsKind look old new (Ok (Some kind)) = GotKind look old new kind
+  GetsKind look old new (Err fault) = StopsAfter look old new [] fault

@@ -4,7 +4,7 @@ use Rattle.byteorder.specs.Endian.{big_number}
 use Rattle.link_wire.specs.declared.fault.WireFault.{WireFault}
 use Rattle.link_wire.specs.declared.fault.WireFault.TheVariants.{Truncated}
 
--- a part and the bytes behind it, or the first fault
+-- a part and the bytes after it, or the first fault
 abbrev pub Part : Type 0 → Type 0
 Part A = Result (A × List ℕ) WireFault
 
@@ -18,8 +18,8 @@ abbrev pub ◌>>=◌ : {A B : Type 0} → Result A WireFault → (A → Result B
 unfoldable pub bytes_at : ℕ → List ℕ → Part (List ℕ)
 bytes_at n bytes = if nat_lt (length bytes) n then Err Truncated else Ok (take n bytes, drop n bytes)
 
--- the next n bytes as an unsigned number, the highest first
+-- the next n bytes as an unsigned number, the most significant byte first
 unfoldable pub number_at : ℕ → List ℕ → Part ℕ
 number_at n bytes = do
-  field ← bytes_at n bytes
-  Ok (big_number n field.0, field.1)
+  (field, bytes) ← bytes_at n bytes
+  Ok (big_number n field, bytes)

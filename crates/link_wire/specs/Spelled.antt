@@ -4,9 +4,13 @@ use Rattle.std.specs.Prelude.{◌≡◌, ℕ, ◌^◌, ◌<◌, ◌≤◌, Bool,
 use Rattle.arrayvec.specs.ArrayVec.{ArrayVec}
 use Rattle.byteorder.specs.Endian.{big_bytes, big_number}
 use Rattle.link_wire.specs.Bytes.{AreBytes}
-use Rattle.link_wire.specs.Message.{gives_total, has_start, data_length}
+use Rattle.link_wire.specs.Codes.{version, xfer_segment, xfer_ack, xfer_refuse, keepalive, sess_term, msg_reject, sess_init, is_start, total_size}
+use Rattle.link_wire.specs.Limits.{longest_node, longest_list, most_items}
+use Rattle.link_wire.specs.Message.{gives_total, data_length}
 use Rattle.link_wire.specs.declared.message.Contact.{Contact}
 use Rattle.link_wire.specs.declared.message.Item.{Item}
+use Rattle.link_wire.specs.declared.message.ListOf.{ListOf}
+use Rattle.link_wire.specs.declared.message.ListOf.TheVariants.{Session, Transfer}
 use Rattle.link_wire.specs.declared.message.Message.{Message}
 use Rattle.link_wire.specs.declared.message.Message.TheVariants.{SessInit, Segment, Ack, Refuse, Keepalive, SessTerm, MsgReject}
 
@@ -14,19 +18,19 @@ use Rattle.link_wire.specs.declared.message.Message.TheVariants.{SessInit, Segme
 abbrev pub Spelling : Type 1
 Spelling = List ℕ → Type 0
 
--- one spelling, and behind it another
+-- one spelling, and after it another
 pub record FollowedBy (first second : Spelling) (bytes : List ℕ) : Type 0 where
-  pub front : List ℕ
-  pub behind : List ℕ
-  pub is_first : first front
-  pub is_second : second behind
-  pub parts : bytes ≡ front ++ behind
+  pub before : List ℕ
+  pub after : List ℕ
+  pub is_first : first before
+  pub is_second : second after
+  pub parts : bytes ≡ before ++ after
 
 infixr 30 ◌⨾◌
 abbrev pub ◌⨾◌ : Spelling → Spelling → Spelling
 (first ⨾ second) bytes = FollowedBy first second bytes
 
--- the k bytes whose value is n, the highest first
+-- the k bytes whose value is n, the most significant first
 abbrev pub be : ℕ → ℕ → List ℕ
 be k n = big_bytes k n
 
@@ -49,58 +53,58 @@ These content bytes = AreBytes content × (bytes ≡ content)
 
 -- the contact header (section 4.2): `dtn!`, version 4, and the flags
 abbrev pub ContactSpelled : Contact → Spelling
-ContactSpelled contact bytes = (contact.flags < 2 ^ 8) × (bytes ≡ 0x64 ∷ 0x74 ∷ 0x6e ∷ 0x21 ∷ 4 ∷ contact.flags ∷ [])
+ContactSpelled contact bytes = (contact.flags < 2 ^ 8) × (bytes ≡ 0x64 ∷ 0x74 ∷ 0x6e ∷ 0x21 ∷ version ∷ contact.flags ∷ [])
 
 -- a node ID (section 4.6): its length, and its bytes
 abbrev pub NodeSpelled : ArrayVec ℕ → Spelling
-NodeSpelled node bytes = (length node.items ≤ 1024) × (U16 (length node.items) ⨾ These node.items) bytes
+NodeSpelled node bytes = (length node.items ≤ longest_node) × (U16 (length node.items) ⨾ These node.items) bytes
 
--- what stands in front of an extension item's value (sections 4.8 and 5.2.5): flags, type and length
+-- what stands before an extension item's value (sections 4.8 and 5.2.5): flags, type and length
 abbrev pub ItemHeadSpelled : (flags kind size : ℕ) → Spelling
 ItemHeadSpelled flags kind size = U8 flags ⨾ U16 kind ⨾ U16 size
 
 -- the number that a value tells: that of a Transfer Length item (section 5.2.5.1), and of no other
-abbrev pub total_of : (is_transfer : Bool) (kind size : ℕ) → List ℕ → Option ℕ
-total_of is_transfer kind size value = if gives_total is_transfer kind size then Some (big_number 8 value) else None
+abbrev pub total_of : (of : ListOf) (kind size : ℕ) → List ℕ → Option ℕ
+total_of of kind size value = if gives_total of kind size then Some (big_number total_size value) else None
 
 -- an extension item's value: any bytes, as many as the item's length says
-abbrev pub ValueSpelled : (is_transfer : Bool) (kind size : ℕ) → Option ℕ → Spelling
-ValueSpelled is_transfer kind size total value = AreBytes value × (length value ≡ size) × (total ≡ total_of is_transfer kind size value)
+abbrev pub ValueSpelled : (of : ListOf) (kind size : ℕ) → Option ℕ → Spelling
+ValueSpelled of kind size total value = AreBytes value × (length value ≡ size) × (total ≡ total_of of kind size value)
 
 -- an extension item, of a transfer's list or of a session's
-abbrev pub ItemSpelled : (is_transfer : Bool) → Item → Spelling
-ItemSpelled is_transfer item = ItemHeadSpelled item.flags item.kind item.length ⨾ ValueSpelled is_transfer item.kind item.length item.total
+abbrev pub ItemSpelled : (of : ListOf) → Item → Spelling
+ItemSpelled of item = ItemHeadSpelled item.flags item.kind item.length ⨾ ValueSpelled of item.kind item.length item.total
 
 -- items one after another
-abbrev pub ItemsSpelled : (is_transfer : Bool) → List Item → Spelling
-ItemsSpelled is_transfer [] bytes = bytes ≡ []
-ItemsSpelled is_transfer (item ∷ items) bytes = (ItemSpelled is_transfer item ⨾ ItemsSpelled is_transfer items) bytes
+abbrev pub ItemsSpelled : (of : ListOf) → List Item → Spelling
+ItemsSpelled of [] bytes = bytes ≡ []
+ItemsSpelled of (item ∷ items) bytes = (ItemSpelled of item ⨾ ItemsSpelled of items) bytes
 
 -- an extension list: its length in bytes, and its items, which fill those bytes
-pub record ListSpelled (is_transfer : Bool) (items : ArrayVec Item) (bytes : List ℕ) : Type 0 where
+pub record ListSpelled (of : ListOf) (items : ArrayVec Item) (bytes : List ℕ) : Type 0 where
   pub body : List ℕ
-  pub is_body : ItemsSpelled is_transfer items.items body
-  pub few : length items.items ≤ 16
-  pub short : length body ≤ 4096
+  pub is_body : ItemsSpelled of items.items body
+  pub few : length items.items ≤ most_items
+  pub short : length body ≤ longest_list
   pub is_list : (U32 (length body) ⨾ These body) bytes
 
 -- the extension list of a segment, which stands there only with START
 abbrev pub SegmentItemsSpelled : (start : Bool) → ArrayVec Item → Spelling
-SegmentItemsSpelled true items bytes = ListSpelled true items bytes
+SegmentItemsSpelled true items bytes = ListSpelled Transfer items bytes
 SegmentItemsSpelled false items bytes = (items.items ≡ []) × (bytes ≡ [])
 
 -- The head of a message: its type byte (section 4.5) and its fields, of a segment all but its data. The rows are
 -- XFER_SEGMENT (section 5.2.2), XFER_ACK (5.2.3), XFER_REFUSE (5.2.4), KEEPALIVE (5.1.1), SESS_TERM (6.1), MSG_REJECT
 -- (5.1.2) and SESS_INIT (4.6).
 abbrev pub HeadSpelled : Message → Spelling
-HeadSpelled (Segment head) = U8 1 ⨾ U8 head.flags ⨾ U64 head.id ⨾ SegmentItemsSpelled (has_start head.flags) head.items ⨾ U64 head.length
-HeadSpelled (Ack flags id size) = U8 2 ⨾ U8 flags ⨾ U64 id ⨾ U64 size
-HeadSpelled (Refuse reason id) = U8 3 ⨾ U8 reason ⨾ U64 id
-HeadSpelled Keepalive = U8 4
-HeadSpelled (SessTerm flags reason) = U8 5 ⨾ U8 flags ⨾ U8 reason
-HeadSpelled (MsgReject reason header) = U8 6 ⨾ U8 reason ⨾ U8 header
-HeadSpelled (SessInit keepalive segment_mru transfer_mru node items) =
-    U8 7 ⨾ U16 keepalive ⨾ U64 segment_mru ⨾ U64 transfer_mru ⨾ NodeSpelled node ⨾ ListSpelled false items
+HeadSpelled (Segment head) = U8 xfer_segment ⨾ U8 head.flags ⨾ U64 head.id ⨾ SegmentItemsSpelled (is_start head.flags) head.items ⨾ U64 head.length
+HeadSpelled (Ack flags id size) = U8 xfer_ack ⨾ U8 flags ⨾ U64 id ⨾ U64 size
+HeadSpelled (Refuse reason id) = U8 xfer_refuse ⨾ U8 reason ⨾ U64 id
+HeadSpelled Keepalive = U8 keepalive
+HeadSpelled (SessTerm flags reason) = U8 sess_term ⨾ U8 flags ⨾ U8 reason
+HeadSpelled (MsgReject reason header) = U8 msg_reject ⨾ U8 reason ⨾ U8 header
+HeadSpelled (SessInit interval segment_mru transfer_mru node items) =
+    U8 sess_init ⨾ U16 interval ⨾ U64 segment_mru ⨾ U64 transfer_mru ⨾ NodeSpelled node ⨾ ListSpelled Session items
 
 -- a message and its data: of a segment as many bytes as its head says, of every other message none
 abbrev pub Spelled : Message → (content : List ℕ) → Spelling

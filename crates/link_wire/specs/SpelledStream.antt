@@ -10,23 +10,23 @@ use Rattle.link_wire.specs.declared.message.Message.{Message}
 
 -- nothing that is spelled so begins the bytes
 abbrev pub NoneBegins : Spelling → List ℕ → Type 0
-NoneBegins spelled bytes = (front more : List ℕ) → spelled front → bytes ≢ front ++ more
+NoneBegins spelled bytes = (first more : List ℕ) → spelled first → bytes ≢ first ++ more
 
--- What is left at an offset: nothing; the whole head of a segment, and less data behind it than its length; or bytes that
+-- What is left at an offset: nothing; the whole head of a segment, and less data after it than its length; or bytes that
 -- begin with no whole head, and the fault in them.
 abbrev pub IsEnd : End → ℕ → Spelling
 IsEnd Clean offset bytes = bytes ≡ []
 IsEnd (Cut at message content) offset bytes = (at ≡ offset) × (length content < data_length message) × (HeadSpelled message ⨾ These content) bytes
 IsEnd (Fault at fault) offset bytes = (at ≡ offset) × (bytes ≢ []) × ((message : Message) → NoneBegins (HeadSpelled message) bytes) × (message_at bytes ≡ Err fault)
 
--- a message that stands at an offset with its data, and what stands behind it
+-- a message that stands at an offset with its data, and what stands after it
 pub record EntrySpelled (entry : Entry) (rest : ℕ → Spelling) (offset : ℕ) (bytes : List ℕ) : Type 0 where
   pub place : entry.offset ≡ offset
-  pub front : List ℕ
-  pub behind : List ℕ
-  pub is_entry : Spelled entry.message entry.content front
-  pub is_rest : rest (offset + length front) behind
-  pub parts : bytes ≡ front ++ behind
+  pub before : List ℕ
+  pub after : List ℕ
+  pub is_entry : Spelled entry.message entry.content before
+  pub is_rest : rest (offset + length before) after
+  pub parts : bytes ≡ before ++ after
 
 -- messages from an offset on, one after another, and the end
 abbrev pub IsStream : List Entry → End → ℕ → Spelling

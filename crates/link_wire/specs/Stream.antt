@@ -28,26 +28,28 @@ ended end = record { entries = []; end = end }
 abbrev pub with_entry : Entry → Stream → Stream
 with_entry entry rest = record { entries = entry ∷ rest.entries; end = rest.end }
 
--- a message whose data begins the bytes, and what reads the bytes behind its data
+-- a message whose data begins the bytes, and what the bytes after its data are read as
 abbrev pub with_data_of : ℕ → Message → List ℕ → Stream → Stream
 with_data_of offset message bytes rest =
     if nat_lt (length bytes) (data_length message)
     then ended (Cut offset message bytes)
     else with_entry (record { offset = offset; message = message; content = take (data_length message) bytes }) rest
 
--- `size` bytes stand at the offset; `next` reads what stands at a later offset
+-- What a message that was read makes of a stream. `size` bytes stand at the offset, so `size` less those after the head is
+-- the length of the head. `next` reads what stands at a later offset.
 abbrev pub stream_by : (ℕ → List ℕ → Stream) → ℕ → ℕ → Result (Message × List ℕ) WireFault → Stream
 stream_by next offset size (Err fault) = ended (Fault offset fault)
 stream_by next offset size (Ok (message, bytes)) =
     with_data_of offset message bytes (next (offset + (size - length bytes) + data_length message) (drop (data_length message) bytes))
 
--- the messages from an offset on, `count` at most
+-- The messages from an offset on, `count` at most. The second case, bytes left and no message more, is never met where
+-- `count` is the number of the bytes, since each message has a byte at least.
 unfoldable pub messages_at : ℕ → ℕ → List ℕ → Stream
 messages_at count offset [] = ended Clean
 messages_at zero offset (b ∷ bytes) = ended Clean
 messages_at (suc count) offset (b ∷ bytes) = stream_by (messages_at count) offset (length (b ∷ bytes)) (message_at (b ∷ bytes))
 
--- the messages from an offset on: each has at least one byte, so there are no more than bytes
+-- the messages from an offset on
 unfoldable pub stream_at : ℕ → List ℕ → Stream
 stream_at offset bytes = messages_at (length bytes) offset bytes
 

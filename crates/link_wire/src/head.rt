@@ -4,40 +4,18 @@ ghost use Rattle.std.specs.Prelude.{◌≡◌, ◌≤◌, Ok, None};
 ghost use Rattle.link_wire.specs.Source.{HasEnded, IsLive};
 ghost use Rattle.link_wire.specs.Message.{contact_at, node_at, node_bytes_at, segment_items_at, segment_at, ack_at, refuse_at, sess_term_at, msg_reject_at, sess_init_at, fields_at};
 ghost use Rattle.link_wire.specs.Getting.{Gets, with_value};
-ghost use Rattle.link_wire.specs.Session.{GetsKind};
+ghost use Rattle.link_wire.specs.Getting.{GetsKind};
+ghost use Rattle.link_wire.specs.MessageBuffer.{message_of, segment_items};
 
+use crate::codes::{KEEPALIVE, MAGIC, MSG_REJECT, SESS_INIT, SESS_TERM, START, VERSION, XFER_ACK, XFER_REFUSE, XFER_SEGMENT};
 use crate::device::InDevice;
 use crate::fault::{IoFault, WireFault};
 use crate::halt::Halt;
 use crate::list::list;
-use crate::message::{Contact, Items, MAX_NODE_ID, Message, NodeId, SegmentHead};
+use crate::message::{Contact, Fields, Items, ListOf, MAX_NODE_ID, MessageBuffer, NodeId};
 use crate::parts::{bytes, field, number8, number16, number64};
 use crate::source::{Filled, Source};
 use byteorder::{BigEndian, ByteOrder};
-
-/// The first four bytes of a contact header: `dtn!`.
-const MAGIC: u32 = 0x6474_6e21;
-
-/// The version that is read.
-const VERSION: u8 = 4;
-
-/// Message types (RFC 9174 section 4.5).
-const XFER_SEGMENT: u8 = 1;
-
-const XFER_ACK: u8 = 2;
-
-const XFER_REFUSE: u8 = 3;
-
-const KEEPALIVE: u8 = 4;
-
-const SESS_TERM: u8 = 5;
-
-const MSG_REJECT: u8 = 6;
-
-const SESS_INIT: u8 = 7;
-
-/// Flag START of a segment: a transfer begins.
-const START: u8 = 2;
 
 /// The contact header: six bytes, of which the first four are `dtn!` and the next is the version.
 pub fn contact<R: InDevice>(source: &mut Source<R>) -> Result<Contact, Halt>
@@ -53,133 +31,134 @@ pub fn contact<R: InDevice>(source: &mut Source<R>) -> Result<Contact, Halt>
     Ok(Contact { flags: header[5] })
 }
 
-/// A node ID: its length, and its bytes.
-fn node<R: InDevice>(source: &mut Source<R>) -> Result<NodeId, Halt>
-    ensures { IsLive R.state source.old → Gets R.state node_at source.old source.new result }
+/// A node ID: its length, and its bytes, which are left with the caller.
+fn node<R: InDevice>(source: &mut Source<R>, node: &mut NodeId) -> Result<(), Halt>
+    ensures { IsLive R.state source.old → Gets R.state node_at source.old source.new (with_value node.new result) }
 {
     let length = number16(source)?;
     if usize::from(length) > MAX_NODE_ID {
         return Err(Halt::Wire(WireFault::NodeIdTooLong(length)));
     }
-    node_bytes(source, length)
+    node_bytes(source, length, node)
 }
 
 /// The bytes of a node ID.
-fn node_bytes<R: InDevice>(source: &mut Source<R>, length: u16) -> Result<NodeId, Halt>
+fn node_bytes<R: InDevice>(
+    source: &mut Source<R>,
+    length: u16,
+    node: &mut NodeId,
+) -> Result<(), Halt>
     requires { length ≤ MAX_NODE_ID }
-    ensures { IsLive R.state source.old → Gets R.state (node_bytes_at length) source.old source.new result }
+    ensures { IsLive R.state source.old → Gets R.state (node_bytes_at length) source.old source.new (with_value node.new result) }
 {
-    let mut node = NodeId::from([0; MAX_NODE_ID]);
+    *node = NodeId::from([0; MAX_NODE_ID]);
     node.truncate(usize::from(length));
     bytes(source, node.as_mut_slice())?;
-    Ok(node)
+    Ok(())
 }
 
 /// The extension list of a segment, which stands there only with START.
 #[inline]
-fn segment_items<R: InDevice>(source: &mut Source<R>, flags: u8) -> Result<Items, Halt>
-    ensures { IsLive R.state source.old → Gets R.state (segment_items_at flags) source.old source.new result }
+fn segment_items<R: InDevice>(
+    source: &mut Source<R>,
+    flags: u8,
+    items: &mut Items,
+) -> Result<(), Halt>
+    ensures { IsLive R.state source.old → Gets R.state (segment_items_at flags) source.old source.new (with_value (segment_items flags items.new) result) }
 {
     if flags & START == START {
-        list(source, true)
+        list(source, ListOf::Transfer, items)
     } else {
-        Ok(Items::new())
+        Ok(())
     }
 }
 
 /// XFER_SEGMENT, less its data.
 #[inline]
-fn segment<R: InDevice>(source: &mut Source<R>, message: &mut Message) -> Result<(), Halt>
-    ensures { IsLive R.state source.old → Gets R.state segment_at source.old source.new (with_value message.new result) }
+fn segment<R: InDevice>(source: &mut Source<R>, message: &mut MessageBuffer) -> Result<(), Halt>
+    ensures { IsLive R.state source.old → Gets R.state segment_at source.old source.new (with_value (message_of message.new) result) }
 {
     let flags = number8(source)?;
     let id = number64(source)?;
-    let items = segment_items(source, flags)?;
+    segment_items(source, flags, &mut message.items)?;
     let length = number64(source)?;
-    *message = Message::Segment(SegmentHead {
-        flags,
-        id,
-        items,
-        length,
-    });
+    message.fields = Fields::Segment { flags, id, length };
     Ok(())
 }
 
 /// XFER_ACK.
-fn ack<R: InDevice>(source: &mut Source<R>, message: &mut Message) -> Result<(), Halt>
-    ensures { IsLive R.state source.old → Gets R.state ack_at source.old source.new (with_value message.new result) }
+fn ack<R: InDevice>(source: &mut Source<R>, message: &mut MessageBuffer) -> Result<(), Halt>
+    ensures { IsLive R.state source.old → Gets R.state ack_at source.old source.new (with_value (message_of message.new) result) }
 {
     let flags = number8(source)?;
     let id = number64(source)?;
     let length = number64(source)?;
-    *message = Message::Ack { flags, id, length };
+    message.fields = Fields::Ack { flags, id, length };
     Ok(())
 }
 
 /// XFER_REFUSE.
-fn refuse<R: InDevice>(source: &mut Source<R>, message: &mut Message) -> Result<(), Halt>
-    ensures { IsLive R.state source.old → Gets R.state refuse_at source.old source.new (with_value message.new result) }
+fn refuse<R: InDevice>(source: &mut Source<R>, message: &mut MessageBuffer) -> Result<(), Halt>
+    ensures { IsLive R.state source.old → Gets R.state refuse_at source.old source.new (with_value (message_of message.new) result) }
 {
     let reason = number8(source)?;
     let id = number64(source)?;
-    *message = Message::Refuse { reason, id };
+    message.fields = Fields::Refuse { reason, id };
     Ok(())
 }
 
 /// SESS_TERM.
-fn sess_term<R: InDevice>(source: &mut Source<R>, message: &mut Message) -> Result<(), Halt>
-    ensures { IsLive R.state source.old → Gets R.state sess_term_at source.old source.new (with_value message.new result) }
+fn sess_term<R: InDevice>(source: &mut Source<R>, message: &mut MessageBuffer) -> Result<(), Halt>
+    ensures { IsLive R.state source.old → Gets R.state sess_term_at source.old source.new (with_value (message_of message.new) result) }
 {
     let flags = number8(source)?;
     let reason = number8(source)?;
-    *message = Message::SessTerm { flags, reason };
+    message.fields = Fields::SessTerm { flags, reason };
     Ok(())
 }
 
 /// MSG_REJECT.
-fn msg_reject<R: InDevice>(source: &mut Source<R>, message: &mut Message) -> Result<(), Halt>
-    ensures { IsLive R.state source.old → Gets R.state msg_reject_at source.old source.new (with_value message.new result) }
+fn msg_reject<R: InDevice>(source: &mut Source<R>, message: &mut MessageBuffer) -> Result<(), Halt>
+    ensures { IsLive R.state source.old → Gets R.state msg_reject_at source.old source.new (with_value (message_of message.new) result) }
 {
     let reason = number8(source)?;
     let header = number8(source)?;
-    *message = Message::MsgReject { reason, header };
+    message.fields = Fields::MsgReject { reason, header };
     Ok(())
 }
 
 /// SESS_INIT.
-fn sess_init<R: InDevice>(source: &mut Source<R>, message: &mut Message) -> Result<(), Halt>
-    ensures { IsLive R.state source.old → Gets R.state sess_init_at source.old source.new (with_value message.new result) }
+fn sess_init<R: InDevice>(source: &mut Source<R>, message: &mut MessageBuffer) -> Result<(), Halt>
+    ensures { IsLive R.state source.old → Gets R.state sess_init_at source.old source.new (with_value (message_of message.new) result) }
 {
     let keepalive = number16(source)?;
     let segment_mru = number64(source)?;
     let transfer_mru = number64(source)?;
-    let node = node(source)?;
-    let items = list(source, false)?;
-    *message = Message::SessInit {
+    node(source, &mut message.node)?;
+    list(source, ListOf::Session, &mut message.items)?;
+    message.fields = Fields::SessInit {
         keepalive,
         segment_mru,
         transfer_mru,
-        node,
-        items,
     };
     Ok(())
 }
 
-/// What follows a message's type byte: the message, which is left with the caller, since it is large.
+/// What follows a message's type byte: the message, which is left with the caller.
 #[inline]
 pub fn fields<R: InDevice>(
     source: &mut Source<R>,
     kind: u8,
-    message: &mut Message,
+    message: &mut MessageBuffer,
 ) -> Result<(), Halt>
-    ensures { IsLive R.state source.old → Gets R.state (fields_at kind) source.old source.new (with_value message.new result) }
+    ensures { IsLive R.state source.old → Gets R.state (fields_at kind) source.old source.new (with_value (message_of message.new) result) }
 {
     match kind {
         XFER_SEGMENT => segment(source, message),
         XFER_ACK => ack(source, message),
         XFER_REFUSE => refuse(source, message),
         KEEPALIVE => {
-            *message = Message::Keepalive;
+            message.fields = Fields::Keepalive;
             Ok(())
         }
         SESS_TERM => sess_term(source, message),
@@ -189,7 +168,7 @@ pub fn fields<R: InDevice>(
     }
 }
 
-/// The type byte of the next message, or `None` where the input ends in front of it.
+/// The type byte of the next message, or `None` where the input ends before it.
 #[inline]
 pub fn kind<R: InDevice>(source: &mut Source<R>) -> Result<Option<u8>, IoFault>
     ensures ended { HasEnded source.old → (source.new ≡ source.old) × (result ≡ Ok None) }

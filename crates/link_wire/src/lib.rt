@@ -2,6 +2,7 @@
 //! writes, and the messages of one entity's byte stream.
 #![tactic(auto)]
 
+mod codes;
 mod device;
 mod fault;
 mod halt;
@@ -16,9 +17,11 @@ mod writing;
 
 pub use device::{DeviceFault, InDevice, OutDevice, Reader, Writer};
 pub use fault::{IoFault, Stop, WireFault};
+pub use codes::{END, START};
 pub use message::{
-    Contact, Item, Items, MAX_ITEMS, MAX_LIST_LENGTH, MAX_NODE_ID, Message, NodeId, SegmentHead,
+    Contact, Fields, Item, Items, ListOf, MAX_ITEMS, MAX_LIST_LENGTH, MAX_NODE_ID, Message,
+    MessageBuffer, NodeId, SegmentHead,
 };
 pub use session::Session;
-pub use source::{Filled, INPUT_LIMIT, Source};
+pub use source::{Filled, INPUT_LIMIT, Source, WINDOW};
 pub use writing::write_whole;

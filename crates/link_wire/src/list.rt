@@ -2,26 +2,21 @@
 
 ghost use Rattle.std.specs.Prelude.{◌≡◌, ◌≤◌, ◌<◌, ◌+◌, length, IfOk};
 ghost use Rattle.link_wire.specs.Source.{IsLive};
-ghost use Rattle.link_wire.specs.Message.{gives_total, skipped_at, total_at, item_head_at, items_of, list_at};
-ghost use Rattle.link_wire.specs.Getting.{Gets};
+ghost use Rattle.link_wire.specs.Message.{gives_total, skipped_at, total_at, item_head_at, items_of as items_by, list_at};
+ghost use Rattle.link_wire.specs.Getting.{Gets, with_value};
 
 use crate::device::InDevice;
 use crate::fault::WireFault;
 use crate::halt::Halt;
-use crate::message::{Item, Items, MAX_LIST_LENGTH};
+use crate::codes::{ITEM_HEAD, TOTAL_SIZE, TRANSFER_LENGTH};
+use crate::message::{Item, Items, ListOf, MAX_LIST_LENGTH};
 use crate::parts::{bytes, number8, number16, number32, number64};
 use crate::source::Source;
 
 /// Values that nobody asks for are passed over in pieces of this many bytes.
 const PIECE: usize = 256;
 
-/// How many bytes stand in front of an item's value: its flags, type and length.
-const ITEM_HEAD: u32 = 5;
-
-/// The type of a Transfer Length item (RFC 9174 section 5.2.5.1).
-const TRANSFER_LENGTH: u16 = 1;
-
-/// What stands in front of an extension item's value.
+/// What stands before an extension item's value.
 #[derive(Clone, Copy, Debug, PartialEq, Eq)]
 pub struct ItemHead {
     flags: u8,
@@ -31,10 +26,13 @@ pub struct ItemHead {
 
 impl ItemHead {
     /// Whether the item is a Transfer Length item.
-    fn has_total(&self, is_transfer: bool) -> bool
-        ensures { result ≡ gives_total is_transfer self.now.kind self.now.length }
+    fn has_total(&self, of: ListOf) -> bool
+        ensures { result ≡ gives_total of self.now.kind self.now.length }
     {
-        is_transfer && self.kind == TRANSFER_LENGTH && self.length == 8
+        match of {
+            ListOf::Session => false,
+            ListOf::Transfer => self.kind == TRANSFER_LENGTH && self.length == TOTAL_SIZE,
+        }
     }
 }
 
@@ -56,12 +54,12 @@ fn skip<R: InDevice>(source: &mut Source<R>, count: u16) -> Result<(), Halt>
 /// list and has 8 bytes.
 fn total<R: InDevice>(
     source: &mut Source<R>,
-    is_transfer: bool,
+    of: ListOf,
     head: &ItemHead,
 ) -> Result<Option<u64>, Halt>
-    ensures { IsLive R.state source.old → Gets R.state (total_at is_transfer head.now.kind head.now.length) source.old source.new result }
+    ensures { IsLive R.state source.old → Gets R.state (total_at of head.now.kind head.now.length) source.old source.new result }
 {
-    if head.has_total(is_transfer) {
+    if head.has_total(of) {
         Ok(Some(number64(source)?))
     } else {
         skip(source, head.length)?;
@@ -69,7 +67,7 @@ fn total<R: InDevice>(
     }
 }
 
-/// The head of the next item, where so many bytes of the list are left.
+/// The head of the next item, where that many bytes of the list are left.
 fn item_head<R: InDevice>(source: &mut Source<R>, left: u32) -> Result<ItemHead, Halt>
     ensures gets { IsLive R.state source.old → Gets R.state (item_head_at left) source.old source.new result }
     ensures within { IfOk result (λ head. 5 + head.length ≤ left) }
@@ -90,18 +88,23 @@ fn item_head<R: InDevice>(source: &mut Source<R>, left: u32) -> Result<ItemHead,
     })
 }
 
-/// The items of a list of so many bytes.
-fn items<R: InDevice>(source: &mut Source<R>, is_transfer: bool, length: u32) -> Result<Items, Halt>
-    ensures { IsLive R.state source.old → Gets R.state (items_of is_transfer length) source.old source.new result }
+/// The items of a list of that many bytes, which are left with the caller.
+fn items_of<R: InDevice>(
+    source: &mut Source<R>,
+    of: ListOf,
+    length: u32,
+    items: &mut Items,
+) -> Result<(), Halt>
+    ensures { IsLive R.state source.old → Gets R.state (items_by of length) source.old source.new (with_value items.new result) }
 {
-    let mut items = Items::new();
+    items.clear();
     let mut left = length;
     while left > 0 {
         let head = item_head(source, left)?;
         if items.is_full() {
             return Err(Halt::Wire(WireFault::TooManyItems));
         }
-        let total = total(source, is_transfer, &head)?;
+        let total = total(source, of, &head)?;
         items.push(Item {
             flags: head.flags,
             kind: head.kind,
@@ -110,16 +113,20 @@ fn items<R: InDevice>(source: &mut Source<R>, is_transfer: bool, length: u32) ->
         });
         left -= ITEM_HEAD + u32::from(head.length);
     }
-    Ok(items)
+    Ok(())
 }
 
-/// An extension list: its length, and its items.
-pub fn list<R: InDevice>(source: &mut Source<R>, is_transfer: bool) -> Result<Items, Halt>
-    ensures { IsLive R.state source.old → Gets R.state (list_at is_transfer) source.old source.new result }
+/// An extension list: its length, and its items, which are left with the caller.
+pub fn list<R: InDevice>(
+    source: &mut Source<R>,
+    of: ListOf,
+    items: &mut Items,
+) -> Result<(), Halt>
+    ensures { IsLive R.state source.old → Gets R.state (list_at of) source.old source.new (with_value items.new result) }
 {
     let length = number32(source)?;
     if length > MAX_LIST_LENGTH {
         return Err(Halt::Wire(WireFault::ListTooLong(length)));
     }
-    items(source, is_transfer, length)
+    items_of(source, of, length, items)
 }

@@ -1,15 +1,16 @@
 //! The contact header and the messages of TCPCLv4 (RFC 9174 sections 4.1 to 5.2).
 
+use crate::codes::START;
 use arrayvec::ArrayVec;
 
 /// The longest node ID that is read, in bytes: the longest that a report line shows.
 pub const MAX_NODE_ID: usize = 1024;
 
-/// The longest extension list that is read, in bytes.
-pub const MAX_LIST_LENGTH: u32 = 4096;
+/// The longest extension list that is read, in bytes. No list is held whole.
+pub const MAX_LIST_LENGTH: u32 = 65_536;
 
 /// The most items that one extension list may have.
-pub const MAX_ITEMS: usize = 16;
+pub const MAX_ITEMS: usize = 64;
 
 /// The items of one extension list, in order.
 pub type Items = ArrayVec<Item, MAX_ITEMS>;
@@ -22,6 +23,15 @@ pub type NodeId = ArrayVec<u8, MAX_NODE_ID>;
 pub struct Contact {
     /// CAN_TLS is 01. Reserved flags are kept as they stand.
     pub flags: u8,
+}
+
+/// What an extension list belongs to (RFC 9174 sections 4.8 and 5.2.5).
+#[derive(Clone, Copy, Debug, PartialEq, Eq)]
+pub enum ListOf {
+    /// A session's list stands in its SESS_INIT.
+    Session,
+    /// A transfer's list stands in its first segment.
+    Transfer,
 }
 
 /// An extension item of a session or a transfer (RFC 9174 sections 4.8 and 5.2.5), less its value.
@@ -101,6 +111,122 @@ impl Message {
         match self {
             Message::Segment(head) => head.length,
             _ => 0,
+        }
+    }
+}
+
+/// What a message has besides its node ID and its extension items: its numbers.
+#[derive(Clone, Copy, Debug, PartialEq, Eq)]
+pub enum Fields {
+    /// RFC 9174 section 4.6.
+    SessInit {
+        keepalive: u16,
+        segment_mru: u64,
+        transfer_mru: u64,
+    },
+    /// RFC 9174 section 5.2.2.
+    Segment {
+        flags: u8,
+        id: u64,
+        length: u64,
+    },
+    /// RFC 9174 section 5.2.3.
+    Ack {
+        flags: u8,
+        id: u64,
+        length: u64,
+    },
+    /// RFC 9174 section 5.2.4.
+    Refuse {
+        reason: u8,
+        id: u64,
+    },
+    /// RFC 9174 section 5.1.1.
+    Keepalive,
+    /// RFC 9174 section 6.1.
+    SessTerm {
+        flags: u8,
+        reason: u8,
+    },
+    /// RFC 9174 section 5.1.2.
+    MsgReject {
+        reason: u8,
+        header: u8,
+    },
+}
+
+/// A place for one message after another, so that none is moved: a message's numbers, and beside them the node ID and the
+/// items. Of a message that has no node ID or no items, what stands there means nothing.
+#[derive(Debug, Drop)]
+pub struct MessageBuffer {
+    pub fields: Fields,
+    pub node: NodeId,
+    pub items: Items,
+}
+
+impl MessageBuffer {
+    ghost use Rattle.std.specs.Prelude.{◌≡◌};
+    ghost use Rattle.link_wire.specs.Message.{data_length};
+    ghost use Rattle.link_wire.specs.MessageBuffer.{message_of};
+
+    /// A place in which a KEEPALIVE stands.
+    pub fn new() -> MessageBuffer
+        ensures { message_of result ≡ Message.Keepalive }
+    {
+        MessageBuffer {
+            fields: Fields::Keepalive,
+            node: NodeId::new(),
+            items: Items::new(),
+        }
+    }
+
+    /// How many bytes of data follow the message's head: none but in a segment.
+    #[inline(always)]
+    pub fn data_length(&self) -> u64
+        ensures { result ≡ data_length (message_of self.now) }
+    {
+        match self.fields {
+            Fields::Segment { length, .. } => length,
+            _ => 0,
+        }
+    }
+
+    /// The message that stands there.
+    pub fn into_message(self) -> Message
+        ensures { result ≡ message_of self }
+    {
+        let MessageBuffer {
+            fields,
+            node,
+            items,
+        } = self;
+        match fields {
+            Fields::SessInit {
+                keepalive,
+                segment_mru,
+                transfer_mru,
+            } => Message::SessInit {
+                keepalive,
+                segment_mru,
+                transfer_mru,
+                node,
+                items,
+            },
+            Fields::Segment { flags, id, length } => Message::Segment(SegmentHead {
+                flags,
+                id,
+                items: if flags & START == START {
+                    items
+                } else {
+                    Items::new()
+                },
+                length,
+            }),
+            Fields::Ack { flags, id, length } => Message::Ack { flags, id, length },
+            Fields::Refuse { reason, id } => Message::Refuse { reason, id },
+            Fields::Keepalive => Message::Keepalive,
+            Fields::SessTerm { flags, reason } => Message::SessTerm { flags, reason },
+            Fields::MsgReject { reason, header } => Message::MsgReject { reason, header },
         }
     }
 }

@@ -1,14 +1,22 @@
 //! A recorded session: the contact header, then messages, and the data of segments.
 
-ghost use Rattle.std.specs.Prelude.{◌≤◌, length, IfOk, IfSome};
-ghost use Rattle.link_wire.specs.Source.{IsLive, GivesSomeOf};
-
 use crate::device::InDevice;
-use crate::fault::{IoFault, Stop, WireFault};
+use crate::fault::{Stop, WireFault};
 use crate::halt::Halt;
 use crate::head::{contact, fields, kind};
-use crate::message::{Contact, Message};
+use crate::message::{Contact, Message, MessageBuffer};
 use crate::source::Source;
+
+/// What a session may be asked for.
+#[derive(Clone, Copy, Debug, PartialEq, Eq)]
+enum Phase {
+    /// The contact header.
+    Unopened,
+    /// Messages and data.
+    Reading,
+    /// Nothing more: what stopped it.
+    Stopped(Stop),
+}
 
 /// The reading of a recorded session, message by message.
 #[derive(Drop)]
@@ -18,45 +26,28 @@ pub struct Session<R> {
     offset: u64,
     /// How many bytes of that data have not come.
     left: u64,
-    /// What stopped the session.
-    stop: Option<Stop>,
-}
-
-/// The next bytes, at most as many as are left of the data, and how many they are; `None` where the
-/// input has ended and some are left.
-fn data_of<R: InDevice>(
-    source: &mut Source<R>,
-    buffer: &mut [u8],
-    left: u64,
-) -> Result<Option<usize>, IoFault>
-    ensures bound { IfOk result (λ given. IfSome given (λ n. (n ≤ length buffer.new) × (n ≤ left))) }
-    ensures gives { IsLive R.state source.old → GivesSomeOf R.state source.old source.new left buffer.new result }
-{
-    let most = left.min(buffer.len() as u64) as usize;
-    let n = source.some(&mut buffer[..most])?;
-    if n == 0 && most > 0 {
-        return Ok(None);
-    }
-    Ok(Some(n))
+    phase: Phase,
 }
 
 impl<R: InDevice> Session<R> {
-    ghost use Rattle.std.specs.Prelude.{◌≡◌, ◌≤◌, ◌<◌, true, false, length, take, List, ℕ, IfOk, IfErr, Some, None, Ok, Err};
+    ghost use Rattle.std.specs.Prelude.{◌≡◌, true, false, [], ℕ, List, IfErr, Some, None, Ok, Err, IsTrue};
     ghost use Rattle.link_wire.specs.Halt.{stop_at};
-    ghost use Rattle.link_wire.specs.Source.{IsFresh};
-    ghost use Rattle.link_wire.specs.Session.{IsNew, IsSessionAt, HasEndedBetween, HasStopped, left_of, with_message_read, GivesContact, GivesNext, GivesData};
+    ghost use Rattle.link_wire.specs.Source.{is_fresh};
+    ghost use Rattle.link_wire.specs.MessageBuffer.{message_of};
+    ghost use Rattle.link_wire.specs.Session.{may_open, may_read, IsSessionAt, HasEndedBetween, HasStopped, left_of, with_message_read, GivesContact, GivesNext};
+    ghost use Rattle.link_wire.specs.declared.session.Phase.TheVariants as phase;
 
     /// A session over a source that has taken nothing.
     pub fn new(source: Source<R>) -> Session<R>
-        requires { IsFresh source }
-        ensures fresh { IsNew R.state result }
+        requires { IsTrue (is_fresh source) }
+        ensures fresh { IsTrue (may_open result) }
         ensures source { result.source ≡ source }
     {
         Session {
             source,
             offset: 0,
             left: 0,
-            stop: None,
+            phase: Phase::Unopened,
         }
     }
 
@@ -68,64 +59,67 @@ impl<R: InDevice> Session<R> {
             source,
             offset: _,
             left: _,
-            stop: _,
+            phase: _,
         } = self;
         source
     }
 
     /// How many bytes of the segment's data have not come.
+    #[inline(always)]
     pub fn left(&self) -> u64
         ensures { result ≡ left_of self.now }
     {
         self.left
     }
 
-    /// Reads the contact header, of a new session. After a stop it answers that stop again, and reads
-    /// nothing.
+    /// Reads the contact header: once, before all else.
     pub fn open(&mut self) -> Result<Contact, Stop>
+        requires { IsTrue (may_open self.old) }
         ensures settles { IfErr result (HasStopped self.new) }
-        ensures gives { IsNew R.state self.old → GivesContact R.state self.old self.new result }
-        ensures stopped { (stop : _) → HasStopped self.old stop → (self.new ≡ self.old) × (result ≡ Err stop) }
+        ensures gives { GivesContact R.state self.old self.new result }
+        ensures may_read { IsTrue (may_read self.new) }
     {
-        if let Some(stop) = self.stop {
-            return Err(stop);
-        }
         match contact(&mut self.source) {
-            Ok(contact) => Ok(contact),
+            Ok(contact) => {
+                self.phase = Phase::Reading;
+                Ok(contact)
+            }
             Err(halt) => Err(self.stop_at(0, halt)),
         }
     }
 
     /// The next message and the offset of its type byte, of a segment its head alone; `None` at the
-    /// end of a stream that ends between two messages, and again on each later call. It is asked for
-    /// once the contact header and the data of the message before have come. After a stop it answers
-    /// that stop again, and reads nothing.
+    /// end of a stream that ends between two messages, and again on each later call. It may be
+    /// called once the contact header and the data of the message before have come, and after a
+    /// stop: it then returns that stop again, and reads nothing.
     pub fn next(&mut self) -> Result<Option<(u64, Message)>, Stop>
+        requires { IsTrue (may_read self.old) }
         ensures settles { IfErr result (HasStopped self.new) }
         ensures again { HasEndedBetween self.old → (self.new ≡ self.old) × (result ≡ Ok None) }
-        ensures gives { (history : List ℕ) → IsSessionAt R.state self.old history → left_of self.old ≡ 0 → GivesNext R.state self.old self.new history result }
+        ensures gives { (history : List ℕ) → IsSessionAt R.state self.old history → GivesNext R.state self.old self.new history result }
         ensures stopped { (stop : _) → HasStopped self.old stop → (self.new ≡ self.old) × (result ≡ Err stop) }
     {
-        let mut message = Message::Keepalive;
+        let mut message = MessageBuffer::new();
         match self.read_next(&mut message)? {
-            Some(offset) => Ok(Some((offset, message))),
+            Some(offset) => Ok(Some((offset, message.into_message()))),
             None => Ok(None),
         }
     }
 
-    /// As `next`, into a message that the caller keeps, since a message is large: answers the offset of
-    /// its type byte. Where none is answered, what stands in `message` means nothing.
-    #[inline]
-    pub fn read_next(&mut self, message: &mut Message) -> Result<Option<u64>, Stop>
+    /// As `next`, into a place of the caller's, so that no message is moved: returns the offset of
+    /// its type byte. Where none is returned, what stands in `message` means nothing.
+    #[inline(always)]
+    pub fn read_next(&mut self, message: &mut MessageBuffer) -> Result<Option<u64>, Stop>
+        requires { IsTrue (may_read self.old) }
         ensures settles { IfErr result (HasStopped self.new) }
         ensures again { HasEndedBetween self.old → (self.new ≡ self.old) × (result ≡ Ok None) }
-        ensures gives { (history : List ℕ) → IsSessionAt R.state self.old history → left_of self.old ≡ 0 → GivesNext R.state self.old self.new history (with_message_read message.new result) }
+        ensures gives { (history : List ℕ) → IsSessionAt R.state self.old history → GivesNext R.state self.old self.new history (with_message_read (message_of message.new) result) }
         ensures stopped { (stop : _) → HasStopped self.old stop → (self.new ≡ self.old) × (result ≡ Err stop) }
     {
-        if let Some(stop) = self.stop {
+        if let Phase::Stopped(stop) = self.phase {
             return Err(stop);
         }
-        let offset = self.source.taken();
+        let offset = self.source.given();
         let kind = match kind(&mut self.source) {
             Ok(Some(kind)) => kind,
             Ok(None) => return Ok(None),
@@ -142,34 +136,94 @@ impl<R: InDevice> Session<R> {
     }
 
     /// The session stops in the message that begins at the offset.
+    #[cold]
+    #[inline(never)]
     fn stop_at(&mut self, offset: u64, halt: Halt) -> Stop
         ensures stop { result ≡ stop_at offset halt }
-        ensures state { self.new ≡ record self.old { stop = Some result } }
+        ensures state { self.new ≡ record self.old { phase = phase.Stopped result } }
     {
         let stop = halt.at(offset);
-        self.stop = Some(stop);
+        self.phase = Phase::Stopped(stop);
         stop
     }
+}
 
-    /// The next bytes of the segment's data, by one read, and how many they are: 0 only where none are
-    /// left, or for an empty slice. After a stop it answers that stop again, and reads nothing.
-    #[inline]
+/// The data of segments.
+impl<R: InDevice> Session<R> {
+    ghost use Rattle.std.specs.Prelude.{◌≡◌, ◌≤◌, ℕ, List, length, take, IfOk, IfErr, Ok, Err};
+    ghost use Rattle.link_wire.specs.Session.{IsSessionAt, HasStopped, left_of, data_in, GaveBytes, GivesData, GivesLoad};
+    ghost use Rattle.link_wire.specs.declared.session.Phase.TheVariants as phase;
+
+    /// Copies the next bytes of the segment's data, after at most one read, and returns how many: 0
+    /// only where none are left, or for an empty slice. After a stop it returns that stop again, and
+    /// reads nothing.
     pub fn data(&mut self, buffer: &mut [u8]) -> Result<usize, Stop>
         ensures bound { IfOk result (λ n. n ≤ length buffer.new) }
         ensures settles { IfErr result (HasStopped self.new) }
         ensures gives { (history : List ℕ) → IsSessionAt R.state self.old history → GivesData R.state self.old self.new history buffer.new result }
+        ensures none { left_of self.old ≡ 0 → ((stop : _) → HasStopped self.old stop → ⊥) → (self.new ≡ self.old) × (result ≡ Ok 0) }
         ensures stopped { (stop : _) → HasStopped self.old stop → (self.new ≡ self.old) × (result ≡ Err stop) }
     {
-        if let Some(stop) = self.stop {
+        let ready = self.load()?;
+        if ready == 0 || buffer.is_empty() {
+            return Ok(0);
+        }
+        let count = ready.min(buffer.len());
+        self.copy(&mut buffer[..count]);
+        Ok(count)
+    }
+
+    /// Fills the slice with the next data that lies in the window.
+    fn copy(&mut self, part: &mut [u8])
+        requires { length part.old ≤ length (data_in self.old) }
+        ensures { (history : List ℕ) → IsSessionAt R.state self.old history → GaveBytes R.state self.old self.new history part.new }
+    {
+        let count = part.len();
+        part.copy_from_slice(&self.loaded()[..count]);
+        self.pass(count);
+    }
+
+    /// Reads where the window is empty and data is left, once, and returns how many bytes of the
+    /// segment's data lie in the window then: 0 only where none are left. After a stop it returns
+    /// that stop again, and reads nothing.
+    #[inline(always)]
+    pub fn load(&mut self) -> Result<usize, Stop>
+        ensures size { IfOk result (λ n. n ≡ length (data_in self.new)) }
+        ensures settles { IfErr result (HasStopped self.new) }
+        ensures gives { (history : List ℕ) → IsSessionAt R.state self.old history → GivesLoad R.state self.old self.new history result }
+        ensures none { left_of self.old ≡ 0 → ((stop : _) → HasStopped self.old stop → ⊥) → (self.new ≡ self.old) × (result ≡ Ok 0) }
+        ensures stopped { (stop : _) → HasStopped self.old stop → (self.new ≡ self.old) × (result ≡ Err stop) }
+    {
+        if let Phase::Stopped(stop) = self.phase {
             return Err(stop);
         }
-        match data_of(&mut self.source, buffer, self.left) {
-            Ok(Some(n)) => {
-                self.left -= n as u64;
-                Ok(n)
-            }
-            Ok(None) => Err(self.stop_at(self.offset, Halt::Wire(WireFault::Truncated))),
+        if self.left == 0 {
+            return Ok(0);
+        }
+        match self.source.ready() {
+            Ok(0) => Err(self.stop_at(self.offset, Halt::Wire(WireFault::Truncated))),
+            Ok(ready) => Ok(self.left.min(ready as u64) as usize),
             Err(fault) => Err(self.stop_at(self.offset, Halt::Io(fault))),
         }
+    }
+
+    /// The segment's data that lies in the window.
+    #[inline(always)]
+    pub fn loaded(&self) -> &[u8]
+        ensures { result.now ≡ data_in self.now }
+    {
+        let window = self.source.window();
+        &window[..self.left.min(window.len() as u64) as usize]
+    }
+
+    /// Gives the next `count` bytes of the segment's data, which the caller has looked at where they
+    /// lie in the window.
+    #[inline(always)]
+    pub fn pass(&mut self, count: usize)
+        requires { count ≤ length (data_in self.old) }
+        ensures { (history : List ℕ) → IsSessionAt R.state self.old history → GaveBytes R.state self.old self.new history (take count (data_in self.old)) }
+    {
+        self.source.give(count);
+        self.left -= count as u64;
     }
 }

@@ -1,4 +1,4 @@
-use Rattle.link_wire.specs.GettingLaws.{exit, leaving, after, pure, is_live}
+use Rattle.link_wire.proofs.Gettings.{exit, leaving, after, pure, is_live}
 use Rattle.link_wire.specs.Message.{ack_at}
 use Rattle.link_wire.proofs.head.ack.Goals as goal
 

@@ -1,6 +1,6 @@
 use Rattle.std.proofs.Common.{arith}
 use Rattle.std.proofs.lemmas.Bool.{ne_eqb}
-use Rattle.link_wire.specs.GettingLaws.{pure, refuse, if_false}
+use Rattle.link_wire.proofs.Gettings.{pure, refuse, if_false}
 use Rattle.link_wire.specs.Message.{fields_at}
 use Rattle.link_wire.proofs.head.fields.Goals as goal
 

@@ -1,13 +1,13 @@
 use Rattle.std.proofs.Common.{◌<◌, ◌≤◌, arith}
 use Rattle.std.proofs.lemmas.Bool.{lt-ltb, le-ltb}
-use Rattle.link_wire.specs.GettingLaws.{exit, exiting, after, refuse, is_live, if_true, if_false}
+use Rattle.link_wire.proofs.Gettings.{exit, leaving, after, refuse, is_live, if_true, if_false}
 use Rattle.link_wire.specs.Message.{node_at}
 use Rattle.link_wire.specs.declared.message.TheConstants.{MAX_NODE_ID}
 use Rattle.link_wire.proofs.head.node.Goals as goal
 
 pub returns-in_err-length : goal.returns-in_err-length
 unfolding node_at
-returns-in_err-length g c = λ live. exiting _ c.from_residual.ensures.1 (exit _ (c.in_err-length.ensures live))
+returns-in_err-length g c = λ live. leaving _ _ c.from_residual.ensures.1 (exit _ (c.in_err-length.ensures live))
 
 pub returns-then-from-gt-MAX_NODE_ID : goal.returns-then-from-gt-MAX_NODE_ID
 unfolding node_at

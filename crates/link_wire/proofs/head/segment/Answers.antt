@@ -1,4 +1,4 @@
-use Rattle.link_wire.specs.GettingLaws.{exit, leaving, after, pure, is_live}
+use Rattle.link_wire.proofs.Gettings.{exit, leaving, after, pure, is_live}
 use Rattle.link_wire.specs.Message.{segment_at}
 use Rattle.link_wire.proofs.head.segment.Goals as goal
 
@@ -13,19 +13,19 @@ returns-in_err-id g c = λ live.
     let flags = c.in_ok-flags.ensures live in
     leaving _ _ c.from_residual-in_err-id.ensures.1 (after _ flags (exit _ (c.in_err-id.ensures (is_live flags))))
 
-pub returns-in_err-items : goal.returns-in_err-items
+pub returns-in_err-segment_items : goal.returns-in_err-segment_items
 unfolding segment_at
-returns-in_err-items g c = λ live.
+returns-in_err-segment_items g c = λ live.
     let flags = c.in_ok-flags.ensures live in
     let id = c.in_ok-id.ensures (is_live flags) in
-    leaving _ _ c.from_residual-in_err-items.ensures.1 (after _ flags (after _ id (exit _ (c.in_err-items.ensures (is_live id)))))
+    leaving _ _ c.from_residual-in_err-segment_items.ensures.1 (after _ flags (after _ id (exit _ (c.in_err-segment_items.ensures (is_live id)))))
 
 pub returns-in_err-length : goal.returns-in_err-length
 unfolding segment_at
 returns-in_err-length g c = λ live.
     let flags = c.in_ok-flags.ensures live in
     let id = c.in_ok-id.ensures (is_live flags) in
-    let items = c.in_ok-items.ensures (is_live id) in
+    let items = c.in_ok-segment_items.ensures (is_live id) in
     leaving _ _ c.from_residual-in_err-length.ensures.1 (after _ flags (after _ id (after _ items (exit _ (c.in_err-length.ensures (is_live items))))))
 
 pub returns : goal.returns
@@ -33,6 +33,6 @@ unfolding segment_at
 returns g c = λ live.
     let flags = c.in_ok-flags.ensures live in
     let id = c.in_ok-id.ensures (is_live flags) in
-    let items = c.in_ok-items.ensures (is_live id) in
+    let items = c.in_ok-segment_items.ensures (is_live id) in
     let length = c.in_ok-length.ensures (is_live items) in
     after _ flags (after _ id (after _ items (after _ length (pure (is_live length)))))

@@ -1,4 +1,4 @@
-use Rattle.link_wire.specs.GettingLaws.{exit, leaving, after, pure, is_live}
+use Rattle.link_wire.proofs.Gettings.{exit, leaving, after, pure, is_live}
 use Rattle.link_wire.specs.Message.{sess_init_at}
 use Rattle.link_wire.proofs.head.sess_init.Goals as goal
 
@@ -28,14 +28,14 @@ returns-in_err-node g c = λ live.
     let transfer_mru = c.in_ok-transfer_mru.ensures (is_live segment_mru) in
     leaving _ _ c.from_residual-in_err-node.ensures.1 (after _ keepalive (after _ segment_mru (after _ transfer_mru (exit _ (c.in_err-node.ensures (is_live transfer_mru))))))
 
-pub returns-in_err-items : goal.returns-in_err-items
+pub returns-in_err-list : goal.returns-in_err-list
 unfolding sess_init_at
-returns-in_err-items g c = λ live.
+returns-in_err-list g c = λ live.
     let keepalive = c.in_ok-keepalive.ensures live in
     let segment_mru = c.in_ok-segment_mru.ensures (is_live keepalive) in
     let transfer_mru = c.in_ok-transfer_mru.ensures (is_live segment_mru) in
     let node = c.in_ok-node.ensures (is_live transfer_mru) in
-    leaving _ _ c.from_residual-in_err-items.ensures.1 (after _ keepalive (after _ segment_mru (after _ transfer_mru (after _ node (exit _ (c.in_err-items.ensures (is_live node)))))))
+    leaving _ _ c.from_residual-in_err-list.ensures.1 (after _ keepalive (after _ segment_mru (after _ transfer_mru (after _ node (exit _ (c.in_err-list.ensures (is_live node)))))))
 
 pub returns : goal.returns
 unfolding sess_init_at
@@ -44,5 +44,5 @@ returns g c = λ live.
     let segment_mru = c.in_ok-segment_mru.ensures (is_live keepalive) in
     let transfer_mru = c.in_ok-transfer_mru.ensures (is_live segment_mru) in
     let node = c.in_ok-node.ensures (is_live transfer_mru) in
-    let items = c.in_ok-items.ensures (is_live node) in
+    let items = c.in_ok-list.ensures (is_live node) in
     after _ keepalive (after _ segment_mru (after _ transfer_mru (after _ node (after _ items (pure (is_live items))))))

@@ -1,4 +1,4 @@
-use Rattle.link_wire.specs.GettingLaws.{exit, leaving, after, pure, is_live}
+use Rattle.link_wire.proofs.Gettings.{exit, leaving, after, pure, is_live}
 use Rattle.link_wire.specs.Message.{sess_term_at}
 use Rattle.link_wire.proofs.head.sess_term.Goals as goal
 

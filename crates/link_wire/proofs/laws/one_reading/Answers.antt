@@ -1,5 +1,5 @@
 -- The law is the lemma over lists.
-use Rattle.link_wire.specs.SpelledLaws.{one_spelling}
+use Rattle.link_wire.proofs.Sound.{one_spelling}
 use Rattle.link_wire.proofs.laws.one_reading.Goals as goal
 
 pub returns : goal.returns

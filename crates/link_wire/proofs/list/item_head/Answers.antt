@@ -1,6 +1,6 @@
 use Rattle.std.proofs.Common.{◌-◌, ◌<◌, ◌≤◌, arith}
 use Rattle.std.proofs.lemmas.Bool.{lt-ltb, le-ltb}
-use Rattle.link_wire.specs.GettingLaws.{exit, exiting, after, pure, refuse, is_live, if_true, if_false}
+use Rattle.link_wire.proofs.Gettings.{exit, exiting, after, pure, refuse, is_live, if_true, if_false}
 use Rattle.link_wire.specs.Message.{item_head_at}
 use Rattle.link_wire.proofs.list.item_head.Goals as goal
 

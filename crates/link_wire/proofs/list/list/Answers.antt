@@ -1,11 +1,11 @@
 use Rattle.std.proofs.lemmas.Bool.{lt-ltb, le-ltb}
-use Rattle.link_wire.specs.GettingLaws.{exit, exiting, after, refuse, is_live, if_true, if_false}
+use Rattle.link_wire.proofs.Gettings.{exit, leaving, after, refuse, is_live, if_true, if_false}
 use Rattle.link_wire.specs.Message.{list_at}
 use Rattle.link_wire.proofs.list.list.Goals as goal
 
 pub returns-in_err-length : goal.returns-in_err-length
 unfolding list_at
-returns-in_err-length g c = λ live. exiting _ c.from_residual.ensures.1 (exit _ (c.in_err-length.ensures live))
+returns-in_err-length g c = λ live. leaving _ _ c.from_residual.ensures.1 (exit _ (c.in_err-length.ensures live))
 
 pub returns-then-length-gt-MAX_LIST_LENGTH : goal.returns-then-length-gt-MAX_LIST_LENGTH
 unfolding list_at
@@ -16,4 +16,4 @@ pub returns : goal.returns
 unfolding list_at
 returns g c = λ live.
     let size = c.in_ok-length.ensures live in
-    after _ size (if_false _ _ (le-ltb _ _ c.if-length-gt-MAX_LIST_LENGTH.false) (c.items.ensures (is_live size)))
+    after _ size (if_false _ _ (le-ltb _ _ c.if-length-gt-MAX_LIST_LENGTH.false) (c.items_of.ensures (is_live size)))

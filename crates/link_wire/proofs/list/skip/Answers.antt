@@ -1,5 +1,5 @@
 use Rattle.std.proofs.Common.{◌≡◌, ◌-◌, arith, length-take}
-use Rattle.link_wire.specs.GettingLaws.{exiting, is_live, skip_none, skip_more, skip_exit}
+use Rattle.link_wire.proofs.Gettings.{exiting, is_live, skip_none, skip_more, skip_exit}
 use Rattle.link_wire.proofs.list.skip.Goals as goal
 
 pub loop-left-init : goal.loop-left-init

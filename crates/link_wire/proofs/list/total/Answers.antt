@@ -1,4 +1,4 @@
-use Rattle.link_wire.specs.GettingLaws.{exit, exiting, after, pure, is_live, if_true, if_false}
+use Rattle.link_wire.proofs.Gettings.{exit, exiting, after, pure, is_live, if_true, if_false}
 use Rattle.link_wire.specs.Message.{total_at}
 use Rattle.std.proofs.Common.{sym, ◌∙◌}
 use Rattle.link_wire.proofs.list.total.Goals as goal

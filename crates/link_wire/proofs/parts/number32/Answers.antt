@@ -1,5 +1,5 @@
 use Rattle.std.proofs.lemmas.Result.{err_from_is_err_and}
-use Rattle.link_wire.specs.GettingLaws.{number_read, number_exit}
+use Rattle.link_wire.proofs.Gettings.{number_read, number_exit}
 use Rattle.link_wire.proofs.parts.number32.Goals as goal
 
 pub returns-in_err-field : goal.returns-in_err-field

@@ -1,5 +1,5 @@
 use Rattle.std.proofs.Common.{arith, length-drop}
-use Rattle.link_wire.specs.WritingLaws.{Wrote-more}
+use Rattle.link_wire.proofs.Writes.{Wrote-more}
 use Rattle.link_wire.specs.Bytes.{take-all_behind}
 use Rattle.link_wire.proofs.writing.write_whole.Goals as goal
 

@@ -1,5 +1,5 @@
 use Rattle.std.proofs.Common.{◌≡◌, ◌+◌, ◌-◌, length, take, refl, arith, length-take}
-use Rattle.link_wire.specs.SessionSteps.{data_stands}
+use Rattle.link_wire.proofs.Sessions.{data_stands}
 use Rattle.link_wire.proofs.session.Session.data.Goals as goal
 
 pub returns-in-Ok-Some-clause-gives : goal.returns-in-Ok-Some-clause-gives

@@ -1,5 +1,5 @@
 use Rattle.std.proofs.Common.{ap}
-use Rattle.link_wire.specs.SessionSteps.{contact_came, contact_refused}
+use Rattle.link_wire.proofs.Sessions.{contact_came, contact_refused}
 use Rattle.link_wire.proofs.session.Session.open.Goals as goal
 
 pub returns-in-Ok-clause-gives : goal.returns-in-Ok-clause-gives

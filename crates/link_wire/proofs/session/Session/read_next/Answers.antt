@@ -1,6 +1,6 @@
 use Rattle.std.proofs.Common.{◌≡◌, length, refl, ◌∙◌, ap}
-use Rattle.link_wire.specs.NextLaws.{got_message, met_next}
-use Rattle.link_wire.specs.SessionSteps.{message_came, message_refused}
+use Rattle.link_wire.proofs.Nexts.{got_message, met_next}
+use Rattle.link_wire.proofs.Sessions.{message_came, message_refused}
 use Rattle.link_wire.proofs.session.Session.read_next.Goals as goal
 
 pub returns-in-Ok-clause-gives : goal.returns-in-Ok-clause-gives

@@ -1,20 +1,23 @@
-use Rattle.std.proofs.Common.{◌≡◌, ◌+◌, length, take, arith, length-take, sym, ap}
-use Rattle.std.proofs.lemmas.List.Elements.{All-take, All-from_get_or}
+use Rattle.std.proofs.Common.{◌≡◌, [], length, take, slice_range, sym, add-zero, arith, refl, length-take}
+use Rattle.std.proofs.lemmas.List.Elements.{All-nil}
 use Rattle.link_wire.specs.Bytes.{IsByte}
+use Rattle.link_wire.proofs.Sources.{Consumes-empty}
+use Rattle.link_wire.proofs.Windows.{range_none}
 use Rattle.link_wire.proofs.source.Source.read.Goals as goal
 
--- the bytes read are the next ones, at most as many as there is room for
+-- the read gave a byte past the limit, and nothing of it is given
 pub returns-in-Ok : goal.returns-in-Ok
 returns-in-Ok g c =
-    let given : length (take c.in-Ok.n c.read.new.buffer) ≡ c.in-Ok.n = omega (arith, length-take c.in-Ok.n c.read.new.buffer, c.in-Ok.ensures.bound) in
+    let s = c.args.self.now in
+    let look = g.R.InDevice.state in
+    let window = c.read_ahead.new.window in
+    let none : slice_range s.window s.start s.end ≡ [] = range_none s.window s.start s.end c.requires.empty in
+    let size : length (take c.in-Ok.n window) ≡ c.in-Ok.n = omega (arith, length-take c.in-Ok.n window, c.in-Ok.ensures.bound) in
     record {
-      room = c.in-Ok.ensures.bound;
-      takes = record {
-        bytes_fit = All-take IsByte _ _ (All-from_get_or IsByte _ 0 (λ k within. omega (arith, c.type_inv.buffer k)));
-        next = c.in-Ok.ensures.bytes.0;
-        count = ap (λ n. c.args.self.now.taken + n) (sym given);
-        device = c.in-Ok.ensures.failed;
-      };
-      live = rw c.requires.open tt;
-      over = λ none some. absurd (c.in-Ok.n-test.1 none);
+      bytes_fit = All-nil IsByte;
+      past = take c.in-Ok.n window;
+      next = rw none (Consumes-empty (look s.reader).left (look c.read_ahead.new.reader).left _ c.in-Ok.ensures.bytes.0);
+      count = sym (add-zero s.given);
+      cause = (omega (arith, size, c.in-Ok.ensures.bound), omega (arith, size, c.if-n-self.true));
+      failed = (refl, refl);
     }

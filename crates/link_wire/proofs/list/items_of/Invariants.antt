@@ -2,12 +2,12 @@ use Rattle.std.proofs.Common.{◌-◌, ◌≤◌, length, Result, List}
 use Rattle.link_wire.specs.Source.{IsLive}
 use Rattle.link_wire.specs.Message.{items_at}
 use Rattle.link_wire.specs.Getting.{Gets}
-use Rattle.link_wire.specs.ItemsLaws.{with_front}
+use Rattle.link_wire.proofs.Items.{with_before}
 use Rattle.link_wire.specs.declared.message.TheConstants.{MAX_ITEMS}
 use Rattle.link_wire.specs.declared.halt.Halt.{Halt}
 use Rattle.link_wire.specs.declared.message.Item.{Item}
 use Rattle.link_wire.specs.declared.source.Source.{Source}
-use Rattle.link_wire.proofs.list.items.Given as goal
+use Rattle.link_wire.proofs.list.items_of.Given as goal
 
 -- whatever the bytes left give, all of the list's give the items so far and that
 abbrev pub invariant-loop-left : goal.invariant-loop-left
@@ -17,8 +17,8 @@ invariant-loop-left g l =
       few : length l.items.items ≤ MAX_ITEMS;
       live : IsLive look l.fn.source → IsLive look l.source;
       rest : IsLive look l.fn.source → (new : Source g.row.R.Denot) (answer : Result (List Item) Halt)
-          → Gets look (items_at l.is_transfer (MAX_ITEMS - length l.items.items) l.left) l.source new answer
-          → Gets look (items_at l.is_transfer MAX_ITEMS l.length) l.fn.source new (with_front l.items.items answer);
+          → Gets look (items_at l.of (MAX_ITEMS - length l.items.items) l.left) l.source new answer
+          → Gets look (items_at l.of MAX_ITEMS l.length) l.fn.source new (with_before l.items.items answer);
     }
 
 abbrev pub decreases-loop-left : goal.decreases-loop-left

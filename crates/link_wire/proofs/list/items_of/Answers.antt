@@ -1,10 +1,10 @@
 use Rattle.std.proofs.Common.{◌≡◌, ℕ, suc, ◌-◌, ◌<◌, [], length, Ok, arith, append-nil}
 use Rattle.std.proofs.lemmas.Bool.Decides.{nat_tests}
-use Rattle.link_wire.specs.GettingLaws.{exit, exiting, after, pure, is_live}
+use Rattle.link_wire.proofs.Gettings.{exit, leaving, after, pure, is_live}
 use Rattle.link_wire.specs.Message.{items_of}
-use Rattle.link_wire.specs.ItemsLaws.{with_front-append, items_none, items_exit, items_full, items_exit_total, items_more}
+use Rattle.link_wire.proofs.Items.{with_before-append, items_none, items_exit, items_full, items_exit_total, items_more}
 use Rattle.link_wire.specs.declared.message.TheConstants.{MAX_ITEMS}
-use Rattle.link_wire.proofs.list.items.Goals as goal
+use Rattle.link_wire.proofs.list.items_of.Goals as goal
 
 room_for_one : (n : ℕ) → n < MAX_ITEMS → MAX_ITEMS - n ≡ suc (MAX_ITEMS - suc n)
 room_for_one n below = omega arith
@@ -13,7 +13,7 @@ pub returns-in_err-head : goal.returns-in_err-head
 unfolding items_of
 returns-in_err-head g c = λ live.
     let kept = c.loop-left.invariant in
-    exiting _ c.from_residual.ensures.1
+    leaving _ _ c.from_residual.ensures.1
     (exit _ (kept.rest live _ _ (items_exit _ _ c.loop-left-test.true _ (c.in_err-head.ensures.gets (kept.live live)))))
 
 pub returns-then-is_full : goal.returns-then-is_full
@@ -29,7 +29,7 @@ returns-in_err-total g c = λ live.
     let kept = c.loop-left.invariant in
     let head = c.in_ok-head.ensures.gets (kept.live live) in
     let below : length c.loop-left.items.items < MAX_ITEMS = grind (arith, nat_tests) in
-    exiting _ c.from_residual-in_err-total.ensures.1
+    leaving _ _ c.from_residual-in_err-total.ensures.1
     (exit _ (kept.rest live _ _ (items_exit_total _ _ c.loop-left-test.true head _ _ (room_for_one _ below) (c.in_err-total.ensures (is_live head)))))
 
 pub loop-left-preserved : goal.loop-left-preserved
@@ -44,7 +44,7 @@ loop-left-preserved g c =
           let head = c.in_ok-head.ensures.gets (kept.live live) in
           let total = c.in_ok-total.ensures (is_live head) in
           let joined = kept.rest live new _ (items_more _ _ c.loop-left-test.true head _ _ c.in_ok-total.total answer (room_for_one _ below) total (rw (grown, c.from.ensures) at others)) in
-          rw (with_front-append, ← c.push.ensures.items) at joined;
+          rw (with_before-append, ← c.push.ensures.items) at joined;
     }
 
 pub returns : goal.returns

@@ -3,7 +3,7 @@ use Rattle.std.proofs.Common.{◌≡◌, ℕ, ◌+◌, ◌<◌, ◌≤◌, List,
 use Rattle.std.proofs.lemmas.Bool.{le-ltb, cases_lt}
 use Rattle.std.proofs.lemmas.List.{drop-drop}
 use Rattle.link_wire.specs.Part.{◌>>=◌, bytes_at}
-use Rattle.link_wire.specs.PartLaws.{bytes_at-short}
+use Rattle.link_wire.proofs.FieldReads.{bytes_at-short}
 use Rattle.link_wire.specs.Message.{skipped_at}
 use Rattle.link_wire.specs.declared.fault.WireFault.TheVariants.{Truncated}
 

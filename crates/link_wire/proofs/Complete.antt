@@ -11,22 +11,26 @@ use Rattle.byteorder.specs.Endian.{big_number, big_from}
 use Rattle.byteorder.specs.Numbers.{big_from-cons, big_from-lt}
 use Rattle.link_wire.specs.Bytes.{IsByte, AreBytes}
 use Rattle.link_wire.specs.Part.{Part, ◌>>=◌, bytes_at, number_at}
-use Rattle.link_wire.specs.PartLaws.{bytes_at-short, bytes_at-enough, same_part}
-use Rattle.link_wire.specs.PartSizes.{both_read}
+use Rattle.link_wire.proofs.FieldReads.{bytes_at-short, bytes_at-enough, same_part}
+use Rattle.link_wire.proofs.Shrinks.{both_read}
 use Rattle.link_wire.specs.Spelled.{Spelling, be, U8, U16, U32, U64, These, FollowedBy, ContactSpelled, NodeSpelled, ItemHeadSpelled, ValueSpelled, total_of, ItemSpelled, ItemsSpelled, ListSpelled, SegmentItemsSpelled, HeadSpelled}
-use Rattle.link_wire.specs.SpelledLaws.{both, last, ItemsFilling, total_size, length_item_head}
-use Rattle.link_wire.specs.Message.{contact_at, skipped_at, total_at, item_head_at, items_at, items_of, list_at, node_bytes_at, node_at, segment_items_at, segment_at, ack_at, refuse_at, sess_term_at, msg_reject_at, sess_init_at, fields_at, message_at, has_start, gives_total}
+use Rattle.link_wire.proofs.Sound.{both, last, ItemsFilling, has_total_size, length_item_head}
+use Rattle.link_wire.specs.declared.message.ListOf.{ListOf}
+use Rattle.link_wire.specs.declared.message.ListOf.TheVariants.{Session, Transfer}
+use Rattle.link_wire.specs.Codes.{is_start}
+use Rattle.link_wire.specs.Limits.{longest_node, longest_list, most_items}
+use Rattle.link_wire.specs.Message.{contact_at, skipped_at, total_at, item_head_at, items_at, items_of, list_at, node_bytes_at, node_at, segment_items_at, segment_at, ack_at, refuse_at, sess_term_at, msg_reject_at, sess_init_at, fields_at, message_at, gives_total}
 use Rattle.link_wire.specs.declared.fault.WireFault.{WireFault}
 use Rattle.link_wire.specs.declared.fault.WireFault.TheVariants.{BadMagic, BadVersion, UnknownType, NodeIdTooLong, ListTooLong, TooManyItems, ItemsOverrun}
 use Rattle.link_wire.specs.declared.message.Item.{Item}
 use Rattle.link_wire.specs.declared.list.ItemHead.{ItemHead}
 use Rattle.link_wire.specs.declared.message.Message.TheVariants.{SessInit, Segment, Ack, Refuse, Keepalive, SessTerm, MsgReject}
 
-AreBytes-front : (xs ys : List ℕ) → AreBytes (xs ++ ys) → AreBytes xs
-AreBytes-front xs ys are = subst AreBytes (take-append_seam xs ys) (All-take IsByte (length xs) (xs ++ ys) are)
+AreBytes-before : (xs ys : List ℕ) → AreBytes (xs ++ ys) → AreBytes xs
+AreBytes-before xs ys are = subst AreBytes (take-append_seam xs ys) (All-take IsByte (length xs) (xs ++ ys) are)
 
-pub AreBytes-behind : (xs ys : List ℕ) → AreBytes (xs ++ ys) → AreBytes ys
-AreBytes-behind xs ys are = subst AreBytes (drop-append_seam xs ys) (All-drop IsByte (length xs) (xs ++ ys) are)
+pub AreBytes-after : (xs ys : List ℕ) → AreBytes (xs ++ ys) → AreBytes ys
+AreBytes-after xs ys are = subst AreBytes (drop-append_seam xs ys) (All-drop IsByte (length xs) (xs ++ ys) are)
 
 AreBytes-index : (xs : List ℕ) → AreBytes xs → (k : ℕ) → slice_index xs k < 256
 AreBytes-index xs are k =
@@ -56,40 +60,40 @@ be-number k xs are size =
     let bare : 0 * 256 ^ length xs + big_from 0 (length xs) xs ≡ big_from 0 (length xs) xs = omega arith in
     sym (ap (λ n. be n (big_number n xs)) (sym size) ∙ ap (bytes_high_first (length xs)) (sym bare) ∙ bytes_of_number xs 0 are)
 
--- what was read stands spelled in front of what is behind it
+-- what was read stands spelled in before of what is after it
 pub record Found {A : Type 0} (part : List ℕ → Part A) (spelled : A → Spelling) : Type 0 where
-  pub by : (bytes : List ℕ) (value : A) (rest : List ℕ) → AreBytes bytes → part bytes ≡ Ok (value, rest) → FollowedBy (spelled value) (λ behind. behind ≡ rest) bytes
+  pub by : (bytes : List ℕ) (value : A) (rest : List ℕ) → AreBytes bytes → part bytes ≡ Ok (value, rest) → FollowedBy (spelled value) (λ after. after ≡ rest) bytes
 
 pub found_pure : {A : Type 0} (value : A) {spelled : A → Spelling} → spelled value [] → Found (λ bytes. Ok (value, bytes)) spelled
 found_pure {A} value {spelled} is = record {
   by = λ bytes other rest are read.
       let same = same_part read in
       let P : A → Type 0 = λ x. spelled x [] in
-      record { front = []; behind = bytes; is_first = subst P same.0 is; is_second = same.1; parts = refl };
+      record { before = []; after = bytes; is_first = subst P same.0 is; is_second = same.1; parts = refl };
 }
 
 pub found_err : {A : Type 0} (fault : WireFault) {spelled : A → Spelling} → Found (λ bytes. let part : Part A = Err fault in part) spelled
 found_err fault = record { by = λ bytes other rest are read. absurd (cc) }
 
--- what is found behind a front
-in_front : (spelled : Spelling) (rest bytes front behind : List ℕ) → bytes ≡ front ++ behind → FollowedBy (λ more. spelled (front ++ more)) (λ more. more ≡ rest) behind → FollowedBy spelled (λ more. more ≡ rest) bytes
-in_front spelled rest bytes front behind whole is = record {
-  front = front ++ is.front;
-  behind = is.behind;
+-- what is found after a before
+in_front : (spelled : Spelling) (rest bytes before after : List ℕ) → bytes ≡ before ++ after → FollowedBy (λ more. spelled (before ++ more)) (λ more. more ≡ rest) after → FollowedBy spelled (λ more. more ≡ rest) bytes
+in_front spelled rest bytes before after whole is = record {
+  before = before ++ is.before;
+  after = is.after;
   is_first = is.is_first;
   is_second = is.is_second;
-  parts = whole ∙ ap (λ all. front ++ all) is.parts ∙ sym (append_assoc front is.front is.behind);
+  parts = whole ∙ ap (λ all. before ++ all) is.parts ∙ sym (append_assoc before is.before is.after);
 }
 
 module _ {A B : Type 0} (part : List ℕ → Part A) (next : A × List ℕ → Part B) {first : A → Spelling} {spelled : B → Spelling} where
-  pub found_then : Found part first → ((value : A) (front : List ℕ) → first value front → Found (λ bytes. next (value, bytes)) (λ given behind. spelled given (front ++ behind))) → Found (λ bytes. part bytes >>= next) spelled
+  pub found_then : Found part first → ((value : A) (before : List ℕ) → first value before → Found (λ bytes. next (value, bytes)) (λ given after. spelled given (before ++ after))) → Found (λ bytes. part bytes >>= next) spelled
   found_then found more = record {
     by = λ bytes given rest are is.
         let read = both_read (part bytes) next (given, rest) is in
         let one = found.by bytes read.0.0 read.0.1 are read.1 in
-        let whole : bytes ≡ one.front ++ read.0.1 = one.parts ∙ ap (λ all. one.front ++ all) one.is_second in
-        let behind : AreBytes read.0.1 = AreBytes-behind one.front read.0.1 (subst AreBytes whole are) in
-        in_front (spelled given) rest bytes one.front read.0.1 whole ((more read.0.0 one.front one.is_first).by read.0.1 given rest behind read.2);
+        let whole : bytes ≡ one.before ++ read.0.1 = one.parts ∙ ap (λ all. one.before ++ all) one.is_second in
+        let after : AreBytes read.0.1 = AreBytes-after one.before read.0.1 (subst AreBytes whole are) in
+        in_front (spelled given) rest bytes one.before read.0.1 whole ((more read.0.0 one.before one.is_first).by read.0.1 given rest after read.2);
   }
 
 module _ {A : Type 0} (part other : List ℕ → Part A) {spelled : A → Spelling} where
@@ -110,8 +114,8 @@ found_bytes n = record {
       let whole : bytes ≡ take n bytes ++ drop n bytes = sym (take-append-drop n bytes) in
       let are_front : AreBytes (take n bytes) = All-take IsByte n bytes are in
       record {
-        front = take n bytes;
-        behind = drop n bytes;
+        before = take n bytes;
+        after = drop n bytes;
         is_first = (subst AreBytes same.0 are_front, same.0, ap length (sym same.0) ∙ length-take-le n bytes enough);
         is_second = same.1;
         parts = whole;
@@ -121,8 +125,8 @@ found_bytes n = record {
 
 pub found_number : (k : ℕ) → Found (number_at k) (λ n bytes. (n < 256 ^ k) × (bytes ≡ be k n))
 unfolding number_at
-found_number k = found_then _ _ (found_bytes k) (λ field front is. found_pure (big_number k field)
-    (big_from-lt 0 k field (AreBytes-index field is.0), append-nil front ∙ is.1 ∙ be-number k field is.0 is.2))
+found_number k = found_then _ _ (found_bytes k) (λ field before is. found_pure (big_number k field)
+    (big_from-lt 0 k field (AreBytes-index field is.0), append-nil before ∙ is.1 ∙ be-number k field is.0 is.2))
 
 pub found_u8 : Found (number_at 1) U8
 found_u8 = found_number 1
@@ -139,23 +143,23 @@ found_u64 = found_number 8
 found_node_bytes : (size : ℕ) → Found (node_bytes_at size) (λ node bytes. (length node.items ≡ size) × These node.items bytes)
 unfolding node_bytes_at
 found_node_bytes size =
-    found_then _ _ (found_bytes size) (λ content front is.
-    found_pure (record { items = content }) (is.2, (is.0, append-nil front ∙ is.1)))
+    found_then _ _ (found_bytes size) (λ content before is.
+    found_pure (record { items = content }) (is.2, (is.0, append-nil before ∙ is.1)))
 
 found_node : Found node_at NodeSpelled
 unfolding node_at
 found_node =
-    found_then _ _ found_u16 (λ size front one.
-    found_if _ _ (nat_lt 1024 size)
+    found_then _ _ found_u16 (λ size before one.
+    found_if _ _ (nat_lt longest_node size)
     (λ long. found_err (NodeIdTooLong size))
     (λ fits. record {
       by = λ bytes node rest are is.
           let found = (found_node_bytes size).by bytes node rest are is in
-          let short : length node.items ≤ 1024 = omega (arith, found.is_first.0, ltb-false 1024 size fits) in
+          let short : length node.items ≤ longest_node = omega (arith, found.is_first.0, ltb-false longest_node size fits) in
           record {
-            front = found.front;
-            behind = found.behind;
-            is_first = (short, both front found.front (rw found.is_first.0 one) found.is_first.1);
+            before = found.before;
+            after = found.after;
+            is_first = (short, both before found.before (rw found.is_first.0 one) found.is_first.1);
             is_second = found.is_second;
             parts = found.parts;
           };
@@ -178,8 +182,8 @@ found_item_head left =
 found_skipped : (n : ℕ) → Found (skipped_at n) (λ nothing bytes. AreBytes bytes × (length bytes ≡ n))
 unfolding skipped_at
 found_skipped n =
-    found_then _ _ (found_bytes n) (λ content front is.
-    let same : front ++ [] ≡ content = append-nil front ∙ is.1 in
+    found_then _ _ (found_bytes n) (λ content before is.
+    let same : before ++ [] ≡ content = append-nil before ∙ is.1 in
     found_pure tt (subst AreBytes (sym same) is.0, ap length same ∙ is.2))
 
 -- a number, and the bytes that it was read from
@@ -189,33 +193,33 @@ NumberOf n number bytes = AreBytes bytes × (length bytes ≡ n) × (number ≡ 
 found_number_of : (n : ℕ) → Found (number_at n) (NumberOf n)
 unfolding number_at
 found_number_of n =
-    found_then _ _ (found_bytes n) (λ content front is.
-    let same : front ++ [] ≡ content = append-nil front ∙ is.1 in
+    found_then _ _ (found_bytes n) (λ content before is.
+    let same : before ++ [] ≡ content = append-nil before ∙ is.1 in
     found_pure (big_number n content) (subst AreBytes (sym same) is.0, ap length same ∙ is.2, ap (big_number n) (sym same)))
 
-module _ (is_transfer : Bool) (kind size : ℕ) where
-  told_by : (test : Bool) (value : List ℕ) → gives_total is_transfer kind size ≡ test → (if test then Some (big_number 8 value) else None) ≡ total_of is_transfer kind size value
+module _ (of : ListOf) (kind size : ℕ) where
+  told_by : (test : Bool) (value : List ℕ) → gives_total of kind size ≡ test → (if test then Some (big_number 8 value) else None) ≡ total_of of kind size value
   told_by test value told = ap (λ test. if test then Some (big_number 8 value) else None) (sym told)
 
-  found_value : Found (total_at is_transfer kind size) (ValueSpelled is_transfer kind size)
+  found_value : Found (total_at of kind size) (ValueSpelled of kind size)
   unfolding total_at
   found_value =
-      found_if _ _ (gives_total is_transfer kind size)
-      (λ told. found_then _ _ (found_number_of 8) (λ n front is.
-      found_pure (Some n) (last (ValueSpelled is_transfer kind size (Some n)) front
-      (is.0, is.1 ∙ sym (total_size is_transfer kind size told), ap Some is.2 ∙ told_by true front told))))
-      (λ told. found_then _ _ (found_skipped size) (λ nothing front is.
-      found_pure None (last (ValueSpelled is_transfer kind size None) front (is.0, is.1, told_by false front told))))
+      found_if _ _ (gives_total of kind size)
+      (λ told. found_then _ _ (found_number_of 8) (λ n before is.
+      found_pure (Some n) (last (ValueSpelled of kind size (Some n)) before
+      (is.0, is.1 ∙ sym (has_total_size of kind size told), ap Some is.2 ∙ told_by true before told))))
+      (λ told. found_then _ _ (found_skipped size) (λ nothing before is.
+      found_pure None (last (ValueSpelled of kind size None) before (is.0, is.1, told_by false before told))))
 
 -- the items of a list, no more of them than there is room
-abbrev ItemsWithin : Bool → ℕ → ℕ → List Item → Spelling
-ItemsWithin is_transfer room left items bytes = ItemsFilling is_transfer items left bytes × (length items ≤ room)
+abbrev ItemsWithin : ListOf → ℕ → ℕ → List Item → Spelling
+ItemsWithin of room left items bytes = ItemsFilling of items left bytes × (length items ≤ room)
 
-module _ (is_transfer : Bool) where
-  found_none : (room left : ℕ) → eqb left 0 ≡ true → Found (λ bytes. Ok ([], bytes)) (ItemsWithin is_transfer room left)
+module _ (of : ListOf) where
+  found_none : (room left : ℕ) → eqb left 0 ≡ true → Found (λ bytes. Ok ([], bytes)) (ItemsWithin of room left)
   found_none room left none = found_pure [] ((refl, sym (eqb-true left 0 none)), omega arith)
 
-  found_items : (room left : ℕ) → Found (items_at is_transfer room left) (ItemsWithin is_transfer room left)
+  found_items : (room left : ℕ) → Found (items_at of room left) (ItemsWithin of room left)
   unfolding items_at
   found_items zero left =
       found_if _ _ (eqb left 0) (λ none. found_none zero left none) (λ some.
@@ -223,55 +227,55 @@ module _ (is_transfer : Bool) where
   found_items (suc room) left =
       found_if _ _ (eqb left 0) (λ none. found_none (suc room) left none) (λ some.
       found_then _ _ (found_item_head left) (λ head first one.
-      found_then _ _ (found_value is_transfer head.kind head.length) (λ total second two.
+      found_then _ _ (found_value of head.kind head.length) (λ total second two.
       found_then _ _ (found_items room (left - (5 + head.length))) (λ items third three.
       let item : Item = record { flags = head.flags; kind = head.kind; length = head.length; total = total } in
-      let item_is : ItemSpelled is_transfer item (first ++ second) = both first second one.0 two in
-      let all_is : ItemsSpelled is_transfer (item ∷ items) ((first ++ second) ++ third) = both (first ++ second) third item_is three.0.0 in
+      let item_is : ItemSpelled of item (first ++ second) = both first second one.0 two in
+      let all_is : ItemsSpelled of (item ∷ items) ((first ++ second) ++ third) = both (first ++ second) third item_is three.0.0 in
       let all : first ++ (second ++ (third ++ [])) ≡ (first ++ second) ++ third = ap (λ bytes. first ++ (second ++ bytes)) (append-nil third) ∙ sym (append_assoc first second third) in
       let five = length_item_head head.flags head.kind head.length first one.0 in
       let size : length ((first ++ second) ++ third) ≡ left = omega (arith, one.1, two.1, three.0.1, length-append (first ++ second) third, length-append first second) in
-      found_pure (item ∷ items) (subst (ItemsFilling is_transfer (item ∷ items) left) (sym all) (all_is, size), omega (arith, three.1))))))
+      found_pure (item ∷ items) (subst (ItemsFilling of (item ∷ items) left) (sym all) (all_is, size), omega (arith, three.1))))))
 
-  found_items_of : (size : ℕ) → Found (items_of is_transfer size) (λ items. ItemsWithin is_transfer 16 size items.items)
+  found_items_of : (size : ℕ) → Found (items_of of size) (λ items. ItemsWithin of most_items size items.items)
   unfolding items_of
   found_items_of size =
-      found_then _ _ (found_items 16 size) (λ items front is.
-      found_pure (record { items = items }) (last (ItemsWithin is_transfer 16 size items) front is))
+      found_then _ _ (found_items most_items size) (λ items before is.
+      found_pure (record { items = items }) (last (ItemsWithin of most_items size items) before is))
 
-  found_list : Found (list_at is_transfer) (ListSpelled is_transfer)
+  found_list : Found (list_at of) (ListSpelled of)
   unfolding list_at items_of
   found_list =
       found_then _ _ found_u32 (λ size first one.
-      found_if _ _ (nat_lt 4096 size) (λ long. found_err (ListTooLong size)) (λ short. record {
+      found_if _ _ (nat_lt longest_list size) (λ long. found_err (ListTooLong size)) (λ short. record {
         by = λ bytes items rest are is.
             let found = (found_items_of size).by bytes items rest are is in
-            let front : AreBytes found.front = AreBytes-front found.front found.behind (subst AreBytes found.parts are) in
+            let before : AreBytes found.before = AreBytes-before found.before found.after (subst AreBytes found.parts are) in
             record {
-              front = found.front;
-              behind = found.behind;
+              before = found.before;
+              after = found.after;
               is_first = record {
-                body = found.front;
+                body = found.before;
                 is_body = found.is_first.0.0;
                 few = found.is_first.1;
-                short = omega (arith, found.is_first.0.1, ltb-false 4096 size short);
-                is_list = both first found.front (rw found.is_first.0.1 one) (front, refl);
+                short = omega (arith, found.is_first.0.1, ltb-false longest_list size short);
+                is_list = both first found.before (rw found.is_first.0.1 one) (before, refl);
               };
               is_second = found.is_second;
               parts = found.parts;
             };
       }))
 
-found_segment_items : (flags : ℕ) → Found (segment_items_at flags) (SegmentItemsSpelled (has_start flags))
+found_segment_items : (flags : ℕ) → Found (segment_items_at flags) (SegmentItemsSpelled (is_start flags))
 unfolding segment_items_at
 found_segment_items flags =
-    found_if _ _ (has_start flags)
-    (λ told. let P : Bool → Type 0 = λ start. Found (list_at true) (SegmentItemsSpelled start) in subst P (sym told) (found_list true))
+    found_if _ _ (is_start flags)
+    (λ told. let P : Bool → Type 0 = λ start. Found (list_at Transfer) (SegmentItemsSpelled start) in subst P (sym told) (found_list Transfer))
     (λ told. found_pure (record { items = [] }) (let P : Bool → Type 0 = λ start. SegmentItemsSpelled start (record { items = [] }) [] in subst P (sym told) (refl, refl)))
 
--- what follows the type byte of a message, in front of which that byte stands
-module _ (front : List ℕ) where
-  found_segment : U8 1 front → Found segment_at (λ message behind. HeadSpelled message (front ++ behind))
+-- what follows the type byte of a message, in before of which that byte stands
+module _ (before : List ℕ) where
+  found_segment : U8 1 before → Found segment_at (λ message after. HeadSpelled message (before ++ after))
   unfolding segment_at
   found_segment kind =
       found_then _ _ found_u8 (λ flags first one.
@@ -279,68 +283,68 @@ module _ (front : List ℕ) where
       found_then _ _ (found_segment_items flags) (λ items third three.
       found_then _ _ found_u64 (λ size fourth four.
       found_pure (Segment (record { flags = flags; id = id; items = items; length = size }))
-      (both front _ kind (both first _ one (both second _ two (both third _ three (last (U64 size) fourth four)))))))))
+      (both before _ kind (both first _ one (both second _ two (both third _ three (last (U64 size) fourth four)))))))))
 
-  found_ack : U8 2 front → Found ack_at (λ message behind. HeadSpelled message (front ++ behind))
+  found_ack : U8 2 before → Found ack_at (λ message after. HeadSpelled message (before ++ after))
   unfolding ack_at
   found_ack kind =
       found_then _ _ found_u8 (λ flags first one.
       found_then _ _ found_u64 (λ id second two.
       found_then _ _ found_u64 (λ size third three.
-      found_pure (Ack flags id size) (both front _ kind (both first _ one (both second _ two (last (U64 size) third three)))))))
+      found_pure (Ack flags id size) (both before _ kind (both first _ one (both second _ two (last (U64 size) third three)))))))
 
-  found_refuse : U8 3 front → Found refuse_at (λ message behind. HeadSpelled message (front ++ behind))
+  found_refuse : U8 3 before → Found refuse_at (λ message after. HeadSpelled message (before ++ after))
   unfolding refuse_at
   found_refuse kind =
       found_then _ _ found_u8 (λ reason first one.
       found_then _ _ found_u64 (λ id second two.
-      found_pure (Refuse reason id) (both front _ kind (both first _ one (last (U64 id) second two)))))
+      found_pure (Refuse reason id) (both before _ kind (both first _ one (last (U64 id) second two)))))
 
-  found_sess_term : U8 5 front → Found sess_term_at (λ message behind. HeadSpelled message (front ++ behind))
+  found_sess_term : U8 5 before → Found sess_term_at (λ message after. HeadSpelled message (before ++ after))
   unfolding sess_term_at
   found_sess_term kind =
       found_then _ _ found_u8 (λ flags first one.
       found_then _ _ found_u8 (λ reason second two.
-      found_pure (SessTerm flags reason) (both front _ kind (both first _ one (last (U8 reason) second two)))))
+      found_pure (SessTerm flags reason) (both before _ kind (both first _ one (last (U8 reason) second two)))))
 
-  found_msg_reject : U8 6 front → Found msg_reject_at (λ message behind. HeadSpelled message (front ++ behind))
+  found_msg_reject : U8 6 before → Found msg_reject_at (λ message after. HeadSpelled message (before ++ after))
   unfolding msg_reject_at
   found_msg_reject kind =
       found_then _ _ found_u8 (λ reason first one.
       found_then _ _ found_u8 (λ header second two.
-      found_pure (MsgReject reason header) (both front _ kind (both first _ one (last (U8 header) second two)))))
+      found_pure (MsgReject reason header) (both before _ kind (both first _ one (last (U8 header) second two)))))
 
-  found_sess_init : U8 7 front → Found sess_init_at (λ message behind. HeadSpelled message (front ++ behind))
+  found_sess_init : U8 7 before → Found sess_init_at (λ message after. HeadSpelled message (before ++ after))
   unfolding sess_init_at
   found_sess_init kind =
       found_then _ _ found_u16 (λ keepalive first one.
       found_then _ _ found_u64 (λ segment_mru second two.
       found_then _ _ found_u64 (λ transfer_mru third three.
       found_then _ _ found_node (λ node fourth four.
-      found_then _ _ (found_list false) (λ items fifth five.
+      found_then _ _ (found_list Session) (λ items fifth five.
       found_pure (SessInit keepalive segment_mru transfer_mru node items)
-      (both front _ kind (both first _ one (both second _ two (both third _ three (both fourth _ four (last (ListSpelled false items) fifth five)))))))))))
+      (both before _ kind (both first _ one (both second _ two (both third _ three (both fourth _ four (last (ListSpelled false items) fifth five)))))))))))
 
   -- the type byte is this number
-  is_kind : (kind n : ℕ) → eqb kind n ≡ true → U8 kind front → U8 n front
-  is_kind kind n told is = let same : kind ≡ n = eqb-true kind n told in let P : ℕ → Type 0 = λ k. U8 k front in subst P same is
+  is_kind : (kind n : ℕ) → eqb kind n ≡ true → U8 kind before → U8 n before
+  is_kind kind n told is = let same : kind ≡ n = eqb-true kind n told in let P : ℕ → Type 0 = λ k. U8 k before in subst P same is
 
-  found_fields : (kind : ℕ) → U8 kind front → Found (fields_at kind) (λ message behind. HeadSpelled message (front ++ behind))
+  found_fields : (kind : ℕ) → U8 kind before → Found (fields_at kind) (λ message after. HeadSpelled message (before ++ after))
   unfolding fields_at
   found_fields kind is =
       found_if _ _ (eqb kind 1) (λ told. found_segment (is_kind kind 1 told is)) (λ _.
       found_if _ _ (eqb kind 2) (λ told. found_ack (is_kind kind 2 told is)) (λ _.
       found_if _ _ (eqb kind 3) (λ told. found_refuse (is_kind kind 3 told is)) (λ _.
-      found_if _ _ (eqb kind 4) (λ told. found_pure Keepalive (last (U8 4) front (is_kind kind 4 told is))) (λ _.
+      found_if _ _ (eqb kind 4) (λ told. found_pure Keepalive (last (U8 4) before (is_kind kind 4 told is))) (λ _.
       found_if _ _ (eqb kind 5) (λ told. found_sess_term (is_kind kind 5 told is)) (λ _.
       found_if _ _ (eqb kind 6) (λ told. found_msg_reject (is_kind kind 6 told is)) (λ _.
       found_if _ _ (eqb kind 7) (λ told. found_sess_init (is_kind kind 7 told is)) (λ _.
       found_err (UnknownType kind))))))))
 
--- the head of a message that is read was spelled in front of what is behind it
+-- the head of a message that is read was spelled in before of what is after it
 pub found_message : Found message_at HeadSpelled
 unfolding message_at
-found_message = found_then _ _ found_u8 (λ kind front is. found_fields front kind is)
+found_message = found_then _ _ found_u8 (λ kind before is. found_fields before kind is)
 
 -- the six bytes of a contact header
 six_bytes : (header : List ℕ) → AreBytes header → length header ≡ 6 → big_number 4 header ≡ 0x64746e21 → slice_index header 4 ≡ 4
@@ -356,13 +360,13 @@ six_bytes (a ∷ b ∷ c ∷ d ∷ e ∷ f ∷ []) are size magic version =
     (are 5 0 (omega arith), ap (λ (xs : List ℕ). xs ++ (e ∷ f ∷ [])) four ∙ ap (λ (v : ℕ). 0x64 ∷ 0x74 ∷ 0x6e ∷ 0x21 ∷ v ∷ f ∷ []) version)
 six_bytes (a ∷ b ∷ c ∷ d ∷ e ∷ f ∷ g ∷ more) are size magic version = absurd (omega arith)
 
--- the contact header that is read was spelled in front of what is behind it
+-- the contact header that is read was spelled in before of what is after it
 pub found_contact : Found contact_at ContactSpelled
 unfolding contact_at
 found_contact =
-    found_then _ _ (found_bytes 6) (λ header front is.
+    found_then _ _ (found_bytes 6) (λ header before is.
     found_if _ _ (eqb (big_number 4 header) 0x64746e21) (λ magic.
     found_if _ _ (eqb (slice_index header 4) 4) (λ version.
     let six = six_bytes header is.0 is.2 (eqb-true (big_number 4 header) 0x64746e21 magic) (eqb-true (slice_index header 4) 4 version) in
-    found_pure (record { flags = slice_index header 5 }) (six.0, append-nil front ∙ is.1 ∙ six.1))
+    found_pure (record { flags = slice_index header 5 }) (six.0, append-nil before ∙ is.1 ∙ six.1))
     (λ _. found_err (BadVersion (slice_index header 4)))) (λ _. found_err BadMagic))

@@ -4,7 +4,7 @@ use Rattle.std.proofs.lemmas.Bool.{cases_lt, lt-ltb, le-ltb}
 use Rattle.std.proofs.Math.Seq.{take-append_seam, drop-append_seam, take-append-add, drop-append-add}
 use Rattle.link_wire.specs.Message.{data_length}
 use Rattle.link_wire.specs.Stream.{End, Clean, Cut, Fault, Stream, ended, with_entry, with_data_of, stream_at, Reading, reading_of}
-use Rattle.link_wire.specs.StreamLaws.{stream_at-nil}
+use Rattle.link_wire.proofs.Streams.{stream_at-nil}
 use Rattle.link_wire.specs.Session.{joined, data_after, rest_after, IsLeft}
 use Rattle.link_wire.specs.declared.message.Message.{Message}
 

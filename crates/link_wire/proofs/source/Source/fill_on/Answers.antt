@@ -1,23 +1,23 @@
 use Rattle.std.proofs.Common.{◌≡◌, ◌+◌, take, drop, ◌++◌, ap, ◌∙◌}
 use Rattle.std.proofs.Math.Seq.{take-add}
 use Rattle.link_wire.specs.Source.{HasEnded}
-use Rattle.link_wire.specs.SourceLaws.{Takes-then}
-use Rattle.link_wire.proofs.source.Source.fill.Goals as goal
+use Rattle.link_wire.proofs.Sources.{Takes-then}
+use Rattle.link_wire.proofs.source.Source.fill_on.Goals as goal
 
--- the front goes on by what `some` gave
+-- what was given goes on by what `some` gave
 pub loop-at-preserved : goal.loop-at-preserved
 loop-at-preserved g c =
     let look = g.R.InDevice.state in
     let kept = c.loop-at.invariant in
     let grown : take (c.loop-at.at + c.in_ok-n.n) c.some_from.new.buffer ≡ take c.loop-at.at c.loop-at.buffer ++ take c.in_ok-n.n (drop c.loop-at.at c.some_from.new.buffer) =
-    take-add c.loop-at.at c.in_ok-n.n c.some_from.new.buffer ∙ ap (λ xs. xs ++ take c.in_ok-n.n (drop c.loop-at.at c.some_from.new.buffer)) c.in_ok-n.ensures.front in
+    take-add c.loop-at.at c.in_ok-n.n c.some_from.new.buffer ∙ ap (λ xs. xs ++ take c.in_ok-n.n (drop c.loop-at.at c.some_from.new.buffer)) c.in_ok-n.ensures.before in
     record {
       place = c.in_ok-n.ensures.bound;
-      taken = λ live. rw grown (Takes-then look _ _ _ _ _ (kept.taken live) (c.in_ok-n.ensures.gives (kept.live live)).takes);
+      given = λ live. rw grown (Takes-then look _ _ _ _ _ (kept.given live) (c.in_ok-n.ensures.gives (kept.live live)).takes);
       live = λ live. (c.in_ok-n.ensures.gives (kept.live live)).live;
       still = λ ended.
           let same = kept.still ended in
-          let over : HasEnded c.loop-at.self = ap (λ s. s.flow) same.0 ∙ ended in
+          let over : HasEnded c.loop-at.self = rw same.0 ended in
           let none = c.in_ok-n.ensures.ended over in
           absurd (c.if-n-eq0.false (cc));
     }

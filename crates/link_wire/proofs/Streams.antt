@@ -1,6 +1,6 @@
 -- The reading of a stream goes on message by message.
 use Rattle.std.proofs.Common.{◌≡◌, ℕ, zero, suc, ◌+◌, ◌-◌, ◌≤◌, List, [], ◌∷◌, ◌++◌, length, drop, Result, Ok, Err, arith, refl, ap, ◌∙◌, length-drop, length-append}
-use Rattle.link_wire.specs.PartSizes.{shrinks_message}
+use Rattle.link_wire.proofs.Shrinks.{shrinks_message}
 use Rattle.link_wire.specs.Message.{message_at, data_length}
 use Rattle.link_wire.specs.Stream.{Clean, Fault, Stream, ended, with_data_of, stream_by, messages_at, stream_at}
 use Rattle.link_wire.specs.declared.fault.WireFault.{WireFault}

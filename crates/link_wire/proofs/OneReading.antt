@@ -6,19 +6,19 @@ use Rattle.std.proofs.lemmas.List.Elements.{All-take}
 use Rattle.std.proofs.Math.Seq.{take-append_seam, drop-append_seam}
 use Rattle.link_wire.specs.Bytes.{IsByte, AreBytes}
 use Rattle.link_wire.specs.Part.{Part}
-use Rattle.link_wire.specs.PartSizes.{shrinks_message}
+use Rattle.link_wire.proofs.Shrinks.{shrinks_message}
 use Rattle.link_wire.specs.Message.{contact_at, message_at, data_length}
 use Rattle.link_wire.specs.Spelled.{Spelling, ContactSpelled, HeadSpelled}
-use Rattle.link_wire.specs.SpelledLaws.{Only, both, only_contact, only_message}
-use Rattle.link_wire.specs.SpelledLawsFound.{AreBytes-behind, found_contact, found_message}
+use Rattle.link_wire.proofs.Sound.{Only, both, only_contact, only_message}
+use Rattle.link_wire.proofs.Complete.{AreBytes-after, found_contact, found_message}
 use Rattle.link_wire.specs.SpelledStream.{NoneBegins, IsStream, IsReadingBy, IsReading}
 use Rattle.link_wire.specs.Stream.{Entry, End, Clean, Cut, Fault, Stream, ended, with_entry, with_data_of, stream_at, Reading, reading_by, reading_of}
-use Rattle.link_wire.specs.StreamLaws.{stream_at-nil, stream_at-head, stream_at-fault}
+use Rattle.link_wire.proofs.Streams.{stream_at-nil, stream_at-head, stream_at-fault}
 use Rattle.link_wire.specs.declared.fault.WireFault.{WireFault}
 use Rattle.link_wire.specs.declared.message.Contact.{Contact}
 use Rattle.link_wire.specs.declared.message.Message.{Message}
 
--- whole data behind a head
+-- whole data after a head
 with_data-whole : (offset : ℕ) (message : Message) (content more : List ℕ) (rest : ℕ → List ℕ → Stream) → length content ≡ data_length message
     → with_data_of offset message (content ++ more) (rest (data_length message) (drop (data_length message) (content ++ more)))
     ≡ with_entry (record { offset = offset; message = message; content = content }) (rest (data_length message) more)
@@ -29,7 +29,7 @@ with_data-whole offset message content more rest size =
 only_stream : (entries : List Entry) (end : End) (offset : ℕ) (bytes : List ℕ) → IsStream entries end offset bytes → stream_at offset bytes ≡ record { entries = entries; end = end }
 only_stream [] Clean offset bytes is = ap (stream_at offset) is ∙ stream_at-nil offset
 only_stream [] (Cut at message content) offset bytes is =
-    let head = is.2.front in
+    let head = is.2.before in
     let told = (only_message message).by head is.2.is_first in
     let whole : bytes ≡ head ++ content = is.2.parts ∙ ap (λ all. head ++ all) is.2.is_second.1 in
     let short : nat_lt (length content) (data_length message) ≡ true = lt-ltb (length content) (data_length message) is.1 in
@@ -37,23 +37,23 @@ only_stream [] (Cut at message content) offset bytes is =
 only_stream [] (Fault at fault) offset [] is = absurd (is.1 refl)
 only_stream [] (Fault at fault) offset (b ∷ bytes) is = stream_at-fault offset b bytes fault is.3 ∙ ap (λ place. ended (Fault place fault)) (sym is.0)
 only_stream (entry ∷ entries) end offset bytes is =
-    let head = is.is_entry.1.front in
+    let head = is.is_entry.1.before in
     let told = (only_message entry.message).by head is.is_entry.1.is_first in
-    let front : is.front ≡ head ++ entry.content = is.is_entry.1.parts ∙ ap (λ all. head ++ all) is.is_entry.1.is_second.1 in
-    let whole : bytes ≡ head ++ (entry.content ++ is.behind) = is.parts ∙ ap (λ all. all ++ is.behind) front ∙ append_assoc head entry.content is.behind in
-    let place : offset + length head + data_length entry.message ≡ offset + length is.front = omega (arith, ap length front, length-append head entry.content, is.is_entry.0) in
+    let before : is.before ≡ head ++ entry.content = is.is_entry.1.parts ∙ ap (λ all. head ++ all) is.is_entry.1.is_second.1 in
+    let whole : bytes ≡ head ++ (entry.content ++ is.after) = is.parts ∙ ap (λ all. all ++ is.after) before ∙ append_assoc head entry.content is.after in
+    let place : offset + length head + data_length entry.message ≡ offset + length is.before = omega (arith, ap length before, length-append head entry.content, is.is_entry.0) in
     ap (stream_at offset) whole
-    ∙ stream_at-head offset head entry.message told (entry.content ++ is.behind)
-    ∙ with_data-whole offset entry.message entry.content is.behind (λ size. stream_at (offset + length head + size)) is.is_entry.0
-    ∙ ap (λ at. with_entry (record { offset = offset; message = entry.message; content = entry.content }) (stream_at at is.behind)) place
-    ∙ ap (with_entry (record { offset = offset; message = entry.message; content = entry.content })) (only_stream entries end (offset + length is.front) is.behind is.is_rest)
+    ∙ stream_at-head offset head entry.message told (entry.content ++ is.after)
+    ∙ with_data-whole offset entry.message entry.content is.after (λ size. stream_at (offset + length head + size)) is.is_entry.0
+    ∙ ap (λ at. with_entry (record { offset = offset; message = entry.message; content = entry.content }) (stream_at at is.after)) place
+    ∙ ap (with_entry (record { offset = offset; message = entry.message; content = entry.content })) (only_stream entries end (offset + length is.before) is.after is.is_rest)
     ∙ ap (λ at. record { entries = record { offset = at; message = entry.message; content = entry.content } ∷ entries; end = end }) (sym is.place)
 
 only_by : (contact : Option Contact) (entries : List Entry) (end : End) (bytes : List ℕ) → IsReadingBy contact entries end bytes → reading_of bytes ≡ record { contact = contact; entries = entries; end = end }
 unfolding reading_of
 only_by (Some contact) entries end bytes is =
-    let told = (only_contact contact).by is.front is.is_first is.behind in
-    let streams : stream_at 6 is.behind ≡ record { entries = entries; end = end } = only_stream entries end 6 is.behind is.is_second in
+    let told = (only_contact contact).by is.before is.is_first is.after in
+    let streams : stream_at 6 is.after ≡ record { entries = entries; end = end } = only_stream entries end 6 is.after is.is_second in
     ap (λ all. reading_by (contact_at all)) is.parts ∙ ap reading_by told
     ∙ ap (λ (rest : Stream). record { contact = Some contact; entries = rest.entries; end = rest.end }) streams
 only_by None entries end bytes is =
@@ -65,17 +65,17 @@ only_reading bytes reading is = sym (only_by reading.contact reading.entries rea
 
 -- where the head of a part is read as a fault, no spelling of the part begins the bytes
 none_begins : {A : Type 0} (part : List ℕ → Part A) (value : A) (spelled : Spelling) (bytes : List ℕ) (fault : WireFault) → Only part value spelled → part bytes ≡ Err fault → NoneBegins spelled bytes
-none_begins part value spelled bytes fault only is = λ front more spells same.
-    let never = sym is ∙ ap part same ∙ only.by front spells more in absurd (cc)
+none_begins part value spelled bytes fault only is = λ before more spells same.
+    let never = sym is ∙ ap part same ∙ only.by before spells more in absurd (cc)
 
 -- the stream that these bytes are read as stands in them
 abbrev StandsIn : ℕ → List ℕ → Stream → Type 0
 StandsIn offset bytes stream = IsStream stream.entries stream.end offset bytes
 
--- a message whose head was read, with the data behind it
+-- a message whose head was read, with the data after it
 module _ (offset : ℕ) (message : Message) (head rest : List ℕ) (spells : HeadSpelled message head) (are : AreBytes rest) where
   with_data-stands : (later : ℕ → List ℕ → Stream)
-      → (let behind = drop (data_length message) rest in (at : ℕ) → StandsIn at behind (later at behind))
+      → (let after = drop (data_length message) rest in (at : ℕ) → StandsIn at after (later at after))
       → StandsIn offset (head ++ rest) (with_data_of offset message rest (later (offset + length head + data_length message) (drop (data_length message) rest)))
   with_data-stands later stands = ⊎_elim
       (λ less.
@@ -85,17 +85,17 @@ module _ (offset : ℕ) (message : Message) (head rest : List ℕ) (spells : Hea
       let whole : nat_lt (length rest) (data_length message) ≡ false = le-ltb (length rest) (data_length message) enough in
       let size = length-take-le (data_length message) rest enough in
       let content = take (data_length message) rest in
-      let behind = drop (data_length message) rest in
+      let after = drop (data_length message) rest in
       let place : offset + length head + data_length message ≡ offset + length (head ++ content) = omega (arith, length-append head content) in
-      let next = later (offset + length head + data_length message) behind in
-      let P : ℕ → Type 0 = λ at. IsStream next.entries next.end at behind in
+      let next = later (offset + length head + data_length message) after in
+      let P : ℕ → Type 0 = λ at. IsStream next.entries next.end at after in
       rw whole (record {
         place = refl;
-        front = head ++ content;
-        behind = behind;
+        before = head ++ content;
+        after = after;
         is_entry = (size, both head content spells (All-take IsByte (data_length message) rest are, refl));
         is_rest = subst P place (stands (offset + length head + data_length message));
-        parts = ap (λ all. head ++ all) (sym (take-append-drop (data_length message) rest)) ∙ sym (append_assoc head content behind);
+        parts = ap (λ all. head ++ all) (sym (take-append-drop (data_length message) rest)) ∙ sym (append_assoc head content after);
       }))
       (cases_lt (length rest) (data_length message))
 
@@ -107,7 +107,7 @@ module _ (offset : ℕ) (bytes : List ℕ) where
   stands_by : {other : Stream} → stream_at offset bytes ≡ other → StandsIn offset bytes other → StandsIn offset bytes (stream_at offset bytes)
   stands_by {other} same stands = let P : Stream → Type 0 = λ stream. StandsIn offset bytes stream in subst P (sym same) stands
 
-  head_stands : 0 < length bytes → AreBytes bytes → ((at : ℕ) (behind : List ℕ) → length behind < length bytes → AreBytes behind → StandsIn at behind (stream_at at behind))
+  head_stands : 0 < length bytes → AreBytes bytes → ((at : ℕ) (after : List ℕ) → length after < length bytes → AreBytes after → StandsIn at after (stream_at at after))
       → (read : Result (Message × List ℕ) WireFault) → message_at bytes ≡ read → StandsIn offset bytes (stream_at offset bytes)
   head_stands some are next (Err fault) is =
       stands_by (stream_at-bad offset bytes fault some is)
@@ -115,34 +115,34 @@ module _ (offset : ℕ) (bytes : List ℕ) where
   head_stands some are next (Ok (message, rest)) is =
       let fewer = shrinks_message.by bytes message rest is in
       let found = found_message.by bytes message rest are is in
-      let whole : bytes ≡ found.front ++ rest = found.parts ∙ ap (λ all. found.front ++ all) found.is_second in
-      let behind : AreBytes rest = AreBytes-behind found.front rest (subst AreBytes whole are) in
-      let told = (only_message message).by found.front found.is_first in
+      let whole : bytes ≡ found.before ++ rest = found.parts ∙ ap (λ all. found.before ++ all) found.is_second in
+      let after : AreBytes rest = AreBytes-after found.before rest (subst AreBytes whole are) in
+      let told = (only_message message).by found.before found.is_first in
       let size = data_length message in
-      let last : AreBytes (drop size rest) = AreBytes-behind (take size rest) (drop size rest) (subst AreBytes (sym (take-append-drop size rest)) behind) in
+      let last : AreBytes (drop size rest) = AreBytes-after (take size rest) (drop size rest) (subst AreBytes (sym (take-append-drop size rest)) after) in
       let P : List ℕ → Type 0 = λ all. StandsIn offset all (stream_at offset all) in
-      let Q : Stream → Type 0 = λ stream. StandsIn offset (found.front ++ rest) stream in
-      subst P (sym whole) (subst Q (sym (stream_at-head offset found.front message told rest))
-      (with_data-stands offset message found.front rest found.is_first behind stream_at (λ at. next at (drop size rest) (omega (arith, length-drop size rest)) last)))
+      let Q : Stream → Type 0 = λ stream. StandsIn offset (found.before ++ rest) stream in
+      subst P (sym whole) (subst Q (sym (stream_at-head offset found.before message told rest))
+      (with_data-stands offset message found.before rest found.is_first after stream_at (λ at. next at (drop size rest) (omega (arith, length-drop size rest)) last)))
 
 -- the reading of bytes, of which there are `count` at most, stands in them
 stream_stands : (count offset : ℕ) (bytes : List ℕ) → length bytes ≤ count → AreBytes bytes → StandsIn offset bytes (stream_at offset bytes)
 stream_stands count offset [] few are = stands_by offset [] (stream_at-nil offset) refl
 stream_stands zero offset (b ∷ bytes) few are = absurd (omega arith)
 stream_stands (suc count) offset (b ∷ bytes) few are =
-    head_stands offset (b ∷ bytes) (omega arith) are (λ at behind fewer. stream_stands count at behind (omega arith)) (message_at (b ∷ bytes)) refl
+    head_stands offset (b ∷ bytes) (omega arith) are (λ at after fewer. stream_stands count at after (omega arith)) (message_at (b ∷ bytes)) refl
 
 reading_by-stands : (bytes : List ℕ) → AreBytes bytes → (read : Result (Contact × List ℕ) WireFault) → contact_at bytes ≡ read → IsReading bytes (reading_by read)
 reading_by-stands bytes are (Err fault) is =
     (refl, (λ contact. none_begins contact_at contact (ContactSpelled contact) bytes fault (only_contact contact) is), (fault, refl, is))
 reading_by-stands bytes are (Ok (contact, rest)) is =
     let found = found_contact.by bytes contact rest are is in
-    let whole : bytes ≡ found.front ++ rest = found.parts ∙ ap (λ all. found.front ++ all) found.is_second in
+    let whole : bytes ≡ found.before ++ rest = found.parts ∙ ap (λ all. found.before ++ all) found.is_second in
     record {
-      front = found.front;
-      behind = rest;
+      before = found.before;
+      after = rest;
       is_first = found.is_first;
-      is_second = stream_stands (length rest) 6 rest (omega arith) (AreBytes-behind found.front rest (subst AreBytes whole are));
+      is_second = stream_stands (length rest) 6 rest (omega arith) (AreBytes-after found.before rest (subst AreBytes whole are));
       parts = whole;
     }
 

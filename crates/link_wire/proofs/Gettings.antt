@@ -1,65 +1,89 @@
 -- A part that was read, and then what depends on it.
-use Rattle.std.proofs.Common.{◌≡◌, ◌≢◌, ◌+◌, ◌-◌, ◌≤◌, ℕ, Bool, true, false, List, [], ◌++◌, Result, Ok, Err, if◌then◌else◌, ap, sym, ◌∙◌, subst, refl, append_assoc, slice_index, arith}
+use Rattle.std.proofs.Common.{◌≡◌, ◌≢◌, ◌+◌, ◌-◌, ◌<◌, ◌≤◌, ℕ, Bool, true, false, List, [], ◌∷◌, ◌++◌, length, take, Result, Ok, Err, if◌then◌else◌, ap, sym, ◌∙◌, subst, refl, append_assoc, length-append, slice_index, arith, ⊎_elim}
 use mathlib.Core.Path.{fun_ext}
 use Rattle.std.specs.Prelude.{IsErrAnd}
+use Rattle.std.proofs.lemmas.Bool.{cases_lt}
+use Rattle.std.proofs.lemmas.List.{take-append-le}
+use Rattle.std.proofs.Math.Seq.{take-append-add}
 use Rattle.byteorder.specs.Endian.{big_number}
 use Rattle.link_wire.specs.Device.{Input}
 use Rattle.link_wire.specs.Part.{Part, ◌>>=◌, bytes_at, number_at}
 use Rattle.link_wire.specs.Message.{skipped_at}
-use Rattle.link_wire.specs.ListLaws.{skipped_at-there, skipped_at-add}
+use Rattle.link_wire.proofs.Skips.{skipped_at-there, skipped_at-add}
 use Rattle.link_wire.specs.Source.{IsLive}
-use Rattle.link_wire.specs.SourceLaws.{Takes-none, Takes-then, StopsAfter-then}
-use Rattle.link_wire.specs.Getting.{IsFaultOf, Gets, with_value}
+use Rattle.link_wire.proofs.Sources.{Takes-none, Takes-then, StopsAfter-then}
+use Rattle.link_wire.specs.Getting.{Needs, IsPart, IsFault, Gets, with_value}
 use Rattle.link_wire.specs.declared.fault.WireFault.{WireFault}
-use Rattle.link_wire.specs.declared.fault.WireFault.TheVariants as wire
+use Rattle.link_wire.specs.declared.fault.WireFault.TheVariants.{Truncated}
 use Rattle.link_wire.specs.declared.halt.Halt.{Halt}
 use Rattle.link_wire.specs.declared.halt.Halt.TheVariants as halt
 use Rattle.link_wire.specs.declared.source.Source.{Source}
 
+-- ---- over lists
+
 module _ {A B : Type 0} (part : List ℕ → Part A) (next : A × List ℕ → Part B) where
-  -- what a part's bytes show of it, they show of what goes on from it
-  pub IsFaultOf-exit : (taken : List ℕ) (fault : WireFault) → IsFaultOf part taken fault → IsFaultOf (λ bytes. part bytes >>= next) taken fault
-  IsFaultOf-exit taken wire.Truncated h = ap (λ r. r >>= next) h
-  IsFaultOf-exit taken wire.BadMagic h = λ more. ap (λ r. r >>= next) (h more)
-  IsFaultOf-exit taken (wire.BadVersion n) h = λ more. ap (λ r. r >>= next) (h more)
-  IsFaultOf-exit taken (wire.UnknownType n) h = λ more. ap (λ r. r >>= next) (h more)
-  IsFaultOf-exit taken (wire.NodeIdTooLong n) h = λ more. ap (λ r. r >>= next) (h more)
-  IsFaultOf-exit taken (wire.ListTooLong n) h = λ more. ap (λ r. r >>= next) (h more)
-  IsFaultOf-exit taken wire.TooManyItems h = λ more. ap (λ r. r >>= next) (h more)
-  IsFaultOf-exit taken wire.ItemsOverrun h = λ more. ap (λ r. r >>= next) (h more)
+  -- what is needed of a part is needed of what goes on from it
+  needs_exit : (bytes : List ℕ) → Needs part bytes → Needs (λ bytes. part bytes >>= next) bytes
+  needs_exit bytes needs count fewer = ap (λ r. r >>= next) (needs count fewer)
 
-  module _ (value : A) (first second : List ℕ) (is_part : (more : List ℕ) → part (first ++ more) ≡ Ok (value, more)) where
-    pub part_then : part (first ++ second) >>= next ≡ next (value, second)
-    part_then = ap (λ r. r >>= next) (is_part second)
+  -- what shows a fault of a part shows it of what goes on from it
+  pub IsFault-exit : (bytes : List ℕ) (fault : WireFault) → IsFault part bytes fault → IsFault (λ bytes. part bytes >>= next) bytes fault
+  IsFault-exit bytes fault is = record {
+    is_fault = λ more may. ap (λ r. r >>= next) (is.is_fault more may);
+    needs = needs_exit bytes is.needs;
+  }
 
-    pub part_then_more : (more : List ℕ) → part ((first ++ second) ++ more) >>= next ≡ next (value, second ++ more)
-    part_then_more more = rw append_assoc (ap (λ r. r >>= next) (is_part (second ++ more)))
+  module _ (value : A) (first second : List ℕ) (is : IsPart part first value) where
+    part_then : part (first ++ second) >>= next ≡ next (value, second)
+    part_then = ap (λ r. r >>= next) (is.is_part second)
 
-    -- the bytes of a part and those behind it that show a fault show it of both
-    pub IsFaultOf-then : (fault : WireFault) → IsFaultOf (λ bytes. next (value, bytes)) second fault → IsFaultOf (λ bytes. part bytes >>= next) (first ++ second) fault
-    IsFaultOf-then wire.Truncated h = part_then ∙ h
-    IsFaultOf-then wire.BadMagic h = λ more. part_then_more more ∙ h more
-    IsFaultOf-then (wire.BadVersion n) h = λ more. part_then_more more ∙ h more
-    IsFaultOf-then (wire.UnknownType n) h = λ more. part_then_more more ∙ h more
-    IsFaultOf-then (wire.NodeIdTooLong n) h = λ more. part_then_more more ∙ h more
-    IsFaultOf-then (wire.ListTooLong n) h = λ more. part_then_more more ∙ h more
-    IsFaultOf-then wire.TooManyItems h = λ more. part_then_more more ∙ h more
-    IsFaultOf-then wire.ItemsOverrun h = λ more. part_then_more more ∙ h more
+    part_then_more : (more : List ℕ) → part ((first ++ second) ++ more) >>= next ≡ next (value, second ++ more)
+    part_then_more more = rw append_assoc (ap (λ r. r >>= next) (is.is_part (second ++ more)))
+
+    needs_then : Needs (λ bytes. next (value, bytes)) second → Needs (λ bytes. part bytes >>= next) (first ++ second)
+    needs_then needs count fewer =
+        ⊎_elim
+        (λ less.
+        let begun : take count (first ++ second) ≡ take count first = take-append-le count first second (omega arith) in
+        ap (λ bytes. part bytes >>= next) begun ∙ ap (λ r. r >>= next) (is.needs count less))
+        (λ enough.
+        let rest = count - length first in
+        let parts : count ≡ length first + rest = omega arith in
+        let begun : take count (first ++ second) ≡ first ++ take rest second = ap (λ n. take n (first ++ second)) parts ∙ take-append-add first second rest in
+        ap (λ bytes. part bytes >>= next) begun ∙ ap (λ r. r >>= next) (is.is_part (take rest second)) ∙ needs rest (omega (arith, length-append first second)))
+        (cases_lt count (length first))
+
+    pub IsPart-then : (other : B) → IsPart (λ bytes. next (value, bytes)) second other → IsPart (λ bytes. part bytes >>= next) (first ++ second) other
+    IsPart-then other more = record {
+      is_part = λ rest. part_then_more rest ∙ more.is_part rest;
+      needs = needs_then more.needs;
+    }
+
+    pub IsFault-then : (fault : WireFault) → IsFault (λ bytes. next (value, bytes)) second fault → IsFault (λ bytes. part bytes >>= next) (first ++ second) fault
+    IsFault-then fault more = record {
+      is_fault = λ rest may. part_then_more rest ∙ more.is_fault rest may;
+      needs = needs_then more.needs;
+    }
+
+    pub cut_then : next (value, second) ≡ Err Truncated → part (first ++ second) >>= next ≡ Err Truncated
+    cut_then is_cut = part_then ∙ is_cut
+
+-- ---- over sources
 
 module _ {R A B : Type 0} {look : R → Input} {part : List ℕ → Part A} (next : A × List ℕ → Part B) where
   -- a part that was not read: nothing that goes on from it was
   pub exit : {old new : Source R} {stop : Halt} → Gets look part old new (Err stop) → Gets look (λ bytes. part bytes >>= next) old new (Err stop)
   exit {stop = halt.Wire fault} met = record {
     by = record {
-      taken = met.by.taken;
+      given = met.by.given;
       takes = met.by.takes;
-      is_fault = IsFaultOf-exit part next met.by.taken fault met.by.is_fault;
+      is = IsFault-exit part next met.by.given fault met.by.is;
       over = met.by.over;
     };
   }
   exit {stop = halt.Io fault} met = record {
     by = record {
-      taken = met.by.taken;
+      given = met.by.given;
       stops = met.by.stops;
       is_cut = ap (λ r. r >>= next) met.by.is_cut;
     };
@@ -67,27 +91,27 @@ module _ {R A B : Type 0} {look : R → Input} {part : List ℕ → Part A} (nex
 
   -- a part that was read, and what goes on from it
   pub after : {old mid new : Source R} {value : A} {answer : Result B Halt} → Gets look part old mid (Ok value) → Gets look (λ bytes. next (value, bytes)) mid new answer → Gets look (λ bytes. part bytes >>= next) old new answer
-  after {old} {mid} {new} {value} {answer = Ok given} got more = record {
+  after {old} {mid} {new} {value} {answer = Ok result} got more = record {
     by = record {
-      taken = got.by.taken ++ more.by.taken;
-      takes = Takes-then look old mid new got.by.taken more.by.taken got.by.takes more.by.takes;
+      given = got.by.given ++ more.by.given;
+      takes = Takes-then look old mid new got.by.given more.by.given got.by.takes more.by.takes;
       live = more.by.live;
-      is_part = λ rest. part_then_more part next value got.by.taken more.by.taken got.by.is_part rest ∙ more.by.is_part rest;
+      is = IsPart-then part next value got.by.given more.by.given got.by.is result more.by.is;
     };
   }
   after {old} {mid} {new} {value} {answer = Err (halt.Wire fault)} got more = record {
     by = record {
-      taken = got.by.taken ++ more.by.taken;
-      takes = Takes-then look old mid new got.by.taken more.by.taken got.by.takes more.by.takes;
-      is_fault = IsFaultOf-then part next value got.by.taken more.by.taken got.by.is_part fault more.by.is_fault;
+      given = got.by.given ++ more.by.given;
+      takes = Takes-then look old mid new got.by.given more.by.given got.by.takes more.by.takes;
+      is = IsFault-then part next value got.by.given more.by.given got.by.is fault more.by.is;
       over = more.by.over;
     };
   }
   after {old} {mid} {new} {value} {answer = Err (halt.Io fault)} got more = record {
     by = record {
-      taken = got.by.taken ++ more.by.taken;
-      stops = StopsAfter-then look old mid new got.by.taken more.by.taken fault got.by.takes more.by.stops;
-      is_cut = part_then part next value got.by.taken more.by.taken got.by.is_part ∙ more.by.is_cut;
+      given = got.by.given ++ more.by.given;
+      stops = StopsAfter-then look old mid new got.by.given more.by.given fault got.by.takes more.by.stops;
+      is_cut = cut_then part next value got.by.given more.by.given got.by.is more.by.is_cut;
     };
   }
 
@@ -114,18 +138,20 @@ module _ {R A : Type 0} {look : R → Input} where
 
   -- no byte is needed
   pub pure : {source : Source R} {value : A} → IsLive look source → Gets look (λ bytes. Ok (value, bytes)) source source (Ok value)
-  pure {source} live = record { by = record { taken = []; takes = Takes-none look source; live = live; is_part = λ more. refl } }
+  pure {source} live = record {
+    by = record { given = []; takes = Takes-none look source; live = live; is = record { is_part = λ more. refl; needs = λ count fewer. absurd (omega arith) } };
+  }
 
   -- a value that what was read before refuses
-  pub refuse : {source : Source R} {fault : WireFault} → fault ≢ wire.Truncated → Gets look (λ bytes. let answer : Part A = Err fault in answer) source source (Err (halt.Wire fault))
-  refuse {fault = wire.Truncated} not = absurd (not refl)
-  refuse {source} {fault = wire.BadMagic} not = record { by = record { taken = []; takes = Takes-none look source; is_fault = λ more. refl; over = tt } }
-  refuse {source} {fault = wire.BadVersion n} not = record { by = record { taken = []; takes = Takes-none look source; is_fault = λ more. refl; over = tt } }
-  refuse {source} {fault = wire.UnknownType n} not = record { by = record { taken = []; takes = Takes-none look source; is_fault = λ more. refl; over = tt } }
-  refuse {source} {fault = wire.NodeIdTooLong n} not = record { by = record { taken = []; takes = Takes-none look source; is_fault = λ more. refl; over = tt } }
-  refuse {source} {fault = wire.ListTooLong n} not = record { by = record { taken = []; takes = Takes-none look source; is_fault = λ more. refl; over = tt } }
-  refuse {source} {fault = wire.TooManyItems} not = record { by = record { taken = []; takes = Takes-none look source; is_fault = λ more. refl; over = tt } }
-  refuse {source} {fault = wire.ItemsOverrun} not = record { by = record { taken = []; takes = Takes-none look source; is_fault = λ more. refl; over = tt } }
+  pub refuse : {source : Source R} {fault : WireFault} → fault ≢ Truncated → Gets look (λ bytes. let answer : Part A = Err fault in answer) source source (Err (halt.Wire fault))
+  refuse {source} not = record {
+    by = record {
+      given = [];
+      takes = Takes-none look source;
+      is = record { is_fault = λ more may. refl; needs = λ count fewer. absurd (omega arith) };
+      over = λ is. absurd (not is);
+    };
+  }
 
   -- the part is chosen by what was read before
   module _ (part other : List ℕ → Part A) {old new : Source R} {test : Bool} {answer : Result A Halt} where
@@ -157,7 +183,14 @@ module _ {R : Type 0} {look : R → Input} {old new : Source R} where
 module _ {R : Type 0} {look : R → Input} where
   -- bytes that were passed over
   pub skip_none : {source : Source R} → IsLive look source → Gets look (skipped_at 0) source source (Ok tt)
-  skip_none {source} live = record { by = record { taken = []; takes = Takes-none look source; live = live; is_part = λ more. skipped_at-there 0 more (omega arith) } }
+  skip_none {source} live = record {
+    by = record {
+      given = [];
+      takes = Takes-none look source;
+      live = live;
+      is = record { is_part = λ more. skipped_at-there 0 more (omega arith); needs = λ count fewer. absurd (omega arith) };
+    };
+  }
 
   module _ {old mid new : Source R} (a b : ℕ) where
     pub skip_more : (n : ℕ) {piece : List ℕ} → a + b ≡ n → Gets look (skipped_at a) old mid (Ok tt) → Gets look (bytes_at b) mid new (Ok piece) → Gets look (skipped_at n) old new (Ok tt)

@@ -2,8 +2,12 @@
 use Rattle.std.proofs.Common.{◌≡◌, ℕ, zero, suc, ◌+◌, ◌-◌, ◌≤◌, Bool, true, false, eqb, List, length, drop, Result, Ok, Err, nat_lt, if◌then◌else◌, arith, refl, ap, sym, ◌∙◌, length-drop, ⊎_elim}
 use Rattle.std.proofs.lemmas.Bool.{cases_lt}
 use Rattle.link_wire.specs.Part.{Part, ◌>>=◌, bytes_at, number_at}
-use Rattle.link_wire.specs.PartLaws.{bytes_at-short, bytes_at-enough, same_part}
-use Rattle.link_wire.specs.Message.{skipped_at, total_at, item_head_at, items_at, items_of, list_at, node_bytes_at, node_at, segment_items_at, segment_at, ack_at, refuse_at, sess_term_at, msg_reject_at, sess_init_at, fields_at, message_at, has_start, gives_total}
+use Rattle.link_wire.proofs.FieldReads.{bytes_at-short, bytes_at-enough, same_part}
+use Rattle.link_wire.specs.declared.message.ListOf.{ListOf}
+use Rattle.link_wire.specs.declared.message.ListOf.TheVariants.{Session, Transfer}
+use Rattle.link_wire.specs.Codes.{is_start}
+use Rattle.link_wire.specs.Limits.{longest_node, longest_list, most_items}
+use Rattle.link_wire.specs.Message.{skipped_at, total_at, item_head_at, items_at, items_of, list_at, node_bytes_at, node_at, segment_items_at, segment_at, ack_at, refuse_at, sess_term_at, msg_reject_at, sess_init_at, fields_at, message_at, gives_total}
 use Rattle.link_wire.specs.declared.fault.WireFault.{WireFault}
 
 -- a part that was read in two steps
@@ -58,10 +62,10 @@ pub shrinks_skipped : (n : ℕ) → Shrinks 0 (skipped_at n)
 unfolding skipped_at
 shrinks_skipped n = shrinks_then 0 _ _ (loosely n _ (shrinks_bytes n)) (λ skipped. shrinks_pure _)
 
-pub shrinks_total : (is_transfer : Bool) (kind size : ℕ) → Shrinks 0 (total_at is_transfer kind size)
+pub shrinks_total : (of : ListOf) (kind size : ℕ) → Shrinks 0 (total_at of kind size)
 unfolding total_at
-shrinks_total is_transfer kind size =
-    shrinks_if (gives_total is_transfer kind size) _ _
+shrinks_total of kind size =
+    shrinks_if (gives_total of kind size) _ _
     (shrinks_then 0 _ _ (shrinks_field 8) (λ total. shrinks_pure _))
     (shrinks_then 0 _ _ (shrinks_skipped size) (λ value. shrinks_pure _))
 
@@ -74,26 +78,26 @@ shrinks_item_head left =
     shrinks_then 0 _ _ (shrinks_field 2) (λ size.
     shrinks_if (nat_lt (left - 5) size) _ _ (shrinks_err _) (shrinks_pure _)))))
 
-pub shrinks_items : (is_transfer : Bool) (room left : ℕ) → Shrinks 0 (items_at is_transfer room left)
+pub shrinks_items : (of : ListOf) (room left : ℕ) → Shrinks 0 (items_at of room left)
 unfolding items_at
-shrinks_items is_transfer zero left =
+shrinks_items of zero left =
     shrinks_if (eqb left 0) _ _ (shrinks_pure _)
     (shrinks_then 0 _ _ (shrinks_item_head left) (λ head. shrinks_err _))
-shrinks_items is_transfer (suc room) left =
+shrinks_items of (suc room) left =
     shrinks_if (eqb left 0) _ _ (shrinks_pure _)
     (shrinks_then 0 _ _ (shrinks_item_head left) (λ head.
-    shrinks_then 0 _ _ (shrinks_total is_transfer head.kind head.length) (λ total.
-    shrinks_then 0 _ _ (shrinks_items is_transfer room (left - (5 + head.length))) (λ others. shrinks_pure _))))
+    shrinks_then 0 _ _ (shrinks_total of head.kind head.length) (λ total.
+    shrinks_then 0 _ _ (shrinks_items of room (left - (5 + head.length))) (λ others. shrinks_pure _))))
 
-pub shrinks_items_of : (is_transfer : Bool) (size : ℕ) → Shrinks 0 (items_of is_transfer size)
+pub shrinks_items_of : (of : ListOf) (size : ℕ) → Shrinks 0 (items_of of size)
 unfolding items_of
-shrinks_items_of is_transfer size = shrinks_then 0 _ _ (shrinks_items is_transfer 16 size) (λ items. shrinks_pure _)
+shrinks_items_of of size = shrinks_then 0 _ _ (shrinks_items of most_items size) (λ items. shrinks_pure _)
 
-pub shrinks_list : (is_transfer : Bool) → Shrinks 0 (list_at is_transfer)
+pub shrinks_list : (of : ListOf) → Shrinks 0 (list_at of)
 unfolding list_at
-shrinks_list is_transfer =
+shrinks_list of =
     shrinks_then 0 _ _ (shrinks_field 4) (λ size.
-    shrinks_if (nat_lt 4096 size) _ _ (shrinks_err _) (shrinks_items_of is_transfer size))
+    shrinks_if (nat_lt longest_list size) _ _ (shrinks_err _) (shrinks_items_of of size))
 
 pub shrinks_node_bytes : (size : ℕ) → Shrinks 0 (node_bytes_at size)
 unfolding node_bytes_at
@@ -103,11 +107,11 @@ pub shrinks_node : Shrinks 0 node_at
 unfolding node_at
 shrinks_node =
     shrinks_then 0 _ _ (shrinks_field 2) (λ size.
-    shrinks_if (nat_lt 1024 size) _ _ (shrinks_err _) (shrinks_node_bytes size))
+    shrinks_if (nat_lt longest_node size) _ _ (shrinks_err _) (shrinks_node_bytes size))
 
 pub shrinks_segment_items : (flags : ℕ) → Shrinks 0 (segment_items_at flags)
 unfolding segment_items_at
-shrinks_segment_items flags = shrinks_if (has_start flags) _ _ (shrinks_list true) (shrinks_pure _)
+shrinks_segment_items flags = shrinks_if (is_start flags) _ _ (shrinks_list Transfer) (shrinks_pure _)
 
 pub shrinks_segment : Shrinks 0 segment_at
 unfolding segment_at
@@ -149,7 +153,7 @@ shrinks_sess_init =
     shrinks_then 0 _ _ (shrinks_field 8) (λ segment_mru.
     shrinks_then 0 _ _ (shrinks_field 8) (λ transfer_mru.
     shrinks_then 0 _ _ shrinks_node (λ node.
-    shrinks_then 0 _ _ (shrinks_list false) (λ items. shrinks_pure _)))))
+    shrinks_then 0 _ _ (shrinks_list Session) (λ items. shrinks_pure _)))))
 
 pub shrinks_fields : (kind : ℕ) → Shrinks 0 (fields_at kind)
 unfolding fields_at

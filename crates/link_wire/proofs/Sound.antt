@@ -7,9 +7,13 @@ use Rattle.arrayvec.specs.ArrayVec.{ArrayVec}
 use Rattle.byteorder.specs.Endian.{big_number}
 use Rattle.byteorder.specs.Numbers.{big_number-reads_back, length-bytes_high_first}
 use Rattle.link_wire.specs.Part.{Part, ◌>>=◌, bytes_at, number_at}
-use Rattle.link_wire.specs.PartLaws.{bytes_at-there, array_vec_of, same_part}
+use Rattle.link_wire.proofs.FieldReads.{bytes_at-there, array_vec_of, same_part}
 use Rattle.link_wire.specs.Spelled.{Spelling, be, U8, U16, U32, U64, These, ◌⨾◌, ContactSpelled, NodeSpelled, ItemHeadSpelled, ValueSpelled, ItemsSpelled, ListSpelled, SegmentItemsSpelled, HeadSpelled, Spelled}
-use Rattle.link_wire.specs.Message.{contact_at, skipped_at, total_at, item_head_at, items_at, items_of, list_at, node_bytes_at, node_at, segment_items_at, segment_at, ack_at, refuse_at, sess_term_at, msg_reject_at, sess_init_at, fields_at, message_at, has_start, gives_total, data_length}
+use Rattle.link_wire.specs.declared.message.ListOf.{ListOf}
+use Rattle.link_wire.specs.declared.message.ListOf.TheVariants.{Session, Transfer}
+use Rattle.link_wire.specs.Codes.{is_start}
+use Rattle.link_wire.specs.Limits.{longest_node, longest_list, most_items}
+use Rattle.link_wire.specs.Message.{contact_at, skipped_at, total_at, item_head_at, items_at, items_of, list_at, node_bytes_at, node_at, segment_items_at, segment_at, ack_at, refuse_at, sess_term_at, msg_reject_at, sess_init_at, fields_at, message_at, gives_total, data_length}
 use Rattle.link_wire.specs.declared.message.Contact.{Contact}
 use Rattle.link_wire.specs.declared.message.Item.{Item}
 use Rattle.link_wire.specs.declared.message.SegmentHead.{SegmentHead}
@@ -17,26 +21,26 @@ use Rattle.link_wire.specs.declared.message.Message.{Message}
 use Rattle.link_wire.specs.declared.message.Message.TheVariants.{SessInit, Segment, Ack, Refuse, Keepalive, SessTerm, MsgReject}
 
 -- how long a spelling is
-pub length_front : {first second : Spelling} (bytes : List ℕ) (is : (first ⨾ second) bytes) → length bytes ≡ length is.front + length is.behind
-length_front bytes is = ap length is.parts ∙ length-append is.front is.behind
+pub length_front : {first second : Spelling} (bytes : List ℕ) (is : (first ⨾ second) bytes) → length bytes ≡ length is.before + length is.after
+length_front bytes is = ap length is.parts ∙ length-append is.before is.after
 
 module _ {first second : Spelling} where
-  -- two spellings, one behind the other
-  pub both : (front behind : List ℕ) → first front → second behind → (first ⨾ second) (front ++ behind)
-  both front behind one two = record { front = front; behind = behind; is_first = one; is_second = two; parts = refl }
+  -- two spellings, one after the other
+  pub both : (before after : List ℕ) → first before → second after → (first ⨾ second) (before ++ after)
+  both before after one two = record { before = before; after = after; is_first = one; is_second = two; parts = refl }
 
 -- the last spelling of a part
-pub last : (spelled : Spelling) (front : List ℕ) → spelled front → spelled (front ++ [])
-last spelled front is = subst spelled (sym (append-nil front)) is
+pub last : (spelled : Spelling) (before : List ℕ) → spelled before → spelled (before ++ [])
+last spelled before is = subst spelled (sym (append-nil before)) is
 
--- three spellings one behind the other
+-- three spellings one after the other
 pub then_assoc : {first second third : Spelling} (bytes : List ℕ) → ((first ⨾ second) ⨾ third) bytes → (first ⨾ (second ⨾ third)) bytes
 then_assoc bytes is = record {
-  front = is.is_first.front;
-  behind = is.is_first.behind ++ is.behind;
+  before = is.is_first.before;
+  after = is.is_first.after ++ is.after;
   is_first = is.is_first.is_first;
-  is_second = record { front = is.is_first.behind; behind = is.behind; is_first = is.is_first.is_second; is_second = is.is_second; parts = refl };
-  parts = is.parts ∙ ap (λ front. front ++ is.behind) is.is_first.parts ∙ append_assoc is.is_first.front is.is_first.behind is.behind;
+  is_second = record { before = is.is_first.after; after = is.after; is_first = is.is_first.is_second; is_second = is.is_second; parts = refl };
+  parts = is.parts ∙ ap (λ before. before ++ is.after) is.is_first.parts ∙ append_assoc is.is_first.before is.is_first.after is.after;
 }
 
 -- a spelling is read as this value, whatever follows
@@ -48,9 +52,9 @@ module _ {A B : Type 0} (part : List ℕ → Part A) (next : A × List ℕ → P
   only_then head rest = record {
     by = λ bytes is more.
         ap (λ all. part (all ++ more) >>= next) is.parts
-        ∙ ap (λ all. part all >>= next) (append_assoc is.front is.behind more)
-        ∙ ap (λ read. read >>= next) (head.by is.front is.is_first (is.behind ++ more))
-        ∙ rest.by is.behind is.is_second more;
+        ∙ ap (λ all. part all >>= next) (append_assoc is.before is.after more)
+        ∙ ap (λ read. read >>= next) (head.by is.before is.is_first (is.after ++ more))
+        ∙ rest.by is.after is.is_second more;
   }
 
   pub only_last : {spelled : Spelling} → Only part value spelled → ((more : List ℕ) → next (value, more) ≡ Ok (given, more)) → Only (λ bytes. part bytes >>= next) given spelled
@@ -113,7 +117,7 @@ pub only_node : (node : ArrayVec ℕ) → Only node_at node (NodeSpelled node)
 unfolding node_at
 only_node node = record {
   by = λ bytes is more.
-      (only_then _ _ (only_u16 (length node.items)) (only_else _ _ (nat_lt 1024 (length node.items)) (le-ltb 1024 (length node.items) is.0) (only_node_bytes node))).by bytes is.1 more;
+      (only_then _ _ (only_u16 (length node.items)) (only_else _ _ (nat_lt longest_node (length node.items)) (le-ltb longest_node (length node.items) is.0) (only_node_bytes node))).by bytes is.1 more;
 }
 
 -- an item's head that ends within its list
@@ -130,45 +134,46 @@ pub only_skipped : (value : List ℕ) (n : ℕ) → length value ≡ n → Only 
 unfolding skipped_at
 only_skipped value n size = only_last _ _ (only_bytes value n size) (λ rest. refl)
 
-pub total_size : (is_transfer : Bool) (kind size : ℕ) → gives_total is_transfer kind size ≡ true → size ≡ 8
-total_size is_transfer kind size is = grind (arith, nat_tests)
+pub has_total_size : (of : ListOf) (kind size : ℕ) → gives_total of kind size ≡ true → size ≡ 8
+has_total_size Session kind size is = absurd (cc)
+has_total_size Transfer kind size is = grind (arith, nat_tests)
 
 -- the number in a field, whatever number it is
 pub only_field_of : (value : List ℕ) (n : ℕ) → length value ≡ n → Only (number_at n) (big_number n value) (λ bytes. bytes ≡ value)
 unfolding number_at
 only_field_of value n size = only_last _ _ (only_bytes value n size) (λ more. refl)
 
-module _ (is_transfer : Bool) (kind size : ℕ) (total : Option ℕ) where
-  value_by : (test : Bool) → gives_total is_transfer kind size ≡ test → Only (total_at is_transfer kind size) total (ValueSpelled is_transfer kind size total)
+module _ (of : ListOf) (kind size : ℕ) (total : Option ℕ) where
+  value_by : (test : Bool) → gives_total of kind size ≡ test → Only (total_at of kind size) total (ValueSpelled of kind size total)
   unfolding total_at
   value_by true told = only_such (λ value is.
       let number : total ≡ Some (big_number 8 value) = is.2 ∙ ap (λ test. if test then Some (big_number 8 value) else None) told in
-      only_if _ _ (gives_total is_transfer kind size) told
-      (only_last _ _ (only_field_of value 8 (is.1 ∙ total_size is_transfer kind size told)) (λ rest. ap (λ t. Ok (t, rest)) (sym number))))
+      only_if _ _ (gives_total of kind size) told
+      (only_last _ _ (only_field_of value 8 (is.1 ∙ has_total_size of kind size told)) (λ rest. ap (λ t. Ok (t, rest)) (sym number))))
   value_by false told = only_such (λ value is.
       let number : total ≡ None = is.2 ∙ ap (λ test. if test then Some (big_number 8 value) else None) told in
-      only_else _ _ (gives_total is_transfer kind size) told
+      only_else _ _ (gives_total of kind size) told
       (only_last _ _ (only_skipped value size is.1) (λ rest. ap (λ t. Ok (t, rest)) (sym number))))
 
-  pub only_value : Only (total_at is_transfer kind size) total (ValueSpelled is_transfer kind size total)
-  only_value = value_by (gives_total is_transfer kind size) refl
+  pub only_value : Only (total_at of kind size) total (ValueSpelled of kind size total)
+  only_value = value_by (gives_total of kind size) refl
 
 -- an item is five bytes and its value
 pub length_item_head : (flags kind size : ℕ) (bytes : List ℕ) → ItemHeadSpelled flags kind size bytes → length bytes ≡ 5
 length_item_head flags kind size bytes is =
     let whole = length_front bytes is in
-    let behind = length_front is.behind is.is_second in
-    let one : length is.front ≡ 1 = ap length is.is_first.1 in
-    let two : length is.is_second.front ≡ 2 = ap length is.is_second.is_first.1 in
-    let three : length is.is_second.behind ≡ 2 = ap length is.is_second.is_second.1 in
+    let after = length_front is.after is.is_second in
+    let one : length is.before ≡ 1 = ap length is.is_first.1 in
+    let two : length is.is_second.before ≡ 2 = ap length is.is_second.is_first.1 in
+    let three : length is.is_second.after ≡ 2 = ap length is.is_second.is_second.1 in
     omega arith
 
 -- the items of a list of `left` bytes
-abbrev pub ItemsFilling : Bool → List Item → ℕ → Spelling
-ItemsFilling is_transfer items left bytes = ItemsSpelled is_transfer items bytes × (length bytes ≡ left)
+abbrev pub ItemsFilling : ListOf → List Item → ℕ → Spelling
+ItemsFilling of items left bytes = ItemsSpelled of items bytes × (length bytes ≡ left)
 
-module _ (is_transfer : Bool) where
-  pub only_items : (items : List Item) (room left : ℕ) → length items ≤ room → Only (items_at is_transfer room left) items (ItemsFilling is_transfer items left)
+module _ (of : ListOf) where
+  pub only_items : (items : List Item) (room left : ℕ) → length items ≤ room → Only (items_at of room left) items (ItemsFilling of items left)
   unfolding items_at
   only_items [] zero left few = record { by = λ bytes is more. let none : left ≡ 0 = sym is.1 ∙ ap length is.0 in rw (none, is.0) refl }
   only_items [] (suc room) left few = record { by = λ bytes is more. let none : left ≡ 0 = sym is.1 ∙ ap length is.0 in rw (none, is.0) refl }
@@ -176,49 +181,49 @@ module _ (is_transfer : Bool) where
   only_items (item ∷ items) (suc room) left few = record {
     by = λ bytes is more.
         let all = length_front bytes is.0 in
-        let one = length_front is.0.front is.0.is_first in
-        let head = length_item_head item.flags item.kind item.length is.0.is_first.front is.0.is_first.is_first in
-        let value : length is.0.is_first.behind ≡ item.length = is.0.is_first.is_second.1 in
-        let size : length is.0.behind ≡ left - (5 + item.length) = omega arith in
+        let one = length_front is.0.before is.0.is_first in
+        let head = length_item_head item.flags item.kind item.length is.0.is_first.before is.0.is_first.is_first in
+        let value : length is.0.is_first.after ≡ item.length = is.0.is_first.is_second.1 in
+        let size : length is.0.after ≡ left - (5 + item.length) = omega arith in
         let fits : 5 + item.length ≤ left = omega arith in
         let some : 0 < left = omega arith in
-        let only : Only (items_at is_transfer (suc room) left) (item ∷ items) (ItemHeadSpelled item.flags item.kind item.length ⨾ ValueSpelled is_transfer item.kind item.length item.total ⨾ ItemsFilling is_transfer items (left - (5 + item.length))) =
+        let only : Only (items_at of (suc room) left) (item ∷ items) (ItemHeadSpelled item.flags item.kind item.length ⨾ ValueSpelled of item.kind item.length item.total ⨾ ItemsFilling of items (left - (5 + item.length))) =
         only_else _ _ (eqb left 0) (ne_eqb left 0 (λ none. absurd (omega arith)))
         (only_then _ _ (only_item_head left item.flags item.kind item.length fits)
-        (only_then _ _ (only_value is_transfer item.kind item.length item.total)
+        (only_then _ _ (only_value of item.kind item.length item.total)
         (only_last _ _ (only_items items room (left - (5 + item.length)) (omega arith)) (λ rest. refl)))) in
-        only.by bytes (then_assoc bytes (record { front = is.0.front; behind = is.0.behind; is_first = is.0.is_first; is_second = (is.0.is_second, size); parts = is.0.parts })) more;
+        only.by bytes (then_assoc bytes (record { before = is.0.before; after = is.0.after; is_first = is.0.is_first; is_second = (is.0.is_second, size); parts = is.0.parts })) more;
   }
 
-  only_items_of : (items : ArrayVec Item) (left : ℕ) → length items.items ≤ 16 → Only (items_of is_transfer left) items (ItemsFilling is_transfer items.items left)
+  only_items_of : (items : ArrayVec Item) (left : ℕ) → length items.items ≤ most_items → Only (items_of of left) items (ItemsFilling of items.items left)
   unfolding items_of
-  only_items_of items left few = only_last _ _ (only_items items.items 16 left few) (λ rest. refl)
+  only_items_of items left few = only_last _ _ (only_items items.items most_items left few) (λ rest. refl)
 
-  pub only_list : (items : ArrayVec Item) → Only (list_at is_transfer) items (ListSpelled is_transfer items)
+  pub only_list : (items : ArrayVec Item) → Only (list_at of) items (ListSpelled of items)
   unfolding list_at
   only_list items = record {
     by = λ bytes is more.
         let size = length is.body in
-        let body : ItemsFilling is_transfer items.items size is.is_list.behind = rw is.is_list.is_second.1 (is.is_body, refl) in
-        let only : Only (list_at is_transfer) items (U32 size ⨾ ItemsFilling is_transfer items.items size) =
-        only_then _ _ (only_u32 size) (only_else _ _ (nat_lt 4096 size) (le-ltb 4096 size is.short) (only_items_of items size is.few)) in
-        only.by bytes (record { front = is.is_list.front; behind = is.is_list.behind; is_first = is.is_list.is_first; is_second = body; parts = is.is_list.parts }) more;
+        let body : ItemsFilling of items.items size is.is_list.after = rw is.is_list.is_second.1 (is.is_body, refl) in
+        let only : Only (list_at of) items (U32 size ⨾ ItemsFilling of items.items size) =
+        only_then _ _ (only_u32 size) (only_else _ _ (nat_lt longest_list size) (le-ltb longest_list size is.short) (only_items_of items size is.few)) in
+        only.by bytes (record { before = is.is_list.before; after = is.is_list.after; is_first = is.is_list.is_first; is_second = body; parts = is.is_list.parts }) more;
   }
 
-only_segment_items : (flags : ℕ) (items : ArrayVec Item) (start : Bool) → has_start flags ≡ start → Only (segment_items_at flags) items (SegmentItemsSpelled start items)
+only_segment_items : (flags : ℕ) (items : ArrayVec Item) (start : Bool) → is_start flags ≡ start → Only (segment_items_at flags) items (SegmentItemsSpelled start items)
 unfolding segment_items_at
-only_segment_items flags items true told = only_if _ _ (has_start flags) told (only_list true items)
-only_segment_items flags items false told = only_else _ _ (has_start flags) told (record {
+only_segment_items flags items true told = only_if _ _ (is_start flags) told (only_list Transfer items)
+only_segment_items flags items false told = only_else _ _ (is_start flags) told (record {
   by = λ bytes is more.
       let none : items ≡ record { items = [] } = array_vec_of items [] is.0 in rw (is.1, none) refl;
 })
 
-only_segment : (head : SegmentHead) → Only segment_at (Segment head) (U8 head.flags ⨾ U64 head.id ⨾ SegmentItemsSpelled (has_start head.flags) head.items ⨾ U64 head.length)
+only_segment : (head : SegmentHead) → Only segment_at (Segment head) (U8 head.flags ⨾ U64 head.id ⨾ SegmentItemsSpelled (is_start head.flags) head.items ⨾ U64 head.length)
 unfolding segment_at
 only_segment head =
     only_then _ _ (only_u8 head.flags)
     (only_then _ _ (only_u64 head.id)
-    (only_then _ _ (only_segment_items head.flags head.items (has_start head.flags) refl)
+    (only_then _ _ (only_segment_items head.flags head.items (is_start head.flags) refl)
     (only_last _ _ (only_u64 head.length) (λ more. refl))))
 
 only_ack : (flags id size : ℕ) → Only ack_at (Ack flags id size) (U8 flags ⨾ U64 id ⨾ U64 size)
@@ -238,14 +243,14 @@ unfolding msg_reject_at
 only_msg_reject reason header = only_then _ _ (only_u8 reason) (only_last _ _ (only_u8 header) (λ more. refl))
 
 only_sess_init : (keepalive segment_mru transfer_mru : ℕ) (node : ArrayVec ℕ) (items : ArrayVec Item)
-    → Only sess_init_at (SessInit keepalive segment_mru transfer_mru node items) (U16 keepalive ⨾ U64 segment_mru ⨾ U64 transfer_mru ⨾ NodeSpelled node ⨾ ListSpelled false items)
+    → Only sess_init_at (SessInit keepalive segment_mru transfer_mru node items) (U16 keepalive ⨾ U64 segment_mru ⨾ U64 transfer_mru ⨾ NodeSpelled node ⨾ ListSpelled Session items)
 unfolding sess_init_at
 only_sess_init keepalive segment_mru transfer_mru node items =
     only_then _ _ (only_u16 keepalive)
     (only_then _ _ (only_u64 segment_mru)
     (only_then _ _ (only_u64 transfer_mru)
     (only_then _ _ (only_node node)
-    (only_last _ _ (only_list false items) (λ more. refl)))))
+    (only_last _ _ (only_list Session items) (λ more. refl)))))
 
 -- the head of a message is read as that message, whatever follows
 pub only_message : (message : Message) → Only message_at message (HeadSpelled message)
@@ -258,12 +263,12 @@ only_message (SessTerm flags reason) = only_then _ _ (only_u8 5) (only_sess_term
 only_message (MsgReject reason header) = only_then _ _ (only_u8 6) (only_msg_reject reason header)
 only_message (SessInit keepalive segment_mru transfer_mru node items) = only_then _ _ (only_u8 7) (only_sess_init keepalive segment_mru transfer_mru node items)
 
--- a message and its data, in front of anything
+-- a message and its data, in before of anything
 pub only_spelled : (message : Message) (content bytes : List ℕ) → Spelled message content bytes → (more : List ℕ) → message_at (bytes ++ more) ≡ Ok (message, content ++ more)
 only_spelled message content bytes is more =
     ap (λ all. message_at (all ++ more)) is.1.parts
-    ∙ ap message_at (append_assoc is.1.front is.1.behind more)
-    ∙ (only_message message).by is.1.front is.1.is_first (is.1.behind ++ more)
+    ∙ ap message_at (append_assoc is.1.before is.1.after more)
+    ∙ (only_message message).by is.1.before is.1.is_first (is.1.after ++ more)
     ∙ ap (λ all. Ok (message, all ++ more)) is.1.is_second.1
 
 -- No bytes spell two messages, and no spelling of a message begins another.

@@ -3,8 +3,8 @@ use Rattle.std.proofs.Common.{◌≡◌, ℕ, ◌+◌, Bool, true, false, List, 
 use Rattle.std.proofs.lemmas.Bool.{cases_lt}
 use Rattle.byteorder.specs.Endian.{big_number}
 use Rattle.link_wire.specs.Part.{bytes_at}
-use Rattle.link_wire.specs.PartLaws.{bytes_at-short, bytes_at-enough, same_part}
-use Rattle.link_wire.specs.PartSizes.{both_read}
+use Rattle.link_wire.proofs.FieldReads.{bytes_at-short, bytes_at-enough, same_part}
+use Rattle.link_wire.proofs.Shrinks.{both_read}
 use Rattle.link_wire.specs.Message.{contact_at}
 use Rattle.link_wire.specs.Stream.{Fault, stream_at, reading_of, reading_by}
 use Rattle.link_wire.specs.declared.fault.WireFault.{WireFault}

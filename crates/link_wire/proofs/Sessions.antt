@@ -3,16 +3,16 @@ use Rattle.std.proofs.Common.{◌≡◌, ℕ, ◌+◌, List, [], ◌∷◌, ◌+
 use Rattle.std.proofs.lemmas.List.{nil_from_length}
 use Rattle.link_wire.specs.Device.{Input}
 use Rattle.link_wire.specs.Message.{contact_at, message_at, fields_at, data_length}
-use Rattle.link_wire.specs.MessageLaws.{message_at-kind}
-use Rattle.link_wire.specs.PartSizes.{shrinks_message}
+use Rattle.link_wire.proofs.MessageKinds.{message_at-kind}
+use Rattle.link_wire.proofs.Shrinks.{shrinks_message}
 use Rattle.link_wire.specs.Source.{IsSourceAt, IsLive, IsOver, Takes}
-use Rattle.link_wire.specs.SourceLaws.{IsSourceAt-then, Takes-then}
+use Rattle.link_wire.proofs.Sources.{IsSourceAt-then, Takes-then}
 use Rattle.link_wire.specs.Getting.{Gets, GotPart, IsFaultOf, IsOverAt}
 use Rattle.link_wire.specs.Stream.{End, Clean, Cut, Fault, Stream, ended, stream_at, Reading, reading_of}
-use Rattle.link_wire.specs.StreamLaws.{stream_at-head, stream_at-fault}
-use Rattle.link_wire.specs.ContactLaws.{contact_taken, reading-contact, reading-refused}
+use Rattle.link_wire.proofs.Streams.{stream_at-head, stream_at-fault}
+use Rattle.link_wire.proofs.Contacts.{contact_taken, reading-contact, reading-refused}
 use Rattle.link_wire.specs.Session.{joined, data_after, with_data, rest_after, IsLeft, IsNew, IsSessionAt, SameMessages, IsRead, GaveContact, GivesContact, GaveMessage, GivesNext, MeetsNext}
-use Rattle.link_wire.specs.SessionLaws.{appended, begun, begun_by, begun_left, data_by, data_left, clean_end, settled, goes_on_from}
+use Rattle.link_wire.proofs.Rests.{appended, begun, begun_by, begun_left, data_by, data_left, clean_end, settled, goes_on_from}
 use Rattle.link_wire.specs.declared.fault.Stop.{Stop}
 use Rattle.link_wire.specs.declared.fault.WireFault.{WireFault}
 use Rattle.link_wire.specs.declared.fault.WireFault.TheVariants as wire

@@ -1,0 +1,18 @@
+mod Windows
+pub mod Sources
+mod Writes
+mod FieldReads
+mod Gettings
+mod Skips
+mod Items
+mod Shrinks
+mod Within
+pub mod Contacts
+mod MessageKinds
+mod Streams
+mod Rests
+mod Sessions
+pub mod Wholes
+mod Sound
+mod Complete
+mod OneReading

@@ -1,0 +1,50 @@
+-- The numbers of the wire (RFC 9174). Each stands here by itself, so that no change of a constant of the code changes what
+-- is meant.
+use Rattle.std.specs.Prelude.{ℕ, Bool, ◌==◌, bit_and}
+
+-- the contact header (section 4.2): `dtn!`, and the version
+abbrev pub magic : ℕ
+magic = 0x64746e21
+
+abbrev pub version : ℕ
+version = 4
+
+-- message types (section 4.5)
+abbrev pub xfer_segment : ℕ
+xfer_segment = 1
+
+abbrev pub xfer_ack : ℕ
+xfer_ack = 2
+
+abbrev pub xfer_refuse : ℕ
+xfer_refuse = 3
+
+abbrev pub keepalive : ℕ
+keepalive = 4
+
+abbrev pub sess_term : ℕ
+sess_term = 5
+
+abbrev pub msg_reject : ℕ
+msg_reject = 6
+
+abbrev pub sess_init : ℕ
+sess_init = 7
+
+-- flags of XFER_SEGMENT (section 5.2.2): the transfer's last segment, and its first
+abbrev pub is_end : ℕ → Bool
+is_end flags = bit_and flags 1 == 1
+
+abbrev pub is_start : ℕ → Bool
+is_start flags = bit_and flags 2 == 2
+
+-- the bytes of an extension item before its value (section 4.8)
+abbrev pub item_head : ℕ
+item_head = 5
+
+-- the type of a Transfer Length item, and the bytes of its value (section 5.2.5.1)
+abbrev pub transfer_length : ℕ
+transfer_length = 1
+
+abbrev pub total_size : ℕ
+total_size = 8
