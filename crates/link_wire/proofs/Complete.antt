@@ -323,7 +323,7 @@ module _ (before : List ℕ) where
       found_then _ _ found_node (λ node fourth four.
       found_then _ _ (found_list Session) (λ items fifth five.
       found_pure (SessInit keepalive segment_mru transfer_mru node items)
-      (both before _ kind (both first _ one (both second _ two (both third _ three (both fourth _ four (last (ListSpelled false items) fifth five)))))))))))
+      (both before _ kind (both first _ one (both second _ two (both third _ three (both fourth _ four (last (ListSpelled Session items) fifth five)))))))))))
 
   -- the type byte is this number
   is_kind : (kind n : ℕ) → eqb kind n ≡ true → U8 kind before → U8 n before

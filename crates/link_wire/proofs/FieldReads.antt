@@ -4,6 +4,7 @@ use Rattle.std.proofs.lemmas.Bool.{lt-ltb, le-ltb}
 use Rattle.std.proofs.Math.Seq.{take-append_seam, drop-append_seam}
 use Rattle.arrayvec.specs.ArrayVec.{ArrayVec}
 use Rattle.byteorder.specs.Endian.{big_number}
+use Rattle.link_wire.specs.Getting.{IsPart}
 use Rattle.link_wire.specs.Part.{Part, ◌>>=◌, bytes_at, number_at}
 use Rattle.link_wire.specs.declared.fault.WireFault.TheVariants.{Truncated}
 
@@ -39,3 +40,11 @@ pub same_part : {A : Type 0} {value other : A} {bytes more : List ℕ} → (let 
 same_part {A} {value} {other} {bytes} {more} is =
     let both : (value, bytes) ≡ (other, more) = cc in
     (ap (λ (p : A × List ℕ). p.0) both, ap (λ (p : A × List ℕ). p.1) both)
+
+-- a byte is a number, and is needed
+pub IsPart-byte : (b : ℕ) → IsPart (number_at 1) (b ∷ []) b
+unfolding number_at bytes_at
+IsPart-byte b = record {
+  is_part = number_at-byte b;
+  needs = λ count fewer. let none : count ≡ 0 = omega arith in rw none refl;
+}

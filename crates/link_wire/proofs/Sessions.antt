@@ -1,45 +1,86 @@
 -- What each call of a session does to where it stands.
-use Rattle.std.proofs.Common.{◌≡◌, ℕ, ◌+◌, List, [], ◌∷◌, ◌++◌, length, Some, None, Ok, Err, arith, refl, ap, sym, ◌∙◌, subst, append_assoc, append-nil, length-append}
+use Rattle.std.proofs.Common.{◌≡◌, ℕ, ◌+◌, ◌<◌, ◌≤◌, Bool, true, false, ◌&&◌, eqb, eqb-true, List, [], ◌∷◌, ◌++◌, length, take, Option, Some, None, Result, Ok, Err, arith, refl, ap, sym, ◌∙◌, subst, append_assoc, append-nil, length-append}
+use Rattle.std.specs.Prelude.{IsErrAnd}
 use Rattle.std.proofs.lemmas.List.{nil_from_length}
+use Rattle.std.proofs.lemmas.List.Elements.{All-nil}
+use Rattle.link_wire.specs.Bytes.{IsByte}
 use Rattle.link_wire.specs.Device.{Input}
+use Rattle.link_wire.specs.Part.{bytes_at, number_at}
 use Rattle.link_wire.specs.Message.{contact_at, message_at, fields_at, data_length}
-use Rattle.link_wire.proofs.MessageKinds.{message_at-kind}
-use Rattle.link_wire.proofs.Shrinks.{shrinks_message}
-use Rattle.link_wire.specs.Source.{IsSourceAt, IsLive, IsOver, Takes}
-use Rattle.link_wire.proofs.Sources.{IsSourceAt-then, Takes-then}
-use Rattle.link_wire.specs.Getting.{Gets, GotPart, IsFaultOf, IsOverAt}
+use Rattle.link_wire.specs.Source.{is_open, given_by, IsSourceAt, IsLiveBy, IsLive, IsOver, Takes, StopsAfter}
+use Rattle.link_wire.specs.Getting.{Needs, IsPart, IsFault, GotPart, Gets, GotKind}
 use Rattle.link_wire.specs.Stream.{End, Clean, Cut, Fault, Stream, ended, stream_at, Reading, reading_of}
+use Rattle.link_wire.specs.Session.{joined, data_after, with_data, rest_after, IsLeft, IsUndecided, SameMessages, ShownLast, is_unopened, reads_next, may_open, may_read, left_of, HasStopped, data_in, IsSessionAt, IsRead, GaveContact, GivesContact, GaveMessage, GivesNext, GaveStop, GaveBytes, GivesLoad, GivesData}
+use Rattle.link_wire.proofs.Sources.{IsSourceAt-then, Takes-then, StopsAfter-then}
+use Rattle.link_wire.proofs.Gettings.{after, IsFault-then, cut_then}
+use Rattle.link_wire.proofs.FieldReads.{IsPart-byte}
+use Rattle.link_wire.proofs.Shrinks.{shrinks_message}
+use Rattle.link_wire.proofs.Within.{within_contact, within_message, part_size, needed_size}
 use Rattle.link_wire.proofs.Streams.{stream_at-head, stream_at-fault}
 use Rattle.link_wire.proofs.Contacts.{contact_taken, reading-contact, reading-refused}
-use Rattle.link_wire.specs.Session.{joined, data_after, with_data, rest_after, IsLeft, IsNew, IsSessionAt, SameMessages, IsRead, GaveContact, GivesContact, GaveMessage, GivesNext, MeetsNext}
 use Rattle.link_wire.proofs.Rests.{appended, begun, begun_by, begun_left, data_by, data_left, clean_end, settled, goes_on_from}
+use Rattle.link_wire.specs.Halt.{stop_at}
+use Rattle.link_wire.specs.declared.fault.IoFault.{IoFault}
 use Rattle.link_wire.specs.declared.fault.Stop.{Stop}
+use Rattle.link_wire.specs.declared.fault.Stop.TheVariants as stop
 use Rattle.link_wire.specs.declared.fault.WireFault.{WireFault}
 use Rattle.link_wire.specs.declared.fault.WireFault.TheVariants as wire
-use Rattle.link_wire.specs.Halt.{stop_at}
 use Rattle.link_wire.specs.declared.halt.Halt.{Halt}
 use Rattle.link_wire.specs.declared.halt.Halt.TheVariants as halt
 use Rattle.link_wire.specs.declared.message.Contact.{Contact}
 use Rattle.link_wire.specs.declared.message.Message.{Message}
+use Rattle.link_wire.specs.declared.session.Phase.TheVariants as phase
 use Rattle.link_wire.specs.declared.session.Session.{Session}
+use Rattle.link_wire.specs.declared.source.Flow.{Flow}
+use Rattle.link_wire.specs.declared.source.Flow.TheVariants as flow
 use Rattle.link_wire.specs.declared.source.Source.{Source}
 
-module _ {R : Type 0} (look : R → Input) where
-  -- the contact header was refused
-  contact_is_read : (source : Source R) (taken : List ℕ) (fault : WireFault) → IsFaultOf contact_at taken fault → IsOverAt (IsOver look source) fault → IsRead look source taken fault (record { contact = None; entries = []; end = Fault 0 fault })
-  contact_is_read source taken wire.Truncated is over = (over, reading-refused taken wire.Truncated is)
-  contact_is_read source taken wire.BadMagic is over = λ more. reading-refused (taken ++ more) wire.BadMagic (is more)
-  contact_is_read source taken (wire.BadVersion n) is over = λ more. reading-refused (taken ++ more) (wire.BadVersion n) (is more)
-  contact_is_read source taken (wire.UnknownType n) is over = λ more. reading-refused (taken ++ more) (wire.UnknownType n) (is more)
-  contact_is_read source taken (wire.NodeIdTooLong n) is over = λ more. reading-refused (taken ++ more) (wire.NodeIdTooLong n) (is more)
-  contact_is_read source taken (wire.ListTooLong n) is over = λ more. reading-refused (taken ++ more) (wire.ListTooLong n) (is more)
-  contact_is_read source taken wire.TooManyItems is over = λ more. reading-refused (taken ++ more) wire.TooManyItems (is more)
-  contact_is_read source taken wire.ItemsOverrun is over = λ more. reading-refused (taken ++ more) wire.ItemsOverrun (is more)
+-- what a fresh source has given, and that more may come
+live_open : (now : Flow) (left : Option (List ℕ)) (start end : ℕ) → is_open now ≡ true → IsLiveBy now left start end
+live_open flow.Open left start end is = tt
+live_open flow.Ended left start end is = absurd (cc)
+live_open (flow.Failed fault) left start end is = absurd (cc)
+
+and_true : (first second : Bool) → (first && second) ≡ true → (first ≡ true) × (second ≡ true)
+and_true true second is = (refl, is)
+and_true false second is = absurd (cc)
+
+module _ {R : Type 0} (look : R → Input) (s : Session R) (fresh : may_open s ≡ true) where
+  -- what a session knows that may be opened
+  parts : (is_unopened s.phase ≡ true) × (left_of s ≡ 0) × (given_by s.source ≡ 0) × (is_open s.source.flow ≡ true)
+  parts =
+      let first = and_true (is_unopened s.phase) _ fresh in
+      let second = and_true (eqb s.left 0) _ first.1 in
+      let third = and_true (eqb s.source.given 0) _ second.1 in
+      let fourth = and_true (is_open s.source.flow) _ third.1 in
+      (first.0, eqb-true s.left 0 second.0, eqb-true s.source.given 0 third.0, fourth.0)
+
+  pub opens_at : IsSourceAt s.source []
+  opens_at = record { bytes = All-nil IsByte; given = parts.2 }
+
+  pub opens_live : IsLive look s.source
+  opens_live = live_open s.source.flow (look s.source.reader).left s.source.start s.source.end parts.3
+
+  pub opens_left : left_of s ≡ 0
+  opens_left = parts.1
+
+-- where the next message may be asked for and the session has not stopped, no data is to come
+pub none_left : {R : Type 0} (s : Session R) → s.phase ≡ phase.Reading → may_read s ≡ true → left_of s ≡ 0
+none_left s reading may = eqb-true s.left 0 (ap (λ p. reads_next p s.left) (sym reading) ∙ may)
+
+-- ---- the contact header
+
+-- no byte of the contact header's shows a fault but the last
+contact_shown : (given : List ℕ) → Needs contact_at given → ShownLast [] given
+contact_shown given needs = λ count fewer.
+    let read = reading-refused (take count given) wire.Truncated (needs count fewer) in
+    let P : End → Type 0 = IsUndecided in
+    subst P (sym (ap (λ (r : Reading). r.end) read)) refl
 
 module _ {R : Type 0} {look : R → Input} where
   -- a session stands where a part of what was left has been read
   stands : (s : Session R) (history : List ℕ) (reading : Reading) (part : Stream) (contact : Contact)
-      → IsSourceAt s.source history → IsLive look s.source → s.stop ≡ None → reading.contact ≡ Some contact
+      → IsSourceAt s.source history → IsLive look s.source → s.phase ≡ phase.Reading → reading.contact ≡ Some contact
       → (is : IsLeft s.offset s.left part.end)
       → (reads : (more : List ℕ) → reading_of (history ++ more) ≡ joined reading (appended part (rest_after (length history) s.left part.end more)))
       → IsSessionAt look s history
@@ -56,43 +97,47 @@ module _ {R : Type 0} {look : R → Input} where
       }
 
   -- the contact header was read
-  pub contact_came : (old new : Session R) (contact : Contact) → IsNew look old → Gets look contact_at old.source new.source (Ok contact) → new.left ≡ 0 → new.stop ≡ None → GaveContact look old new contact
+  pub contact_came : (old new : Session R) (contact : Contact) → may_open old ≡ true → Gets look contact_at old.source new.source (Ok contact) → new.left ≡ old.left → new.phase ≡ phase.Reading → GaveContact look old new contact
   contact_came old new contact fresh got left going =
-      let taken = got.by.taken in
+      let given = got.by.given in
       let begins : Reading = record { contact = Some contact; entries = []; end = Clean } in
-      let six = contact_taken taken contact got.by.is_part in
-      let is : IsLeft new.offset new.left Clean = left in
-      let reads : (more : List ℕ) → reading_of (taken ++ more) ≡ joined begins (appended (ended Clean) (rest_after (length taken) new.left Clean more)) = λ more. rw six (reading-contact taken contact got.by.is_part more) in
+      let six = contact_taken given contact got.by.is.is_part in
+      let none : new.left ≡ 0 = left ∙ opens_left look old fresh in
+      let is : IsLeft new.offset new.left Clean = none in
+      let reads : (more : List ℕ) → reading_of (given ++ more) ≡ joined begins (appended (ended Clean) (rest_after (length given) new.left Clean more)) = λ more. rw six (reading-contact given contact got.by.is.is_part more) in
       record {
-        taken = taken;
+        given = given;
         takes = got.by.takes;
-        some = omega (arith, six);
-        reading = settled begins taken (ended Clean) new.offset new.left (length taken) is reads;
-        at = stands new taken begins (ended Clean) contact (IsSourceAt-then look old.source new.source [] taken got.by.takes fresh.at) got.by.live going refl is reads;
-        between = left;
+        reading = settled begins given (ended Clean) new.offset new.left (length given) is reads;
+        size = six;
+        at = stands new given begins (ended Clean) contact (IsSourceAt-then look old.source new.source [] given got.by.takes (opens_at look old fresh)) got.by.live going refl is reads;
+        between = none;
       }
 
-  refused : (old new : Session R) (why : Halt) → Gets look contact_at old.source new.source (Err why) → new.stop ≡ Some (stop_at 0 why) → GivesContact look old new (Err (stop_at 0 why))
+  refused : (old new : Session R) (why : Halt) → Gets look contact_at old.source new.source (Err why) → HasStopped new (stop_at 0 why) → GivesContact look old new (Err (stop_at 0 why))
   refused old new (halt.Wire fault) met stopped = record {
-    taken = met.by.taken;
+    given = met.by.given;
     takes = met.by.takes;
+    size = needed_size within_contact met.by.given met.by.is.needs;
     place = refl;
-    is_read = contact_is_read look new.source met.by.taken fault met.by.is_fault met.by.over;
+    is_read = record { over = met.by.over; all = λ more may. reading-refused (met.by.given ++ more) fault (met.by.is.is_fault more may) };
+    shown_last = contact_shown met.by.given met.by.is.needs;
     stopped = stopped;
   }
   refused old new (halt.Io fault) met stopped = record {
-    taken = met.by.taken;
+    given = met.by.given;
     stops = met.by.stops;
-    reading = reading-refused met.by.taken wire.Truncated met.by.is_cut;
+    size = within_contact.cut met.by.given met.by.is_cut;
+    reading = reading-refused met.by.given wire.Truncated met.by.is_cut;
     stopped = stopped;
   }
 
-  pub contact_refused : (old new : Session R) (source : Source R) (why : Halt) (result : Stop) → Gets look contact_at old.source source (Err why) → new.source ≡ source → new.stop ≡ Some result → result ≡ stop_at 0 why → GivesContact look old new (Err result)
+  pub contact_refused : (old new : Session R) (source : Source R) (why : Halt) (result : Stop) → Gets look contact_at old.source source (Err why) → new.source ≡ source → HasStopped new result → result ≡ stop_at 0 why → GivesContact look old new (Err result)
   contact_refused old new source why result met same stopped is =
       let P : Source R → Type 0 = λ s. Gets look contact_at old.source s (Err why) in
-      rw is (refused old new why (subst P (sym same) met) (stopped ∙ ap Some is))
+      rw is (refused old new why (subst P (sym same) met) (stopped ∙ ap phase.Stopped is))
 
-  -- between two messages, what follows is read from there
+  -- ---- messages: between two of them, what follows is read from there
   module _ (old : Session R) (history : List ℕ) (at : IsSessionAt look old history) (between : old.left ≡ 0) where
     clean : (reading_of history).end ≡ Clean
     clean = clean_end old.offset old.left (reading_of history).end at.left between
@@ -101,81 +146,104 @@ module _ {R : Type 0} {look : R → Input} where
     from_here bytes = at.goes_on bytes ∙ ap (λ end. joined (reading_of history) (rest_after (length history) old.left end bytes)) clean
 
     -- the head of a message was read
-    pub message_came : (new : Session R) (message : Message) → GotPart look message_at old.source new.source message → new.offset ≡ length history → new.left ≡ data_length message → new.stop ≡ None → GaveMessage look old new history (length history) message
-    message_came new message got offset left going =
-        let taken = got.taken in
+    came : (new : Session R) (message : Message) → GotPart look message_at old.source new.source message → new.offset ≡ length history → new.left ≡ data_length message → new.phase ≡ phase.Reading → GaveMessage look old new history (length history) message
+    came new message got offset left going =
+        let given = got.given in
         let here = length history in
-        let place : length (history ++ taken) ≡ here + length taken = length-append history taken in
+        let place : length (history ++ given) ≡ here + length given = length-append history given in
         let is : IsLeft new.offset new.left (begun here message).end = rw (offset, left) (begun_left (data_length message) here message refl) in
-        let reads : (more : List ℕ) → reading_of ((history ++ taken) ++ more) ≡ joined (reading_of history) (appended (begun here message) (rest_after (length (history ++ taken)) new.left (begun here message).end more)) =
+        let reads : (more : List ℕ) → reading_of ((history ++ given) ++ more) ≡ joined (reading_of history) (appended (begun here message) (rest_after (length (history ++ given)) new.left (begun here message).end more)) =
         λ more.
-        ap reading_of (append_assoc history taken more) ∙ from_here (taken ++ more)
-        ∙ ap (joined (reading_of history)) (stream_at-head here taken message got.is_part more ∙ begun_by (data_length message) here (here + length taken) message more refl)
+        ap reading_of (append_assoc history given more) ∙ from_here (given ++ more)
+        ∙ ap (joined (reading_of history)) (stream_at-head here given message got.is.is_part more ∙ begun_by (data_length message) here (here + length given) message more refl)
         ∙ ap (λ p. joined (reading_of history) (appended (begun here message) (rest_after p (data_length message) (begun here message).end more))) (sym place)
-        ∙ ap (λ n. joined (reading_of history) (appended (begun here message) (rest_after (length (history ++ taken)) n (begun here message).end more))) (sym left)
+        ∙ ap (λ n. joined (reading_of history) (appended (begun here message) (rest_after (length (history ++ given)) n (begun here message).end more))) (sym left)
         in
         record {
-          taken = taken;
+          given = given;
           takes = got.takes;
-          some = omega (arith, shrinks_message.by (taken ++ []) message [] (got.is_part []), length-append taken []);
+          some = omega (arith, shrinks_message.by (given ++ []) message [] (got.is.is_part []), length-append given []);
+          size = part_size within_message given message got.is;
           place = refl;
           left = left;
-          reading = settled (reading_of history) (history ++ taken) (begun here message) new.offset new.left (length (history ++ taken)) is reads;
-          at = stands new (history ++ taken) (reading_of history) (begun here message) at.contact (IsSourceAt-then look old.source new.source history taken got.takes at.at) got.live going at.has_contact is reads;
+          reading = settled (reading_of history) (history ++ given) (begun here message) new.offset new.left (length (history ++ given)) is reads;
+          at = stands new (history ++ given) (reading_of history) (begun here message) at.contact (IsSourceAt-then look old.source new.source history given got.takes at.at) got.live going at.has_contact is reads;
         }
+
+    -- bytes that make no message leave the messages as they were, and more bytes may mend them
+    cut_here : (given : List ℕ) → message_at given ≡ Err wire.Truncated → SameMessages (reading_of history) (reading_of (history ++ given)) × IsUndecided (reading_of (history ++ given)).end
+    cut_here [] is = rw append-nil (record { contact = refl; entries = refl }, rw clean tt)
+    cut_here (kind ∷ given) is =
+        let read = from_here (kind ∷ given) ∙ ap (joined (reading_of history)) (stream_at-fault (length history) kind given wire.Truncated is) in
+        let P : End → Type 0 = IsUndecided in (
+          record {
+            contact = ap (λ (r : Reading). r.contact) read;
+            entries = ap (λ (r : Reading). r.entries) read ∙ append-nil (reading_of history).entries;
+          },
+          subst P (sym (ap (λ (r : Reading). r.end) read)) refl,
+        )
 
     -- a fault in the message that begins here
-    fault_here : (kind : ℕ) (bytes : List ℕ) (fault : WireFault) → fields_at kind bytes ≡ Err fault → reading_of (history ++ (kind ∷ bytes)) ≡ joined (reading_of history) (ended (Fault (length history) fault))
-    fault_here kind bytes fault is =
-        from_here (kind ∷ bytes) ∙ ap (joined (reading_of history)) (stream_at-fault (length history) kind bytes fault (message_at-kind kind bytes ∙ is))
+    fault_here : (kind : ℕ) (given more : List ℕ) (fault : WireFault) → message_at ((kind ∷ given) ++ more) ≡ Err fault → reading_of ((history ++ (kind ∷ given)) ++ more) ≡ joined (reading_of history) (ended (Fault (length history) fault))
+    fault_here kind given more fault is =
+        ap reading_of (append_assoc history (kind ∷ given) more)
+        ∙ from_here (kind ∷ (given ++ more))
+        ∙ ap (joined (reading_of history)) (stream_at-fault (length history) kind (given ++ more) fault is)
 
-    fault_further : (kind : ℕ) (taken more : List ℕ) (fault : WireFault) → fields_at kind (taken ++ more) ≡ Err fault → reading_of ((history ++ (kind ∷ taken)) ++ more) ≡ joined (reading_of history) (ended (Fault (length history) fault))
-    fault_further kind taken more fault is = ap reading_of (append_assoc history (kind ∷ taken) more) ∙ fault_here kind (taken ++ more) fault is
+    -- what the type byte and what follows it let the next message be
+    module _ {mid : Source R} {kind : ℕ} (first : GotKind look old.source mid kind) where
+      typed : Gets look (number_at 1) old.source mid (Ok kind)
+      typed = record { by = record { given = kind ∷ []; takes = first.takes; live = first.live; is = IsPart-byte kind } }
 
-    fault_is_read : (source : Source R) (kind : ℕ) (taken : List ℕ) (fault : WireFault) → IsFaultOf (fields_at kind) taken fault → IsOverAt (IsOver look source) fault → IsRead look source (history ++ (kind ∷ taken)) fault (joined (reading_of history) (ended (Fault (length history) fault)))
-    fault_is_read source kind taken wire.Truncated is over = (over, fault_here kind taken wire.Truncated is)
-    fault_is_read source kind taken wire.BadMagic is over = λ more. fault_further kind taken more wire.BadMagic (is more)
-    fault_is_read source kind taken (wire.BadVersion n) is over = λ more. fault_further kind taken more (wire.BadVersion n) (is more)
-    fault_is_read source kind taken (wire.UnknownType n) is over = λ more. fault_further kind taken more (wire.UnknownType n) (is more)
-    fault_is_read source kind taken (wire.NodeIdTooLong n) is over = λ more. fault_further kind taken more (wire.NodeIdTooLong n) (is more)
-    fault_is_read source kind taken (wire.ListTooLong n) is over = λ more. fault_further kind taken more (wire.ListTooLong n) (is more)
-    fault_is_read source kind taken wire.TooManyItems is over = λ more. fault_further kind taken more wire.TooManyItems (is more)
-    fault_is_read source kind taken wire.ItemsOverrun is over = λ more. fault_further kind taken more wire.ItemsOverrun (is more)
+      pub message_came : (new : Session R) (message : Message) → Gets look (fields_at kind) mid new.source (Ok message) → new.offset ≡ length history → new.left ≡ data_length message → new.phase ≡ phase.Reading → GaveMessage look old new history (length history) message
+      unfolding message_at
+      message_came new message fields offset left going =
+          let whole : Gets look message_at old.source new.source (Ok message) = after _ typed fields in
+          came new message whole.by offset left going
 
-    -- bytes that make no message leave the messages as they were
-    cut_here : (taken : List ℕ) → message_at taken ≡ Err wire.Truncated → SameMessages (reading_of history) (reading_of (history ++ taken))
-    cut_here [] is = rw append-nil (record { contact = refl; entries = refl })
-    cut_here (kind ∷ taken) is =
-        let read = from_here (kind ∷ taken) ∙ ap (joined (reading_of history)) (stream_at-fault (length history) kind taken wire.Truncated is) in
-        record {
-          contact = ap (λ (r : Reading). r.contact) read;
-          entries = ap (λ (r : Reading). r.entries) read ∙ append-nil (reading_of history).entries;
-        }
+      next_refused : (new : Session R) (why : Halt) → Gets look (fields_at kind) mid new.source (Err why) → HasStopped new (stop_at (length history) why) → GivesNext look old new history (Err (stop_at (length history) why))
+      unfolding message_at
+      next_refused new (halt.Wire fault) met stopped =
+          let given = met.by.given in
+          let is : IsFault message_at (kind ∷ given) fault = IsFault-then (number_at 1) (λ v. fields_at v.0 v.1) kind (kind ∷ []) given (IsPart-byte kind) fault met.by.is in
+          record {
+            given = kind ∷ given;
+            takes = Takes-then look old.source mid new.source (kind ∷ []) given first.takes met.by.takes;
+            size = needed_size within_message (kind ∷ given) is.needs;
+            place = refl;
+            is_read = record { over = met.by.over; all = λ more may. fault_here kind given more fault (is.is_fault more may) };
+            shown_last = λ count fewer. (cut_here (take count (kind ∷ given)) (is.needs count fewer)).1;
+            stopped = stopped;
+          }
+      next_refused new (halt.Io fault) met stopped =
+          let given = met.by.given in
+          let is_cut : message_at (kind ∷ given) ≡ Err wire.Truncated = cut_then (number_at 1) (λ v. fields_at v.0 v.1) kind (kind ∷ []) given (IsPart-byte kind) met.by.is_cut in
+          let here = cut_here (kind ∷ given) is_cut in
+          record {
+            given = kind ∷ given;
+            stops = StopsAfter-then look old.source mid new.source (kind ∷ []) given fault first.takes met.by.stops;
+            size = within_message.cut (kind ∷ given) is_cut;
+            same = here.0;
+            undecided = here.1;
+            stopped = stopped;
+          }
 
-    next_refused : (new : Session R) (why : Halt) → MeetsNext look old.source new.source why → new.stop ≡ Some (stop_at (length history) why) → GivesNext look old new history (Err (stop_at (length history) why))
-    next_refused new (halt.Wire fault) met stopped = record {
-      taken = met.kind ∷ met.fields.taken;
-      takes = Takes-then look old.source met.mid new.source (met.kind ∷ []) met.fields.taken met.takes met.fields.takes;
-      place = refl;
-      is_read = fault_is_read new.source met.kind met.fields.taken fault met.fields.is_fault met.fields.over;
-      stopped = stopped;
-    }
-    next_refused new (halt.Io fault) met stopped = record {
-      taken = met.taken;
-      stops = met.stops;
-      same = cut_here met.taken met.is_cut;
-      stopped = stopped;
-    }
+      pub message_refused : (new : Session R) (source : Source R) (why : Halt) (offset : ℕ) (result : Stop) → Gets look (fields_at kind) mid source (Err why) → new.source ≡ source → HasStopped new result → result ≡ stop_at offset why → offset ≡ length history → GivesNext look old new history (Err result)
+      message_refused new source why offset result met same stopped is here =
+          let P : Source R → Type 0 = λ s. Gets look (fields_at kind) mid s (Err why) in
+          let named : result ≡ stop_at (length history) why = is ∙ ap (λ n. stop_at n why) here in
+          rw named (next_refused new why (subst P (sym same) met) (stopped ∙ ap phase.Stopped named))
 
-    pub message_refused : (new : Session R) (source : Source R) (why : Halt) (offset : ℕ) (result : Stop) → MeetsNext look old.source source why → new.source ≡ source → new.stop ≡ Some result → result ≡ stop_at offset why → offset ≡ length history → GivesNext look old new history (Err result)
-    message_refused new source why offset result met same stopped is here =
-        let P : Source R → Type 0 = λ s. MeetsNext look old.source s why in
-        let told : result ≡ stop_at (length history) why = is ∙ ap (λ n. stop_at n why) here in
-        rw told (next_refused new why (subst P (sym same) met) (stopped ∙ ap Some told))
+    -- a failure before the type byte
+    pub kind_stopped : (new : Session R) (fault : IoFault) → StopsAfter look old.source new.source [] fault → HasStopped new (stop.Io fault) → GaveStop look old new history fault
+    unfolding message_at number_at bytes_at
+    kind_stopped new fault stops stopped =
+        let here = cut_here [] refl in
+        record { given = []; stops = stops; size = omega arith; same = here.0; undecided = here.1; stopped = stopped }
 
   -- data of the open segment came
   module _ (old new : Session R) (history bytes : List ℕ) (at : IsSessionAt look old history) (takes : Takes look old.source new.source bytes)
-      (live : IsLive look new.source) (going : new.stop ≡ None) (offset : new.offset ≡ old.offset) (left : old.left ≡ length bytes + new.left) where
+      (live : IsLive look new.source) (going : new.phase ≡ phase.Reading) (offset : new.offset ≡ old.offset) (left : old.left ≡ length bytes + new.left) where
     IsReadBy : End → Type 0
     IsReadBy end =
         IsLeft new.offset new.left (data_after new.left bytes end).end
@@ -195,7 +263,7 @@ module _ {R : Type 0} {look : R → Input} where
         )
     read_by (Fault from fault) is = absurd is
 
-    -- the session stands behind it
+    -- the session stands after it
     pub data_stands : (reading_of (history ++ bytes) ≡ with_data new.left bytes (reading_of history)) × IsSessionAt look new (history ++ bytes)
     unfolding IsReadBy
     data_stands =
@@ -207,3 +275,25 @@ module _ {R : Type 0} {look : R → Input} where
           settled (reading_of history) (history ++ bytes) (data_after new.left bytes end) new.offset new.left (length (history ++ bytes)) by.0 reads,
           stands new (history ++ bytes) (reading_of history) (data_after new.left bytes end) at.contact (IsSourceAt-then look old.source new.source history bytes takes at.at) live going at.has_contact by.0 reads,
         )
+
+    -- some data of the open segment was given
+    pub data_given : GaveBytes look old new history bytes
+    data_given = let stood = data_stands in record { takes = takes; left = left; reading = stood.0; at = stood.1 }
+
+module _ {R : Type 0} {look : R → Input} where
+  -- data was ready, and then given
+  pub gave_then : (old mid new : Session R) (history bytes : List ℕ) → GaveBytes look old mid history [] → GaveBytes look mid new history bytes → GaveBytes look old new history bytes
+  gave_then old mid new history bytes ready gave =
+      let first = ready.left in
+      let second = gave.left in
+      record { takes = Takes-then look old.source mid.source new.source [] bytes ready.takes gave.takes; left = omega arith; reading = gave.reading; at = gave.at }
+
+module _ {R : Type 0} (look : R → Input) where
+  stopped_load : (old new : Session R) (history buffer : List ℕ) (why : Stop) → GivesLoad look old new history (Err why) → GivesData look old new history buffer (Err why)
+  stopped_load old new history buffer (stop.Wire offset fault) gives = gives
+  stopped_load old new history buffer (stop.Io fault) gives = gives
+
+  -- what stops data from being ready stops it from being copied
+  pub data_stopped : (old new : Session R) (history buffer : List ℕ) (result : Result ℕ Stop) (why : Stop) → IsErrAnd result (λ e. e ≡ why) → GivesLoad look old new history (Err why) → GivesData look old new history buffer result
+  data_stopped old new history buffer (Ok n) why is gives = absurd is
+  data_stopped old new history buffer (Err e) why is gives = rw is (stopped_load old new history buffer why gives)

@@ -1,12 +1,11 @@
 -- What has been read stays so, whatever the reader has left.
-use Rattle.std.proofs.Common.{◌≡◌, ℕ, List, [], ◌++◌, Option, Some, None, ap, sym, ◌∙◌, append-nil}
+use Rattle.std.proofs.Common.{◌≡◌, ℕ, List, [], ◌++◌, Option, Some, None, refl, ap, sym, ◌∙◌, append-nil}
 use Rattle.std.specs.Io.KnownBytes.{IsAtEnd}
 use Rattle.link_wire.specs.Device.{Input}
 use Rattle.link_wire.specs.Source.{IsOver}
 use Rattle.link_wire.specs.Stream.{Reading, reading_of}
 use Rattle.link_wire.specs.Session.{IsRead}
 use Rattle.link_wire.specs.declared.fault.WireFault.{WireFault}
-use Rattle.link_wire.specs.declared.fault.WireFault.TheVariants as wire
 use Rattle.link_wire.specs.declared.source.Source.{Source}
 
 -- the reading of all the bytes of an input is that of these
@@ -25,17 +24,10 @@ module _ {R : Type 0} (look : R → Input) (source : Source R) where
     all = λ rest left. ap (λ xs. reading_of (history ++ xs)) (none_left (look source.reader).left rest over.empty left) ∙ ap reading_of (append-nil history);
   }
 
-  whole_always : (history : List ℕ) (reading : Reading) → ((more : List ℕ) → reading_of (history ++ more) ≡ reading) → IsWhole (look source.reader).left history reading
-  whole_always history reading is =
-      let here : reading_of history ≡ reading = ap reading_of (sym (append-nil history)) ∙ is [] in
-      record { is = here; all = λ rest left. is rest ∙ sym here }
-
   pub whole_read : (history : List ℕ) (fault : WireFault) (reading : Reading) → IsRead look source history fault reading → IsWhole (look source.reader).left history reading
-  whole_read history wire.Truncated reading read = whole_over history reading read.0 read.1
-  whole_read history wire.BadMagic reading read = whole_always history reading read
-  whole_read history (wire.BadVersion n) reading read = whole_always history reading read
-  whole_read history (wire.UnknownType n) reading read = whole_always history reading read
-  whole_read history (wire.NodeIdTooLong n) reading read = whole_always history reading read
-  whole_read history (wire.ListTooLong n) reading read = whole_always history reading read
-  whole_read history wire.TooManyItems reading read = whole_always history reading read
-  whole_read history wire.ItemsOverrun reading read = whole_always history reading read
+  whole_read history fault reading read =
+      let here : reading_of history ≡ reading = ap reading_of (sym (append-nil history)) ∙ read.all [] (λ is. refl) in
+      record {
+        is = here;
+        all = λ rest left. read.all rest (λ is. none_left (look source.reader).left rest (read.over is).empty left) ∙ sym here;
+      }

@@ -16,6 +16,7 @@ use Rattle.link_wire.specs.declared.message.Message.{Message}
 use Rattle.link_wire.specs.declared.session.Phase.{Phase}
 use Rattle.link_wire.specs.declared.session.Phase.TheVariants as phase
 use Rattle.link_wire.specs.declared.session.Session.{Session}
+use Rattle.link_wire.specs.declared.source.Source.{Source}
 
 -- a reading that goes on
 abbrev pub joined : Reading → Stream → Reading

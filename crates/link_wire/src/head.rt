@@ -7,7 +7,10 @@ ghost use Rattle.link_wire.specs.Getting.{Gets, with_value};
 ghost use Rattle.link_wire.specs.Getting.{GetsKind};
 ghost use Rattle.link_wire.specs.MessageBuffer.{message_of, segment_items};
 
-use crate::codes::{KEEPALIVE, MAGIC, MSG_REJECT, SESS_INIT, SESS_TERM, START, VERSION, XFER_ACK, XFER_REFUSE, XFER_SEGMENT};
+use crate::codes::{
+    KEEPALIVE, MAGIC, MSG_REJECT, SESS_INIT, SESS_TERM, START, VERSION, XFER_ACK, XFER_REFUSE,
+    XFER_SEGMENT,
+};
 use crate::device::InDevice;
 use crate::fault::{IoFault, WireFault};
 use crate::halt::Halt;

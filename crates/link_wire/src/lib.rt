@@ -15,9 +15,9 @@ mod session;
 mod source;
 mod writing;
 
+pub use codes::{END, START};
 pub use device::{DeviceFault, InDevice, OutDevice, Reader, Writer};
 pub use fault::{IoFault, Stop, WireFault};
-pub use codes::{END, START};
 pub use message::{
     Contact, Fields, Item, Items, ListOf, MAX_ITEMS, MAX_LIST_LENGTH, MAX_NODE_ID, Message,
     MessageBuffer, NodeId, SegmentHead,

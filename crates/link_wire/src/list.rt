@@ -5,10 +5,10 @@ ghost use Rattle.link_wire.specs.Source.{IsLive};
 ghost use Rattle.link_wire.specs.Message.{gives_total, skipped_at, total_at, item_head_at, items_of as items_by, list_at};
 ghost use Rattle.link_wire.specs.Getting.{Gets, with_value};
 
+use crate::codes::{ITEM_HEAD, TOTAL_SIZE, TRANSFER_LENGTH};
 use crate::device::InDevice;
 use crate::fault::WireFault;
 use crate::halt::Halt;
-use crate::codes::{ITEM_HEAD, TOTAL_SIZE, TRANSFER_LENGTH};
 use crate::message::{Item, Items, ListOf, MAX_LIST_LENGTH};
 use crate::parts::{bytes, number8, number16, number32, number64};
 use crate::source::Source;
@@ -117,11 +117,7 @@ fn items_of<R: InDevice>(
 }
 
 /// An extension list: its length, and its items, which are left with the caller.
-pub fn list<R: InDevice>(
-    source: &mut Source<R>,
-    of: ListOf,
-    items: &mut Items,
-) -> Result<(), Halt>
+pub fn list<R: InDevice>(source: &mut Source<R>, of: ListOf, items: &mut Items) -> Result<(), Halt>
     ensures { IsLive R.state source.old → Gets R.state (list_at of) source.old source.new (with_value items.new result) }
 {
     let length = number32(source)?;

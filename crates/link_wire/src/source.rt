@@ -129,6 +129,7 @@ impl<R: InDevice> Source<R> {
     /// fault it returns that fault again, and after the end 0, and does not read.
     #[inline(always)]
     pub fn ready(&mut self) -> Result<usize, IoFault>
+        ensures size { IfOk result (λ n. n ≡ length (window_of self.new)) }
         ensures gives { IsLive R.state self.old → GivesReady R.state self.old self.new result }
         ensures kept { 0 < length (window_of self.old) → (self.new ≡ self.old) × (result ≡ Ok (length (window_of self.old))) }
         ensures ended { HasEnded self.old → (self.new ≡ self.old) × (result ≡ Ok 0) }
@@ -145,6 +146,7 @@ impl<R: InDevice> Source<R> {
     #[inline(never)]
     fn read_on(&mut self) -> Result<usize, IoFault>
         requires { self.old.start ≡ self.old.end }
+        ensures size { IfOk result (λ n. n ≡ length (window_of self.new)) }
         ensures gives { IsLive R.state self.old → GivesReady R.state self.old self.new result }
         ensures ended { HasEnded self.old → (self.new ≡ self.old) × (result ≡ Ok 0) }
         ensures failed { (fault : _) → HasFailed self.old fault → (self.new ≡ self.old) × (result ≡ Err fault) }
@@ -160,7 +162,8 @@ impl<R: InDevice> Source<R> {
     fn read(&mut self) -> Result<usize, IoFault>
         requires open { self.old.flow ≡ Flow.Open }
         requires empty { self.old.start ≡ self.old.end }
-        ensures { GivesReady R.state self.old self.new result }
+        ensures gives { GivesReady R.state self.old self.new result }
+        ensures size { IfOk result (λ n. n ≡ length (window_of self.new)) }
     {
         self.start = 0;
         self.end = 0;

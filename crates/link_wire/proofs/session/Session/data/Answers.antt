@@ -1,22 +1,23 @@
-use Rattle.std.proofs.Common.{◌≡◌, ◌+◌, ◌-◌, length, take, refl, arith, length-take}
-use Rattle.link_wire.proofs.Sessions.{data_stands}
+use Rattle.std.proofs.Common.{◌≡◌, ◌≢◌, ◌++◌, ◌<◌, ◌≤◌, [], length, take, drop, append-nil, refl, ap, sym, ◌∙◌, arith, length-append, length-take, length-drop}
+use Rattle.std.proofs.Math.Seq.{take-append_seam}
+use Rattle.std.proofs.lemmas.Result.{err_from_is_err_and}
+use Rattle.link_wire.proofs.Sessions.{gave_then, data_stopped}
 use Rattle.link_wire.proofs.session.Session.data.Goals as goal
 
-pub returns-in-Ok-Some-clause-gives : goal.returns-in-Ok-Some-clause-gives
-returns-in-Ok-Some-clause-gives g c = λ history at.
-    let bound = rw c.in-Ok-Some.field-0-is at c.in-Ok-Some.ensures.bound in
-    let given = rw c.in-Ok-Some.field-0-is at (c.in-Ok-Some.ensures.gives at.live) in
-    let bytes = take c.in-Ok-Some.n c.data_of.new.buffer in
-    let within = bound.0 in
-    let fits = bound.1 in
-    let left : c.args.self.now.left ≡ c.in-Ok-Some.n + (c.args.self.now.left - c.in-Ok-Some.n) = omega (arith, fits) in
-    let size : length bytes ≡ c.in-Ok-Some.n = omega (arith, length-take c.in-Ok-Some.n c.data_of.new.buffer) in
-    let stood = data_stands c.args.self.now _ history bytes at given.takes given.live at.going refl (omega arith) in
+pub returns-in_err-ready-clause-gives : goal.returns-in_err-ready-clause-gives
+returns-in_err-ready-clause-gives g c = λ history at. data_stopped g.R.InDevice.state c.args.self.now c.load.new.self history c.args.buffer.now c.from_residual.result _ c.from_residual.ensures.1 (c.in_err-ready.ensures.gives history at)
+
+pub returns-clause-gives : goal.returns-clause-gives
+returns-clause-gives g c = λ history at.
+    let loaded = c.in_ok-ready.ensures.gives history at in
+    let part = c.copy.new.part in
+    let rest = drop c.min-count.result c.args.buffer.now in
+    let size : length part ≡ c.min-count.result = omega (arith, c.copy.auto.part, length-take c.min-count.result c.args.buffer.now) in
+    let given : take c.min-count.result (part ++ rest) ≡ part = ap (λ n. take n (part ++ rest)) (sym size) ∙ take-append_seam part rest in
+    let ready = rw append-nil at loaded.gave.at in
+    let copied = c.copy.ensures history ready in
     record {
-      room = within;
-      takes = given.takes;
-      left = left;
-      some = given.some;
-      reading = stood.0;
-      at = stood.1;
+      room = omega (arith, length-append part rest, size);
+      gave = rw given (gave_then c.args.self.now c.load.new.self c.copy.new.self history part loaded.gave copied);
+      some = λ left room. let some : c.in_ok-ready.ready ≢ 0 = c.if-ready-eq0.false in omega (arith, c.min-count.ensures, length-append part rest, size, length-drop c.min-count.result c.args.buffer.now);
     }

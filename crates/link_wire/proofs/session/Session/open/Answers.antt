@@ -1,12 +1,12 @@
-use Rattle.std.proofs.Common.{ap}
-use Rattle.link_wire.proofs.Sessions.{contact_came, contact_refused}
+use Rattle.std.proofs.Common.{refl, ap}
+use Rattle.link_wire.proofs.Sessions.{opens_live, contact_came, contact_refused}
 use Rattle.link_wire.proofs.session.Session.open.Goals as goal
 
 pub returns-in-Ok-clause-gives : goal.returns-in-Ok-clause-gives
-returns-in-Ok-clause-gives g c = λ fresh.
-    contact_came c.args.self.now _ c.in-Ok.contact fresh (c.in-Ok.ensures fresh.live) fresh.left fresh.going
+returns-in-Ok-clause-gives g c =
+    contact_came c.args.self.now _ c.in-Ok.contact c.requires (c.in-Ok.ensures (opens_live g.R.InDevice.state c.args.self.now c.requires)) refl refl
 
 pub returns-in-Err-clause-gives : goal.returns-in-Err-clause-gives
-returns-in-Err-clause-gives g c = λ fresh.
+returns-in-Err-clause-gives g c =
     let state = c.stop_at.ensures.state in
-    contact_refused c.args.self.now c.stop_at.new.self _ c.in-Err.halt _ (c.in-Err.ensures fresh.live) (ap (λ s. s.source) state) (ap (λ s. s.stop) state) c.stop_at.ensures.stop
+    contact_refused c.args.self.now c.stop_at.new.self _ c.in-Err.halt _ (c.in-Err.ensures (opens_live g.R.InDevice.state c.args.self.now c.requires)) (ap (λ s. s.source) state) (ap (λ s. s.phase) state) c.stop_at.ensures.stop

@@ -6,8 +6,8 @@ use Rattle.link_wire.proofs.Windows.{range_none}
 use Rattle.link_wire.proofs.source.Source.read.Goals as goal
 
 -- the read gave a byte past the limit, and nothing of it is given
-pub returns-in-Ok : goal.returns-in-Ok
-returns-in-Ok g c =
+pub returns-in-Ok-clause-gives : goal.returns-in-Ok-clause-gives
+returns-in-Ok-clause-gives g c =
     let s = c.args.self.now in
     let look = g.R.InDevice.state in
     let window = c.read_ahead.new.window in

@@ -1,0 +1,18 @@
+use Rattle.std.proofs.Common.{◌≡◌, ◌≢◌, ◌+◌, ◌-◌, ◌<◌, ◌≤◌, [], length, take, append-nil, refl, arith, sym, ap, length-take}
+use Rattle.link_wire.specs.Session.{data_in}
+use Rattle.link_wire.specs.Source.{window_of}
+use Rattle.link_wire.proofs.Sessions.{data_given}
+use Rattle.link_wire.proofs.session.Session.load.Goals as goal
+
+pub returns-in-Ok-clause-size : goal.returns-in-Ok-clause-size
+returns-in-Ok-clause-size g c = omega (arith, c.in-Ok.ensures.size, c.min.ensures, length-take c.args.self.now.left (window_of c.ready.new.self))
+
+pub returns-in-Ok-clause-gives : goal.returns-in-Ok-clause-gives
+returns-in-Ok-clause-gives g c = λ history at.
+    let old = c.args.self.now in
+    let ready = c.in-Ok.ensures.gives at.live in
+    record {
+      gave = data_given old _ history [] at ready.takes ready.live at.going refl (omega arith);
+      size = omega (arith, c.in-Ok.ensures.size, c.min.ensures, length-take old.left (window_of c.ready.new.self));
+      some = λ left. let some : c.in-Ok.ready ≢ 0 = c.in-Ok.ready-test.1 in omega (arith, c.min.ensures);
+    }
