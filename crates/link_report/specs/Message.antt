@@ -1,7 +1,7 @@
 -- The lines of the contact header and of the messages.
 use Rattle.std.specs.Prelude.{ℕ, if◌then◌else◌, List, [], ◌++◌, length, codes, decimal}
 use Rattle.std.specs.List.{flat_map}
-use Rattle.link_wire.specs.Message.{has_start}
+use Rattle.link_wire.specs.Codes.{is_start}
 use Rattle.link_wire.specs.declared.message.Contact.{Contact}
 use Rattle.link_wire.specs.declared.message.Item.{Item}
 use Rattle.link_wire.specs.declared.message.SegmentHead.{SegmentHead}
@@ -33,7 +33,7 @@ parameters_text keepalive segment_mru transfer_mru node =
 
 -- the items of a segment, where it begins its transfer (RFC 9174 section 5.2.5)
 unfoldable pub start_items_text : SegmentHead → List ℕ
-start_items_text head = if has_start head.flags then items_text head.items.items else []
+start_items_text head = if is_start head.flags then items_text head.items.items else []
 
 -- RFC 9174 section 5.2.2
 unfoldable pub segment_text : SegmentHead → List ℕ

@@ -10,10 +10,7 @@ use crate::put::{
     LINE_MAX, Line, put_decimal, put_escaped, put_hex2, put_hex4, put_number, put_text,
 };
 use crate::reason::{refuse_name, reject_name, term_name};
-use link_wire::{Contact, Item, Message, SegmentHead};
-
-/// The flag START of an XFER_SEGMENT (RFC 9174 section 5.2.2).
-const START: u8 = 0x02;
+use link_wire::{Contact, Item, Message, START, SegmentHead};
 
 /// Appends ` flags=` and the flags.
 #[tactic(auto, unfolding(crate::specs::Message::flags_text))]
