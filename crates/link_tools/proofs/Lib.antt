@@ -1,5 +1,1 @@
-mod RunLaws
-mod ListSteps
-mod ListCalls
-mod ListMessages
-mod ListRuns
+mod Runs

@@ -1,4 +1,3 @@
 pub mod Run
+pub mod Writers
 pub mod Exit
-pub mod Listing
-pub mod ListRun
