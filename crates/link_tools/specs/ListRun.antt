@@ -1,14 +1,19 @@
 -- Where a run of `list` stands.
-use Rattle.std.specs.Prelude.{◌≡◌, ℕ, Bool, true, List, [], ◌++◌, length, Result, Ok, Err}
+use Rattle.std.specs.Prelude.{◌≡◌, ℕ, ◌<◌, Bool, true, List, [], ◌++◌, length, Result, Ok, Err}
 use Rattle.link_wire.specs.Device.{Input, Output}
 use Rattle.link_wire.specs.Limits.{longest_head}
 use Rattle.link_wire.specs.Stream.{End, Clean, Cut, Fault, reading_of}
-use Rattle.link_wire.specs.Session.{source_of, IsSessionAt, may_open, may_read}
+use Rattle.link_wire.specs.Session.{source_of, IsSessionAt, may_open, may_read, is_opened}
 use Rattle.link_wire.specs.declared.fault.IoFault.{IoFault}
+use Rattle.link_wire.specs.declared.fault.Stop.{Stop}
+use Rattle.link_wire.specs.declared.fault.Stop.TheVariants as stop
 use Rattle.link_wire.specs.declared.session.Session.{Session}
+use Rattle.link_report.specs.Fault.{fault_text}
+use Rattle.link_report.specs.declared.fault.Fault.TheVariants.{Wire}
 use Rattle.link_report.specs.Message.{message_text}
 use Rattle.link_tools.specs.Run.{Texts, Tool, Devices, Place, devices_at, NoneFailed, HasTold, WentOn, Ended}
 use Rattle.link_tools.specs.Listing.{list_tool, listing_sofar}
+use Rattle.link_tools.specs.Writers.{on_output, Writes, WritesPart, GivesReport}
 use Rattle.link_tools.specs.declared.listing.Stage.{Stage}
 use Rattle.link_tools.specs.declared.listing.Stage.TheVariants as stage
 use Rattle.link_tools.specs.declared.run.Status.{Status}
@@ -27,7 +32,7 @@ most_given (stage.Ended answer) = 0
 abbrev pub may_go_on : {R : Type 0} → Stage → Session R → Bool
 may_go_on stage.Contact session = may_open session
 may_go_on stage.Message session = may_read session
-may_go_on stage.Data session = true
+may_go_on stage.Data session = is_opened session
 may_go_on (stage.Ended answer) session = true
 
 -- What waits, by how the reading of the bytes so far ends: between two messages nothing does, and inside the data of a
@@ -54,18 +59,18 @@ module _ {R W E : Type 0} where
 
   module _ (in_look : R → Input) (out_look : W → Output) (report_look : E → Output) (start : Devices R W E) where
     -- a run that begins: nothing was given and nothing written
-    pub record Begins (session : Session R) (writers : Writers W E) (history : List ℕ) : Type 0 where
+    pub record Begins (s : Session R) (w : Writers W E) (history : List ℕ) : Type 0 where
       pub nothing : history ≡ []
-      pub opens : may_open session ≡ true
-      pub told : HasTold in_look out_look report_look start (place_of session writers) [] (record { output = []; report = [] })
-      pub sound : NoneFailed in_look out_look report_look (devices_at (place_of session writers))
+      pub opens : may_open s ≡ true
+      pub told : HasTold in_look out_look report_look start (place_of s w) [] (record { output = []; report = [] })
+      pub sound : NoneFailed in_look out_look report_look (devices_at (place_of s w))
 
     -- a run that was given exactly these bytes, and has told exactly what they determine
-    pub record Lists (now : Stage) (session : Session R) (writers : Writers W E) (history : List ℕ) : Type 0 where
-      pub session : IsSessionAt in_look session history
-      pub told : HasTold in_look out_look report_look start (place_of session writers) history (listing_sofar history)
-      pub sound : NoneFailed in_look out_look report_look (devices_at (place_of session writers))
-      pub waits : IsWaiting now writers.line.items (reading_of history).end
+    pub record Lists (now : Stage) (s : Session R) (w : Writers W E) (history : List ℕ) : Type 0 where
+      pub session : IsSessionAt in_look s history
+      pub told : HasTold in_look out_look report_look start (place_of s w) history (listing_sofar history)
+      pub sound : NoneFailed in_look out_look report_look (devices_at (place_of s w))
+      pub waits : IsWaiting now w.line.items (reading_of history).end
 
     abbrev pub IsListing : Stage → Session R → Writers W E → List ℕ → Type 0
     IsListing stage.Contact session writers history = Begins session writers history
@@ -79,3 +84,29 @@ module _ {R W E : Type 0} where
     GivesStage now old new before after history stage.Contact = ⊥
     GivesStage now old new before after history stage.Message = WentOn in_look out_look report_look (place_of old before) (place_of new after) (Lists stage.Message new after) (most_given now) history
     GivesStage now old new before after history stage.Data = WentOn in_look out_look report_look (place_of old before) (place_of new after) (Lists stage.Data new after) (most_given now) history
+
+-- what the parts of a step do
+module _ {W E : Type 0} (out_look : W → Output) (report_look : E → Output) where
+  -- the line was written, and a message comes next
+  abbrev pub GivesLine : (old new : Writers W E) → (next : Stage) → Type 0
+  GivesLine old new stage.Contact = ⊥
+  GivesLine old new stage.Message = Writes out_look report_look old new (on_output old.line.items)
+  GivesLine old new stage.Data = ⊥
+  GivesLine old new (stage.Ended (Ok status)) = ⊥
+  GivesLine old new (stage.Ended (Err fault)) = WritesPart out_look report_look old new (on_output old.line.items) fault
+
+  -- the line waits for data, or was written
+  abbrev pub GoesOn : (left : ℕ) → (old new : Writers W E) → (next : Stage) → Type 0
+  GoesOn left old new stage.Contact = ⊥
+  GoesOn left old new stage.Message = (left ≡ 0) × Writes out_look report_look old new (on_output old.line.items)
+  GoesOn left old new stage.Data = (0 < left) × (new ≡ old)
+  GoesOn left old new (stage.Ended (Ok status)) = ⊥
+  GoesOn left old new (stage.Ended (Err fault)) = (left ≡ 0) × WritesPart out_look report_look old new (on_output old.line.items) fault
+
+  -- a fault of the wire was reported, or a failure of the reader ends the run
+  abbrev pub GivesEnd : Stop → (old new : Writers W E) → (next : Stage) → Type 0
+  GivesEnd why old new stage.Contact = ⊥
+  GivesEnd why old new stage.Message = ⊥
+  GivesEnd why old new stage.Data = ⊥
+  GivesEnd (stop.Wire offset fault) old new (stage.Ended answer) = GivesReport out_look report_look old new (fault_text (Wire offset fault)) answer
+  GivesEnd (stop.Io fault) old new (stage.Ended answer) = (answer ≡ Err fault) × (new ≡ old)

@@ -3,10 +3,10 @@
 #![tactic(auto)]
 
 mod exit;
-
+mod listing;
 mod run;
 mod writers;
 
 pub use exit::run_exit;
-
+pub use listing::{ListRun, list};
 pub use run::{Progress, Run, RunEnd, Status};
