@@ -12,6 +12,9 @@ ghost use Rattle.link_cbor.specs.declared.check.CheckKind.{CheckKind};
 /// The tables of one kind: table `k` has, for each byte, the register after that byte and `k` zero bytes, from zero.
 pub(super) type Tables = [[u32; 256]; 16];
 
+/// How many bytes a register has.
+const REGISTER_BYTES: usize = 4;
+
 /// The register after one more byte.
 #[inline(always)]
 pub(super) fn register_after(tables: &Tables, register: u32, byte: u8) -> u32
@@ -53,7 +56,7 @@ fn register_after_block(tables: &Tables, register: u32, block: &[u8; 16]) -> u32
 fn byte_of(register: u32, position: usize) -> u8
     ensures { result ≡ register / 2 ^ (8 * position) % 256 }
 {
-    if position < 4 {
+    if position < REGISTER_BYTES {
         (register >> (8 * position) & 0xff) as u8
     } else {
         0
