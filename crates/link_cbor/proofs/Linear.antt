@@ -17,14 +17,16 @@ zero_turns-shift : (kind : CheckKind) (count number : ℕ) → zero_turns kind c
 unfolding zero_turns
 zero_turns-shift kind zero number = omega arith
 zero_turns-shift kind (suc count) number =
-    let even : number * 2 ^ suc count ≡ 2 * (number * 2 ^ count) = omega (arith, ap (λ power. number * power) (pow-suc 2 count)) in
+    let even : number * 2 ^ suc count ≡ 2 * (number * 2 ^ count) =
+    omega (arith, ap (λ power. number * power) (pow-suc 2 count)) in
     let none : number * 2 ^ suc count % 2 ≡ 0 = omega arith in
     let half : number * 2 ^ suc count / 2 ≡ number * 2 ^ count = omega arith in
     ap (λ r. fold (turn kind) r (replicate count 0)) (turn-same kind (number * 2 ^ suc count) 0 none ∙ half)
     ∙ zero_turns-shift kind count number
 
 -- the other bit of the message differs by the polynomial
-turn-one : (kind : CheckKind) (register : ℕ) → turn kind register 1 ≡ bit_xor (turn kind register 0) (polynomial kind)
+turn-one : (kind : CheckKind) (register : ℕ)
+    → turn kind register 1 ≡ bit_xor (turn kind register 0) (polynomial kind)
 turn-one kind register =
     ⊎_elim
     (λ even.
@@ -38,7 +40,8 @@ turn-one kind register =
     ∙ ap (λ r. bit_xor r (polynomial kind)) (sym (turn-other kind register 0 odd)))
     (cases_eq (register % 2) 0)
 
-turn-xor : (kind : CheckKind) (first second : ℕ) → turn kind (bit_xor first second) 0 ≡ bit_xor (turn kind first 0) (turn kind second 0)
+turn-xor : (kind : CheckKind) (first second : ℕ)
+    → turn kind (bit_xor first second) 0 ≡ bit_xor (turn kind first 0) (turn kind second 0)
 turn-xor kind first second =
     sym (turn_first kind first second)
     ∙ ⊎_elim
@@ -51,16 +54,17 @@ turn-xor kind first second =
     ∙ ap (bit_xor (turn kind first 0)) (xor_comm (polynomial kind) (second / 2) ∙ sym (turn-other kind second 0 odd)))
     (cases_eq (second % 2) 0)
 
--- zero bits of the message take the exclusive or of two registers to that of what they take each to
+-- after zero bits, an exclusive or of two registers is that of the registers after them
 zero_turns-xor : (kind : CheckKind) (count first second : ℕ)
-    → zero_turns kind count (bit_xor first second) ≡ bit_xor (zero_turns kind count first) (zero_turns kind count second)
+    → zero_turns kind count (bit_xor first second)
+    ≡ bit_xor (zero_turns kind count first) (zero_turns kind count second)
 unfolding zero_turns
 zero_turns-xor kind zero first second = refl
 zero_turns-xor kind (suc count) first second =
     ap (λ r. fold (turn kind) r (replicate count 0)) (turn-xor kind first second)
     ∙ zero_turns-xor kind count (turn kind first 0) (turn kind second 0)
 
--- what is exclusive-ored into the register ahead of some bytes comes out as after as many zero bytes
+-- what is exclusive-ored into the register before some bytes is, after them, as after that many zero bytes
 register_after-xor : (kind : CheckKind) (register number : ℕ) (bytes : List ℕ) → AreBytes bytes
     → register_after kind (bit_xor register number) bytes
     ≡ bit_xor (register_after kind register bytes) (zero_turns kind (8 * length bytes) number)
@@ -73,16 +77,19 @@ register_after-xor kind register number (byte ∷ bytes) all =
     xor_assoc register number byte ∙ ap (bit_xor register) (xor_comm number byte) ∙ sym (xor_assoc register byte number) in
     let eights : 8 + 8 * length bytes ≡ 8 * length (byte ∷ bytes) = omega arith in
     register_after-cons kind (bit_xor register number) byte bytes below
-    ∙ ap (λ r. register_after kind r bytes) (ap (zero_turns kind 8) swapped ∙ zero_turns-xor kind 8 (bit_xor register byte) number)
-    ∙ register_after-xor kind (zero_turns kind 8 (bit_xor register byte)) (zero_turns kind 8 number) bytes (All-tail (λ b. b < 256) byte bytes all)
+    ∙ ap (λ r. register_after kind r bytes)
+    (ap (zero_turns kind 8) swapped ∙ zero_turns-xor kind 8 (bit_xor register byte) number)
+    ∙ register_after-xor kind (zero_turns kind 8 (bit_xor register byte)) (zero_turns kind 8 number) bytes
+    (All-tail (λ b. b < 256) byte bytes all)
     ∙ ap₂ bit_xor (sym (register_after-cons kind register byte bytes below))
     (sym (zero_turns-add kind 8 (8 * length bytes) number) ∙ ap (λ count. zero_turns kind count number) eights)
 
--- the first byte, with the register's lowest byte exclusive-ored in, by itself and as many zero bytes as follow it; and the
--- other bytes, from what is left of the register
+-- the first byte of a message makes its part alone, with the register's lowest byte exclusive-ored in and a zero byte for
+-- each that follows; the other bytes go on from what is left of the register
 pub register_after-split : (kind : CheckKind) (register byte : ℕ) (bytes : List ℕ) → byte < 256 → AreBytes bytes
     → register_after kind register (byte ∷ bytes)
-    ≡ bit_xor (zero_turns kind (8 * (length bytes + 1)) (bit_xor (register % 256) byte)) (register_after kind (register / 256) bytes)
+    ≡ bit_xor (zero_turns kind (8 * (length bytes + 1)) (bit_xor (register % 256) byte))
+    (register_after kind (register / 256) bytes)
 register_after-split kind register byte bytes below all =
     let high : ℕ = register / 256 * 2 ^ 8 in
     let low : ℕ = bit_xor (register % 256) byte in

@@ -13,8 +13,10 @@ use Rattle.link_cbor.specs.Pushed.{HasPushed}
 use Rattle.link_cbor.proofs.CrcLaws.{register_after-append}
 
 -- a check whose register has gone on by more bytes
-pub pushed_more : (kind : CheckKind) (old new : Check) (bytes more : List ℕ) → HasPushed kind old bytes → AreBytes more
-    → new.kind ≡ old.kind → new.register ≡ register_after old.kind old.register more → HasPushed kind new (bytes ++ more)
+pub pushed_more : (kind : CheckKind) (old new : Check) (bytes more : List ℕ)
+    → HasPushed kind old bytes → AreBytes more
+    → new.kind ≡ old.kind → new.register ≡ register_after old.kind old.register more
+    → HasPushed kind new (bytes ++ more)
 pushed_more kind old new bytes more pushed all same went = record {
   all_bytes = All-append (λ byte. byte < 256) bytes more pushed.all_bytes all;
   same_kind = same ∙ pushed.same_kind;
@@ -23,7 +25,8 @@ pushed_more kind old new bytes more pushed all same went = record {
 }
 
 -- the blocks of a slice are its bytes, but for those after the last whole block
-pub concat-first_chunks : (size count : ℕ) (bytes : List ℕ) → concat (first_chunks size count bytes) ≡ take (count * size) bytes
+pub concat-first_chunks : (size count : ℕ) (bytes : List ℕ)
+    → concat (first_chunks size count bytes) ≡ take (count * size) bytes
 concat-first_chunks size zero bytes =
     let none : 0 ≡ 0 * size = omega arith in ap (λ n. take n bytes) none
 concat-first_chunks size (suc count) bytes =

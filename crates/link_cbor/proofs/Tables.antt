@@ -17,14 +17,16 @@ unfoldable pub is_next : CheckKind → List ℕ → List ℕ → Bool
 is_next kind [] [] = true
 is_next kind [] (entry ∷ entries) = false
 is_next kind (register ∷ registers) [] = false
-is_next kind (register ∷ registers) (entry ∷ entries) = entry == zero_turns kind 8 register && is_next kind registers entries
+is_next kind (register ∷ registers) (entry ∷ entries) =
+    entry == zero_turns kind 8 register && is_next kind registers entries
 
 -- the first table is next to these registers, and each later one to the table before it
 unfoldable pub are_next : CheckKind → List ℕ → List (List ℕ) → Bool
 are_next kind registers [] = true
 are_next kind registers (table ∷ tables) = is_next kind registers table && are_next kind table tables
 
-is_next-length : (kind : CheckKind) (registers table : List ℕ) → is_next kind registers table ≡ true → length table ≡ length registers
+is_next-length : (kind : CheckKind) (registers table : List ℕ) → is_next kind registers table ≡ true
+    → length table ≡ length registers
 unfolding is_next
 is_next-length kind [] [] next = refl
 is_next-length kind [] (entry ∷ entries) next = absurd (false≢true next)
@@ -32,8 +34,9 @@ is_next-length kind (register ∷ registers) [] next = absurd (false≢true next
 is_next-length kind (register ∷ registers) (entry ∷ entries) next =
     ap suc (is_next-length kind registers entries (and_parts _ _ next).1)
 
-is_next-at : (kind : CheckKind) (registers table : List ℕ) (index : ℕ) → is_next kind registers table ≡ true
-    → index < length registers → get_or table index 0 ≡ zero_turns kind 8 (get_or registers index 0)
+is_next-at : (kind : CheckKind) (registers table : List ℕ) (index : ℕ)
+    → is_next kind registers table ≡ true → index < length registers
+    → get_or table index 0 ≡ zero_turns kind 8 (get_or registers index 0)
 unfolding is_next
 is_next-at kind [] table index next within = absurd (omega arith)
 is_next-at kind (register ∷ registers) [] index next within = absurd (false≢true next)
@@ -41,8 +44,8 @@ is_next-at kind (register ∷ registers) (entry ∷ entries) zero next within = 
 is_next-at kind (register ∷ registers) (entry ∷ entries) (suc index) next within =
     is_next-at kind registers entries index (and_parts _ _ next).1 (omega arith)
 
-are_next-at : (kind : CheckKind) (registers : List ℕ) (tables : List (List ℕ)) (k index : ℕ) → are_next kind registers tables ≡ true
-    → k < length tables → index < length registers
+are_next-at : (kind : CheckKind) (registers : List ℕ) (tables : List (List ℕ)) (k index : ℕ)
+    → are_next kind registers tables ≡ true → k < length tables → index < length registers
     → get_or (get_or tables k []) index 0 ≡ zero_turns kind (8 * (k + 1)) (get_or registers index 0)
 unfolding are_next
 are_next-at kind registers [] k index next there within = absurd (omega arith)

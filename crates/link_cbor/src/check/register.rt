@@ -1,8 +1,8 @@
 //! A register takes bytes by look-ups in tables, sixteen bytes at a time.
 //!
-//! The register is linear: after a block of bytes it is the exclusive or of what each byte of the block makes of a zero
-//! register, with zero bytes in place of those that follow it. That value stands in a table. The register that the block
-//! begins from is exclusive-ored into its first bytes.
+//! The register is linear (exclusive or goes through it), so a block of bytes may be taken byte by byte, each into a
+//! register of zero and followed by zero bytes, and the registers be exclusive-ored. Tables have those registers. The
+//! register that the block begins with is exclusive-ored into the block's first bytes.
 ghost use Rattle.std.specs.Prelude.{◌≡◌, ◌*◌, ◌/◌, ◌%◌, ◌^◌, ◌∷◌, []};
 ghost use Rattle.std.specs.List.{concat};
 ghost use Rattle.link_cbor.specs.Crc.{register_after};

@@ -13,7 +13,8 @@ loop-byte-init c kind before pushed =
     let whole = length bytes / 16 * 16 in
     rw append-nil
     (pushed_more kind c.args.self.now _ before (take whole bytes) pushed
-    (All-take (λ byte. byte < 256) whole bytes (All-from_get_or (λ byte. byte < 256) bytes 0 (λ i _. omega (arith, c.type_inv.bytes i))))
+    (All-take (λ byte. byte < 256) whole bytes
+    (All-from_get_or (λ byte. byte < 256) bytes 0 (λ i _. omega (arith, c.type_inv.bytes i))))
     refl
     (c.register_after_blocks-self.ensures c.args.self.now.kind c.tables.ensures
     ∙ ap (register_after c.args.self.now.kind c.args.self.now.register)
