@@ -68,7 +68,7 @@ fn first_tables_begin_right(rt: HostRuntime) {
     }
 }
 
-/// At each length, the slice at once and cut in two at every place.
+/// At each length, the slice at once and cut in two at every position.
 #[test]
 fn slices_of_every_length(rt: HostRuntime) {
     for kind in [CheckKind::Crc16, CheckKind::Crc32] {
