@@ -1,5 +1,6 @@
 //! 64 MiB of a payload under CRC-32C, byte by byte: `scan` feeds them to a bundle scan, `check` pushes them into the check
-//! alone. Compare the user times of the two.
+//! alone. Compare the user times of the two. `crc16-slices` and `crc32-slices` push them into a check in pieces, and
+//! `crc16-bytes` and `crc32-bytes` byte by byte.
 #![tactic(auto)]
 
 use link_bundle::BundleScan;
@@ -23,9 +24,9 @@ fn scanned() -> u64 {
     scan.count()
 }
 
-fn checked() -> u64 {
+fn checked(kind: CheckKind) -> u64 {
     let piece = [0xa5; 4096];
-    let mut check = Check::new(CheckKind::Crc32);
+    let mut check = Check::new(kind);
     for _ in 0..PIECES {
         for byte in &piece {
             check.push(*byte);
@@ -34,15 +35,26 @@ fn checked() -> u64 {
     u64::from(check.value())
 }
 
+fn checked_in_slices(kind: CheckKind) -> u64 {
+    let piece = [0xa5; 4096];
+    let mut check = Check::new(kind);
+    for _ in 0..PIECES {
+        check.push_slice(&piece);
+    }
+    u64::from(check.value())
+}
+
 fn main(rt: HostRuntime) -> io::Result<()> {
     let mut answer = 0;
     for word in env::args(&rt)? {
-        if word.as_str() == "scan" {
-            answer = scanned();
-        }
-        if word.as_str() == "check" {
-            answer = checked();
-        }
+        answer = match word.as_str() {
+            "scan" => scanned(),
+            "check" | "crc32-bytes" => checked(CheckKind::Crc32),
+            "crc32-slices" => checked_in_slices(CheckKind::Crc32),
+            "crc16-bytes" => checked(CheckKind::Crc16),
+            "crc16-slices" => checked_in_slices(CheckKind::Crc16),
+            _ => answer,
+        };
     }
     println!(rt; "{answer}")?;
     Ok(())

@@ -1,13 +1,13 @@
--- what follows from the definition of a check value
+-- what follows from the definition of a check value: bytes one after another, and zero bits and bytes
 
-use Rattle.std.proofs.Common.{◌≡◌, ℕ, zero, suc, ◌+◌, ◌/◌, ◌%◌, ◌^◌, ◌<◌, List, [], ◌∷◌, ◌++◌, replicate, refl, sym, ap, ◌∙◌, ⊎_elim, arith}
+use Rattle.std.proofs.Common.{◌≡◌, ℕ, zero, suc, ◌+◌, ◌*◌, ◌/◌, ◌%◌, ◌^◌, ◌<◌, List, [], ◌∷◌, ◌++◌, replicate, refl, sym, ap, ◌∙◌, ⊎_elim, arith}
 use Rattle.std.specs.Prelude.{fold, bit_xor}
 use Rattle.std.specs.List.{flat_map}
-use Rattle.std.specs.Int.Bits.{xor_assoc, xor_zero_r, xor_self, xor_mod, xor_shr}
+use Rattle.std.specs.Int.Bits.{xor_assoc, xor_zero_l, xor_zero_r, xor_self, xor_mod, xor_shr}
 use Rattle.std.proofs.lemmas.Nat.{xor_comm}
 use Rattle.std.proofs.lemmas.List.Concat.{flat_map-append}
 use Rattle.std.proofs.lemmas.List.Sums.{fold-append}
-use Rattle.std.proofs.lemmas.List.{append-nil, replicate_more}
+use Rattle.std.proofs.lemmas.List.{append-nil, replicate-append-replicate}
 use Rattle.std.proofs.lemmas.Bool.{cases_eq, eq-eqb, ne_eqb}
 use Rattle.std.proofs.Math.Nat.{pow-suc}
 use Rattle.link_cbor.specs.declared.check.CheckKind.{CheckKind}
@@ -17,7 +17,7 @@ pub register_after-nil : (kind : CheckKind) (register : ℕ) → register_after 
 unfolding register_after all_bits
 register_after-nil kind register = refl
 
--- bytes after bytes go on from the register behind the first
+-- the bytes of a second list go on from the register after the first
 pub register_after-append : (kind : CheckKind) (register : ℕ) (first second : List ℕ)
     → register_after kind register (first ++ second) ≡ register_after kind (register_after kind register first) second
 unfolding register_after all_bits
@@ -25,7 +25,7 @@ register_after-append kind register first second =
     ap (λ bits. fold (turn kind) register bits) (flat_map-append (low_bits 8) first second)
     ∙ fold-append (turn kind) register (flat_map (low_bits 8) first) (flat_map (low_bits 8) second)
 
--- turns with zero bits of the message
+-- the turns of this many zero bits of the message
 unfoldable pub zero_turns : CheckKind → ℕ → ℕ → ℕ
 zero_turns kind count register = fold (turn kind) register (replicate count 0)
 
@@ -33,11 +33,12 @@ pub zero_turns-none : (kind : CheckKind) (register : ℕ) → zero_turns kind 0 
 unfolding zero_turns
 zero_turns-none kind register = refl
 
-pub zero_turns-more : (kind : CheckKind) (count register : ℕ) → turn kind (zero_turns kind count register) 0 ≡ zero_turns kind (count + 1) register
+pub zero_turns-add : (kind : CheckKind) (count more register : ℕ)
+    → zero_turns kind (count + more) register ≡ zero_turns kind more (zero_turns kind count register)
 unfolding zero_turns
-zero_turns-more kind count register =
-    sym (fold-append (turn kind) register (replicate count 0) (0 ∷ []))
-    ∙ ap (λ bits. fold (turn kind) register bits) (replicate_more count 0)
+zero_turns-add kind count more register =
+    ap (λ bits. fold (turn kind) register bits) (sym (replicate-append-replicate count more 0))
+    ∙ fold-append (turn kind) register (replicate count 0) (replicate more 0)
 
 pub turn-same : (kind : CheckKind) (register bit : ℕ) → register % 2 ≡ bit → turn kind register bit ≡ register / 2
 unfolding turn
@@ -57,8 +58,8 @@ bits_differ (suc (suc x)) y a b other = absurd (omega arith)
 bits_differ zero (suc (suc y)) a b other = absurd (omega arith)
 bits_differ (suc zero) (suc (suc y)) a b other = absurd (omega arith)
 
--- a bit of the message may go into the register's lowest bit first, and a zero bit be turned in
-turn_first : (kind : CheckKind) (register number : ℕ)
+-- a bit of the message may be exclusive-ored into the register first, and a zero bit take its turn
+pub turn_first : (kind : CheckKind) (register number : ℕ)
     → bit_xor (turn kind register (number % 2)) (number / 2) ≡ turn kind (bit_xor register number) 0
 turn_first kind register number =
     let low : bit_xor register number % 2 ≡ bit_xor (register % 2) (number % 2) = xor_mod register number 1 in
@@ -88,9 +89,38 @@ turns_first kind (suc count) register number below =
     turns_first kind count (turn kind register (number % 2)) (number / 2) (omega (arith, pow-suc 2 count))
     ∙ ap (λ r. fold (turn kind) r (replicate count 0)) (turn_first kind register number)
 
--- a byte may go into the register first, with eight zero bits turned in after it
+-- a byte may be exclusive-ored into the register first, and eight zero bits take their turns
 pub register_after-byte : (kind : CheckKind) (register byte : ℕ) → byte < 256
     → register_after kind register (byte ∷ []) ≡ zero_turns kind 8 (bit_xor register byte)
 unfolding register_after all_bits
 register_after-byte kind register byte below =
     ap (λ bits. fold (turn kind) register bits) (append-nil (low_bits 8 byte)) ∙ turns_first kind 8 register byte below
+
+pub register_after-cons : (kind : CheckKind) (register byte : ℕ) (bytes : List ℕ) → byte < 256
+    → register_after kind register (byte ∷ bytes) ≡ register_after kind (zero_turns kind 8 (bit_xor register byte)) bytes
+register_after-cons kind register byte bytes below =
+    register_after-append kind register (byte ∷ []) bytes
+    ∙ ap (λ r. register_after kind r bytes) (register_after-byte kind register byte below)
+
+-- zero bytes of the message are the turns of their zero bits
+register_after-zeros : (kind : CheckKind) (register count : ℕ)
+    → register_after kind register (replicate count 0) ≡ zero_turns kind (8 * count) register
+register_after-zeros kind register zero = register_after-nil kind register ∙ sym (zero_turns-none kind register)
+register_after-zeros kind register (suc count) =
+    let eights : 8 + 8 * count ≡ 8 * suc count = omega arith in
+    register_after-cons kind register 0 (replicate count 0) (omega arith)
+    ∙ register_after-zeros kind (zero_turns kind 8 (bit_xor register 0)) count
+    ∙ ap (λ r. zero_turns kind (8 * count) (zero_turns kind 8 r)) (xor_zero_r register)
+    ∙ sym (zero_turns-add kind 8 (8 * count) register)
+    ∙ ap (λ turns. zero_turns kind turns register) eights
+
+-- a byte taken into a register of zero, and zero bytes after it
+pub register_after-byte_zeros : (kind : CheckKind) (byte count : ℕ) → byte < 256
+    → register_after kind 0 (byte ∷ replicate count 0) ≡ zero_turns kind (8 * (count + 1)) byte
+register_after-byte_zeros kind byte count below =
+    let eights : 8 + 8 * count ≡ 8 * (count + 1) = omega arith in
+    register_after-cons kind 0 byte (replicate count 0) below
+    ∙ register_after-zeros kind (zero_turns kind 8 (bit_xor 0 byte)) count
+    ∙ ap (λ r. zero_turns kind (8 * count) (zero_turns kind 8 r)) (xor_zero_l byte)
+    ∙ sym (zero_turns-add kind 8 (8 * count) byte)
+    ∙ ap (λ turns. zero_turns kind turns byte) eights
