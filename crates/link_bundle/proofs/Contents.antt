@@ -20,9 +20,10 @@ use Rattle.link_bundle.specs.Covers.{Covers}
 use Rattle.link_bundle.specs.Fits.{KeepsCheck}
 use Rattle.link_bundle.specs.Rows.{◌>>=◌}
 use Rattle.link_bundle.specs.Reading.{Stop, stopped, Reading, bytes_at}
-use Rattle.link_bundle.specs.Blocks.{field_at, content_at}
+use Rattle.link_bundle.specs.CheckField.{field_at}
+use Rattle.link_bundle.specs.Canonical.{content_at}
 use Rattle.link_bundle.specs.Bundle.{Bundle, ends, judged}
-use Rattle.link_bundle.specs.Left.{span_of, bundle_of, ends_of, with_note, behind_field, zeroed_check, stored_left, stage_left, BlockEnds, FieldsEnd, NameGoesOn}
+use Rattle.link_bundle.specs.Left.{span_of, bundle_of, ends_of, with_note, after_field, zeroed_check, stored_left, stage_left, BlockEnds, FieldsEnd, NameGoesOn}
 use Rattle.link_bundle.specs.Scan.{HasCome, IsInside, IsInStored}
 use Rattle.link_bundle.proofs.Fields.{stored_left-step, stored_left-last}
 use Rattle.link_bundle.proofs.Heads.{ends_of-stopped}
@@ -31,7 +32,7 @@ use Rattle.link_bundle.proofs.Steps.{Enters, entered, regrown, all_grown, length
 
 -- the bundle, by what stands behind its present block's data
 abbrev by_field : Draft → List ℕ → Reading Bool → Result Bundle Stop
-by_field draft bytes field = ends_of bytes (with_note draft.payload (behind_field draft bytes field))
+by_field draft bytes field = ends_of bytes (with_note draft.payload (after_field draft bytes field))
 
 -- what a check field at `field` says, whose content ends at `place`
 abbrev check_told : Bool → ℕ → ℕ → Reading Bool

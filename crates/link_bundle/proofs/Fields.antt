@@ -13,7 +13,7 @@ use Rattle.link_bundle.specs.declared.stage.CheckType.TheVariants.{Unread, Is}
 use Rattle.link_bundle.specs.CheckKinds.{kind_of, is_kind}
 use Rattle.link_bundle.specs.Rows.{◌>>=◌, check_width, check_field}
 use Rattle.link_bundle.specs.Reading.{stopped, Reading, head_at, bytes_at}
-use Rattle.link_bundle.specs.Blocks.{number_from, check_of, field_at}
+use Rattle.link_bundle.specs.CheckField.{number_from, check_of, field_at}
 use Rattle.link_bundle.specs.Left.{zeroed_check, stored_left}
 use Rattle.link_bundle.proofs.Heads.{row_at-told}
 use Rattle.link_bundle.proofs.Runs.{with_byte, bytes_at-step, bytes_at-last}
@@ -80,13 +80,13 @@ has_room_at (suc (suc (suc zero))) stored byte fits small = record { wants = ome
 has_room_at (suc (suc (suc (suc zero)))) stored byte fits small = record { wants = omega arith; scaled = omega (arith, ltb-true stored (256 ^ 0) fits) }
 has_room_at (suc (suc (suc (suc (suc left))))) stored byte fits small = absurd (grind (arith, nat_tests))
 
-pub behind_and : (a b : Bool) → IsTrue (a && b) → IsTrue b
-behind_and true b both = both
-behind_and false b both = absurd (false≢true both)
+pub after_and : (a b : Bool) → IsTrue (a && b) → IsTrue b
+after_and true b both = both
+after_and false b both = absurd (false≢true both)
 
 pub before_and : (a b : Bool) → IsTrue (a && b) → IsTrue a
 before_and true b both = refl
 before_and false b both = absurd (false≢true both)
 
 pub has_room : (settled : Bool) (left stored byte : ℕ) → IsTrue (settled && room left stored) → byte < 256 → HasRoom left stored byte
-has_room settled left stored byte fits small = has_room_at left stored byte (behind_and settled (room left stored) fits) small
+has_room settled left stored byte fits small = has_room_at left stored byte (after_and settled (room left stored) fits) small

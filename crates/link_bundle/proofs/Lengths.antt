@@ -16,7 +16,9 @@ use Rattle.link_bundle.specs.Faults.{lasts}
 use Rattle.link_bundle.specs.Laws.{FaultLasts, TrailingLasts}
 use Rattle.link_bundle.specs.Rows.{◌>>=◌, unsigned, byte_string, block, block_too_many, block_number, block_check_type, closing}
 use Rattle.link_bundle.specs.Reading.{Stop, Reading, placed, judged_at, head_at, row_at}
-use Rattle.link_bundle.specs.Blocks.{Primary, primary_at, field_at, content_at}
+use Rattle.link_bundle.specs.CheckField.{field_at}
+use Rattle.link_bundle.specs.Primary.{Primary, primary_at}
+use Rattle.link_bundle.specs.Canonical.{content_at}
 use Rattle.link_bundle.specs.Bundle.{Bundle, noting, info_of, payload_at, blocks_at, opening_at, bundle_at, ends, judged, told, verdict}
 use Rattle.link_bundle.proofs.Steady.{Stays, cuts, same, bundle_at-stays}
 

@@ -2,7 +2,7 @@ pub mod Heads
 pub mod Runs
 pub mod Names
 pub mod Fields
-pub mod Blocks
+pub mod Canonical
 pub mod Stops
 pub mod Steps
 pub mod Contents

@@ -12,21 +12,21 @@ use Rattle.link_bundle.specs.declared.stage.Role.TheVariants.{Destination, Sourc
 use Rattle.link_bundle.specs.Rows.{◌>>=◌}
 use Rattle.link_bundle.specs.Reading.{Reading, bytes_at}
 use Rattle.link_bundle.specs.EndpointId.{dtn_at}
-use Rattle.link_bundle.specs.Left.{behind_role, behind_eid, name_left, source_left, report_to_left, timestamp_left, time_left, sequence_left, lifetime_left}
+use Rattle.link_bundle.specs.Left.{after_role, after_eid, name_left, source_left, report_to_left, timestamp_left, time_left, sequence_left, lifetime_left}
 use Rattle.link_bundle.proofs.Runs.{with_byte, bytes_at-step, bytes_at-last}
 
 -- the name that was read makes no difference behind it
-behind_role-named : (role : Role) (draft : Draft) (name : ArrayVec ℕ) (eid : Eid) (bytes : List ℕ) (place : ℕ)
-    → behind_role role (record draft { name = name }) eid bytes place ≡ behind_role role draft eid bytes place
+after_role-named : (role : Role) (draft : Draft) (name : ArrayVec ℕ) (eid : Eid) (bytes : List ℕ) (place : ℕ)
+    → after_role role (record draft { name = name }) eid bytes place ≡ after_role role draft eid bytes place
 unfolding source_left report_to_left timestamp_left time_left sequence_left lifetime_left
-behind_role-named Destination draft name eid bytes place = refl
-behind_role-named Source draft name eid bytes place = refl
-behind_role-named ReportTo draft name eid bytes place = refl
+after_role-named Destination draft name eid bytes place = refl
+after_role-named Source draft name eid bytes place = refl
+after_role-named ReportTo draft name eid bytes place = refl
 
-pub behind_eid-named : (role : Role) (draft : Draft) (name : ArrayVec ℕ) (bytes : List ℕ) (reading : Reading Eid)
-    → behind_eid role (record draft { name = name }) bytes reading ≡ behind_eid role draft bytes reading
-behind_eid-named role draft name bytes (Ok (eid, place)) = behind_role-named role draft name eid bytes place
-behind_eid-named role draft name bytes (Err stop) = refl
+pub after_eid-named : (role : Role) (draft : Draft) (name : ArrayVec ℕ) (bytes : List ℕ) (reading : Reading Eid)
+    → after_eid role (record draft { name = name }) bytes reading ≡ after_eid role draft bytes reading
+after_eid-named role draft name bytes (Ok (eid, place)) = after_role-named role draft name eid bytes place
+after_eid-named role draft name bytes (Err stop) = refl
 
 -- the name of these bytes and those that a reading gives
 abbrev pub name_of : List ℕ → Reading (List ℕ) → Reading Eid
@@ -39,36 +39,36 @@ name_of-with_byte name byte (Ok (rest, place)) =
 name_of-with_byte name byte (Err stop) = refl
 
 pub name_begins : (role : Role) (draft : Draft) (name : ArrayVec ℕ) (left : ℕ) (bytes : List ℕ) (place : ℕ) → name.items ≡ []
-    → behind_eid role draft bytes (dtn_at (Some left) bytes place)
-    ≡ behind_eid role (record draft { name = name }) bytes (name_left (record draft { name = name }) left bytes place)
+    → after_eid role draft bytes (dtn_at (Some left) bytes place)
+    ≡ after_eid role (record draft { name = name }) bytes (name_left (record draft { name = name }) left bytes place)
 unfolding dtn_at name_left
 name_begins role draft name left bytes place empty =
-    ap (λ (items : List ℕ). behind_eid role draft bytes (name_of items (bytes_at left bytes place))) (sym empty)
-    ∙ sym (behind_eid-named role draft name bytes (name_of name.items (bytes_at left bytes place)))
+    ap (λ (items : List ℕ). after_eid role draft bytes (name_of items (bytes_at left bytes place))) (sym empty)
+    ∙ sym (after_eid-named role draft name bytes (name_of name.items (bytes_at left bytes place)))
 
 pub name_goes_on : (role : Role) (draft : Draft) (name : ArrayVec ℕ) (left : ℕ) (bytes more : List ℕ) (byte place : ℕ)
     → drop place bytes ≡ byte ∷ more → 0 < left → name.items ≡ draft.name.items ++ byte ∷ []
-    → behind_eid role draft bytes (name_left draft left bytes place)
-    ≡ behind_eid role (record draft { name = name }) bytes (name_left (record draft { name = name }) (left - 1) bytes (place + 1))
+    → after_eid role draft bytes (name_left draft left bytes place)
+    ≡ after_eid role (record draft { name = name }) bytes (name_left (record draft { name = name }) (left - 1) bytes (place + 1))
 unfolding name_left
 name_goes_on role draft name left bytes more byte place here some pushed =
-    ap (λ (reading : Reading Eid). behind_eid role draft bytes reading)
+    ap (λ (reading : Reading Eid). after_eid role draft bytes reading)
     (ap (λ (reading : Reading (List ℕ)). name_of draft.name.items reading) (bytes_at-step left bytes more byte place here some)
     ∙ name_of-with_byte draft.name.items byte (bytes_at (left - 1) bytes (place + 1))
     ∙ ap (λ (items : List ℕ). name_of items (bytes_at (left - 1) bytes (place + 1))) (sym pushed))
-    ∙ sym (behind_eid-named role draft name bytes (name_of name.items (bytes_at (left - 1) bytes (place + 1))))
+    ∙ sym (after_eid-named role draft name bytes (name_of name.items (bytes_at (left - 1) bytes (place + 1))))
 
 pub name_ends : (role : Role) (draft : Draft) (name after : ArrayVec ℕ) (left : ℕ) (bytes more : List ℕ) (byte place : ℕ)
     → drop place bytes ≡ byte ∷ more → left ≡ 1 → name.items ≡ draft.name.items ++ byte ∷ []
-    → behind_eid role draft bytes (name_left draft left bytes place)
-    ≡ behind_eid role (record draft { name = after }) bytes (Ok (Dtn name, place + 1))
+    → after_eid role draft bytes (name_left draft left bytes place)
+    ≡ after_eid role (record draft { name = after }) bytes (Ok (Dtn name, place + 1))
 unfolding name_left
 name_ends role draft name after left bytes more byte place here one pushed =
-    ap (λ (reading : Reading Eid). behind_eid role draft bytes reading)
+    ap (λ (reading : Reading Eid). after_eid role draft bytes reading)
     (ap (λ (left : ℕ). name_of draft.name.items (bytes_at left bytes place)) one
     ∙ ap (λ (reading : Reading (List ℕ)). name_of draft.name.items reading) (bytes_at-last bytes more byte place here)
     ∙ ap (λ (items : List ℕ). Ok (Dtn (record { items = items }), place + 1)) (sym pushed))
-    ∙ sym (behind_eid-named role draft after bytes (Ok (Dtn name, place + 1)))
+    ∙ sym (after_eid-named role draft after bytes (Ok (Dtn name, place + 1)))
 
 pub name_fits : (items : List ℕ) (left : ℕ) → items ≡ [] → left ≢ 0 → left ≤ 1024
     → IsTrue (nat_lt 0 left && nat_le (length items + left) 1024)

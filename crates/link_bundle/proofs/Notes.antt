@@ -12,7 +12,9 @@ use Rattle.link_bundle.specs.Laws.{PayloadLasts}
 use Rattle.link_bundle.specs.Rows.{◌>>=◌, unsigned, byte_string, pair, scheme, dtn_part, ipn_part, version, is_fragment, primary_block, primary_check_type, block, block_too_many, block_number, block_check_type, check_width, check_field, closing}
 use Rattle.link_bundle.specs.Reading.{Stop, Reading, cut_short, placed, judged_at, head_at, row_at, bytes_at}
 use Rattle.link_bundle.specs.EndpointId.{dtn_at, specific_at, eid_at}
-use Rattle.link_bundle.specs.Blocks.{Primary, number_from, check_of, field_at, fragment_at, primary_at, content_at}
+use Rattle.link_bundle.specs.CheckField.{number_from, check_of, field_at}
+use Rattle.link_bundle.specs.Primary.{Primary, fragment_at, primary_at}
+use Rattle.link_bundle.specs.Canonical.{content_at}
 use Rattle.link_bundle.specs.Bundle.{Bundle, noting, payload_at, blocks_at, opening_at, bundle_at, ends, judged, noted}
 use Rattle.link_bundle.proofs.Steady.{Stays, cuts, same, row_at-stays, field_at-stays, content_at-stays, primary_at-stays, opening_at-stays}
 

@@ -14,11 +14,11 @@ use Rattle.link_bundle.specs.declared.stage.Stage.TheVariants.{Start, Head, Fail
 use Rattle.link_bundle.specs.CheckKinds.{is_unread}
 use Rattle.link_bundle.specs.Fits.{stage_fits}
 use Rattle.link_bundle.specs.Reading.{stopped}
-use Rattle.link_bundle.specs.Blocks.{primary_at}
+use Rattle.link_bundle.specs.Primary.{primary_at}
 use Rattle.link_bundle.specs.Bundle.{opening_at, bundle_at, judged}
 use Rattle.link_bundle.specs.Left.{field_left, stage_left, with_note, primary_block_left, version_left, flags_left, check_type_left, destination_left, source_left, report_to_left, timestamp_left, time_left, sequence_left, lifetime_left}
 use Rattle.link_bundle.specs.Scan.{HasCome}
-use Rattle.link_bundle.proofs.Fields.{before_and, behind_and}
+use Rattle.link_bundle.proofs.Fields.{before_and, after_and}
 use Rattle.link_bundle.proofs.Steps.{Enters, entered, all_grown, length-grown}
 
 -- a draft that nothing was put into
@@ -38,8 +38,8 @@ pub blank : (draft : Draft) → IsTrue (stage_fits Start draft) → IsBlank draf
 blank draft fits = record {
   payload = none_of draft.payload (before_and (is_none draft.payload) (is_unread draft.check && (length draft.numbers.items == 0)) fits);
   numbers = empty_of draft.numbers.items
-      (behind_and (is_unread draft.check) (length draft.numbers.items == 0)
-      (behind_and (is_none draft.payload) (is_unread draft.check && (length draft.numbers.items == 0)) fits));
+      (after_and (is_unread draft.check) (length draft.numbers.items == 0)
+      (after_and (is_none draft.payload) (is_unread draft.check && (length draft.numbers.items == 0)) fits));
 }
 
 open_reads : (draft : Draft) (more : List ℕ) (start : ℕ) → IsBlank draft

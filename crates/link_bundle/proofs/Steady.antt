@@ -16,7 +16,9 @@ use Rattle.link_bundle.specs.declared.stage.Scheme.TheVariants.{Dtn, Ipn}
 use Rattle.link_bundle.specs.Rows.{◌>>=◌, unsigned, byte_string, pair, scheme, dtn_part, ipn_part, version, is_fragment, primary_block, primary_check_type, block, block_too_many, block_number, block_check_type, check_width, check_field, closing}
 use Rattle.link_bundle.specs.Reading.{Stop, stopped, placed, head_at, row_at, bytes_at}
 use Rattle.link_bundle.specs.EndpointId.{dtn_at, specific_at, eid_at}
-use Rattle.link_bundle.specs.Blocks.{Primary, number_from, check_of, field_at, fragment_at, primary_at, content_at}
+use Rattle.link_bundle.specs.CheckField.{number_from, check_of, field_at}
+use Rattle.link_bundle.specs.Primary.{Primary, fragment_at, primary_at}
+use Rattle.link_bundle.specs.Canonical.{content_at}
 use Rattle.link_bundle.specs.Bundle.{noting, payload_at, blocks_at, opening_at, bundle_at}
 
 -- the reading ends where the bytes end

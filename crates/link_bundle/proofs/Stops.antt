@@ -14,7 +14,8 @@ use Rattle.std.specs.Prelude.{Result}
 use Rattle.link_bundle.specs.Rows.{unsigned, byte_string, pair, scheme, dtn_part, ipn_part, version, primary_block, primary_check_type, block, block_too_many, block_number, block_check_type, check_field, closing}
 use Rattle.link_bundle.specs.Reading.{Stop, head_at, row_at}
 use Rattle.link_bundle.specs.EndpointId.{eid_at, specific_at}
-use Rattle.link_bundle.specs.Blocks.{Primary, field_at, fragment_at}
+use Rattle.link_bundle.specs.CheckField.{field_at}
+use Rattle.link_bundle.specs.Primary.{Primary, fragment_at}
 use Rattle.link_bundle.specs.Bundle.{blocks_at}
 use Rattle.link_bundle.specs.Left.{field_left, primary_of, primary_block_left, version_left, flags_left, check_type_left, timestamp_left, time_left, sequence_left, lifetime_left, offset_left, total_left, scheme_left, node_left, service_left, type_left, number_left, block_flags_left, block_check_left, data_left}
 

@@ -14,7 +14,7 @@ use Rattle.link_bundle.specs.declared.stage.Stage.TheVariants.{Start, Head, Name
 use Rattle.link_bundle.specs.CheckKinds.{kind_of, is_kind}
 use Rattle.link_bundle.specs.Fits.{scan_fits}
 use Rattle.link_bundle.specs.Reading.{Stop, stopped, cut_short, head_at}
-use Rattle.link_bundle.specs.Blocks.{content_at}
+use Rattle.link_bundle.specs.Canonical.{content_at}
 use Rattle.link_bundle.specs.Bundle.{Bundle, opening_at, bundle_at, judged, told, verdict, noted, payload_in, payload_span, state_of}
 use Rattle.link_bundle.specs.Left.{bundle_of, block_start, ends_of, with_note, name_left, stored_left, stage_left}
 use Rattle.link_bundle.specs.Scan.{HasCome}

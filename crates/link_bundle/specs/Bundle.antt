@@ -10,7 +10,9 @@ use Rattle.link_bundle.specs.Faults.{lasts}
 use Rattle.link_cbor.specs.declared.check.CheckKind.{CheckKind}
 use Rattle.link_bundle.specs.Rows.{◌>>=◌, unsigned, byte_string, block, block_too_many, block_number, block_check_type, closing}
 use Rattle.link_bundle.specs.Reading.{Reading, Stop, stopped, cut_short, row_at}
-use Rattle.link_bundle.specs.Blocks.{Primary, primary_at, field_at, content_at}
+use Rattle.link_bundle.specs.CheckField.{field_at}
+use Rattle.link_bundle.specs.Primary.{Primary, primary_at}
+use Rattle.link_bundle.specs.Canonical.{content_at}
 
 -- a whole bundle: its length, and where the payload's bytes begin and how many they are
 pub record Bundle : Type 0 where

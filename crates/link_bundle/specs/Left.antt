@@ -27,7 +27,9 @@ use Rattle.link_bundle.specs.CheckKinds.{kind_of}
 use Rattle.link_bundle.specs.Rows.{◌>>=◌, unsigned, byte_string, pair, scheme, version, is_fragment, primary_block, primary_check_type, block_number, block_check_type, closing}
 use Rattle.link_bundle.specs.Reading.{Stop, stopped, Reading, head_at, row_at, bytes_at}
 use Rattle.link_bundle.specs.EndpointId.{specific_at, eid_at}
-use Rattle.link_bundle.specs.Blocks.{Primary, number_from, field_at, fragment_at, content_at}
+use Rattle.link_bundle.specs.CheckField.{number_from, field_at}
+use Rattle.link_bundle.specs.Primary.{Primary, fragment_at}
+use Rattle.link_bundle.specs.Canonical.{content_at}
 use Rattle.link_bundle.specs.Bundle.{Bundle, noting, info_of, payload_at, blocks_at, ends, judged}
 
 abbrev pub primary_of : Draft → Primary
@@ -54,14 +56,14 @@ block_end (Some (start, size)) numbers primary bytes place = do
   Ok (record { info = info_of primary (length numbers) size; length = end; payload = (start, size) })
 
 -- behind what a check field says
-abbrev pub behind_field : Draft → List ℕ → Reading Bool → Result Bundle Stop
-behind_field draft bytes field = do
+abbrev pub after_field : Draft → List ℕ → Reading Bool → Result Bundle Stop
+after_field draft bytes field = do
   (_, place) ← field
   block_end draft.payload draft.numbers.items (primary_of draft) bytes place
 
 -- behind the primary block's fields
-abbrev pub behind_primary : Draft → ℕ → List ℕ → Reading (Primary × Option CheckKind) → Result Bundle Stop
-behind_primary draft start bytes fields = do
+abbrev pub after_primary : Draft → ℕ → List ℕ → Reading (Primary × Option CheckKind) → Result Bundle Stop
+after_primary draft start bytes fields = do
   ((primary, check), place) ← fields
   (_, place) ← field_at check start bytes place
   block_end draft.payload draft.numbers.items primary bytes place
@@ -71,23 +73,23 @@ behind_primary draft start bytes fields = do
 abbrev pub fields_of : Draft → ℕ → Reading (Primary × Option CheckKind)
 fields_of draft place = Ok ((primary_of draft, kind_of draft.check), place)
 
-abbrev pub behind_fragment : Draft → Reading (Option (ℕ × ℕ)) → Reading (Primary × Option CheckKind)
-behind_fragment draft reading = do
+abbrev pub after_fragment : Draft → Reading (Option (ℕ × ℕ)) → Reading (Primary × Option CheckKind)
+after_fragment draft reading = do
   (fragment, place) ← reading
   fields_of (record draft { fragment = fragment }) place
 
 unfoldable pub total_left : Draft → List ℕ → ℕ → Reading (Primary × Option CheckKind)
-total_left draft bytes place = behind_fragment draft do
+total_left draft bytes place = after_fragment draft do
   (total, place) ← row_at unsigned bytes place
   Ok (Some (draft.fragment_offset, total), place)
 
 unfoldable pub offset_left : Draft → List ℕ → ℕ → Reading (Primary × Option CheckKind)
-offset_left draft bytes place = behind_fragment draft (fragment_at true bytes place)
+offset_left draft bytes place = after_fragment draft (fragment_at true bytes place)
 
 unfoldable pub lifetime_left : Draft → List ℕ → ℕ → Reading (Primary × Option CheckKind)
 lifetime_left draft bytes place = do
   (lifetime, place) ← row_at unsigned bytes place
-  behind_fragment (record draft { lifetime = lifetime }) (fragment_at (is_fragment draft.flags) bytes place)
+  after_fragment (record draft { lifetime = lifetime }) (fragment_at (is_fragment draft.flags) bytes place)
 
 unfoldable pub sequence_left : Draft → List ℕ → ℕ → Reading (Primary × Option CheckKind)
 sequence_left draft bytes place = do
@@ -119,15 +121,15 @@ destination_left draft bytes place = do
   (eid, place) ← eid_at bytes place
   source_left (record draft { destination = eid }) bytes place
 
-abbrev pub behind_role : Role → Draft → Eid → List ℕ → ℕ → Reading (Primary × Option CheckKind)
-behind_role Destination draft eid bytes place = source_left (record draft { destination = eid }) bytes place
-behind_role Source draft eid bytes place = report_to_left (record draft { source = eid }) bytes place
-behind_role ReportTo draft eid bytes place = timestamp_left draft bytes place
+abbrev pub after_role : Role → Draft → Eid → List ℕ → ℕ → Reading (Primary × Option CheckKind)
+after_role Destination draft eid bytes place = source_left (record draft { destination = eid }) bytes place
+after_role Source draft eid bytes place = report_to_left (record draft { source = eid }) bytes place
+after_role ReportTo draft eid bytes place = timestamp_left draft bytes place
 
-abbrev pub behind_eid : Role → Draft → List ℕ → Reading Eid → Reading (Primary × Option CheckKind)
-behind_eid role draft bytes reading = do
+abbrev pub after_eid : Role → Draft → List ℕ → Reading Eid → Reading (Primary × Option CheckKind)
+after_eid role draft bytes reading = do
   (eid, place) ← reading
-  behind_role role draft eid bytes place
+  after_role role draft eid bytes place
 
 unfoldable pub check_type_left : Draft → List ℕ → ℕ → Reading (Primary × Option CheckKind)
 check_type_left draft bytes place = do
@@ -236,12 +238,12 @@ canonical_left canonical.Data draft start bytes place =
 -- at each field, of a block that begins at `start`
 unfoldable pub field_left : Field → Draft → ℕ → List ℕ → ℕ → Result Bundle Stop
 field_left (field.Primary which) draft start bytes place =
-    behind_primary draft start bytes (primary_left which draft bytes place)
+    after_primary draft start bytes (primary_left which draft bytes place)
 field_left (field.Endpoint role which) draft start bytes place =
-    behind_primary draft start bytes (behind_eid role draft bytes (part_left which draft bytes place))
+    after_primary draft start bytes (after_eid role draft bytes (part_left which draft bytes place))
 field_left (field.Canonical which) draft start bytes place = canonical_left which draft start bytes place
 field_left (field.Check kind) draft start bytes place =
-    behind_field draft bytes (field_at (Some kind) start bytes place)
+    after_field draft bytes (field_at (Some kind) start bytes place)
 field_left field.Closing draft start bytes place = do
   (_, end) ← row_at closing bytes place
   Ok (bundle_of draft end)
@@ -290,12 +292,12 @@ stage_left Start draft start field bytes place = judged bytes
 stage_left (Head which) draft start field bytes place =
     ends_of bytes (with_note draft.payload (field_left which draft (block_start which start field) bytes field))
 stage_left (Name role left) draft start field bytes place =
-    ends_of bytes (with_note draft.payload (behind_primary draft start bytes (behind_eid role draft bytes (name_left draft left bytes place))))
+    ends_of bytes (with_note draft.payload (after_primary draft start bytes (after_eid role draft bytes (name_left draft left bytes place))))
 stage_left (Content left) draft start field bytes place =
-    ends_of bytes (with_note draft.payload (behind_field draft bytes (content_at left (kind_of draft.check) start bytes place)))
+    ends_of bytes (with_note draft.payload (after_field draft bytes (content_at left (kind_of draft.check) start bytes place)))
 stage_left (Stored field left stored kind) draft start content bytes place =
     let check = zeroed_check kind start content (place + left - content) bytes in
-    ends_of bytes (with_note draft.payload (behind_field draft bytes (stored_left left stored check field bytes place)))
+    ends_of bytes (with_note draft.payload (after_field draft bytes (stored_left left stored check field bytes place)))
 stage_left Ended draft start field bytes place = ends bytes (bundle_of draft field)
 stage_left (Failed fault at) draft start field bytes place = with_note draft.payload (Err (stopped fault at))
 
@@ -331,20 +333,20 @@ BlockEnds old stage new =
 abbrev pub FieldsEnd : Draft → Stage → Draft → Type 0
 FieldsEnd old stage new =
     (bytes : List ℕ) (start next : ℕ) →
-    ends_of bytes (with_note old.payload (behind_field old bytes (field_at (kind_of old.check) start bytes next)))
+    ends_of bytes (with_note old.payload (after_field old bytes (field_at (kind_of old.check) start bytes next)))
     ≡ stage_left stage new start next bytes next
 
 -- behind the head of data of this size
 abbrev pub ContentBegins : ℕ → Draft → Stage → Draft → Type 0
 ContentBegins size old stage new =
     (bytes : List ℕ) (start next : ℕ) → next ≤ length bytes →
-    ends_of bytes (with_note old.payload (behind_field old bytes (content_at size (kind_of old.check) start bytes next)))
+    ends_of bytes (with_note old.payload (after_field old bytes (content_at size (kind_of old.check) start bytes next)))
     ≡ stage_left stage new start next bytes next
 
 abbrev pub EidEnds : Role → Eid → Draft → Stage → Draft → Type 0
 EidEnds role eid old stage new =
     (bytes : List ℕ) (start next : ℕ) →
-    ends_of bytes (with_note old.payload (behind_primary old start bytes (behind_eid role old bytes (Ok (eid, next)))))
+    ends_of bytes (with_note old.payload (after_primary old start bytes (after_eid role old bytes (Ok (eid, next)))))
     ≡ stage_left stage new start next bytes next
 
 -- one more byte of a name, of which `left` bytes were left

@@ -1,7 +1,9 @@
 pub mod Rows
 pub mod Reading
 pub mod EndpointId
-pub mod Blocks
+pub mod CheckField
+pub mod Primary
+pub mod Canonical
 pub mod Bundle
 pub mod CheckKinds
 pub mod Left

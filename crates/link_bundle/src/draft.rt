@@ -82,7 +82,7 @@ impl Draft {
 
     /// What stands behind a block: the next block, or behind the payload block the break.
     #[tactic(auto, using(crate::proofs::Heads::closes, crate::proofs::Heads::goes_to_block), unfolding(crate::specs::Left::stage_left, crate::specs::Left::field_left))]
-    pub fn behind_block(&mut self) -> Stage
+    pub fn after_block(&mut self) -> Stage
         ensures reads { BlockEnds self.old result self.new }
         ensures fits { IsTrue (stage_fits result self.new) }
         ensures keeps { KeepsCheck self.old.check result self.new.check }
@@ -95,15 +95,15 @@ impl Draft {
     }
 
     /// What stands behind the fields of a block but its check field.
-    #[tactic(auto, unfolding(crate::specs::Left::stage_left, crate::specs::Left::field_left, crate::specs::Blocks::field_at))]
-    pub fn behind_fields(&mut self) -> Stage
+    #[tactic(auto, unfolding(crate::specs::Left::stage_left, crate::specs::Left::field_left, crate::specs::CheckField::field_at))]
+    pub fn after_fields(&mut self) -> Stage
         ensures reads { FieldsEnd self.old result self.new }
         ensures fits { IsTrue (stage_fits result self.new) }
         ensures keeps { KeepsCheck self.old.check result self.new.check }
     {
         match self.check.kind() {
             Some(kind) => Stage::Head(Field::Check(kind)),
-            None => self.behind_block(),
+            None => self.after_block(),
         }
     }
 }
@@ -208,7 +208,7 @@ impl Draft {
         Ok(Stage::Head(Field::Primary(PrimaryField::Lifetime)))
     }
 
-    #[tactic(auto, using(crate::proofs::Heads::heads), unfolding(crate::specs::Left::field_left, crate::specs::Left::stage_left, crate::specs::Left::lifetime_left, crate::specs::Left::offset_left, crate::specs::Blocks::fragment_at))]
+    #[tactic(auto, using(crate::proofs::Heads::heads), unfolding(crate::specs::Left::field_left, crate::specs::Left::stage_left, crate::specs::Left::lifetime_left, crate::specs::Left::offset_left, crate::specs::Primary::fragment_at))]
     fn lifetime(&mut self, head: Head) -> Result<Stage, BundleFault>
         ensures judges { Judges (Field.Primary PrimaryField.Lifetime) self.old head result self.new }
         ensures follows { Follows result self.new }
@@ -219,10 +219,10 @@ impl Draft {
             return Ok(Stage::Head(Field::Primary(PrimaryField::FragmentOffset)));
         }
         self.fragment = None;
-        Ok(self.behind_fields())
+        Ok(self.after_fields())
     }
 
-    #[tactic(auto, using(crate::proofs::Heads::heads), unfolding(crate::specs::Left::field_left, crate::specs::Left::stage_left, crate::specs::Left::offset_left, crate::specs::Left::total_left, crate::specs::Blocks::fragment_at))]
+    #[tactic(auto, using(crate::proofs::Heads::heads), unfolding(crate::specs::Left::field_left, crate::specs::Left::stage_left, crate::specs::Left::offset_left, crate::specs::Left::total_left, crate::specs::Primary::fragment_at))]
     fn fragment_offset(&mut self, head: Head) -> Result<Stage, BundleFault>
         ensures judges { Judges (Field.Primary PrimaryField.FragmentOffset) self.old head result self.new }
         ensures follows { Follows result self.new }
@@ -240,7 +240,7 @@ impl Draft {
     {
         let total_length = row::unsigned(head)?;
         self.fragment = Some((self.fragment_offset, total_length));
-        Ok(self.behind_fields())
+        Ok(self.after_fields())
     }
 }
 
@@ -292,8 +292,8 @@ impl Draft {
         ensures keeps { IfOk result (λ stage. KeepsCheck self.old.check stage self.new.check) }
     {
         match row::dtn_part(head)? {
-            None => Ok(self.behind_eid(role, Eid::DtnNone)),
-            Some(0) => Ok(self.behind_eid(role, Eid::Dtn(ArrayVec::new()))),
+            None => Ok(self.after_eid(role, Eid::DtnNone)),
+            Some(0) => Ok(self.after_eid(role, Eid::Dtn(ArrayVec::new()))),
             Some(left) => {
                 self.name.clear();
                 Ok(Stage::Name(role, left))
@@ -328,7 +328,7 @@ impl Draft {
         ensures keeps { IfOk result (λ stage. KeepsCheck self.old.check stage self.new.check) }
     {
         let service = row::unsigned(head)?;
-        Ok(self.behind_eid(role, Eid::Ipn(node, service)))
+        Ok(self.after_eid(role, Eid::Ipn(node, service)))
     }
 
     /// Takes a byte of a dtn name, of which `left` bytes were left.
@@ -344,12 +344,12 @@ impl Draft {
             return Stage::Name(role, left - 1);
         }
         let name = self.name.take();
-        self.behind_eid(role, Eid::Dtn(name))
+        self.after_eid(role, Eid::Dtn(name))
     }
 
     /// Keeps an endpoint ID: the report-to is judged and not kept.
     #[tactic(auto, unfolding(crate::specs::Left::field_left, crate::specs::Left::stage_left, crate::specs::Left::source_left, crate::specs::Left::report_to_left))]
-    fn behind_eid(&mut self, role: Role, eid: Eid) -> Stage
+    fn after_eid(&mut self, role: Role, eid: Eid) -> Stage
         ensures reads { EidEnds role eid self.old result self.new }
         ensures fits { IsTrue (stage_fits result self.new) }
         ensures keeps { KeepsCheck self.old.check result self.new.check }
@@ -474,7 +474,7 @@ impl Draft {
         ensures keeps { KeepsCheck self.old.check result self.new.check }
     {
         match size {
-            0 => self.behind_fields(),
+            0 => self.after_fields(),
             left => Stage::Content(left),
         }
     }

@@ -160,7 +160,7 @@ impl BundleScan {
         if left > 1 {
             self.stage = Stage::Content(left - 1);
         } else {
-            let stage = self.draft.behind_fields();
+            let stage = self.draft.after_fields();
             self.cursor.enter(stage);
             self.stage = stage;
         }
@@ -185,7 +185,7 @@ impl BundleScan {
         } else if stored == self.cursor.checks.value(kind) {
             // Nothing more of the block is checked.
             self.draft.check = CheckType::Is(None);
-            let stage = self.draft.behind_block();
+            let stage = self.draft.after_block();
             self.cursor.enter(stage);
             self.stage = stage;
         } else {

@@ -5,7 +5,7 @@ use Rattle.link_bundle.specs.Bundle.{Bundle}
 use Rattle.link_bundle.specs.Reading.{Stop, stopped}
 use Rattle.link_bundle.specs.Left.{field_left, stage_left, ends_of, with_note, primary_of}
 use Rattle.link_bundle.proofs.Heads.{ends_of-stopped}
-use Rattle.link_bundle.proofs.Blocks.{blocks_at-refused, blocks_at-full, blocks_at-open, no_room, some_room}
+use Rattle.link_bundle.proofs.Canonical.{blocks_at-refused, blocks_at-full, blocks_at-open, no_room, some_room}
 use Rattle.link_bundle.proofs.draft.Draft.block.Goals as goal
 
 pub returns-in_err-self-clause-judges : goal.returns-in_err-self-clause-judges

@@ -7,4 +7,4 @@ use Rattle.link_bundle.proofs.draft.Draft.service.Goals as goal
 pub returns-clause-judges : goal.returns-clause-judges
 unfolding field_left stage_left service_left
 returns-clause-judges c = λ next place bytes start told within.
-    rw (row_at-told unsigned bytes place next c.args.head c.in_ok-service.service told (sym c.unsigned.ensures.judged ∙ c.in_ok-service.was)) (c.behind_eid.ensures.reads bytes start next)
+    rw (row_at-told unsigned bytes place next c.args.head c.in_ok-service.service told (sym c.unsigned.ensures.judged ∙ c.in_ok-service.was)) (c.after_eid.ensures.reads bytes start next)

@@ -19,7 +19,7 @@ returns-else-left-gt1-clause-seen c = λ seen come.
     let now = c.args.self.now in
     let here = subst (λ (stage : Stage). HasCome stage now.cursor now.draft seen) c.requires.stage come in
     let fits = subst (λ (stage : Stage). IsTrue (scan_fits stage now.cursor now.draft)) c.requires.stage now.fits in
-    ended_content c.args.left now.cursor c.content_byte.new.self c.enter.new.self now.draft c.behind_fields-stage.new.self c.behind_fields-stage.result
+    ended_content c.args.left now.cursor c.content_byte.new.self c.enter.new.self now.draft c.after_fields-stage.new.self c.after_fields-stage.result
     seen c.args.byte here (omega arith) (omega (arith, ltb-true 0 c.args.left fits))
-    c.content_byte.ensures.count c.content_byte.ensures.checks c.behind_fields-stage.ensures.reads c.behind_fields-stage.ensures.keeps
+    c.content_byte.ensures.count c.content_byte.ensures.checks c.after_fields-stage.ensures.reads c.after_fields-stage.ensures.keeps
     (record { count = c.enter.ensures.count; place = c.enter.ensures.place; head = c.enter.ensures.head; checks = c.enter.ensures.checks })

@@ -38,12 +38,12 @@ returns-then-stored-value-clause-seen c = λ seen come.
     let is_kind = is_kind (kind_of now.draft.check) c.args.kind in
     let wants = (has_room is_kind c.args.left c.args.stored c.args.byte fits (omega arith)).wants in
     equal_stored c.args.place c.args.left c.args.stored c.value.result c.args.kind now.cursor c.content_byte.new.self c.enter.new.self
-    now.draft c.behind_block-stage.new.self c.behind_block-stage.result seen c.args.byte here (omega arith) (omega (arith, wants))
+    now.draft c.after_block-stage.new.self c.after_block-stage.result seen c.args.byte here (omega arith) (omega (arith, wants))
     (eq-eqb (c.args.stored * 256 + c.args.byte) c.value.result
     (ap (λ (byte : ℕ). c.args.stored * 256 + byte) (sym c.from.ensures) ∙ c.if-stored-value.true))
     (record { count = c.content_byte.ensures.count; place = c.content_byte.ensures.place; checks = c.content_byte.ensures.checks })
     (record { is = same_check now.draft.check c.args.kind (before_and is_kind (room c.args.left c.args.stored) fits); told = c.value.ensures })
-    c.behind_block-stage.ensures.reads c.behind_block-stage.ensures.keeps
+    c.after_block-stage.ensures.reads c.after_block-stage.ensures.keeps
     (record { count = c.enter.ensures.count; place = c.enter.ensures.place; head = c.enter.ensures.head; checks = c.enter.ensures.checks })
 
 pub returns-else-stored-value-clause-seen : goal.returns-else-stored-value-clause-seen

@@ -9,7 +9,7 @@ use Rattle.link_bundle.specs.declared.fault.BundleFault.{BundleFault}
 use Rattle.link_bundle.specs.declared.fault.BundleFault.TheVariants.{TooManyBlocks}
 use Rattle.link_bundle.specs.Rows.{block, block_too_many}
 use Rattle.link_bundle.specs.Reading.{stopped, head_at}
-use Rattle.link_bundle.specs.Blocks.{Primary}
+use Rattle.link_bundle.specs.Primary.{Primary}
 use Rattle.link_bundle.specs.Bundle.{blocks_at}
 use Rattle.link_bundle.specs.Left.{primary_of, type_left, number_left, block_flags_left, block_check_left, data_left}
 use Rattle.link_bundle.proofs.Heads.{row_at-told, row_at-refused}
