@@ -7,7 +7,7 @@ use Rattle.std.specs.Bool.{MatchBool}
 use Rattle.std.proofs.lemmas.List.{drop-append-le}
 use Rattle.std.proofs.Math.Nat.{sub_self}
 use Rattle.std.proofs.Math.Seq.{drop-append_seam, drop-length, take-length}
-use Rattle.std.proofs.lemmas.List.Elements.{All-push}
+use Rattle.std.proofs.lemmas.List.Elements.{All-nil, All-push, All-append}
 use Rattle.link_cbor.specs.declared.head.Head.{Head as HeadItem}
 use Rattle.link_cbor.specs.Head.{AreBytes, Cut as CutHead, IllFormed, Whole, head_front}
 use Rattle.link_cbor.specs.HeadLaws.{whole_stays, ill_formed_stays}
@@ -36,15 +36,9 @@ use Rattle.link_bundle.proofs.Heads.{ends_of-stopped}
 use Rattle.link_bundle.proofs.Stops.{field_left-stopped}
 use Rattle.link_bundle.specs.Scan.{HasCome, Stands, IsAtHead, IsInHead, IsInside, IsInStored}
 
--- the bytes with one more, and those that follow
-pub grown : (seen more : List ℕ) (byte : ℕ) → (seen ++ byte ∷ []) ++ more ≡ seen ++ (byte ∷ more)
-grown seen more byte = append_assoc seen (byte ∷ []) more
-
-pub length-grown : (seen : List ℕ) (byte : ℕ) → length (seen ++ byte ∷ []) ≡ length seen + 1
-length-grown seen byte = length-append seen (byte ∷ [])
-
-pub next_byte : (seen more : List ℕ) (byte : ℕ) → drop (length seen) ((seen ++ byte ∷ []) ++ more) ≡ byte ∷ more
-next_byte seen more byte = ap (λ (bytes : List ℕ). drop (length seen) bytes) (grown seen more byte) ∙ drop-append_seam seen (byte ∷ more)
+-- the bytes with a run of more, and those that follow
+pub next_run : (seen more run : List ℕ) → drop (length seen) ((seen ++ run) ++ more) ≡ run ++ more
+next_run seen more run = ap (λ (bytes : List ℕ). drop (length seen) bytes) (append_assoc seen run more) ∙ drop-append_seam seen (run ++ more)
 
 up_to_the_end : (seen : List ℕ) (start : ℕ) → slice_range seen start (length seen) ≡ drop start seen
 up_to_the_end seen start =
@@ -183,18 +177,18 @@ entered stage old new check draft start seen all counted within covers keeps ent
   stands = stands_entered stage old new check draft.check start seen counted within covers keeps enters;
 }
 
--- what was left to be read with the byte before it
-pub regrown : (left : List ℕ → Result Bundle Stop) (seen : List ℕ) (byte : ℕ)
+-- what was left to be read with a run before it
+pub regrown : (left : List ℕ → Result Bundle Stop) (seen run : List ℕ)
     → ((more : List ℕ) → judged (seen ++ more) ≡ left (seen ++ more))
-    → (more : List ℕ) → judged ((seen ++ byte ∷ []) ++ more) ≡ left ((seen ++ byte ∷ []) ++ more)
-regrown left seen byte reads more =
-    subst (λ (bytes : List ℕ). judged bytes ≡ left bytes) (sym (grown seen more byte)) (reads (byte ∷ more))
+    → (more : List ℕ) → judged ((seen ++ run) ++ more) ≡ left ((seen ++ run) ++ more)
+regrown left seen run reads more =
+    subst (λ (bytes : List ℕ). judged bytes ≡ left bytes) (sym (append_assoc seen run more)) (reads (run ++ more))
 
-pub all_grown : (seen : List ℕ) (byte : ℕ) → AreBytes seen → byte < 256 → AreBytes (seen ++ byte ∷ [])
-all_grown seen byte all small = All-push (λ (b : ℕ). b < 256) seen byte all small
+pub all_grown : (seen run : List ℕ) → AreBytes seen → AreBytes run → AreBytes (seen ++ run)
+all_grown seen run all more = All-append (λ (b : ℕ). b < 256) seen run all more
 
-drop-grown : (place : ℕ) (seen : List ℕ) (byte : ℕ) → place ≤ length seen → drop place (seen ++ byte ∷ []) ≡ drop place seen ++ byte ∷ []
-drop-grown place seen byte within = drop-append-le place seen (byte ∷ []) within
+pub one_byte : (byte : ℕ) → byte < 256 → AreBytes (byte ∷ [])
+one_byte byte small = All-push (λ (b : ℕ). b < 256) [] byte (All-nil (λ (b : ℕ). b < 256)) small
 
 -- a head has come, and is not told yet
 pub record HeadCame (which : Field) (cursor : Cursor) (draft : Draft) (seen : List ℕ) : Type 0 where
@@ -214,17 +208,17 @@ pub grown_head : (which : Field) (old new : Cursor) (draft : Draft) (seen : List
 unfolding stage_left
 grown_head which old new draft seen byte come small counts stays heads covers =
     let at = come.stands.at in
-    let longer = length-grown seen byte in
+    let longer = length-append seen (byte ∷ []) in
     record {
-      all_bytes = all_grown seen byte come.all_bytes small;
+      all_bytes = all_grown seen (byte ∷ []) come.all_bytes (one_byte byte small);
       count = counts ∙ ap (λ (count : ℕ). count + 1) come.count ∙ sym longer;
       start = come.start;
-      reads = rw stays (regrown (λ (bytes : List ℕ). stage_left (Head which) draft come.start old.place bytes (length seen)) seen byte come.reads);
+      reads = rw stays (regrown (λ (bytes : List ℕ). stage_left (Head which) draft come.start old.place bytes (length seen)) seen (byte ∷ []) come.reads);
       at = record {
         in_bytes = omega (arith, at.in_bytes);
-        head = rw (stays, drop-grown old.place seen byte at.in_bytes) (heads (drop old.place seen) at.head);
+        head = rw (stays, drop-append-le old.place seen (byte ∷ []) at.in_bytes) (heads (drop old.place seen) at.head);
         in_block = rw stays (omega (arith, at.in_block));
-        checks = rw (stays, drop-grown (block_start which come.start old.place) seen byte at.in_block)
+        checks = rw (stays, drop-append-le (block_start which come.start old.place) seen (byte ∷ []) at.in_block)
             (covers (drop (block_start which come.start old.place) seen) at.checks);
       };
     }

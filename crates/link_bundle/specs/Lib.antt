@@ -1,6 +1,9 @@
 pub mod Rows
 pub mod Reading
 pub mod EndpointId
+pub mod EidView
+pub mod KeptEid
+pub mod BundleView
 pub mod CheckField
 pub mod Primary
 pub mod Canonical

@@ -7,14 +7,16 @@ mod draft;
 mod eid;
 mod fault;
 mod info;
+mod kept_eid;
 pub mod laws;
+mod numbers;
 mod row;
 mod scan;
 mod stage;
 
-pub use eid::{EID_LIMIT, Eid};
+pub use eid::{EID_LIMIT, Eid, EidView};
 pub use fault::{BundleFault, State};
-pub use info::{BLOCK_LIMIT, BundleInfo};
+pub use info::{BLOCK_LIMIT, BundleInfo, BundleView};
 pub use scan::BundleScan;
 
 #[cfg(test)]

@@ -187,14 +187,15 @@ pub(crate) fn dtn_part(head: Head) -> Result<Option<u64>, BundleFault>
     }
 }
 
-/// The specific part of scheme ipn: an array of node number and service number.
+/// The specific part of scheme ipn, an array: how many numbers it has, two or three.
 #[tactic(auto, unfolding(crate::specs::Rows::ipn_part))]
 pub(crate) fn ipn_part(head: Head) -> Result<u64, BundleFault>
     ensures judged { result ≡ row.ipn_part head }
     ensures lasts { IfErr result (λ fault. IsTrue (lasts fault)) }
 {
     match array(head) {
-        Ok(_) => pair(head),
+        Ok(count @ 2..=3) => Ok(count),
+        Ok(_) => Err(BundleFault::BadCount),
         Err(_) => Err(BundleFault::BadSpecificPart),
     }
 }

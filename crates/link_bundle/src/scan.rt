@@ -1,11 +1,11 @@
-ghost use Rattle.std.specs.Prelude.{◌≡◌, ℕ, ◌+◌, ◌-◌, ◌^◌, ◌<◌, IfOk, IsTrue, List, ◌∷◌, [], ◌++◌};
+ghost use Rattle.std.specs.Prelude.{◌≡◌, ℕ, ◌+◌, ◌-◌, ◌^◌, ◌<◌, ◌≤◌, IfOk, IsTrue, List, ◌∷◌, [], ◌++◌, length};
 ghost use Rattle.link_bundle.specs.Fits.{scan_fits, stage_fits, Follows, KeepsCheck};
 ghost use Rattle.link_bundle.specs.Left.{JudgesFrom};
 
 use crate::cursor::Cursor;
 use crate::draft::Draft;
 use crate::fault::{BundleFault, State};
-use crate::info::BundleInfo;
+use crate::info::{BundleInfo, BundleView};
 use crate::row;
 use crate::stage::{CheckType, Field, PrimaryField, Role, Stage};
 use link_cbor::{CheckKind, Head, HeadStep, Piecewise};
@@ -53,6 +53,7 @@ fn judge(draft: &mut Draft, cursor: &Cursor, field: Field, head: Head) -> Result
 
 impl BundleScan {
     ghost use Rattle.link_bundle.specs.Bundle.{verdict, state_of, payload_span};
+    ghost use Rattle.link_bundle.specs.BundleView.{viewed_verdict};
     ghost use Rattle.link_bundle.specs.Scan.{HasScanned, scan_size, may_scan};
     ghost use Rattle.link_bundle.specs.Stages.{takes_bytes};
 
@@ -67,6 +68,18 @@ impl BundleScan {
             cursor: Cursor::new(),
             draft: Draft::new(),
         }
+    }
+
+    /// Makes the scan new, whatever it has seen and met, also after a fault: the next byte is a bundle's first. What no
+    /// reader sees is not written over.
+    pub fn restart(&mut self)
+        ensures seen { HasScanned self.new [] }
+        ensures size { scan_size self.new ≡ 0 }
+        ensures may_step { IsTrue (may_scan self.new) }
+    {
+        self.draft.restart();
+        self.cursor = Cursor::new();
+        self.stage = Stage::Start;
     }
 
     /// Where the scan stands: what the verdict on the bytes seen says.
@@ -85,6 +98,17 @@ impl BundleScan {
         match self.stage.state() {
             State::Going => Err((BundleFault::Cut, self.cursor.count)),
             State::Ended => Ok(self.draft.info()),
+            State::Failed(fault, place) => Err((fault, place)),
+        }
+    }
+
+    /// The verdict on the bytes seen, as [`finish`](BundleScan::finish) gives it, with the bundle by reference.
+    pub fn view(&self) -> Result<BundleView<'_>, (BundleFault, u64)>
+        ensures { (seen : List ℕ) → HasScanned self.now seen → viewed_verdict result ≡ verdict seen }
+    {
+        match self.stage.state() {
+            State::Going => Err((BundleFault::Cut, self.cursor.count)),
+            State::Ended => Ok(self.draft.view()),
             State::Failed(fault, place) => Err((fault, place)),
         }
     }
@@ -136,29 +160,32 @@ impl BundleScan {
         }
     }
 
-    /// A byte of a dtn name.
-    fn name_byte(&mut self, role: Role, left: u64, byte: u8)
+    /// Bytes of a dtn name, of which `left` bytes were left.
+    fn name_run(&mut self, role: Role, left: u64, run: &[u8])
         requires stage { self.old.stage ≡ Stage.Name role left }
-        requires room { self.old.cursor.count < 2 ^ 63 - 1 }
-        ensures size { scan_size self.new ≡ scan_size self.old + 1 }
-        ensures seen { (seen : List ℕ) → HasScanned self.old seen → HasScanned self.new (seen ++ byte ∷ []) }
+        requires within { length run.now ≤ left }
+        requires room { self.old.cursor.count + length run.now ≤ 2 ^ 63 - 1 }
+        ensures size { scan_size self.new ≡ scan_size self.old + length run.now }
+        ensures seen { (seen : List ℕ) → HasScanned self.old seen → HasScanned self.new (seen ++ run.now) }
     {
-        self.cursor.content_byte(self.draft.check, byte);
-        let stage = self.draft.name_byte(role, left, byte);
+        self.cursor.content_run(self.draft.check, run);
+        let stage = self.draft.name_run(role, left, run);
         self.cursor.enter(stage);
         self.stage = stage;
     }
 
-    /// A byte of a block's data.
-    fn content_byte(&mut self, left: u64, byte: u8)
+    /// Bytes of a block's data, of which `left` bytes were left.
+    fn content_run(&mut self, left: u64, run: &[u8])
         requires stage { self.old.stage ≡ Stage.Content left }
-        requires room { self.old.cursor.count < 2 ^ 63 - 1 }
-        ensures size { scan_size self.new ≡ scan_size self.old + 1 }
-        ensures seen { (seen : List ℕ) → HasScanned self.old seen → HasScanned self.new (seen ++ byte ∷ []) }
+        requires within { length run.now ≤ left }
+        requires room { self.old.cursor.count + length run.now ≤ 2 ^ 63 - 1 }
+        ensures size { scan_size self.new ≡ scan_size self.old + length run.now }
+        ensures seen { (seen : List ℕ) → HasScanned self.old seen → HasScanned self.new (seen ++ run.now) }
     {
-        self.cursor.content_byte(self.draft.check, byte);
-        if left > 1 {
-            self.stage = Stage::Content(left - 1);
+        self.cursor.content_run(self.draft.check, run);
+        let left = left - run.len() as u64;
+        if left > 0 {
+            self.stage = Stage::Content(left);
         } else {
             let stage = self.draft.after_fields();
             self.cursor.enter(stage);
@@ -173,7 +200,7 @@ impl BundleScan {
         ensures size { scan_size self.new ≡ scan_size self.old + 1 }
         ensures seen { (seen : List ℕ) → HasScanned self.old seen → HasScanned self.new (seen ++ byte ∷ []) }
     {
-        self.cursor.content_byte(self.draft.check, 0);
+        self.cursor.content_run(self.draft.check, &[0]);
         let stored = stored * 256 + u32::from(byte);
         if left > 1 {
             self.stage = Stage::Stored {
@@ -239,8 +266,8 @@ impl Piecewise for BundleScan {
         match self.stage {
             Stage::Start => self.open(byte),
             Stage::Head(field) => self.head_byte(field, byte),
-            Stage::Name(role, left) => self.name_byte(role, left, byte),
-            Stage::Content(left) => self.content_byte(left, byte),
+            Stage::Name(role, left) => self.name_run(role, left, &[byte]),
+            Stage::Content(left) => self.content_run(left, &[byte]),
             Stage::Stored {
                 place,
                 left,
