@@ -11,3 +11,4 @@ pub mod Verdicts
 pub mod Steady
 pub mod Lengths
 pub mod Notes
+pub mod Feeding

@@ -1,4 +1,4 @@
-ghost use Rattle.std.specs.Prelude.{◌≡◌, ℕ, ◌+◌, ◌-◌, ◌^◌, ◌<◌, ◌≤◌, IfOk, IsTrue, List, ◌∷◌, [], ◌++◌, length};
+ghost use Rattle.std.specs.Prelude.{◌≡◌, ℕ, ◌+◌, ◌-◌, ◌^◌, ◌<◌, ◌≤◌, IfOk, IsTrue, List, ◌∷◌, [], ◌++◌, length, take, min, true};
 ghost use Rattle.link_bundle.specs.Fits.{scan_fits, stage_fits, Follows, KeepsCheck};
 ghost use Rattle.link_bundle.specs.Left.{JudgesFrom};
 
@@ -49,6 +49,15 @@ fn judge(draft: &mut Draft, cursor: &Cursor, field: Field, head: Head) -> Result
             Ok(Stage::Ended)
         }
     }
+}
+
+/// The first bytes of a piece, at most as many as are left.
+fn first_of(piece: &[u8], left: u64) -> &[u8]
+    ensures run { result.now ≡ take (min left (length piece.now)) piece.now }
+    ensures size { length result.now ≡ min left (length piece.now) }
+{
+    let size = left.min(piece.len() as u64) as usize;
+    &piece[..size]
 }
 
 impl BundleScan {
@@ -232,6 +241,43 @@ impl BundleScan {
     }
 }
 
+impl BundleScan {
+    ghost use Rattle.link_bundle.specs.Bundle.{bundle_goes};
+    ghost use Rattle.link_bundle.specs.Scan.{HasScanned, scan_size, may_scan};
+
+    /// Takes the next bytes of a piece where more are needed: of a name and of data as many as there are, else one byte.
+    fn advance(&mut self, piece: &[u8]) -> usize
+        requires may_step { IsTrue (may_scan self.old) }
+        requires goes { (seen : List ℕ) → HasScanned self.old seen → bundle_goes seen ≡ true }
+        requires some { 0 < length piece.now }
+        requires room { scan_size self.old + length piece.now ≤ 2 ^ 63 - 1 }
+        ensures some { 0 < result }
+        ensures within { result ≤ length piece.now }
+        ensures size { scan_size self.new ≡ scan_size self.old + result }
+        ensures seen { (seen : List ℕ) → HasScanned self.old seen → HasScanned self.new (seen ++ take result piece.now) }
+        // Before each of these bytes more were needed.
+        ensures goes { (seen : List ℕ) → HasScanned self.old seen →
+            (count : ℕ) → count < result → bundle_goes (seen ++ take count piece.now) ≡ true }
+    {
+        match self.stage {
+            Stage::Name(role, left) => {
+                let run = first_of(piece, left);
+                self.name_run(role, left, run);
+                run.len()
+            }
+            Stage::Content(left) => {
+                let run = first_of(piece, left);
+                self.content_run(left, run);
+                run.len()
+            }
+            _ => {
+                self.step(piece[0]);
+                1
+            }
+        }
+    }
+}
+
 /// Shows the state and the count, and not what is held.
 impl fmt::Debug for BundleScan {
     fn fmt<W: fmt::Write>(&self, f: &mut fmt::Formatter<W>) -> fmt::Result {
@@ -260,6 +306,14 @@ impl Piecewise for BundleScan {
 
     fn count(&self) -> u64 {
         self.cursor.count
+    }
+
+    fn feed(&mut self, bytes: &[u8]) -> usize {
+        let mut taken = 0;
+        while taken < bytes.len() && self.going() {
+            taken += self.advance(&bytes[taken..]);
+        }
+        taken
     }
 
     fn step(&mut self, byte: u8) {
