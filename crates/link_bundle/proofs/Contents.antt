@@ -9,8 +9,8 @@ use Rattle.link_cbor.specs.Crc.{crc}
 use Rattle.link_cbor.specs.Head.{AreBytes}
 use Rattle.link_bundle.specs.declared.cursor.Cursor.{Cursor}
 use Rattle.link_bundle.specs.declared.draft.Draft.{Draft}
-use Rattle.link_bundle.specs.declared.fault.BundleFault.TheVariants.{Trailing, CheckDiffers}
-use Rattle.link_bundle.specs.declared.info.BundleInfo.{BundleInfo}
+use Rattle.link_bundle_types.specs.declared.fault.BundleFault.TheVariants.{Trailing, CheckDiffers}
+use Rattle.link_bundle_types.specs.declared.info.BundleInfo.{BundleInfo}
 use Rattle.link_bundle.specs.declared.stage.Role.{Role}
 use Rattle.link_bundle.specs.declared.stage.Stage.{Stage}
 use Rattle.link_bundle.specs.declared.stage.Stage.TheVariants.{Name, Content, Stored, Ended, Failed}

@@ -9,10 +9,10 @@ use Rattle.link_cbor.specs.declared.check.CheckKind.{CheckKind}
 use Rattle.link_cbor.specs.declared.head.Head.{Head}
 use Rattle.link_cbor.specs.Head.{HeadFront, Cut as CutHead, IllFormed, Whole, big_endian, with_argument, argument_front, no_argument, front_by, head_front}
 use Rattle.link_cbor.specs.HeadLaws.{argument_front-cut, argument_front-there, front_by-small, front_by-argument, front_by-reserved, front_by-none}
-use Rattle.link_bundle.specs.declared.fault.BundleFault.{BundleFault}
-use Rattle.link_bundle.specs.declared.fault.BundleFault.TheVariants.{Cut, Trailing}
-use Rattle.link_bundle.specs.declared.info.BundleInfo.{BundleInfo}
-use Rattle.link_bundle.specs.Faults.{lasts}
+use Rattle.link_bundle_types.specs.declared.fault.BundleFault.{BundleFault}
+use Rattle.link_bundle_types.specs.declared.fault.BundleFault.TheVariants.{Cut, Trailing}
+use Rattle.link_bundle_types.specs.declared.info.BundleInfo.{BundleInfo}
+use Rattle.link_bundle_types.specs.Faults.{lasts}
 use Rattle.link_bundle.specs.Laws.{FaultLasts, TrailingLasts}
 use Rattle.link_bundle.specs.Rows.{◌>>=◌, unsigned, byte_string, block, block_too_many, block_number, block_check_type, closing}
 use Rattle.link_bundle.specs.Reading.{Stop, Reading, placed, judged_at, head_at, row_at}

@@ -7,7 +7,7 @@ use Rattle.std.proofs.lemmas.Bool.Decides.{nat_tests}
 use Rattle.std.proofs.Math.Seq.{drop-length}
 use Rattle.link_bundle.specs.declared.cursor.Cursor.{Cursor}
 use Rattle.link_bundle.specs.declared.draft.Draft.{Draft}
-use Rattle.link_bundle.specs.declared.fault.BundleFault.TheVariants.{NotABundle}
+use Rattle.link_bundle_types.specs.declared.fault.BundleFault.TheVariants.{NotABundle}
 use Rattle.link_bundle.specs.declared.stage.Field.TheVariants as field
 use Rattle.link_bundle.specs.declared.stage.PrimaryField.TheVariants as primary
 use Rattle.link_bundle.specs.declared.stage.Stage.TheVariants.{Start, Head, Failed}

@@ -6,9 +6,9 @@ use Rattle.std.proofs.lemmas.Bool.{eq-eqb, ltb-true}
 use Rattle.link_cbor.specs.Head.{Cut as CutHead, head_front}
 use Rattle.link_bundle.specs.declared.cursor.Cursor.{Cursor}
 use Rattle.link_bundle.specs.declared.draft.Draft.{Draft}
-use Rattle.link_bundle.specs.declared.fault.BundleFault.{BundleFault}
-use Rattle.link_bundle.specs.declared.fault.BundleFault.TheVariants.{Cut}
-use Rattle.link_bundle.specs.declared.fault.State.TheVariants as state
+use Rattle.link_bundle_types.specs.declared.fault.BundleFault.{BundleFault}
+use Rattle.link_bundle_types.specs.declared.fault.BundleFault.TheVariants.{Cut}
+use Rattle.link_bundle_types.specs.declared.fault.State.TheVariants as state
 use Rattle.link_bundle.specs.declared.stage.Stage.{Stage}
 use Rattle.link_bundle.specs.declared.stage.Stage.TheVariants.{Start, Head, Name, Content, Stored, Ended, Failed}
 use Rattle.link_bundle.specs.CheckKinds.{kind_of, is_kind}

@@ -1,8 +1,8 @@
 -- endpoint IDs (RFC 9171 section 4.2.5.1)
 
 use Rattle.std.specs.Prelude.{ℕ, ◌==◌, Bool, true, false, List, Option, Some, None, Ok}
-use Rattle.link_bundle.specs.declared.eid.Eid.{Eid}
-use Rattle.link_bundle.specs.declared.eid.Eid.TheVariants.{DtnNone, Dtn as DtnName, Ipn as IpnNumbers, Ipn3}
+use Rattle.link_bundle_types.specs.declared.eid.Eid.{Eid}
+use Rattle.link_bundle_types.specs.declared.eid.Eid.TheVariants.{DtnNone, Dtn as DtnName, Ipn as IpnNumbers, Ipn3}
 use Rattle.link_bundle.specs.declared.stage.Scheme.{Scheme}
 use Rattle.link_bundle.specs.declared.stage.Scheme.TheVariants.{Dtn, Ipn}
 use Rattle.link_bundle.specs.Rows.{◌>>=◌, unsigned, pair, scheme, dtn_part, ipn_part}

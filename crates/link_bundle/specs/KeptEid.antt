@@ -1,8 +1,8 @@
 -- an endpoint ID by its form and the bytes of its dtn name
 
 use Rattle.std.specs.Prelude.{ℕ, ◌+◌, Bool, false, nat_le, List, [], length}
-use Rattle.link_bundle.specs.declared.eid.Eid.{Eid}
-use Rattle.link_bundle.specs.declared.eid.Eid.TheVariants as eid
+use Rattle.link_bundle_types.specs.declared.eid.Eid.{Eid}
+use Rattle.link_bundle_types.specs.declared.eid.Eid.TheVariants as eid
 use Rattle.link_bundle.specs.declared.kept_eid.EidForm.{EidForm}
 use Rattle.link_bundle.specs.declared.kept_eid.EidForm.TheVariants.{DtnNone, Dtn, Ipn, Ipn3}
 

@@ -5,8 +5,8 @@ use Rattle.std.specs.Prelude.{◌≡◌, ◌≤◌, ℕ, ◌+◌, ◌-◌, ◌==
 use Rattle.link_cbor.specs.declared.check.CheckKind.{CheckKind}
 use Rattle.link_cbor.specs.declared.head.Head.{Head as HeadItem}
 use Rattle.link_cbor.specs.Crc.{crc}
-use Rattle.link_bundle.specs.declared.eid.Eid.{Eid}
-use Rattle.link_bundle.specs.declared.eid.Eid.TheVariants.{Dtn, Ipn, Ipn3}
+use Rattle.link_bundle_types.specs.declared.eid.Eid.{Eid}
+use Rattle.link_bundle_types.specs.declared.eid.Eid.TheVariants.{Dtn, Ipn, Ipn3}
 use Rattle.link_bundle.specs.declared.draft.Draft.{Draft}
 use Rattle.link_bundle.specs.declared.stage.Stage.{Stage}
 use Rattle.link_bundle.specs.declared.stage.Stage.TheVariants.{Start, Head, Name, Content, Stored, Ended, Failed}
@@ -21,8 +21,8 @@ use Rattle.link_bundle.specs.declared.stage.Role.TheVariants.{Destination, Sourc
 use Rattle.link_bundle.specs.declared.stage.Part.{Part}
 use Rattle.link_bundle.specs.declared.stage.Part.TheVariants as part
 use Rattle.link_bundle.specs.declared.stage.CheckType.TheVariants.{Is}
-use Rattle.link_bundle.specs.declared.fault.BundleFault.{BundleFault}
-use Rattle.link_bundle.specs.declared.fault.BundleFault.TheVariants.{CheckDiffers}
+use Rattle.link_bundle_types.specs.declared.fault.BundleFault.{BundleFault}
+use Rattle.link_bundle_types.specs.declared.fault.BundleFault.TheVariants.{CheckDiffers}
 use Rattle.link_bundle.specs.CheckKinds.{kind_of}
 use Rattle.link_bundle.specs.Rows.{◌>>=◌, unsigned, byte_string, pair, scheme, version, is_fragment, primary_block, primary_check_type, block_number, block_check_type, closing}
 use Rattle.link_bundle.specs.Reading.{Stop, stopped, Reading, head_at, row_at, bytes_at}

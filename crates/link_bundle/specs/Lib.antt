@@ -1,9 +1,7 @@
 pub mod Rows
 pub mod Reading
 pub mod EndpointId
-pub mod EidView
 pub mod KeptEid
-pub mod BundleView
 pub mod CheckField
 pub mod Primary
 pub mod Canonical
@@ -12,7 +10,6 @@ pub mod CheckKinds
 pub mod Left
 pub mod Fits
 pub mod Covers
-pub mod Faults
 pub mod Stages
 pub mod Scan
 pub mod Laws

@@ -1,8 +1,8 @@
 -- what a caller sees of a stage
 
 use Rattle.std.specs.Prelude.{Bool, true, false}
-use Rattle.link_bundle.specs.declared.fault.State.{State}
-use Rattle.link_bundle.specs.declared.fault.State.TheVariants as state
+use Rattle.link_bundle_types.specs.declared.fault.State.{State}
+use Rattle.link_bundle_types.specs.declared.fault.State.TheVariants as state
 use Rattle.link_bundle.specs.declared.stage.Field.TheVariants as field
 use Rattle.link_bundle.specs.declared.stage.Part.TheVariants as part
 use Rattle.link_bundle.specs.declared.stage.PrimaryField.TheVariants as primary

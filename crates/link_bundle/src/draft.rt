@@ -1,11 +1,10 @@
 ghost use Rattle.std.specs.Prelude.{◌≡◌, ◌≤◌, [], ◌++◌, IfOk, IsTrue, length};
 
-use crate::fault::BundleFault;
-use crate::info::{BundleInfo, BundleView};
 use crate::kept_eid::{EidForm, KeptEid};
 use crate::numbers::BlockNumbers;
 use crate::row;
 use crate::stage::{CanonicalField, CheckType, Field, Part, PrimaryField, Role, Scheme, Stage};
+use link_bundle_types::{BundleFault, BundleInfo, BundleView};
 use link_cbor::Head;
 
 /// What the heads so far have given.
@@ -35,7 +34,7 @@ pub(crate) struct Draft {
 impl Draft {
     ghost use Rattle.link_bundle.specs.Fits.{stage_fits, KeepsCheck};
     ghost use Rattle.link_bundle.specs.Bundle.{info_of};
-    ghost use Rattle.link_bundle.specs.BundleView.{viewed_info};
+    ghost use Rattle.link_bundle_types.specs.BundleView.{viewed_info};
     ghost use Rattle.link_bundle.specs.Left.{BlockEnds, FieldsEnd, primary_of, span_of};
 
     /// The draft of a bundle of which no byte has come.
@@ -275,7 +274,7 @@ impl Draft {
     ghost use Rattle.link_bundle.specs.Fits.{stage_fits, rest_fits, Follows, KeepsCheck};
     ghost use Rattle.link_bundle.specs.Left.{Judges, EidEnds, NameBegins, NameGoesOn, with_eid, kept_name};
     ghost use Rattle.link_bundle.specs.KeptEid.{formed};
-    ghost use Rattle.link_bundle.specs.declared.eid.Eid.TheVariants.{Dtn};
+    ghost use Rattle.link_bundle_types.specs.declared.eid.Eid.TheVariants.{Dtn};
 
     /// Judges a head of an endpoint ID.
     pub fn endpoint(&mut self, role: Role, part: Part, head: Head) -> Result<Stage, BundleFault>

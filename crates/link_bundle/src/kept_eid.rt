@@ -1,8 +1,8 @@
 //! An endpoint ID of the bundle that is scanned.
 ghost use Rattle.std.specs.Prelude.{◌≡◌, ◌+◌, ◌≤◌, [], ◌++◌, length, take, IsTrue};
 
-use crate::eid::{EID_LIMIT, Eid, EidView};
 use arrayvec::ArrayVec;
+use link_bundle_types::{EID_LIMIT, Eid, EidView};
 use std::marker::Model;
 
 /// An endpoint ID but for the bytes of a dtn name.
@@ -25,7 +25,7 @@ pub(crate) struct KeptEid {
 
 impl Model for KeptEid {
     ghost use Rattle.std.specs.Prelude.{◌≤◌, take};
-    ghost use Rattle.link_bundle.specs.declared.eid.Eid.{Eid};
+    ghost use Rattle.link_bundle_types.specs.declared.eid.Eid.{Eid};
     ghost use Rattle.link_bundle.specs.KeptEid.{formed};
 
     ghost Value = { Eid };
@@ -44,9 +44,9 @@ fn write_at(buffer: &mut [u8], at: usize, bytes: &[u8])
 }
 
 impl KeptEid {
-    ghost use Rattle.link_bundle.specs.EidView.{viewed_eid};
+    ghost use Rattle.link_bundle_types.specs.EidView.{viewed_eid};
     ghost use Rattle.link_bundle.specs.KeptEid.{formed, name_of, name_fits};
-    ghost use Rattle.link_bundle.specs.declared.eid.Eid.TheVariants.{DtnNone, Dtn};
+    ghost use Rattle.link_bundle_types.specs.declared.eid.Eid.TheVariants.{DtnNone, Dtn};
 
     /// `dtn:none`.
     pub fn new() -> KeptEid

@@ -4,9 +4,6 @@
 mod checks;
 mod cursor;
 mod draft;
-mod eid;
-mod fault;
-mod info;
 mod kept_eid;
 pub mod laws;
 mod numbers;
@@ -14,9 +11,9 @@ mod row;
 mod scan;
 mod stage;
 
-pub use eid::{EID_LIMIT, Eid, EidView};
-pub use fault::{BundleFault, State};
-pub use info::{BLOCK_LIMIT, BundleInfo, BundleView};
+pub use link_bundle_types::{
+    BLOCK_LIMIT, BundleFault, BundleInfo, BundleView, EID_LIMIT, Eid, EidView, State,
+};
 pub use scan::BundleScan;
 
 #[cfg(test)]

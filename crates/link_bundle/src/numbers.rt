@@ -1,7 +1,7 @@
 //! The numbers of the canonical blocks so far.
 ghost use Rattle.std.specs.Prelude.{◌≡◌, ◌<◌, ◌≤◌, ◌==◌, [], ◌∷◌, ◌++◌, length};
 
-use crate::info::BLOCK_LIMIT;
+use link_bundle_types::BLOCK_LIMIT;
 use std::marker::Model;
 
 /// Block numbers in the order of their blocks. They are kept in place, and emptied without writing over them.

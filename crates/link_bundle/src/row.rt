@@ -1,11 +1,10 @@
 //! What each head of a bundle is judged, once it is whole and well-formed: its kind first, then its value.
 ghost use Rattle.std.specs.Prelude.{◌≡◌, ◌≤◌, IfOk, IfErr, IfSome, IsTrue};
-ghost use Rattle.link_bundle.specs.Faults.{lasts};
+ghost use Rattle.link_bundle_types.specs.Faults.{lasts};
 ghost use Rattle.link_bundle.specs.Rows as row;
 
-use crate::eid::EID_LIMIT;
-use crate::fault::BundleFault;
 use crate::stage::Scheme;
+use link_bundle_types::{BundleFault, EID_LIMIT};
 use link_cbor::{CheckKind, Head};
 
 /// Major types (RFC 8949 section 3.1).

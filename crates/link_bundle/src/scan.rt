@@ -4,10 +4,9 @@ ghost use Rattle.link_bundle.specs.Left.{JudgesFrom};
 
 use crate::cursor::Cursor;
 use crate::draft::Draft;
-use crate::fault::{BundleFault, State};
-use crate::info::{BundleInfo, BundleView};
 use crate::row;
 use crate::stage::{CheckType, Field, PrimaryField, Role, Stage};
+use link_bundle_types::{BundleFault, BundleInfo, BundleView, State};
 use link_cbor::{CheckKind, Head, HeadStep, Piecewise};
 use std::fmt;
 
@@ -62,7 +61,7 @@ fn first_of(piece: &[u8], left: u64) -> &[u8]
 
 impl BundleScan {
     ghost use Rattle.link_bundle.specs.Bundle.{verdict, state_of, payload_span};
-    ghost use Rattle.link_bundle.specs.BundleView.{viewed_verdict};
+    ghost use Rattle.link_bundle_types.specs.BundleView.{viewed_verdict};
     ghost use Rattle.link_bundle.specs.Scan.{HasScanned, scan_size, may_scan};
     ghost use Rattle.link_bundle.specs.Stages.{takes_bytes};
 

@@ -1,6 +1,6 @@
 ghost use Rattle.std.specs.Prelude.{◌≡◌};
 
-use crate::fault::{BundleFault, State};
+use link_bundle_types::{BundleFault, State};
 use link_cbor::CheckKind;
 
 /// An endpoint ID of the primary block.

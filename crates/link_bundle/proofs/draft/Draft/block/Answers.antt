@@ -1,6 +1,6 @@
 use Rattle.std.proofs.Common.{◌∙◌, ◌-◌, length, sym, ap, Result}
 use Rattle.std.proofs.lemmas.Result.{err_from_is_err_and}
-use Rattle.link_bundle.specs.declared.fault.BundleFault.TheVariants.{TooManyBlocks}
+use Rattle.link_bundle_types.specs.declared.fault.BundleFault.TheVariants.{TooManyBlocks}
 use Rattle.link_bundle.specs.Bundle.{Bundle}
 use Rattle.link_bundle.specs.Reading.{Stop, stopped}
 use Rattle.link_bundle.specs.Left.{field_left, stage_left, ends_of, with_note, primary_of}

@@ -1,6 +1,6 @@
 //! Endpoint IDs (RFC 9171 section 4.2.5.1): as values, and as views of what another value holds.
 ghost use Rattle.std.specs.Prelude.{◌≡◌};
-ghost use Rattle.link_bundle.specs.EidView.{viewed_eid};
+ghost use Rattle.link_bundle_types.specs.EidView.{viewed_eid};
 
 use arrayvec::ArrayVec;
 

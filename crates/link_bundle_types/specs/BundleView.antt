@@ -1,10 +1,10 @@
 -- what a view of a bundle shows
 
 use Rattle.std.specs.Prelude.{ℕ, Result, Ok, Err}
-use Rattle.link_bundle.specs.declared.fault.BundleFault.{BundleFault}
-use Rattle.link_bundle.specs.declared.info.BundleInfo.{BundleInfo}
-use Rattle.link_bundle.specs.declared.info.BundleView.{BundleView}
-use Rattle.link_bundle.specs.EidView.{viewed_eid}
+use Rattle.link_bundle_types.specs.declared.fault.BundleFault.{BundleFault}
+use Rattle.link_bundle_types.specs.declared.info.BundleInfo.{BundleInfo}
+use Rattle.link_bundle_types.specs.declared.info.BundleView.{BundleView}
+use Rattle.link_bundle_types.specs.EidView.{viewed_eid}
 
 abbrev pub viewed_info : BundleView → BundleInfo
 viewed_info view =

@@ -1,6 +1,6 @@
 //! What a whole bundle says of itself: as a value, and as a view of what another value holds.
 ghost use Rattle.std.specs.Prelude.{◌≡◌};
-ghost use Rattle.link_bundle.specs.BundleView.{viewed_info};
+ghost use Rattle.link_bundle_types.specs.BundleView.{viewed_info};
 
 use crate::eid::{Eid, EidView};
 

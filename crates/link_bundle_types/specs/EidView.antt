@@ -1,9 +1,9 @@
 -- the endpoint ID that a view shows
 
-use Rattle.link_bundle.specs.declared.eid.Eid.{Eid}
-use Rattle.link_bundle.specs.declared.eid.Eid.TheVariants as eid
-use Rattle.link_bundle.specs.declared.eid.EidView.{EidView}
-use Rattle.link_bundle.specs.declared.eid.EidView.TheVariants.{DtnNone, Dtn, Ipn, Ipn3}
+use Rattle.link_bundle_types.specs.declared.eid.Eid.{Eid}
+use Rattle.link_bundle_types.specs.declared.eid.Eid.TheVariants as eid
+use Rattle.link_bundle_types.specs.declared.eid.EidView.{EidView}
+use Rattle.link_bundle_types.specs.declared.eid.EidView.TheVariants.{DtnNone, Dtn, Ipn, Ipn3}
 
 abbrev pub viewed_eid : EidView → Eid
 viewed_eid DtnNone = eid.DtnNone
