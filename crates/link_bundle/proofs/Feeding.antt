@@ -1,22 +1,30 @@
 -- a piece that is taken in runs
 
-use Rattle.std.proofs.Common.{◌≡◌, ℕ, suc, ◌+◌, ◌-◌, ◌<◌, ◌≤◌, true, false, List, [], ◌∷◌, ◌++◌, length, take, drop, Option, None, Some, Err, refl, sym, ap, ◌∙◌, append_assoc, append-nil, length-append, length-drop, arith}
-use Rattle.std.proofs.lemmas.List.{drop-drop, drop_all, length-take-le, take-take, take-append-drop}
+use Rattle.std.proofs.Common.{◌≡◌, ℕ, suc, ◌+◌, ◌-◌, ◌<◌, ◌≤◌, true, false, List, [], ◌∷◌, ◌++◌, length, take, drop, Option, None, Some, Result, Err, refl, sym, ap, ◌∙◌, append_assoc, append-nil, length-append, length-drop, arith}
+use Rattle.std.proofs.lemmas.List.{drop-drop, drop_all, length-take, length-take-le, take-take, take-append-drop}
 use Rattle.std.proofs.Math.Seq.{take-add, take-length}
+use Rattle.link_cbor.specs.declared.head.Head.{Head as HeadItem}
+use Rattle.link_cbor.specs.Head.{HeadFront, Cut as CutHead, IllFormed, Whole, head_front}
+use Rattle.link_cbor.specs.HeadLaws.{whole_stays, ill_formed_stays}
 use Rattle.link_cbor.specs.Pieces.{taken}
 use Rattle.link_cbor.specs.PieceLaws.{taken-cons, taken-nil, taken-idle}
 use Rattle.link_bundle.specs.declared.cursor.Cursor.{Cursor}
 use Rattle.link_bundle.specs.declared.draft.Draft.{Draft}
 use Rattle.link_bundle_types.specs.declared.fault.BundleFault.TheVariants.{Cut}
+use Rattle.link_bundle.specs.declared.stage.Field.{Field}
 use Rattle.link_bundle.specs.declared.stage.Role.{Role}
-use Rattle.link_bundle.specs.declared.stage.Stage.TheVariants.{Name, Content}
-use Rattle.link_bundle.specs.Reading.{stopped}
+use Rattle.link_bundle.specs.declared.stage.Stage.TheVariants.{Head, Name, Content}
+use Rattle.link_bundle.specs.Reading.{Stop, stopped}
 use Rattle.link_bundle.specs.Canonical.{content_at}
-use Rattle.link_bundle.specs.Bundle.{judged, told, verdict, state_of, is_going, bundle_goes}
-use Rattle.link_bundle.specs.Left.{with_note, name_left, stage_left}
+use Rattle.link_bundle.specs.Bundle.{Bundle, judged, told, verdict, state_of, is_going, bundle_goes}
+use Rattle.link_bundle.specs.Left.{block_start, ends_of, with_note, name_left, stage_left}
 use Rattle.link_bundle.specs.Scan.{HasCome}
 use Rattle.link_bundle.proofs.Heads.{ends_of-stopped}
+use Rattle.link_bundle.proofs.Lengths.{whole-within}
 use Rattle.link_bundle.proofs.Runs.{bytes_at-cut}
+use Rattle.link_bundle.proofs.Steps.{after_seen}
+use Rattle.link_bundle.proofs.Stops.{field_left-stopped}
+use Rattle.link_bundle.proofs.Verdicts.{head_at-cut}
 
 -- a run before each byte of which more were needed is taken whole
 runs-wanted : (seen run : List ℕ) (byte : ℕ) → ((count : ℕ) → count < length (byte ∷ run) → bundle_goes (seen ++ take count (byte ∷ run)) ≡ true)
@@ -126,3 +134,31 @@ goes_in_name role left cursor draft seen run come inside =
     (come.reads run
     ∙ rw (bytes_at-cut left (seen ++ run) (length seen) (omega (arith, length-append seen run)))
     (ends_of-stopped draft.payload (seen ++ run) (stopped Cut (length (seen ++ run)))))
+
+-- before its last byte a head is cut
+cut_by : (run : List ℕ) (head : HeadItem) (count : ℕ) (front : HeadFront) → head_front run ≡ Whole head (length run) → count < length run
+    → head_front (take count run) ≡ front → front ≡ CutHead
+cut_by run head count CutHead whole before is = refl
+cut_by run head count IllFormed whole before is =
+    absurd (let other : Whole head (length run) ≡ IllFormed =
+    sym whole ∙ ap head_front (sym (take-append-drop count run)) ∙ ill_formed_stays (take count run) (drop count run) is in cc)
+cut_by run head count (Whole other size) whole before is =
+    let same : Whole head (length run) ≡ Whole other size =
+    sym whole ∙ ap head_front (sym (take-append-drop count run)) ∙ whole_stays (take count run) (drop count run) other size is in
+    let sizes : length run ≡ size = cc in
+    absurd (omega (arith, whole-within (take count run) other size is, length-take count run))
+
+pub goes_in_head : (which : Field) (cursor : Cursor) (draft : Draft) (seen run : List ℕ) (head : HeadItem) (count : ℕ)
+    → HasCome (Head which) cursor draft seen → cursor.place ≡ cursor.count → head_front run ≡ Whole head (length run) → count < length run
+    → bundle_goes (seen ++ take count run) ≡ true
+unfolding stage_left
+goes_in_head which cursor draft seen run head count come begins whole before =
+    let bytes = seen ++ take count run in
+    let cut : head_front (drop cursor.place bytes) ≡ CutHead =
+    ap head_front (after_seen cursor.place seen (take count run) (begins ∙ come.count)) ∙ cut_by run head count (head_front (take count run)) whole before refl in
+    goes-cut draft.payload bytes (length bytes)
+    (come.reads (take count run)
+    ∙ ap (λ (reading : Result Bundle Stop). ends_of bytes (with_note draft.payload reading))
+    (field_left-stopped which draft (block_start which come.start cursor.place) bytes cursor.place (stopped Cut (length bytes))
+    (head_at-cut bytes cursor.place cut))
+    ∙ ends_of-stopped draft.payload bytes (stopped Cut (length bytes)))

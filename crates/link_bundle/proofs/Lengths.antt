@@ -60,6 +60,10 @@ unfolding head_front HeadWithin
 head_front-within [] = tt
 head_front-within (first ∷ rest) = front_by-within first rest (first / 32) (first % 32)
 
+pub whole-within : (bytes : List ℕ) (head : Head) (size : ℕ) → head_front bytes ≡ Whole head size → size ≤ length bytes
+unfolding HeadWithin
+whole-within bytes head size told = rw told at (head_front-within bytes)
+
 -- what is read ends within the bytes
 NextWithin : {A : Type 0} → List ℕ → Reading A → Type 0
 NextWithin bytes (Ok (value, next)) = next ≤ length bytes

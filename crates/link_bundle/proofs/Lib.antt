@@ -12,3 +12,4 @@ pub mod Steady
 pub mod Lengths
 pub mod Notes
 pub mod Feeding
+pub mod FirstHead

@@ -31,7 +31,7 @@ read_now : (stage : Stage) (cursor : Cursor) (draft : Draft) (seen : List ℕ) �
 read_now stage cursor draft seen come =
     subst (λ (bytes : List ℕ). judged bytes ≡ stage_left stage draft come.start cursor.place bytes (length seen)) (append-nil seen) (come.reads [])
 
-head_at-cut : (bytes : List ℕ) (place : ℕ) → head_front (drop place bytes) ≡ CutHead → head_at bytes place ≡ cut_short bytes
+pub head_at-cut : (bytes : List ℕ) (place : ℕ) → head_front (drop place bytes) ≡ CutHead → head_at bytes place ≡ cut_short bytes
 unfolding head_at
 head_at-cut bytes place cut = rw cut refl
 

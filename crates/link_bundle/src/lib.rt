@@ -4,6 +4,7 @@
 mod checks;
 mod cursor;
 mod draft;
+mod judging;
 mod kept_eid;
 pub mod laws;
 mod numbers;

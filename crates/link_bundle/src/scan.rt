@@ -1,10 +1,10 @@
-ghost use Rattle.std.specs.Prelude.{◌≡◌, ℕ, ◌+◌, ◌-◌, ◌^◌, ◌<◌, ◌≤◌, IfOk, IsTrue, List, ◌∷◌, [], ◌++◌, length, take, min, true};
-ghost use Rattle.link_bundle.specs.Fits.{scan_fits, stage_fits, Follows, KeepsCheck};
-ghost use Rattle.link_bundle.specs.Left.{JudgesFrom};
+ghost use Rattle.std.specs.Prelude.{◌≡◌, ℕ, ◌+◌, ◌-◌, ◌^◌, ◌<◌, ◌≤◌, IfOk, IsTrue, List, ◌∷◌, [], ◌++◌, length, take, drop, min, true};
+ghost use Rattle.link_bundle.specs.Fits.{scan_fits};
+ghost use Rattle.link_cbor.specs.Head.{Whole, head_front};
 
 use crate::cursor::Cursor;
 use crate::draft::Draft;
-use crate::row;
+use crate::judging::{first_head, take_head};
 use crate::stage::{CheckType, Field, PrimaryField, Role, Stage};
 use link_bundle_types::{BundleFault, BundleInfo, BundleView, State};
 use link_cbor::{CheckKind, Head, HeadStep, Piecewise};
@@ -20,34 +20,6 @@ pub struct BundleScan {
     cursor: Cursor,
     draft: Draft,
     ghost fits: { IsTrue (scan_fits stage cursor draft) },
-}
-
-/// Judges a whole head at a field: what comes next, or the fault.
-#[tactic(auto, using(crate::proofs::Heads::heads), unfolding(crate::specs::Left::field_left, crate::specs::Left::stage_left))]
-fn judge(draft: &mut Draft, cursor: &Cursor, field: Field, head: Head) -> Result<Stage, BundleFault>
-    requires { IsTrue (stage_fits (Stage.Head field) draft.old) }
-    ensures judges { JudgesFrom cursor.now.place cursor.now.count field draft.old head result draft.new }
-    ensures follows { Follows result draft.new }
-    ensures keeps { IfOk result (λ stage. KeepsCheck draft.old.check stage draft.new.check) }
-{
-    match field {
-        Field::Primary(which) => draft.primary(which, head),
-        Field::Endpoint(role, part) => draft.endpoint(role, part, head),
-        Field::Canonical(which) => draft.canonical(which, head, cursor.count),
-        Field::Check(kind) => {
-            row::check_field(kind, head)?;
-            Ok(Stage::Stored {
-                place: cursor.place,
-                left: row::check_width(kind),
-                stored: 0,
-                kind,
-            })
-        }
-        Field::Closing => {
-            row::closing(head)?;
-            Ok(Stage::Ended)
-        }
-    }
 }
 
 /// The first bytes of a piece, at most as many as are left.
@@ -158,14 +130,26 @@ impl BundleScan {
             HeadStep::Bad => {
                 self.stage = Stage::Failed(BundleFault::BadHead, self.cursor.place);
             }
-            HeadStep::Done(head) => match judge(&mut self.draft, &self.cursor, field, head) {
-                Ok(stage) => {
-                    self.cursor.enter(stage);
-                    self.stage = stage;
-                }
-                Err(fault) => self.stage = Stage::Failed(fault, self.cursor.place),
-            },
+            HeadStep::Done(head) => self.stage = take_head(
+                &mut self.draft,
+                &mut self.cursor,
+                field,
+                head,
+            ),
         }
+    }
+
+    /// A head that lies whole in a piece.
+    fn head_run(&mut self, field: Field, head: Head, run: &[u8])
+        requires stage { self.old.stage ≡ Stage.Head field }
+        requires begins { self.old.cursor.place ≡ self.old.cursor.count }
+        requires whole { head_front run.now ≡ Whole head (length run.now) }
+        requires room { self.old.cursor.count + length run.now ≤ 2 ^ 63 - 1 }
+        ensures size { scan_size self.new ≡ scan_size self.old + length run.now }
+        ensures seen { (seen : List ℕ) → HasScanned self.old seen → HasScanned self.new (seen ++ run.now) }
+    {
+        self.cursor.content_run(self.draft.check, run);
+        self.stage = take_head(&mut self.draft, &mut self.cursor, field, head);
     }
 
     /// Bytes of a dtn name, of which `left` bytes were left.
@@ -269,8 +253,37 @@ impl BundleScan {
                 self.content_run(left, run);
                 run.len()
             }
+            Stage::Head(field) if self.cursor.place == self.cursor.count => {
+                self.advance_head(field, piece)
+            }
             _ => {
                 self.step(piece[0]);
+                1
+            }
+        }
+    }
+
+    /// The same at a head of which no byte has come: the whole head if the piece has it, else one byte.
+    fn advance_head(&mut self, field: Field, piece: &[u8]) -> usize
+        requires stage { self.old.stage ≡ Stage.Head field }
+        requires begins { self.old.cursor.place ≡ self.old.cursor.count }
+        requires goes { (seen : List ℕ) → HasScanned self.old seen → bundle_goes seen ≡ true }
+        requires some { 0 < length piece.now }
+        requires room { scan_size self.old + length piece.now ≤ 2 ^ 63 - 1 }
+        ensures some { 0 < result }
+        ensures within { result ≤ length piece.now }
+        ensures size { scan_size self.new ≡ scan_size self.old + result }
+        ensures seen { (seen : List ℕ) → HasScanned self.old seen → HasScanned self.new (seen ++ take result piece.now) }
+        ensures goes { (seen : List ℕ) → HasScanned self.old seen →
+            (count : ℕ) → count < result → bundle_goes (seen ++ take count piece.now) ≡ true }
+    {
+        match first_head(piece) {
+            (HeadStep::Done(head), size) => {
+                self.head_run(field, head, &piece[..size]);
+                size
+            }
+            _ => {
+                self.head_byte(field, piece[0]);
                 1
             }
         }

@@ -6,7 +6,7 @@ use Rattle.link_bundle.specs.CheckField.{field_at}
 use Rattle.link_bundle.specs.Left.{field_left, stage_left, ends_of, with_note, after_field}
 use Rattle.link_bundle.proofs.Heads.{row_at-refused, ends_of-stopped}
 use Rattle.link_bundle.proofs.Fields.{field_at-told}
-use Rattle.link_bundle.proofs.scan.judge.Goals as goal
+use Rattle.link_bundle.proofs.judging.judge.Goals as goal
 
 pub returns-in_err-check_field-in-Check-clause-judges : goal.returns-in_err-check_field-in-Check-clause-judges
 unfolding field_left stage_left field_at
