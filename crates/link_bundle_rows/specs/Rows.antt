@@ -7,8 +7,8 @@ use Rattle.link_cbor.specs.declared.check.CheckKind.{CheckKind}
 use Rattle.link_cbor.specs.declared.check.CheckKind.TheVariants.{Crc16, Crc32}
 use Rattle.link_bundle_types.specs.declared.fault.BundleFault.{BundleFault}
 use Rattle.link_bundle_types.specs.declared.fault.BundleFault.TheVariants.{WrongKind, BadCount, BadVersion, BadCheckType, BadScheme, BadSpecificPart, EidTooLong, BadCheckLength, BadBlockNumber, RepeatedBlockNumber, TooManyBlocks, NoPayloadLast}
-use Rattle.link_bundle.specs.declared.stage.Scheme.{Scheme}
-use Rattle.link_bundle.specs.declared.stage.Scheme.TheVariants.{Dtn, Ipn}
+use Rattle.link_bundle_rows.specs.declared.endpoint.Scheme.{Scheme}
+use Rattle.link_bundle_rows.specs.declared.endpoint.Scheme.TheVariants.{Dtn, Ipn}
 
 -- the first fault, or what follows gives
 infixl 10 ◌>>=◌

@@ -1,9 +1,9 @@
-//! What each head of a bundle is judged, once it is whole and well-formed: its kind first, then its value.
+//! The rows of the tables in docs/FORMATS.md, from a head to its value or the first fault.
 ghost use Rattle.std.specs.Prelude.{◌≡◌, ◌≤◌, IfOk, IfErr, IfSome, IsTrue};
 ghost use Rattle.link_bundle_types.specs.Faults.{lasts};
-ghost use Rattle.link_bundle.specs.Rows as row;
+ghost use Rattle.link_bundle_rows.specs.Rows as row;
 
-use crate::stage::Scheme;
+use crate::endpoint::Scheme;
 use link_bundle_types::{BundleFault, EID_LIMIT};
 use link_cbor::{CheckKind, Head};
 
@@ -25,7 +25,7 @@ const VERSION: u64 = 7;
 const FRAGMENT: u64 = 0x01;
 
 /// The type code of the payload block (RFC 9171 section 4.1).
-pub(crate) const PAYLOAD_TYPE: u64 = 1;
+pub const PAYLOAD_TYPE: u64 = 1;
 
 /// The block number of the payload block (RFC 9171 section 4.1).
 const PAYLOAD_NUMBER: u64 = 1;
@@ -42,7 +42,7 @@ fn of_major(major: u8, head: Head) -> Result<u64, BundleFault>
 }
 
 #[tactic(auto, unfolding(crate::specs::Rows::unsigned))]
-pub(crate) fn unsigned(head: Head) -> Result<u64, BundleFault>
+pub fn unsigned(head: Head) -> Result<u64, BundleFault>
     ensures judged { result ≡ row.unsigned head }
     ensures lasts { IfErr result (λ fault. IsTrue (lasts fault)) }
 {
@@ -50,7 +50,7 @@ pub(crate) fn unsigned(head: Head) -> Result<u64, BundleFault>
 }
 
 #[tactic(auto, unfolding(crate::specs::Rows::byte_string))]
-pub(crate) fn byte_string(head: Head) -> Result<u64, BundleFault>
+pub fn byte_string(head: Head) -> Result<u64, BundleFault>
     ensures judged { result ≡ row.byte_string head }
     ensures lasts { IfErr result (λ fault. IsTrue (lasts fault)) }
 {
@@ -67,7 +67,7 @@ fn array(head: Head) -> Result<u64, BundleFault>
 
 /// An array of two elements.
 #[tactic(auto, unfolding(crate::specs::Rows::pair))]
-pub(crate) fn pair(head: Head) -> Result<u64, BundleFault>
+pub fn pair(head: Head) -> Result<u64, BundleFault>
     ensures judged { result ≡ row.pair head }
     ensures lasts { IfErr result (λ fault. IsTrue (lasts fault)) }
 {
@@ -87,7 +87,7 @@ fn is_break(head: Head) -> bool
 
 /// The primary block's array: how many elements it has (RFC 9171 section 4.3.1).
 #[tactic(auto, unfolding(crate::specs::Rows::primary_block))]
-pub(crate) fn primary_block(head: Head) -> Result<u64, BundleFault>
+pub fn primary_block(head: Head) -> Result<u64, BundleFault>
     ensures judged { result ≡ row.primary_block head }
     ensures lasts { IfErr result (λ fault. IsTrue (lasts fault)) }
 {
@@ -98,7 +98,7 @@ pub(crate) fn primary_block(head: Head) -> Result<u64, BundleFault>
 }
 
 #[tactic(auto, unfolding(crate::specs::Rows::version))]
-pub(crate) fn version(head: Head) -> Result<u64, BundleFault>
+pub fn version(head: Head) -> Result<u64, BundleFault>
     ensures judged { result ≡ row.version head }
     ensures lasts { IfErr result (λ fault. IsTrue (lasts fault)) }
 {
@@ -110,7 +110,7 @@ pub(crate) fn version(head: Head) -> Result<u64, BundleFault>
 
 /// Whether the bundle is a fragment, by its flags.
 #[tactic(auto, unfolding(crate::specs::Rows::is_fragment))]
-pub(crate) fn is_fragment(flags: u64) -> bool
+pub fn is_fragment(flags: u64) -> bool
     ensures { result ≡ row.is_fragment flags }
 {
     flags & FRAGMENT == FRAGMENT
@@ -142,7 +142,7 @@ fn check_elements(kind: Option<CheckKind>) -> u64
 
 /// The check type of a primary block of `count` elements with these flags.
 #[tactic(auto, unfolding(crate::specs::Rows::primary_check_type))]
-pub(crate) fn primary_check_type(
+pub fn primary_check_type(
     count: u64,
     flags: u64,
     head: Head,
@@ -160,7 +160,7 @@ pub(crate) fn primary_check_type(
 }
 
 #[tactic(auto, unfolding(crate::specs::Rows::scheme))]
-pub(crate) fn scheme(head: Head) -> Result<Scheme, BundleFault>
+pub fn scheme(head: Head) -> Result<Scheme, BundleFault>
     ensures judged { result ≡ row.scheme head }
     ensures lasts { IfErr result (λ fault. IsTrue (lasts fault)) }
 {
@@ -173,7 +173,7 @@ pub(crate) fn scheme(head: Head) -> Result<Scheme, BundleFault>
 
 /// The specific part of scheme dtn: `None` for `dtn:none`, or how many bytes its name has.
 #[tactic(auto, unfolding(crate::specs::Rows::dtn_part))]
-pub(crate) fn dtn_part(head: Head) -> Result<Option<u64>, BundleFault>
+pub fn dtn_part(head: Head) -> Result<Option<u64>, BundleFault>
     ensures judged { result ≡ row.dtn_part head }
     ensures short { IfOk result (λ part. IfSome part (λ length. length ≤ 1024)) }
     ensures lasts { IfErr result (λ fault. IsTrue (lasts fault)) }
@@ -188,7 +188,7 @@ pub(crate) fn dtn_part(head: Head) -> Result<Option<u64>, BundleFault>
 
 /// The specific part of scheme ipn, an array: how many numbers it has, two or three.
 #[tactic(auto, unfolding(crate::specs::Rows::ipn_part))]
-pub(crate) fn ipn_part(head: Head) -> Result<u64, BundleFault>
+pub fn ipn_part(head: Head) -> Result<u64, BundleFault>
     ensures judged { result ≡ row.ipn_part head }
     ensures lasts { IfErr result (λ fault. IsTrue (lasts fault)) }
 {
@@ -201,7 +201,7 @@ pub(crate) fn ipn_part(head: Head) -> Result<u64, BundleFault>
 
 /// The array of a canonical block, before the payload block has come: how many elements it has.
 #[tactic(auto, unfolding(crate::specs::Rows::block))]
-pub(crate) fn block(head: Head) -> Result<u64, BundleFault>
+pub fn block(head: Head) -> Result<u64, BundleFault>
     ensures judged { result ≡ row.block head }
     ensures lasts { IfErr result (λ fault. IsTrue (lasts fault)) }
 {
@@ -216,7 +216,7 @@ pub(crate) fn block(head: Head) -> Result<u64, BundleFault>
 
 /// The number of a block of this type, where blocks of these numbers came before.
 #[tactic(auto, unfolding(crate::specs::Rows::block_number))]
-pub(crate) fn block_number(block_type: u64, numbers: &[u64], head: Head) -> Result<u64, BundleFault>
+pub fn block_number(block_type: u64, numbers: &[u64], head: Head) -> Result<u64, BundleFault>
     ensures judged { result ≡ row.block_number block_type numbers.now head }
     ensures lasts { IfErr result (λ fault. IsTrue (lasts fault)) }
 {
@@ -232,7 +232,7 @@ pub(crate) fn block_number(block_type: u64, numbers: &[u64], head: Head) -> Resu
 
 /// The check type of a canonical block of `count` elements.
 #[tactic(auto, unfolding(crate::specs::Rows::block_check_type))]
-pub(crate) fn block_check_type(count: u64, head: Head) -> Result<Option<CheckKind>, BundleFault>
+pub fn block_check_type(count: u64, head: Head) -> Result<Option<CheckKind>, BundleFault>
     ensures judged { result ≡ row.block_check_type count head }
     ensures lasts { IfErr result (λ fault. IsTrue (lasts fault)) }
 {
@@ -245,7 +245,7 @@ pub(crate) fn block_check_type(count: u64, head: Head) -> Result<Option<CheckKin
 }
 
 /// How many bytes a check has (RFC 9171 section 4.2.1).
-pub(crate) fn check_width(kind: CheckKind) -> u64
+pub fn check_width(kind: CheckKind) -> u64
     ensures { result ≡ row.check_width kind }
 {
     match kind {
@@ -256,7 +256,7 @@ pub(crate) fn check_width(kind: CheckKind) -> u64
 
 /// A check field of this kind: how many bytes its content has.
 #[tactic(auto, unfolding(crate::specs::Rows::check_field))]
-pub(crate) fn check_field(kind: CheckKind, head: Head) -> Result<u64, BundleFault>
+pub fn check_field(kind: CheckKind, head: Head) -> Result<u64, BundleFault>
     ensures judged { result ≡ row.check_field kind head }
     ensures lasts { IfErr result (λ fault. IsTrue (lasts fault)) }
 {
@@ -270,7 +270,7 @@ pub(crate) fn check_field(kind: CheckKind, head: Head) -> Result<u64, BundleFaul
 
 /// The break behind the payload block.
 #[tactic(auto, unfolding(crate::specs::Rows::closing))]
-pub(crate) fn closing(head: Head) -> Result<bool, BundleFault>
+pub fn closing(head: Head) -> Result<bool, BundleFault>
     ensures judged { result ≡ row.closing head }
     ensures lasts { IfErr result (λ fault. IsTrue (lasts fault)) }
 {
