@@ -1,0 +1,46 @@
+-- the primary block (RFC 9171 section 4.3.1)
+
+use Rattle.std.specs.Prelude.{ℕ, Bool, true, false, List, Option, Some, None, Ok}
+use Rattle.link_cbor.specs.declared.check.CheckKind.{CheckKind}
+use Rattle.link_bundle_types.specs.declared.eid.Eid.{Eid}
+use Rattle.link_bundle_rows.specs.Rows.{◌>>=◌, unsigned, pair, primary_block, version, is_fragment, primary_check_type}
+use Rattle.link_bundle.specs.Reading.{Reading, row_at}
+use Rattle.link_bundle.specs.EndpointId.{eid_at}
+
+-- what is kept of the primary block
+pub record Primary : Type 0 where
+  pub flags : ℕ
+  pub destination : Eid
+  pub source : Eid
+  pub time : ℕ
+  pub sequence : ℕ
+  pub lifetime : ℕ
+  -- the fragment offset and the total length
+  pub fragment : Option (ℕ × ℕ)
+
+-- in a fragment the fragment offset and the total length
+unfoldable pub fragment_at : Bool → List ℕ → ℕ → Reading (Option (ℕ × ℕ))
+fragment_at false bytes place = Ok (None, place)
+fragment_at true bytes place = do
+  (offset, place) ← row_at unsigned bytes place
+  (total, place) ← row_at unsigned bytes place
+  Ok (Some (offset, total), place)
+
+-- the primary block up to its check field, and its check type (section 4.3.1): version, bundle processing control flags
+-- (section 4.2.3), check type (section 4.2.1), the endpoint IDs of destination, source and report-to (section 4.2.5.1),
+-- creation timestamp (section 4.2.7) of time (section 4.2.6) and sequence number, lifetime, and the fragment's fields
+unfoldable pub primary_at : List ℕ → ℕ → Reading (Primary × Option CheckKind)
+primary_at bytes place = do
+  (count, place) ← row_at primary_block bytes place
+  (_, place) ← row_at version bytes place
+  (flags, place) ← row_at unsigned bytes place
+  (check, place) ← row_at (primary_check_type count flags) bytes place
+  (destination, place) ← eid_at bytes place
+  (source, place) ← eid_at bytes place
+  (report_to, place) ← eid_at bytes place
+  (_, place) ← row_at pair bytes place
+  (time, place) ← row_at unsigned bytes place
+  (sequence, place) ← row_at unsigned bytes place
+  (lifetime, place) ← row_at unsigned bytes place
+  (fragment, place) ← fragment_at (is_fragment flags) bytes place
+  Ok ((record { flags = flags; destination = destination; source = source; time = time; sequence = sequence; lifetime = lifetime; fragment = fragment }, check), place)
