@@ -1,0 +1,60 @@
+//! What the order of messages depends on in a message.
+
+ghost use Rattle.std.specs.Prelude.{◌≡◌};
+ghost use Rattle.link_wire.specs.Message.{has_start};
+ghost use Rattle.link_transfer.specs.Order.{has_end};
+
+use link_wire::Message;
+
+/// Flag END of an XFER_SEGMENT (RFC 9174 section 5.2.2): the transfer's last segment.
+const END: u8 = 0x01;
+
+/// Flag START of an XFER_SEGMENT (RFC 9174 section 5.2.2): the transfer's first segment.
+const START: u8 = 0x02;
+
+/// What the order of messages depends on in a message.
+#[derive(Clone, Copy, Debug, PartialEq, Eq)]
+pub enum Event {
+    /// A SESS_INIT.
+    SessInit,
+    /// A SESS_TERM.
+    SessTerm,
+    /// An XFER_SEGMENT: its flags and its transfer ID.
+    Segment { flags: u8, id: u64 },
+    /// Any other message. It may stand anywhere, and changes nothing for those after it.
+    Other,
+}
+
+impl Event {
+    ghost use Rattle.std.specs.Prelude.{◌≡◌};
+    ghost use Rattle.link_transfer.specs.Event.{event_of};
+
+    /// What the order depends on in this message.
+    pub fn of(message: &Message) -> Event
+        ensures { result ≡ event_of message.now }
+    {
+        match message {
+            Message::SessInit { .. } => Event::SessInit,
+            Message::SessTerm { .. } => Event::SessTerm,
+            Message::Segment(head) => Event::Segment {
+                flags: head.flags,
+                id: head.id,
+            },
+            _ => Event::Other,
+        }
+    }
+}
+
+/// Whether a segment with these flags is the first of its transfer.
+pub(crate) fn has_start_flag(flags: u8) -> bool
+    ensures { result ≡ has_start flags }
+{
+    flags & START == START
+}
+
+/// Whether a segment with these flags is the last of its transfer.
+pub(crate) fn has_end_flag(flags: u8) -> bool
+    ensures { result ≡ has_end flags }
+{
+    flags & END == END
+}
