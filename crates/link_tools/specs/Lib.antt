@@ -1,6 +1,1 @@
-pub mod Run
-pub mod Writers
 pub mod Exit
-pub mod Listing
-pub mod ListRun
-pub mod ListRuns

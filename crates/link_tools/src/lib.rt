@@ -3,10 +3,7 @@
 #![tactic(auto)]
 
 mod exit;
-mod listing;
-mod run;
-mod writers;
 
 pub use exit::run_exit;
-pub use listing::{ListRun, list};
-pub use run::{Progress, Run, RunEnd, Status};
+pub use link_list::{ListRun, list};
+pub use link_run::{Progress, Run, RunEnd, Status};

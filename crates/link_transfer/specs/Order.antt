@@ -3,7 +3,7 @@
 use Rattle.std.specs.Prelude.{ℕ, Bool, true, false, not, ◌&&◌, ◌==◌, List, map, reverse, find, Option, Some, None, Result, Ok, Err, if◌then◌else◌, bit_and}
 use Rattle.std.specs.List.{list_any}
 use Rattle.std.specs.Option.{option_and_then, option_eq}
-use Rattle.link_wire.specs.Message.{has_start}
+use Rattle.link_wire.specs.Codes.{is_start, is_end}
 use Rattle.link_wire.specs.declared.message.Message.{Message}
 use Rattle.link_transfer.specs.Event.{event_of}
 use Rattle.link_transfer.specs.declared.event.Event.{Event}
@@ -12,10 +12,6 @@ use Rattle.link_transfer.specs.declared.fault.OrderFault.{OrderFault}
 use Rattle.link_transfer.specs.declared.fault.OrderFault.TheVariants.{SecondSessInit, SegmentBeforeSessInit, NoSuchOpenTransfer, StartRepeatsOpenId, StartAfterSessTerm}
 use Rattle.link_transfer.specs.declared.joiner.Turn.{Turn}
 use Rattle.link_transfer.specs.declared.joiner.Turn.TheVariants as turn
-
--- flag 01 of XFER_SEGMENT (section 5.2.2): the transfer's last segment
-abbrev pub has_end : ℕ → Bool
-has_end flags = bit_and flags 1 == 1
 
 abbrev pub is_sess_init : Event → Bool
 is_sess_init SessInit = true
@@ -39,7 +35,7 @@ is_segment Other = false
 abbrev pub begins : Event → Bool
 begins SessInit = false
 begins SessTerm = false
-begins (Segment flags id) = has_start flags
+begins (Segment flags id) = is_start flags
 begins Other = false
 
 abbrev pub continues : Event → Bool
@@ -59,7 +55,7 @@ has_sess_term before = list_any is_sess_term (events_of before)
 -- The transfer that is open after a segment: its own, unless it has END. Segments of two transfers are never interleaved
 -- (section 5.2.2), so no other is.
 abbrev pub open_after : Event → Option ℕ
-open_after (Segment flags id) = if has_end flags then None else Some id
+open_after (Segment flags id) = if is_end flags then None else Some id
 open_after SessInit = None
 open_after SessTerm = None
 open_after Other = None
@@ -102,7 +98,7 @@ refusal before event = refusal_by (has_sess_init before) (has_sess_term before) 
 abbrev pub turn_by : Option ℕ → Event → Turn
 turn_by transfer SessInit = turn.Other
 turn_by transfer SessTerm = turn.Other
-turn_by transfer (Segment flags id) = if has_start flags then turn.Begin transfer (has_end flags) else turn.Continue (has_end flags)
+turn_by transfer (Segment flags id) = if is_start flags then turn.Begin transfer (is_end flags) else turn.Continue (is_end flags)
 turn_by transfer Other = turn.Other
 
 unfoldable pub turn_of : List Message → Event → Turn

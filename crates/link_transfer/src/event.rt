@@ -1,8 +1,7 @@
 //! What the order of messages depends on in a message.
 
 ghost use Rattle.std.specs.Prelude.{◌≡◌};
-ghost use Rattle.link_wire.specs.Message.{has_start};
-ghost use Rattle.link_transfer.specs.Order.{has_end};
+ghost use Rattle.link_wire.specs.Codes.{is_start, is_end};
 
 use link_wire::Message;
 
@@ -47,14 +46,14 @@ impl Event {
 
 /// Whether a segment with these flags is the first of its transfer.
 pub(crate) fn has_start_flag(flags: u8) -> bool
-    ensures { result ≡ has_start flags }
+    ensures { result ≡ is_start flags }
 {
     flags & START == START
 }
 
 /// Whether a segment with these flags is the last of its transfer.
 pub(crate) fn has_end_flag(flags: u8) -> bool
-    ensures { result ≡ has_end flags }
+    ensures { result ≡ is_end flags }
 {
     flags & END == END
 }
