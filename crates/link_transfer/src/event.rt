@@ -3,13 +3,7 @@
 ghost use Rattle.std.specs.Prelude.{◌≡◌};
 ghost use Rattle.link_wire.specs.Codes.{is_start, is_end};
 
-use link_wire::Message;
-
-/// Flag END of an XFER_SEGMENT (RFC 9174 section 5.2.2): the transfer's last segment.
-const END: u8 = 0x01;
-
-/// Flag START of an XFER_SEGMENT (RFC 9174 section 5.2.2): the transfer's first segment.
-const START: u8 = 0x02;
+use link_wire::{END, Fields, Message, START};
 
 /// What the order of messages depends on in a message.
 #[derive(Clone, Copy, Debug, PartialEq, Eq)]
@@ -25,7 +19,10 @@ pub enum Event {
 }
 
 impl Event {
-    ghost use Rattle.std.specs.Prelude.{◌≡◌};
+    ghost use Rattle.std.specs.Prelude.{◌≡◌, ℕ};
+    ghost use Rattle.arrayvec.specs.ArrayVec.{ArrayVec};
+    ghost use Rattle.link_wire.specs.MessageBuffer.{message_with};
+    ghost use Rattle.link_wire.specs.declared.message.Item.{Item};
     ghost use Rattle.link_transfer.specs.Event.{event_of};
 
     /// What the order depends on in this message.
@@ -39,6 +36,18 @@ impl Event {
                 flags: head.flags,
                 id: head.id,
             },
+            _ => Event::Other,
+        }
+    }
+
+    /// The same of a message of these numbers.
+    pub fn of_fields(fields: Fields) -> Event
+        ensures { (node : ArrayVec ℕ) (items : ArrayVec Item) → result ≡ event_of (message_with fields node items) }
+    {
+        match fields {
+            Fields::SessInit { .. } => Event::SessInit,
+            Fields::SessTerm { .. } => Event::SessTerm,
+            Fields::Segment { flags, id, .. } => Event::Segment { flags, id },
             _ => Event::Other,
         }
     }
