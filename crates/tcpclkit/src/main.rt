@@ -4,14 +4,16 @@
 //! standard output and the line of a fault to standard error.
 #![tactic(auto)]
 
-use link_tools::{Status, list, run_exit};
+mod ending;
+mod words;
+
+use ending::{Ending, after_flush, ending_exit};
+use link_tools::{Status, list};
 use link_wire::{IoFault, Reader, Writer};
-use std::io::{BufReader, BufWriter, Write};
+use std::io::{BufReader, BufWriter, ErrorKind, Write};
 use std::process::ExitCode;
 use std::{env, io};
-
-/// The exit status where the words are not those of the program.
-const USAGE: u8 = 2;
+use words::asks_for_list;
 
 /// How many bytes of the input are read at once.
 const INPUT_BUFFER: usize = 64 << 10;
@@ -20,27 +22,32 @@ const INPUT_BUFFER: usize = 64 << 10;
 const TEXT_BUFFER: usize = 256 << 10;
 
 fn main(rt: HostRuntime) -> ExitCode {
-    match asks_for_list(&rt) {
-        Ok(true) => {}
-        Ok(false) => return ExitCode::from(USAGE),
-        Err(_) => return end(&rt, &Err(IoFault::Memory)),
+    let (status, message) = ending_exit(&run(&rt));
+    if !message.is_empty() {
+        let _ = eprintln!(rt; "{message}");
     }
-    let answer = match list_streams(&rt) {
-        Ok(answer) => answer,
-        Err(_) => Err(IoFault::Memory),
-    };
-    end(&rt, &answer)
+    ExitCode::from(status)
 }
 
-/// Whether the program was given exactly one word, `list`.
-fn asks_for_list(rt: &HostRuntime) -> io::Result<bool> {
-    let mut words = env::args(rt)?;
-    let _program = words.next();
-    let is_list = match words.next() {
-        Some(word) => word.as_str() == "list",
-        None => false,
-    };
-    Ok(is_list && words.next().is_none())
+/// Does what the words ask for.
+fn run(rt: &HostRuntime) -> Ending {
+    match is_list(rt) {
+        Ok(true) => {}
+        Ok(false) => return Ending::Usage,
+        // A word that is not UTF-8 is no command.
+        Err(error) if error.kind() == ErrorKind::InvalidData => return Ending::Usage,
+        Err(_) => return Ending::Answer(Err(IoFault::Memory)),
+    }
+    match list_streams(rt) {
+        Ok(answer) => Ending::Answer(answer),
+        Err(_) => Ending::Answer(Err(IoFault::Memory)),
+    }
+}
+
+/// Whether the program's words ask for `list`. An `Err` is a word that is not UTF-8, or want of memory.
+fn is_list(rt: &HostRuntime) -> io::Result<bool> {
+    let words: Vec<String> = env::args(rt)?.collect(rt.alloc())?;
+    Ok(asks_for_list(words.as_slice()))
 }
 
 /// Lists standard input. An `Err` is want of memory for the buffers.
@@ -55,23 +62,6 @@ fn list_streams(rt: &HostRuntime) -> io::Result<Result<Status, IoFault>> {
         Writer::new(report),
     );
     let written = end.output.into_inner().flush().is_ok();
-    let told = end.report.into_inner().flush().is_ok();
-    Ok(with_flushes(end.answer, written && told))
-}
-
-/// The first fault decides: a flush that fails is told only of a run without one.
-fn with_flushes(answer: Result<Status, IoFault>, flushed: bool) -> Result<Status, IoFault> {
-    match answer {
-        Ok(Status::CLEAN) if !flushed => Err(IoFault::Write),
-        _ => answer,
-    }
-}
-
-/// Says what failed, and gives the exit status.
-fn end(rt: &HostRuntime, answer: &Result<Status, IoFault>) -> ExitCode {
-    let (status, message) = run_exit(answer);
-    if !message.is_empty() {
-        let _ = eprintln!(rt; "{message}");
-    }
-    ExitCode::from(status)
+    let reported = end.report.into_inner().flush().is_ok();
+    Ok(after_flush(end.answer, written && reported))
 }
