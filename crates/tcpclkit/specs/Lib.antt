@@ -1,2 +1,3 @@
 pub mod Words
 pub mod Ending
+pub mod Listed
