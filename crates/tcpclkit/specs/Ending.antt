@@ -7,8 +7,8 @@ use Rattle.link_tools.specs.declared.run.Status.{Status}
 use Rattle.tcpclkit.specs.declared.ending.Ending.{Ending}
 use Rattle.tcpclkit.specs.declared.ending.Ending.TheVariants.{Usage, Answer}
 
--- The first fault decides. A run that a fault of its input stopped (status 3) or that failed keeps its answer, whether or
--- not its texts were flushed; of any other run, a flush that fails makes a failed write.
+-- The first fault decides. A run that a fault of its input stopped (status 3) or that failed keeps its answer,
+-- whether or not its texts were flushed; of any other run, a flush that fails makes a failed write.
 abbrev pub answer_after_flush : Result Status IoFault → Bool → Result Status IoFault
 answer_after_flush (Ok status) false = if status.0 == 3 then Ok status else Err io.Write
 answer_after_flush (Ok status) true = Ok status

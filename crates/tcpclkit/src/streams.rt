@@ -1,8 +1,9 @@
 //! `list` over buffered streams.
 
-ghost use Rattle.std.specs.Prelude.{◌≡◌, ℕ, List, IfOk, IfSome, Ok, Some};
+ghost use Rattle.std.specs.Prelude.{◌≡◌, ℕ, List, IfOk, IfErr, IfSome, Ok, Some};
 ghost use Rattle.std.specs.Io.Buffered.{writer_contents};
 ghost use Rattle.std.specs.Io.KnownBytes.{Keeps};
+ghost use Rattle.std.specs.IoError.{error_kind};
 ghost use Rattle.link_tools.specs.Listing.{listing};
 ghost use Rattle.link_tools.specs.declared.run.Status.{Status};
 ghost use Rattle.tcpclkit.specs.Listed.{HasWritten, IsFlushed};
@@ -12,7 +13,7 @@ use link_tools::{Status, list};
 use link_wire::{IoFault, Reader, Writer};
 use std::alloc::Global;
 use std::io;
-use std::io::{BufReader, BufWriter, Read, Write};
+use std::io::{BufReader, BufWriter, ErrorKind, Read, Write};
 
 /// How many bytes of the input are read at once.
 const INPUT_BUFFER: usize = 64 << 10;
@@ -49,6 +50,7 @@ pub fn list_buffered<R: Read + Drop, W: Write + Drop, E: Write + Drop>(
         → HasWritten W.contents E.contents (listing bytes) output report listed status) }
     ensures flushed { IfOk result (λ listed. (status : Status)
         → listed.answer ≡ Ok status → IsFlushed listed status) }
+    ensures err { IfErr result (λ error. error_kind error ≡ ErrorKind.OutOfMemory) }
 {
     let reader = BufReader::with_capacity(alloc, INPUT_BUFFER, input)?;
     let output = BufWriter::with_capacity(alloc, TEXT_BUFFER, output)?;
