@@ -1,3 +1,4 @@
+//! The checks of a block.
 ghost use Rattle.std.specs.Prelude.{◌≡◌, ℕ, List, [], ◌++◌};
 
 use crate::stage::CheckType;

@@ -1,3 +1,4 @@
+//! How far a scan has come: bytes counted, the head in hand, and the checks.
 ghost use Rattle.std.specs.Prelude.{◌≡◌, ℕ, ◌+◌, ◌-◌, ◌^◌, ◌<◌, ◌≤◌, ◌↔◌, IsTrue, List, ◌∷◌, [], ◌++◌, length};
 ghost use Rattle.std.specs.Bool.{MatchBool};
 ghost use Rattle.link_cbor.specs.Head.{head_front, front_of};
