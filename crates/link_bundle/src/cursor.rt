@@ -48,7 +48,7 @@ impl Cursor {
         ensures may_step { IsTrue (may_scan_head self.new.head) ↔ (result ≡ HeadStep.More) }
     {
         self.count += 1;
-        self.checks.push_slice(check, &[byte]);
+        self.checks.take(check, &[byte]);
         self.head.step(byte);
         self.head.outcome()
     }
@@ -61,7 +61,7 @@ impl Cursor {
         ensures checks { (covered : List ℕ) → Covers check self.old.checks covered → Covers check self.new.checks (covered ++ run.now) }
     {
         self.count += run.len() as u64;
-        self.checks.push_slice(check, run);
+        self.checks.take(check, run);
     }
 
     /// Makes ready for what comes next.
