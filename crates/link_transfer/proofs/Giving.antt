@@ -17,7 +17,9 @@ use Rattle.link_transfer.proofs.Due.{fits, byte_left, last_of}
 use Rattle.link_transfer.proofs.Steps.{waits-at, next_cut-is, size_of}
 
 -- the same in numbers
-last_is : (whole : Bool) (segment hold count size : ℕ) → 0 < segment → (whole ≡ true → count < due_of whole segment hold size)
+last_is : (whole : Bool) (segment hold count size : ℕ) → 0 < segment
+    → (whole ≡ true → count < due_of whole segment hold size)
+   
     → is_last_of whole segment (size - count * segment) ≡ (whole && eqb (count + 1) (chunk_count segment size))
 last_is true segment hold count size some left = last_of segment count size some (left refl)
 last_is false segment hold count size some left = refl
@@ -34,6 +36,7 @@ first_is : (count : ℕ) → not (ltb 0 count) ≡ eqb count 0
 first_is count = grind (arith, nat_tests)
 
 same_cut : (f g l m : Bool) (a b : Option ℕ) → f ≡ g → l ≡ m → a ≡ b
+   
     → ◌≡◌ {A = Cut} (record { first = f; last = l; announce = a }) (record { first = g; last = m; announce = b })
 same_cut f g l m a b first last announce = cc
 
@@ -45,35 +48,43 @@ last-at cutter so_far at =
     (last_is so_far.whole so_far.segment so_far.hold (length so_far.given) (length so_far.bundle) at.some at.left)
 
 announced-at : (cutter : Cutter) (so_far : Cutting) → IsCutterAt cutter so_far
+   
     → announced_by cutter.begun cutter.ended cutter.segment cutter.hold (length cutter.held.bytes) ≡ cond (is_first so_far) (announcement so_far) None
 unfolding announcement
 announced-at cutter so_far at =
     rw (at.begun, at.ended, at.segment, at.hold, size_of cutter so_far at)
     (announced_is so_far.whole so_far.segment so_far.hold (length so_far.given) (length so_far.bundle))
 
-waiting_test : (cutter : Cutter) (so_far : Cutting) (waiting : Bool) → IsCutterAt cutter so_far → cut_waits cutter ≡ waiting
+waiting_test : (cutter : Cutter) (so_far : Cutting) (waiting : Bool) → IsCutterAt cutter so_far
+    → cut_waits cutter ≡ waiting
     → ltb (length so_far.given) (due so_far) ≡ waiting
 waiting_test cutter so_far waiting at is = sym (next_cut-is so_far) ∙ sym (waits-at cutter so_far at) ∙ is
 
 next_cut-some : (so_far : Cutting) → ltb (length so_far.given) (due so_far) ≡ true
+   
     → next_cut so_far ≡ Some (record { first = is_first so_far; last = is_last so_far; announce = cond (is_first so_far) (announcement so_far) None })
 unfolding next_cut
 next_cut-some so_far test = rw test refl
 
-pub next_cut-at : (cutter : Cutter) (so_far : Cutting) → IsCutterAt cutter so_far → cut_waits cutter ≡ true
+pub next_cut-at : (cutter : Cutter) (so_far : Cutting) → IsCutterAt cutter so_far
+    → cut_waits cutter ≡ true
+   
     → Some (cut_of cutter.begun cutter.ended cutter.segment cutter.hold (length cutter.held.bytes)) ≡ next_cut so_far
 next_cut-at cutter so_far at waiting =
     ap (λ (cut : Cut). Some cut)
     (same_cut _ _ _ _ _ _ (ap not at.begun ∙ first_is (length so_far.given)) (last-at cutter so_far at) (announced-at cutter so_far at))
     ∙ sym (next_cut-some so_far (waiting_test cutter so_far true at waiting))
 
-pub next_cut-none : (cutter : Cutter) (so_far : Cutting) → IsCutterAt cutter so_far → cut_waits cutter ≡ false → None ≡ next_cut so_far
+pub next_cut-none : (cutter : Cutter) (so_far : Cutting) → IsCutterAt cutter so_far
+    → cut_waits cutter ≡ false → None ≡ next_cut so_far
 unfolding next_cut
 next_cut-none cutter so_far at quiet = rw (waiting_test cutter so_far false at quiet) refl
 
 -- a cut that was asked for where none waits
-pub IsCutterAt-forget : (old new : Cutter) (so_far : Cutting) → cut_waits old ≡ false → new.segment ≡ old.segment → new.hold ≡ old.hold
-    → new.held.given ≡ [] → new.held.bytes ≡ old.held.bytes → new.begun ≡ old.begun → new.ended ≡ old.ended
+pub IsCutterAt-forget : (old new : Cutter) (so_far : Cutting) → cut_waits old ≡ false
+    → new.segment ≡ old.segment → new.hold ≡ old.hold
+    → new.held.given ≡ [] → new.held.bytes ≡ old.held.bytes → new.begun ≡ old.begun
+    → new.ended ≡ old.ended
     → IsCutterAt old so_far → IsCutterAt new (after_cut so_far)
 unfolding after_cut due
 IsCutterAt-forget old new so_far quiet segment hold given bytes begun ended at =
@@ -93,7 +104,8 @@ IsCutterAt-forget old new so_far quiet segment hold given bytes begun ended at =
     })
 
 -- a chunk that is due has a byte
-left_some : (whole : Bool) (segment hold count size : ℕ) → 0 < segment → count < due_of whole segment hold size → count * segment < size
+left_some : (whole : Bool) (segment hold count size : ℕ) → 0 < segment
+    → count < due_of whole segment hold size → count * segment < size
 left_some true segment hold count size some few = byte_left segment count size some few
 left_some false segment hold count size some few =
     grind (arith, nat_tests, fits segment (count + 1) size some)
@@ -108,7 +120,8 @@ pub record Gives (old new : Cutter) (last : Bool) : Type 0 where
   pub ended : new.ended ≡ (old.ended && not last)
 
 -- the run given is the next chunk
-chunk_given : (old new : Cutter) (so_far : Cutting) (last : Bool) → Gives old new last → IsCutterAt old so_far
+chunk_given : (old new : Cutter) (so_far : Cutting) (last : Bool) → Gives old new last
+    → IsCutterAt old so_far
     → length so_far.given < due so_far → IsGiven (Some (next_chunk so_far)) new.held.given
 unfolding due
 chunk_given old new so_far last gives at few =
@@ -120,7 +133,8 @@ chunk_given old new so_far last gives at few =
       omega (arith, length-take so_far.segment left, at.some),
     )
 
-rest_is : (old new : Cutter) (so_far : Cutting) (last : Bool) → Gives old new last → IsCutterAt old so_far
+rest_is : (old new : Cutter) (so_far : Cutting) (last : Bool) → Gives old new last
+    → IsCutterAt old so_far
     → new.held.bytes ≡ drop so_far.segment (left_of so_far)
 rest_is old new so_far last gives at =
     gives.bytes ∙ ap₂ (λ segment bytes. drop (min segment (length bytes)) bytes) at.segment at.held ∙ drop_min so_far.segment (left_of so_far)
@@ -133,7 +147,8 @@ whole_last so_far is = both so_far.whole _ is
   both true b is = refl
   both false b is = is
 
-count_last : (so_far : Cutting) → is_last so_far ≡ true → length so_far.given + 1 ≡ chunk_count so_far.segment (length so_far.bundle)
+count_last : (so_far : Cutting) → is_last so_far ≡ true
+    → length so_far.given + 1 ≡ chunk_count so_far.segment (length so_far.bundle)
 count_last so_far is = grind (arith, nat_tests, both so_far.whole _ is)
   where
   both : (a b : Bool) → (a && b) ≡ true → b ≡ true
@@ -148,14 +163,17 @@ not_last so_far is whole = rw whole at is
 -- and a whole bundle has a further one after any other
 next_left : (so_far : Cutting) → is_last so_far ≡ false → so_far.whole ≡ true
     → length so_far.given < chunk_count so_far.segment (length so_far.bundle)
+   
     → length (so_far.given ++ next_chunk so_far ∷ []) < due_of so_far.whole so_far.segment so_far.hold (length so_far.bundle)
 next_left so_far is whole below =
     let apart = not_last so_far is whole in
     let count = length_push so_far.given (next_chunk so_far) in
     rw whole (grind (arith, nat_tests))
 
-with_next : (old new : Cutter) (so_far : Cutting) (last : Bool) → is_last so_far ≡ last → Gives old new last → IsCutterAt old so_far
+with_next : (old new : Cutter) (so_far : Cutting) (last : Bool) → is_last so_far ≡ last
+    → Gives old new last → IsCutterAt old so_far
     → length so_far.given < due so_far
+   
     → IsCutterAt new (cond last (record (beginning so_far.segment so_far.hold) { chunk = Some (next_chunk so_far) })
     (record so_far { given = so_far.given ++ next_chunk so_far ∷ []; chunk = Some (next_chunk so_far) }))
 unfolding due
@@ -208,7 +226,8 @@ with_next old new so_far false is gives at few =
   and_true true = refl
   and_true false = refl
 
-pub IsCutterAt-cut : (old new : Cutter) (so_far : Cutting) → cut_waits old ≡ true → Gives old new (is_last so_far) → IsCutterAt old so_far
+pub IsCutterAt-cut : (old new : Cutter) (so_far : Cutting) → cut_waits old ≡ true
+    → Gives old new (is_last so_far) → IsCutterAt old so_far
     → IsCutterAt new (after_cut so_far)
 unfolding after_cut
 IsCutterAt-cut old new so_far waiting gives at =
@@ -218,7 +237,8 @@ IsCutterAt-cut old new so_far waiting gives at =
     rw some (with_next old new so_far (is_last so_far) refl gives at few)
 
 -- with the last chunk all are given
-pub all_chunks : (cutter : Cutter) (so_far : Cutting) (last : Bool) → is_last so_far ≡ last → IsCutterAt cutter so_far
+pub all_chunks : (cutter : Cutter) (so_far : Cutting) (last : Bool) → is_last so_far ≡ last
+    → IsCutterAt cutter so_far
     → OnTrue last (so_far.given ++ next_chunk so_far ∷ [] ≡ chunks so_far.segment so_far.bundle)
 unfolding chunks
 all_chunks cutter so_far true is at =
