@@ -19,7 +19,6 @@ use Rattle.link_transfer.proofs.Steps.{waits-at, next_cut-is, size_of}
 -- the same in numbers
 last_is : (whole : Bool) (segment hold count size : ℕ) → 0 < segment
     → (whole ≡ true → count < due_of whole segment hold size)
-   
     → is_last_of whole segment (size - count * segment) ≡ (whole && eqb (count + 1) (chunk_count segment size))
 last_is true segment hold count size some left = last_of segment count size some (left refl)
 last_is false segment hold count size some left = refl
@@ -36,7 +35,6 @@ first_is : (count : ℕ) → not (ltb 0 count) ≡ eqb count 0
 first_is count = grind (arith, nat_tests)
 
 same_cut : (f g l m : Bool) (a b : Option ℕ) → f ≡ g → l ≡ m → a ≡ b
-   
     → ◌≡◌ {A = Cut} (record { first = f; last = l; announce = a }) (record { first = g; last = m; announce = b })
 same_cut f g l m a b first last announce = cc
 
@@ -48,7 +46,6 @@ last-at cutter so_far at =
     (last_is so_far.whole so_far.segment so_far.hold (length so_far.given) (length so_far.bundle) at.some at.left)
 
 announced-at : (cutter : Cutter) (so_far : Cutting) → IsCutterAt cutter so_far
-   
     → announced_by cutter.begun cutter.ended cutter.segment cutter.hold (length cutter.held.bytes) ≡ cond (is_first so_far) (announcement so_far) None
 unfolding announcement
 announced-at cutter so_far at =
@@ -61,14 +58,12 @@ waiting_test : (cutter : Cutter) (so_far : Cutting) (waiting : Bool) → IsCutte
 waiting_test cutter so_far waiting at is = sym (next_cut-is so_far) ∙ sym (waits-at cutter so_far at) ∙ is
 
 next_cut-some : (so_far : Cutting) → ltb (length so_far.given) (due so_far) ≡ true
-   
     → next_cut so_far ≡ Some (record { first = is_first so_far; last = is_last so_far; announce = cond (is_first so_far) (announcement so_far) None })
 unfolding next_cut
 next_cut-some so_far test = rw test refl
 
 pub next_cut-at : (cutter : Cutter) (so_far : Cutting) → IsCutterAt cutter so_far
     → cut_waits cutter ≡ true
-   
     → Some (cut_of cutter.begun cutter.ended cutter.segment cutter.hold (length cutter.held.bytes)) ≡ next_cut so_far
 next_cut-at cutter so_far at waiting =
     ap (λ (cut : Cut). Some cut)
@@ -127,8 +122,7 @@ unfolding due
 chunk_given old new so_far last gives at few =
     let left = left_of so_far in
     let within = left_some so_far.whole so_far.segment so_far.hold (length so_far.given) (length so_far.bundle) at.some few in
-    let size = length-drop (length so_far.given * so_far.segment) so_far.bundle in
-    (
+    let size = length-drop (length so_far.given * so_far.segment) so_far.bundle in (
       gives.given ∙ ap₂ (λ segment bytes. take (min segment (length bytes)) bytes) at.segment at.held ∙ take_min so_far.segment left,
       omega (arith, length-take so_far.segment left, at.some),
     )
@@ -143,18 +137,18 @@ rest_is old new so_far last gives at =
 whole_last : (so_far : Cutting) → is_last so_far ≡ true → so_far.whole ≡ true
 whole_last so_far is = both so_far.whole _ is
   where
-  both : (a b : Bool) → (a && b) ≡ true → a ≡ true
-  both true b is = refl
-  both false b is = is
+    both : (a b : Bool) → (a && b) ≡ true → a ≡ true
+    both true b is = refl
+    both false b is = is
 
 count_last : (so_far : Cutting) → is_last so_far ≡ true
     → length so_far.given + 1 ≡ chunk_count so_far.segment (length so_far.bundle)
 count_last so_far is = grind (arith, nat_tests, both so_far.whole _ is)
   where
-  both : (a b : Bool) → (a && b) ≡ true → b ≡ true
-  both true b is = is
-  both false true is = refl
-  both false false is = is
+    both : (a b : Bool) → (a && b) ≡ true → b ≡ true
+    both true b is = is
+    both false true is = refl
+    both false false is = is
 
 not_last : (so_far : Cutting) → is_last so_far ≡ false → so_far.whole ≡ true
     → eqb (length so_far.given + 1) (chunk_count so_far.segment (length so_far.bundle)) ≡ false
@@ -163,7 +157,6 @@ not_last so_far is whole = rw whole at is
 -- and a whole bundle has a further one after any other
 next_left : (so_far : Cutting) → is_last so_far ≡ false → so_far.whole ≡ true
     → length so_far.given < chunk_count so_far.segment (length so_far.bundle)
-   
     → length (so_far.given ++ next_chunk so_far ∷ []) < due_of so_far.whole so_far.segment so_far.hold (length so_far.bundle)
 next_left so_far is whole below =
     let apart = not_last so_far is whole in
@@ -173,7 +166,6 @@ next_left so_far is whole below =
 with_next : (old new : Cutter) (so_far : Cutting) (last : Bool) → is_last so_far ≡ last
     → Gives old new last → IsCutterAt old so_far
     → length so_far.given < due so_far
-   
     → IsCutterAt new (cond last (record (beginning so_far.segment so_far.hold) { chunk = Some (next_chunk so_far) })
     (record so_far { given = so_far.given ++ next_chunk so_far ∷ []; chunk = Some (next_chunk so_far) }))
 unfolding due
@@ -197,9 +189,9 @@ with_next old new so_far true is gives at few =
       ended = gives.ended ∙ and_false old.ended;
     }
   where
-  and_false : (a : Bool) → (a && false) ≡ false
-  and_false true = refl
-  and_false false = refl
+    and_false : (a : Bool) → (a && false) ≡ false
+    and_false true = refl
+    and_false false = refl
 with_next old new so_far false is gives at few =
     let count = length_push so_far.given (next_chunk so_far) in
     let shifted : length so_far.given * so_far.segment + so_far.segment ≡ (length so_far.given + 1) * so_far.segment = omega arith in
@@ -222,9 +214,9 @@ with_next old new so_far false is gives at few =
       ended = gives.ended ∙ and_true old.ended ∙ at.ended;
     }
   where
-  and_true : (a : Bool) → (a && true) ≡ a
-  and_true true = refl
-  and_true false = refl
+    and_true : (a : Bool) → (a && true) ≡ a
+    and_true true = refl
+    and_true false = refl
 
 pub IsCutterAt-cut : (old new : Cutter) (so_far : Cutting) → cut_waits old ≡ true
     → Gives old new (is_last so_far) → IsCutterAt old so_far

@@ -13,16 +13,15 @@ use Rattle.link_transfer.specs.declared.event.Event.TheVariants.{SessInit, SessT
 use Rattle.link_transfer.specs.declared.joiner.Joiner.{Joiner}
 
 any-push : (test : Event → Bool) (before : List Message) (message : Message)
-   
     → list_any test (events_of (before ++ message ∷ [])) ≡ (list_any test (events_of before) || test (event_of message))
 any-push test before message =
     ap (list_any test) (map_push event_of before message)
     ∙ list_any-append test (events_of before) (event_of message ∷ [])
     ∙ ap (λ b. list_any test (events_of before) || b) (or_false (test (event_of message)))
   where
-  or_false : (b : Bool) → (b || false) ≡ b
-  or_false true = refl
-  or_false false = refl
+    or_false : (b : Bool) → (b || false) ≡ b
+    or_false true = refl
+    or_false false = refl
 
 -- the last segment of one message more
 last-push : (before : List Message) (message : Message)
@@ -97,7 +96,6 @@ IsJoinerAt-then joiner before message Other is at = record {
 
 -- what is refused and what is done, from what a joiner knows
 pub judged-at : (joiner : Joiner) (before : List Message) (event : Event) → IsJoinerAt joiner before
-   
     → judged_by (refusal_by joiner.initiated joiner.terminated joiner.transfer event) (turn_by joiner.transfer event) ≡ judged before event
 unfolding judged refusal turn_of
 judged-at joiner before event at = rw (at.initiated, at.terminated, at.transfer) refl

@@ -51,14 +51,12 @@ held_after byte flag so_far quiet =
     omega arith
 
 few_after : (byte : ℕ) (flag : Bool) (so_far : Cutting) → Quiet so_far
-   
     → length so_far.given ≤ due_of false so_far.segment so_far.hold (length (after_byte byte flag so_far).bundle)
 few_after byte flag so_far quiet =
     rw length_push (due_more false so_far.segment so_far.hold (length so_far.given) (length so_far.bundle) 1 quiet.some (omega arith) quiet.few)
 
 -- whether a cut waits then
 due_after : (byte : ℕ) (flag : Bool) (so_far : Cutting) → Quiet so_far
-   
     → ltb (length so_far.given) (due_of false so_far.segment so_far.hold (length (after_byte byte flag so_far).bundle)) ≡ leb (wanted so_far) 1
 due_after byte flag so_far quiet =
     waits_as_due false so_far.segment so_far.hold (length so_far.given) (length (after_byte byte flag so_far).bundle) quiet.some
@@ -89,8 +87,8 @@ wanted_after : (byte : ℕ) (flag : Bool) (so_far : Cutting) → Quiet so_far
 wanted_after byte flag so_far quiet =
     by_full (cond (ltb 0 (length so_far.given)) so_far.segment (max so_far.segment (so_far.hold + 1)))
   where
-  by_full : (full : ℕ) → full - held (after_byte byte flag so_far) ≡ (full - held so_far) - 1
-  by_full full = omega (arith, held_after byte flag so_far quiet)
+    by_full : (full : ℕ) → full - held (after_byte byte flag so_far) ≡ (full - held so_far) - 1
+    by_full full = omega (arith, held_after byte flag so_far quiet)
 
 -- byte by byte: the next one is the last that goes in, or it is not
 each_stop : (byte : ℕ) (bytes : List ℕ) (last : Bool) (so_far : Cutting)
@@ -101,7 +99,6 @@ each_stop byte bytes last so_far stops = rw stops refl
 
 each_go : (byte : ℕ) (bytes : List ℕ) (last : Bool) (so_far : Cutting)
     → is_some (next_cut (after_byte byte (last && is_empty bytes) so_far)) ≡ false
-   
     → with_each (byte ∷ bytes) last so_far ≡ with_each bytes last (after_byte byte (last && is_empty bytes) so_far)
 unfolding with_each
 each_go byte bytes last so_far goes = rw goes refl
@@ -111,9 +108,9 @@ each_one : (byte : ℕ) (last : Bool) (so_far : Cutting)
 unfolding with_each
 each_one byte last so_far = same (is_some (next_cut (after_byte byte (last && true) so_far))) (after_byte byte (last && true) so_far)
   where
-  same : (test : Bool) (x : Cutting) → cond test x x ≡ x
-  same true x = refl
-  same false x = refl
+    same : (test : Bool) (x : Cutting) → cond test x x ≡ x
+    same true x = refl
+    same false x = refl
 
 and_false : (last : Bool) → (last && false) ≡ false
 and_false true = refl
@@ -124,7 +121,6 @@ eqb-suc a b = grind (arith, nat_tests)
 
 -- bytes that follow a byte
 with_bytes-cons : (byte next : ℕ) (bytes : List ℕ) (flag last : Bool) (so_far : Cutting)
-   
     → with_bytes (next ∷ bytes) last (after_byte byte flag so_far) ≡ with_bytes (byte ∷ next ∷ bytes) last so_far
 with_bytes-cons byte next bytes flag last so_far =
     ap (λ (bundle : List ℕ). record so_far { bundle = bundle; whole = last; chunk = None }) (append_assoc so_far.bundle (byte ∷ []) (next ∷ bytes))
@@ -133,7 +129,6 @@ with_bytes-cons byte next bytes flag last so_far =
 pub with_each-is : (byte : ℕ) (bytes : List ℕ) (last : Bool) (so_far : Cutting) (count : ℕ)
     → Quiet so_far
     → count ≡ min (wanted so_far) (length (byte ∷ bytes))
-   
     → with_bytes (take count (byte ∷ bytes)) (last && eqb count (length (byte ∷ bytes))) so_far ≡ with_each (byte ∷ bytes) last so_far
 with_each-is byte [] last so_far count quiet is =
     let some = wanted_first so_far quiet in
@@ -156,7 +151,6 @@ with_each-is byte (next ∷ bytes) last so_far (suc (suc count)) quiet is =
 pub with_each-slice : (bytes : List ℕ) (last : Bool) (so_far : Cutting) (count : ℕ)
     → 0 < length bytes → Quiet so_far
     → count ≡ min (wanted so_far) (length bytes)
-   
     → with_bytes (take count bytes) (last && eqb count (length bytes)) so_far ≡ with_each bytes last so_far
 with_each-slice [] last so_far count some quiet is = absurd (omega arith)
 with_each-slice (byte ∷ bytes) last so_far count some quiet is = with_each-is byte bytes last so_far count quiet is

@@ -19,9 +19,9 @@ pub next_cut-is : (so_far : Cutting)
 unfolding next_cut
 next_cut-is so_far = by_test (ltb (length so_far.given) (due so_far)) _
   where
-  by_test : {A : Type 0} (test : Bool) (x : A) → is_some (cond test (Some x) None) ≡ test
-  by_test true x = refl
-  by_test false x = refl
+    by_test : {A : Type 0} (test : Bool) (x : A) → is_some (cond test (Some x) None) ≡ test
+    by_test true x = refl
+    by_test false x = refl
 
 -- the bytes held are the bundle's less those of the chunks given
 pub size_of : (cutter : Cutter) (so_far : Cutting) → IsCutterAt cutter so_far
@@ -61,9 +61,9 @@ pub goes_on : (cutter : Cutter) (so_far : Cutting) → IsCutterAt cutter so_far
     → cut_waits cutter ≡ false → so_far.whole ≡ false
 goes_on cutter so_far at quiet = sym at.ended ∙ not_ended cutter.ended _ quiet
   where
-  not_ended : (ended other : Bool) → (ended || other) ≡ false → ended ≡ false
-  not_ended true other is = is
-  not_ended false other is = refl
+    not_ended : (ended other : Bool) → (ended || other) ≡ false → ended ≡ false
+    not_ended true other is = is
+    not_ended false other is = refl
 
 -- a cutter that holds nothing stands at the beginning
 pub IsCutterAt-new : (cutter : Cutter) (segment hold : ℕ) → 0 < segment → cutter.segment ≡ segment

@@ -27,9 +27,9 @@ impl Model for Held {
     ghost Value = { HeldBytes };
 
     ghost view = { λ held. record {
-        room = length held.buffer.items;
-        given = slice_range held.buffer.items held.given held.start;
-        bytes = slice_range held.buffer.items held.start held.end
+      room = length held.buffer.items;
+      given = slice_range held.buffer.items held.given held.start;
+      bytes = slice_range held.buffer.items held.start held.end;
     } };
 
     ghost invariant = { λ held.
@@ -121,8 +121,8 @@ impl Held {
     pub fn give(&mut self, count: usize)
         requires { count ≤ length self.old.bytes }
         ensures { self.new ≡ record self.old {
-            given = take count self.old.bytes;
-            bytes = drop count self.old.bytes
+          given = take count self.old.bytes;
+          bytes = drop count self.old.bytes;
         } }
     {
         self.given = self.start;

@@ -86,11 +86,7 @@ fn in_two(alloc: Global, hold: usize, bundle: &[u8], at: usize) -> Result<Vec<Gi
 
 /// The same byte by byte. As long as the bundle goes on, each full chunk has been given once more than `hold` bytes have
 /// come, and none before; the others are shown.
-fn in_bytes(
-    rt: &(impl Abort + AllocGlobal),
-    hold: usize,
-    bundle: &[u8],
-) -> Result<Vec<Given>, Fail>
+fn in_bytes(rt: &(impl Abort + AllocGlobal), hold: usize, bundle: &[u8]) -> Result<Vec<Given>, Fail>
     requires { hold ≤ 1048576 }
 {
     let mut cutter = Cutter::new(rt.alloc(), SEGMENT, hold)?;
@@ -103,8 +99,15 @@ fn in_bytes(
             take_all(rt.alloc(), &mut cutter, &mut given)?;
             let come = index + 1;
             let full = if come > hold { come / SEGMENT } else { 0 };
-            let left = if last { &[] } else { &bundle[full * SEGMENT..come] };
-            assert!(rt; last || given.len() == before + full, "{come} bytes, turn {turn}");
+            let left = if last {
+                &[]
+            } else {
+                &bundle[full * SEGMENT..come]
+            };
+            assert!(rt;
+                last || given.len() == before + full,
+                "{come} bytes, turn {turn}"
+            );
             assert_eq!(rt; cutter.bytes(), left, "{come} bytes, turn {turn}");
         }
     }
@@ -121,10 +124,18 @@ fn gives_the_chunks(rt: HostRuntime) -> Result<(), Fail> {
             let mut want = wanted(rt.alloc(), bundle, hold)?;
             want.extend(wanted(rt.alloc(), bundle, hold)?)?;
             let bytewise = in_bytes(&rt, hold, bundle)?;
-            assert_eq!(rt; bytewise.as_slice(), want.as_slice(), "{length} bytes, hold {hold}");
+            assert_eq!(rt;
+                bytewise.as_slice(),
+                want.as_slice(),
+                "{length} bytes, hold {hold}"
+            );
             for at in 0..length {
                 let pieces = in_two(rt.alloc(), hold, bundle, at)?;
-                assert_eq!(rt; pieces.as_slice(), want.as_slice(), "{length} bytes at {at}, hold {hold}");
+                assert_eq!(rt;
+                    pieces.as_slice(),
+                    want.as_slice(),
+                    "{length} bytes at {at}, hold {hold}"
+                );
             }
         }
     }

@@ -40,9 +40,15 @@ fn announces_one_length(rt: HostRuntime) {
         (&[(0x0002, 8)], Announced::Absent),
         (&[(0x0100, 8), (0xffff, 0)], Announced::Absent),
         (&[(0x0001, 8)], Announced::Total(35)),
-        (&[(0x0002, 8), (0x0001, 8), (0x0000, 0)], Announced::Total(35)),
+        (
+            &[(0x0002, 8), (0x0001, 8), (0x0000, 0)],
+            Announced::Total(35),
+        ),
         (&[(0x0001, 8), (0x0001, 8)], Announced::Malformed),
-        (&[(0x0001, 8), (0x0002, 0), (0x0001, 8), (0x0001, 8)], Announced::Malformed),
+        (
+            &[(0x0001, 8), (0x0002, 0), (0x0001, 8), (0x0001, 8)],
+            Announced::Malformed,
+        ),
         (&[(0x0001, 0)], Announced::Malformed),
         (&[(0x0001, 7)], Announced::Malformed),
         (&[(0x0001, 264)], Announced::Malformed),
