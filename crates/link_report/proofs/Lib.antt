@@ -1,2 +1,3 @@
 mod Lengths
 mod Escapes
+mod Segments

@@ -4,7 +4,6 @@ use Rattle.std.specs.List.{flat_map}
 use Rattle.link_wire.specs.Codes.{is_start}
 use Rattle.link_wire.specs.declared.message.Contact.{Contact}
 use Rattle.link_wire.specs.declared.message.Item.{Item}
-use Rattle.link_wire.specs.declared.message.SegmentHead.{SegmentHead}
 use Rattle.link_wire.specs.declared.message.Message.{Message}
 use Rattle.link_wire.specs.declared.message.Message.TheVariants.{SessInit, Segment, Ack, Refuse, Keepalive, SessTerm, MsgReject}
 use Rattle.link_report.specs.Reason.{refuse_names, term_names, reject_names, name_in}
@@ -31,21 +30,21 @@ parameters_text keepalive segment_mru transfer_mru node =
     number_text (codes " sess-init keepalive=") keepalive ++ number_text (codes " segment-mru=") segment_mru
     ++ number_text (codes " transfer-mru=") transfer_mru ++ codes " node=" ++ escaped node
 
--- the items of a segment, where it begins its transfer (RFC 9174 section 5.2.5)
-unfoldable pub start_items_text : SegmentHead → List ℕ
-start_items_text head = if is_start head.flags then items_text head.items.items else []
+-- the items of a segment, where its flags say that it begins its transfer (RFC 9174 section 5.2.5)
+unfoldable pub start_items_text : ℕ → List Item → List ℕ
+start_items_text flags items = if is_start flags then items_text items else []
 
 -- RFC 9174 section 5.2.2
-unfoldable pub segment_text : SegmentHead → List ℕ
-segment_text head =
-    codes " xfer-segment" ++ flags_text head.flags ++ number_text (codes " id=") head.id
-    ++ start_items_text head ++ number_text (codes " length=") head.length
+unfoldable pub segment_text : ℕ → ℕ → List Item → ℕ → List ℕ
+segment_text flags id items size =
+    codes " xfer-segment" ++ flags_text flags ++ number_text (codes " id=") id
+    ++ start_items_text flags items ++ number_text (codes " length=") size
 
 -- what the line of a message says after its offset (RFC 9174 sections 4.6 and 5.1.1 to 6.1)
 unfoldable pub body_text : Message → List ℕ
 body_text (SessInit keepalive segment_mru transfer_mru node items) =
     parameters_text keepalive segment_mru transfer_mru node.items ++ items_text items.items
-body_text (Segment head) = segment_text head
+body_text (Segment head) = segment_text head.flags head.id head.items.items head.length
 body_text (Ack flags id length) =
     codes " xfer-ack" ++ flags_text flags ++ number_text (codes " id=") id ++ number_text (codes " length=") length
 body_text (Refuse reason id) =

@@ -10,5 +10,5 @@ mod reason;
 mod tests;
 
 pub use fault::{Fault, fault_line};
-pub use message::{contact_line, message_line};
+pub use message::{buffer_line, contact_line, message_line};
 pub use put::{LINE_MAX, Line, put_decimal, put_escaped, put_hex2, put_hex4, put_text};

@@ -3,6 +3,7 @@
 ghost use Rattle.std.specs.Prelude.{◌≡◌, ◌+◌, ◌*◌, ◌<◌, ◌≤◌, [], ◌++◌, length};
 ghost use Rattle.std.specs.List.{flat_map};
 ghost use Rattle.arrayvec.specs.ArrayVec.{array_vec_len};
+ghost use Rattle.link_wire.specs.MessageBuffer.{message_of, message_with};
 ghost use Rattle.link_report.specs.Text.{escaped};
 ghost use Rattle.link_report.specs.Message.{flags_text, reason_text, item_text, items_text, parameters_text, start_items_text, segment_text, body_text, contact_text, message_text};
 
@@ -10,7 +11,7 @@ use crate::put::{
     LINE_MAX, Line, put_decimal, put_escaped, put_hex2, put_hex4, put_number, put_text,
 };
 use crate::reason::{refuse_name, reject_name, term_name};
-use link_wire::{Contact, Item, Message, START, SegmentHead};
+use link_wire::{Contact, Fields, Item, MAX_ITEMS, MAX_NODE_ID, Message, MessageBuffer, START};
 
 /// Appends ` flags=` and the flags.
 #[tactic(auto, unfolding(crate::specs::Message::flags_text))]
@@ -82,71 +83,75 @@ fn put_parameters(line: &mut Line, keepalive: u16, segment_mru: u64, transfer_mr
 /// Appends the items of a segment that begins its transfer, and nothing of another. Two numbers, the
 /// flags and 17 bytes stand before them, and room for the length must be left.
 #[tactic(auto, unfolding(crate::specs::Message::start_items_text))]
-fn put_start_items(line: &mut Line, head: &SegmentHead)
-    requires { array_vec_len line.old ≤ 66 }
-    ensures items { line.new.items ≡ line.old.items ++ start_items_text head.now }
+fn put_start_items(line: &mut Line, flags: u8, items: &[Item])
+    requires before { array_vec_len line.old ≤ 66 }
+    requires items { length items.now ≤ MAX_ITEMS }
+    ensures items { line.new.items ≡ line.old.items ++ start_items_text flags items.now }
     ensures len { array_vec_len line.new + 30 ≤ LINE_MAX }
 {
-    if head.flags & START == START {
-        put_items(line, &head.items);
+    if flags & START == START {
+        put_items(line, items);
     }
 }
 
 /// Appends what the line of a segment says after its offset.
 #[tactic(auto, unfolding(crate::specs::Message::segment_text))]
-fn put_segment(line: &mut Line, head: &SegmentHead)
-    requires { array_vec_len line.old ≤ 20 }
-    ensures items { line.new.items ≡ line.old.items ++ segment_text head.now }
+fn put_segment(line: &mut Line, flags: u8, id: u64, items: &[Item], size: u64)
+    requires before { array_vec_len line.old ≤ 20 }
+    requires items { length items.now ≤ MAX_ITEMS }
+    ensures items { line.new.items ≡ line.old.items ++ segment_text flags id items.now size }
     ensures len { array_vec_len line.new < LINE_MAX }
 {
     put_text(line, " xfer-segment");
-    put_flags(line, head.flags);
-    put_number(line, " id=", head.id);
-    put_start_items(line, head);
-    put_number(line, " length=", head.length);
+    put_flags(line, flags);
+    put_number(line, " id=", id);
+    put_start_items(line, flags, items);
+    put_number(line, " length=", size);
 }
 
-/// Appends what the line of a message says after its offset.
+/// Appends what the line of a message says after its offset. Only a SESS_INIT has a node ID, and only
+/// a SESS_INIT and a segment have items.
 #[tactic(auto, using(crate::proofs::Escapes::length_of_escaped), unfolding(crate::specs::Message::body_text))]
-fn put_body(line: &mut Line, message: &Message)
-    requires { array_vec_len line.old ≤ 20 }
-    ensures items { line.new.items ≡ line.old.items ++ body_text message.now }
+fn put_body(line: &mut Line, fields: &Fields, node: &[u8], items: &[Item])
+    requires before { array_vec_len line.old ≤ 20 }
+    requires node { length node.now ≤ MAX_NODE_ID }
+    requires items { length items.now ≤ MAX_ITEMS }
+    ensures items { line.new.items ≡ line.old.items ++ body_text
+        (message_with fields.now (record { items = node.now }) (record { items = items.now })) }
     ensures len { array_vec_len line.new < LINE_MAX }
 {
-    match message {
-        Message::SessInit {
+    match *fields {
+        Fields::SessInit {
             keepalive,
             segment_mru,
             transfer_mru,
-            node,
-            items,
         } => {
-            put_parameters(line, *keepalive, *segment_mru, *transfer_mru, node);
+            put_parameters(line, keepalive, segment_mru, transfer_mru, node);
             put_items(line, items);
         }
-        Message::Segment(head) => put_segment(line, head),
-        Message::Ack { flags, id, length } => {
+        Fields::Segment { flags, id, length } => put_segment(line, flags, id, items, length),
+        Fields::Ack { flags, id, length } => {
             put_text(line, " xfer-ack");
-            put_flags(line, *flags);
-            put_number(line, " id=", *id);
-            put_number(line, " length=", *length);
+            put_flags(line, flags);
+            put_number(line, " id=", id);
+            put_number(line, " length=", length);
         }
-        Message::Refuse { reason, id } => {
+        Fields::Refuse { reason, id } => {
             put_text(line, " xfer-refuse");
-            put_reason(line, *reason, refuse_name(*reason));
-            put_number(line, " id=", *id);
+            put_reason(line, reason, refuse_name(reason));
+            put_number(line, " id=", id);
         }
-        Message::Keepalive => put_text(line, " keepalive"),
-        Message::SessTerm { flags, reason } => {
+        Fields::Keepalive => put_text(line, " keepalive"),
+        Fields::SessTerm { flags, reason } => {
             put_text(line, " sess-term");
-            put_flags(line, *flags);
-            put_reason(line, *reason, term_name(*reason));
+            put_flags(line, flags);
+            put_reason(line, reason, term_name(reason));
         }
-        Message::MsgReject { reason, header } => {
+        Fields::MsgReject { reason, header } => {
             put_text(line, " msg-reject");
-            put_reason(line, *reason, reject_name(*reason));
+            put_reason(line, reason, reject_name(reason));
             put_text(line, " header=");
-            put_hex2(line, *header);
+            put_hex2(line, header);
         }
     }
 }
@@ -162,13 +167,75 @@ pub fn contact_line(line: &mut Line, contact: &Contact)
     put_text(line, "\n");
 }
 
-/// Makes an empty line that of the message whose type byte stands at `offset`.
+/// Makes an empty line that of a message, whose type byte stands at `offset`.
 #[tactic(auto, using(crate::proofs::Lengths::length_of_decimal), unfolding(crate::specs::Message::message_text))]
+fn fields_line(line: &mut Line, offset: u64, fields: &Fields, node: &[u8], items: &[Item])
+    requires empty { line.old.items ≡ [] }
+    requires node { length node.now ≤ MAX_NODE_ID }
+    requires items { length items.now ≤ MAX_ITEMS }
+    ensures { line.new.items ≡ message_text offset
+        (message_with fields.now (record { items = node.now }) (record { items = items.now })) }
+{
+    put_decimal(line, offset);
+    put_body(line, fields, node, items);
+    put_text(line, "\n");
+}
+
+/// Makes an empty line that of the message in a buffer, whose type byte stands at `offset`.
+pub fn buffer_line(line: &mut Line, offset: u64, message: &MessageBuffer)
+    requires { line.old.items ≡ [] }
+    ensures { line.new.items ≡ message_text offset (message_of message.now) }
+{
+    fields_line(line, offset, &message.fields, &message.node, &message.items);
+}
+
+/// Makes an empty line that of the message whose type byte stands at `offset`.
+#[tactic(auto, using(crate::proofs::Segments::text_of_segment), unfolding(crate::specs::Message::message_text, crate::specs::Message::body_text))]
 pub fn message_line(line: &mut Line, offset: u64, message: &Message)
     requires { line.old.items ≡ [] }
     ensures { line.new.items ≡ message_text offset message.now }
 {
-    put_decimal(line, offset);
-    put_body(line, message);
-    put_text(line, "\n");
+    match *message {
+        Message::SessInit {
+            keepalive,
+            segment_mru,
+            transfer_mru,
+            ref node,
+            ref items,
+        } => {
+            let fields = Fields::SessInit {
+                keepalive,
+                segment_mru,
+                transfer_mru,
+            };
+            fields_line(line, offset, &fields, node, items);
+        }
+        Message::Segment(ref head) => {
+            let fields = Fields::Segment {
+                flags: head.flags,
+                id: head.id,
+                length: head.length,
+            };
+            fields_line(line, offset, &fields, &[], &head.items);
+        }
+        Message::Ack { flags, id, length } => {
+            fields_line(line, offset, &Fields::Ack { flags, id, length }, &[], &[]);
+        }
+        Message::Refuse { reason, id } => {
+            fields_line(line, offset, &Fields::Refuse { reason, id }, &[], &[]);
+        }
+        Message::Keepalive => fields_line(line, offset, &Fields::Keepalive, &[], &[]),
+        Message::SessTerm { flags, reason } => {
+            fields_line(line, offset, &Fields::SessTerm { flags, reason }, &[], &[]);
+        }
+        Message::MsgReject { reason, header } => {
+            fields_line(
+                line,
+                offset,
+                &Fields::MsgReject { reason, header },
+                &[],
+                &[],
+            );
+        }
+    }
 }

@@ -1,9 +1,11 @@
 use crate::{
-    Fault, Line, contact_line, fault_line, message_line, put_decimal, put_escaped, put_hex2,
-    put_hex4, put_text,
+    Fault, Line, buffer_line, contact_line, fault_line, message_line, put_decimal, put_escaped,
+    put_hex2, put_hex4, put_text,
 };
 use link_transfer::OrderFault;
-use link_wire::{Contact, Item, Items, Message, NodeId, SegmentHead, WireFault};
+use link_wire::{
+    Contact, Fields, Item, Items, Message, MessageBuffer, NodeId, SegmentHead, WireFault,
+};
 use std::test::Fail;
 
 const WITH_TOTAL: Item = Item {
@@ -118,6 +120,79 @@ fn lines_of_messages(rt: HostRuntime) -> Result<(), Fail> {
         line.as_slice(),
         b"0 contact version=4 flags=00\n".as_slice()
     );
+    Ok(())
+}
+
+/// The node ID and the items of a SESS_INIT stay in the buffer: no other message shows that node ID,
+/// and of the others only a segment with START shows items.
+#[test]
+fn lines_of_messages_in_place(rt: HostRuntime) -> Result<(), Fail> {
+    let rows = [
+        (
+            Fields::SessInit {
+                keepalive: 60,
+                segment_mru: 65536,
+                transfer_mru: 1048576,
+            },
+            "6 sess-init keepalive=60 segment-mru=65536 transfer-mru=1048576 node=ipn:1.0 items=1 item=00:0001:8\n",
+        ),
+        (
+            Fields::Segment {
+                flags: 0x02,
+                id: 0,
+                length: 17,
+            },
+            "6 xfer-segment flags=02 id=0 items=1 item=00:0001:8 length=17\n",
+        ),
+        (
+            Fields::Segment {
+                flags: 0x01,
+                id: 0,
+                length: 17,
+            },
+            "6 xfer-segment flags=01 id=0 length=17\n",
+        ),
+        (
+            Fields::Ack {
+                flags: 0x01,
+                id: 0,
+                length: 34,
+            },
+            "6 xfer-ack flags=01 id=0 length=34\n",
+        ),
+        (
+            Fields::Refuse {
+                reason: 0x01,
+                id: 0,
+            },
+            "6 xfer-refuse reason=01/completed id=0\n",
+        ),
+        (Fields::Keepalive, "6 keepalive\n"),
+        (
+            Fields::SessTerm {
+                flags: 0x01,
+                reason: 0x03,
+            },
+            "6 sess-term flags=01 reason=03/busy\n",
+        ),
+        (
+            Fields::MsgReject {
+                reason: 0x01,
+                header: 0x16,
+            },
+            "6 msg-reject reason=01/message-type-unknown header=16\n",
+        ),
+    ];
+    let mut message = MessageBuffer::new();
+    message.node = NodeId::try_from(b"ipn:1.0".as_slice())?;
+    message.items.try_push(WITH_TOTAL)?;
+    let mut line = Line::new();
+    for (fields, want) in &rows {
+        message.fields = *fields;
+        line.clear();
+        buffer_line(&mut line, 6, &message);
+        assert_eq!(rt; line.as_slice(), want.as_bytes(), "{want}");
+    }
     Ok(())
 }
 

@@ -1,6 +1,12 @@
 use Rattle.std.proofs.Common.{append_assoc}
 use Rattle.link_report.specs.Message.{body_text}
+use Rattle.link_report.proofs.Segments.{segment_text-segment_items}
 use Rattle.link_report.proofs.message.put_body.Goals as goal
+
+pub returns-in-Segment-clause-items : goal.returns-in-Segment-clause-items
+unfolding body_text
+returns-in-Segment-clause-items c =
+    rw (c.in-Segment.is, segment_text-segment_items, c.put_segment.ensures.items)
 
 pub returns-in-Refuse-clause-items : goal.returns-in-Refuse-clause-items
 unfolding body_text
