@@ -1,4 +1,4 @@
--- one more byte of a name, of data, of a check field's content, and behind the bundle
+-- more bytes of a name, of data, of a check field's content, and after the bundle
 
 use Rattle.std.proofs.Common.{◌≡◌, ℕ, ◌+◌, ◌-◌, ◌*◌, ◌<◌, ◌≤◌, Bool, true, false, List, [], ◌∷◌, ◌++◌, length, replicate, take, drop, Option, None, Some, Result, Ok, Err, refl, sym, ap, subst, ◌∙◌, append_assoc, length-append, length-drop, arith}
 use Rattle.std.specs.Prelude.{is_some, ◌==◌, slice_range, if◌then◌else◌}
@@ -6,10 +6,11 @@ use Rattle.std.proofs.lemmas.Bool.{ne_eqb}
 use Rattle.std.proofs.lemmas.List.{drop-append-le, take-append-le, replicate_more}
 use Rattle.link_cbor.specs.declared.check.CheckKind.{CheckKind}
 use Rattle.link_cbor.specs.Crc.{crc}
+use Rattle.link_cbor.specs.Head.{AreBytes}
 use Rattle.link_bundle.specs.declared.cursor.Cursor.{Cursor}
 use Rattle.link_bundle.specs.declared.draft.Draft.{Draft}
-use Rattle.link_bundle.specs.declared.fault.BundleFault.TheVariants.{Trailing, CheckDiffers}
-use Rattle.link_bundle.specs.declared.info.BundleInfo.{BundleInfo}
+use Rattle.link_bundle_types.specs.declared.fault.BundleFault.TheVariants.{Trailing, CheckDiffers}
+use Rattle.link_bundle_types.specs.declared.info.BundleInfo.{BundleInfo}
 use Rattle.link_bundle.specs.declared.stage.Role.{Role}
 use Rattle.link_bundle.specs.declared.stage.Stage.{Stage}
 use Rattle.link_bundle.specs.declared.stage.Stage.TheVariants.{Name, Content, Stored, Ended, Failed}
@@ -20,114 +21,121 @@ use Rattle.link_bundle.specs.Covers.{Covers}
 use Rattle.link_bundle.specs.Fits.{KeepsCheck}
 use Rattle.link_bundle.specs.Rows.{◌>>=◌}
 use Rattle.link_bundle.specs.Reading.{Stop, stopped, Reading, bytes_at}
-use Rattle.link_bundle.specs.Blocks.{field_at, content_at}
+use Rattle.link_bundle.specs.CheckField.{field_at}
+use Rattle.link_bundle.specs.Canonical.{content_at}
 use Rattle.link_bundle.specs.Bundle.{Bundle, ends, judged}
-use Rattle.link_bundle.specs.Left.{span_of, bundle_of, ends_of, with_note, behind_field, zeroed_check, stored_left, stage_left, BlockEnds, FieldsEnd, NameGoesOn}
+use Rattle.link_bundle.specs.Left.{span_of, bundle_of, ends_of, with_note, after_field, zeroed_check, stored_left, stage_left, BlockEnds, FieldsEnd, NameGoesOn}
 use Rattle.link_bundle.specs.Scan.{HasCome, IsInside, IsInStored}
 use Rattle.link_bundle.proofs.Fields.{stored_left-step, stored_left-last}
-use Rattle.link_bundle.proofs.Heads.{ends_of-stopped}
-use Rattle.link_bundle.proofs.Runs.{with_byte, bytes_at-step, bytes_at-last}
-use Rattle.link_bundle.proofs.Steps.{Enters, entered, regrown, all_grown, length-grown, next_byte}
+use Rattle.link_bundle.proofs.Heads.{no_content, ends_of-stopped}
+use Rattle.link_bundle.proofs.Runs.{with_run, bytes_at-run, run_within}
+use Rattle.link_bundle.proofs.Steps.{Enters, entered, regrown, all_grown, one_byte, next_run}
 
 -- the bundle, by what stands behind its present block's data
 abbrev by_field : Draft → List ℕ → Reading Bool → Result Bundle Stop
-by_field draft bytes field = ends_of bytes (with_note draft.payload (behind_field draft bytes field))
+by_field draft bytes field = ends_of bytes (with_note draft.payload (after_field draft bytes field))
 
 -- what a check field at `field` says, whose content ends at `place`
 abbrev check_told : Bool → ℕ → ℕ → Reading Bool
 check_told same place field = if same then Ok (true, place) else Err (stopped CheckDiffers field)
 
--- the first byte of the content, and then the rest
+-- a run of the content, and then the rest
 skipped : Option CheckKind → ℕ → List ℕ → Reading (List ℕ) → Reading Bool
 skipped check start bytes reading = reading >>= λ (_, place). field_at check start bytes place
 
-skipped-with_byte : (check : Option CheckKind) (start byte : ℕ) (bytes : List ℕ) (reading : Reading (List ℕ))
-    → skipped check start bytes (with_byte byte reading) ≡ skipped check start bytes reading
+skipped-with_run : (check : Option CheckKind) (start : ℕ) (bytes run : List ℕ) (reading : Reading (List ℕ))
+    → skipped check start bytes (with_run run reading) ≡ skipped check start bytes reading
 unfolding skipped
-skipped-with_byte check start byte bytes (Ok (rest, place)) = refl
-skipped-with_byte check start byte bytes (Err stop) = refl
+skipped-with_run check start bytes run (Ok (rest, place)) = refl
+skipped-with_run check start bytes run (Err stop) = refl
 
-content_at-step : (left : ℕ) (check : Option CheckKind) (start : ℕ) (bytes more : List ℕ) (byte place : ℕ)
-    → drop place bytes ≡ byte ∷ more → 0 < left
-    → content_at left check start bytes place ≡ content_at (left - 1) check start bytes (place + 1)
+content_at-run : (left : ℕ) (check : Option CheckKind) (start : ℕ) (bytes more run : List ℕ) (place : ℕ)
+    → drop place bytes ≡ run ++ more → length run ≤ left
+    → content_at left check start bytes place ≡ content_at (left - length run) check start bytes (place + length run)
 unfolding content_at skipped
-content_at-step left check start bytes more byte place here some =
-    ap (λ (reading : Reading (List ℕ)). skipped check start bytes reading) (bytes_at-step left bytes more byte place here some)
-    ∙ skipped-with_byte check start byte bytes (bytes_at (left - 1) bytes (place + 1))
+content_at-run left check start bytes more run place here fits =
+    ap (λ (reading : Reading (List ℕ)). skipped check start bytes reading) (bytes_at-run left bytes more run place here fits)
+    ∙ skipped-with_run check start bytes run (bytes_at (left - length run) bytes (place + length run))
 
-content_at-last : (left : ℕ) (check : Option CheckKind) (start : ℕ) (bytes more : List ℕ) (byte place : ℕ)
-    → drop place bytes ≡ byte ∷ more → left ≡ 1
-    → content_at left check start bytes place ≡ field_at check start bytes (place + 1)
-unfolding content_at
-content_at-last left check start bytes more byte place here one = rw (one, bytes_at-last bytes more byte place here) refl
+content_at-ends : (left : ℕ) (check : Option CheckKind) (start : ℕ) (bytes more run : List ℕ) (place : ℕ)
+    → drop place bytes ≡ run ++ more → 0 < left → left ≡ length run
+    → content_at left check start bytes place ≡ field_at check start bytes (place + length run)
+content_at-ends left check start bytes more run place here some all =
+    let none : left - length run ≡ 0 = omega arith in
+    content_at-run left check start bytes more run place here (omega arith)
+    ∙ ap (λ (rest : ℕ). content_at rest check start bytes (place + length run)) none
+    ∙ no_content check start bytes (place + length run) (run_within bytes more run place here (omega arith))
 
--- the checks and the block behind one more byte
-inside_grown : (draft : Draft) (old new : Cursor) (start : ℕ) (seen : List ℕ) (byte : ℕ)
-    → IsInside old draft.check start seen
-    → ((covered : List ℕ) → Covers draft.check old.checks covered → Covers draft.check new.checks (covered ++ byte ∷ []))
-    → IsInside new draft.check start (seen ++ byte ∷ [])
-inside_grown draft old new start seen byte at covers = record {
-  in_block = omega (arith, length-grown seen byte, at.in_block);
-  checks = rw (drop-append-le start seen (byte ∷ []) at.in_block) (covers (drop start seen) at.checks);
+-- what the scan and its checks have taken of a name or of data
+pub record TakesRun (check : CheckType) (old new : Cursor) (run : List ℕ) : Type 0 where
+  pub all_bytes : AreBytes run
+  pub count : new.count ≡ old.count + length run
+  pub checks : (covered : List ℕ) → Covers check old.checks covered → Covers check new.checks (covered ++ run)
+
+-- the checks and the block after a run of bytes
+inside_grown : (draft : Draft) (old new : Cursor) (start : ℕ) (seen run : List ℕ)
+    → IsInside old draft.check start seen → TakesRun draft.check old new run → IsInside new draft.check start (seen ++ run)
+inside_grown draft old new start seen run at takes = record {
+  in_block = omega (arith, length-append seen run, at.in_block);
+  checks = rw (drop-append-le start seen run at.in_block) (takes.checks (drop start seen) at.checks);
 }
 
+count_grown : (check : CheckType) (old new : Cursor) (seen run : List ℕ) → old.count ≡ length seen → TakesRun check old new run
+    → new.count ≡ length (seen ++ run)
+count_grown check old new seen run counted takes =
+    takes.count ∙ ap (λ (count : ℕ). count + length run) counted ∙ sym (length-append seen run)
+
 -- data, with more of it to come
-pub grown_content : (left : ℕ) (old new : Cursor) (draft : Draft) (seen : List ℕ) (byte : ℕ)
-    → HasCome (Content left) old draft seen → byte < 256 → 0 < left → new.count ≡ old.count + 1
-    → ((covered : List ℕ) → Covers draft.check old.checks covered → Covers draft.check new.checks (covered ++ byte ∷ []))
-    → HasCome (Content (left - 1)) new draft (seen ++ byte ∷ [])
+pub grown_content : (left rest : ℕ) (old new : Cursor) (draft : Draft) (seen run : List ℕ)
+    → HasCome (Content left) old draft seen → length run ≤ left → rest ≡ left - length run → TakesRun draft.check old new run
+    → HasCome (Content rest) new draft (seen ++ run)
 unfolding stage_left
-grown_content left old new draft seen byte come small some counts covers =
-    let longer = length-grown seen byte in
-    record {
-      all_bytes = all_grown seen byte come.all_bytes small;
-      count = counts ∙ ap (λ (count : ℕ). count + 1) come.count ∙ sym longer;
-      start = come.start;
-      reads = λ more.
-          let bytes = (seen ++ byte ∷ []) ++ more in
-          regrown (λ (all : List ℕ). stage_left (Content left) draft come.start old.place all (length seen)) seen byte come.reads more
-          ∙ ap (λ (field : Reading Bool). by_field draft bytes field)
-          (content_at-step left (kind_of draft.check) come.start bytes more byte (length seen) (next_byte seen more byte) some
-          ∙ ap (λ (place : ℕ). content_at (left - 1) (kind_of draft.check) come.start bytes place) (sym longer));
-      stands = inside_grown draft old new come.start seen byte come.stands covers;
-    }
+grown_content left rest old new draft seen run come fits is_rest takes = record {
+  all_bytes = all_grown seen run come.all_bytes takes.all_bytes;
+  count = count_grown draft.check old new seen run come.count takes;
+  start = come.start;
+  reads = λ more.
+      let bytes = (seen ++ run) ++ more in
+      regrown (λ (all : List ℕ). stage_left (Content left) draft come.start old.place all (length seen)) seen run come.reads more
+      ∙ ap (λ (field : Reading Bool). by_field draft bytes field)
+      (content_at-run left (kind_of draft.check) come.start bytes more run (length seen) (next_run seen more run) fits
+      ∙ ap (λ (rest : ℕ). content_at rest (kind_of draft.check) come.start bytes (length seen + length run)) (sym is_rest)
+      ∙ ap (λ (place : ℕ). content_at rest (kind_of draft.check) come.start bytes place) (sym (length-append seen run)));
+  stands = inside_grown draft old new come.start seen run come.stands takes;
+}
 
--- the last byte of data
-pub ended_content : (left : ℕ) (old grown_cursor new : Cursor) (draft after : Draft) (stage : Stage) (seen : List ℕ) (byte : ℕ)
-    → HasCome (Content left) old draft seen → byte < 256 → left ≡ 1 → grown_cursor.count ≡ old.count + 1
-    → ((covered : List ℕ) → Covers draft.check old.checks covered → Covers draft.check grown_cursor.checks (covered ++ byte ∷ []))
+-- the last bytes of data
+pub ended_content : (left : ℕ) (old grown_cursor new : Cursor) (draft after : Draft) (stage : Stage) (seen run : List ℕ)
+    → HasCome (Content left) old draft seen → 0 < left → left ≡ length run → TakesRun draft.check old grown_cursor run
     → FieldsEnd draft stage after → KeepsCheck draft.check stage after.check → Enters stage grown_cursor new
-    → HasCome stage new after (seen ++ byte ∷ [])
+    → HasCome stage new after (seen ++ run)
 unfolding stage_left
-ended_content left old grown_cursor new draft after stage seen byte come small one counts covers ends keeps enters =
-    let longer = length-grown seen byte in
-    let inside = inside_grown draft old grown_cursor come.start seen byte come.stands covers in
-    entered stage grown_cursor new draft.check after come.start (seen ++ byte ∷ []) (all_grown seen byte come.all_bytes small)
-    (counts ∙ ap (λ (count : ℕ). count + 1) come.count ∙ sym longer) inside.in_block inside.checks keeps enters
+ended_content left old grown_cursor new draft after stage seen run come some all takes ends keeps enters =
+    let inside = inside_grown draft old grown_cursor come.start seen run come.stands takes in
+    entered stage grown_cursor new draft.check after come.start (seen ++ run) (all_grown seen run come.all_bytes takes.all_bytes)
+    (count_grown draft.check old grown_cursor seen run come.count takes) inside.in_block inside.checks keeps enters
     (λ more.
-    let bytes = (seen ++ byte ∷ []) ++ more in
-    regrown (λ (all : List ℕ). stage_left (Content left) draft come.start old.place all (length seen)) seen byte come.reads more
+    let bytes = (seen ++ run) ++ more in
+    regrown (λ (all : List ℕ). stage_left (Content left) draft come.start old.place all (length seen)) seen run come.reads more
     ∙ ap (λ (field : Reading Bool). by_field draft bytes field)
-    (content_at-last left (kind_of draft.check) come.start bytes more byte (length seen) (next_byte seen more byte) one
-    ∙ ap (λ (place : ℕ). field_at (kind_of draft.check) come.start bytes place) (sym longer))
-    ∙ ends bytes come.start (length (seen ++ byte ∷ [])))
+    (content_at-ends left (kind_of draft.check) come.start bytes more run (length seen) (next_run seen more run) some all
+    ∙ ap (λ (place : ℕ). field_at (kind_of draft.check) come.start bytes place) (sym (length-append seen run)))
+    ∙ ends bytes come.start (length (seen ++ run)))
 
--- a byte of a name
-pub grown_name : (role : Role) (left : ℕ) (old grown_cursor new : Cursor) (draft after : Draft) (stage : Stage) (seen : List ℕ) (byte : ℕ)
-    → HasCome (Name role left) old draft seen → byte < 256 → grown_cursor.count ≡ old.count + 1
-    → ((covered : List ℕ) → Covers draft.check old.checks covered → Covers draft.check grown_cursor.checks (covered ++ byte ∷ []))
-    → NameGoesOn role left byte draft stage after → KeepsCheck draft.check stage after.check → Enters stage grown_cursor new
-    → HasCome stage new after (seen ++ byte ∷ [])
-grown_name role left old grown_cursor new draft after stage seen byte come small counts covers goes keeps enters =
-    let longer = length-grown seen byte in
-    let inside = inside_grown draft old grown_cursor come.start seen byte come.stands covers in
-    entered stage grown_cursor new draft.check after come.start (seen ++ byte ∷ []) (all_grown seen byte come.all_bytes small)
-    (counts ∙ ap (λ (count : ℕ). count + 1) come.count ∙ sym longer) inside.in_block inside.checks keeps enters
+-- bytes of a name
+pub grown_name : (role : Role) (left : ℕ) (old grown_cursor new : Cursor) (draft after : Draft) (stage : Stage) (seen run : List ℕ)
+    → HasCome (Name role left) old draft seen → TakesRun draft.check old grown_cursor run
+    → NameGoesOn role left run draft stage after → KeepsCheck draft.check stage after.check → Enters stage grown_cursor new
+    → HasCome stage new after (seen ++ run)
+grown_name role left old grown_cursor new draft after stage seen run come takes goes keeps enters =
+    let inside = inside_grown draft old grown_cursor come.start seen run come.stands takes in
+    entered stage grown_cursor new draft.check after come.start (seen ++ run) (all_grown seen run come.all_bytes takes.all_bytes)
+    (count_grown draft.check old grown_cursor seen run come.count takes) inside.in_block inside.checks keeps enters
     (λ more.
-    let bytes = (seen ++ byte ∷ []) ++ more in
-    regrown (λ (all : List ℕ). stage_left (Name role left) draft come.start old.place all (length seen)) seen byte come.reads more
-    ∙ goes bytes more come.start old.place (length seen) (next_byte seen more byte)
-    ∙ ap (λ (place : ℕ). stage_left stage after come.start place bytes place) (sym longer))
+    let bytes = (seen ++ run) ++ more in
+    regrown (λ (all : List ℕ). stage_left (Name role left) draft come.start old.place all (length seen)) seen run come.reads more
+    ∙ goes bytes more come.start old.place (length seen) (next_run seen more run)
+    ∙ ap (λ (place : ℕ). stage_left stage after come.start place bytes place) (sym (length-append seen run)))
 
 -- the checks take a byte of a check field's content as zero
 pub record TakesZero (check : CheckType) (old new : Cursor) : Type 0 where
@@ -147,10 +155,10 @@ stored_grown : (check : CheckType) (old new : Cursor) (start : ℕ) (seen : List
 stored_grown check old new start seen byte at takes =
     let front = slice_range seen start old.place in
     let count = length seen - old.place in
-    let longer : length (seen ++ byte ∷ []) - old.place ≡ count + 1 = omega (arith, length-grown seen byte, at.in_bytes) in
+    let longer : length (seen ++ byte ∷ []) - old.place ≡ count + 1 = omega (arith, length-append seen (byte ∷ []), at.in_bytes) in
     record {
-      in_block = omega (arith, length-grown seen byte, at.in_block);
-      in_bytes = omega (arith, length-grown seen byte, at.in_bytes, takes.place);
+      in_block = omega (arith, length-append seen (byte ∷ []), at.in_block);
+      in_bytes = omega (arith, length-append seen (byte ∷ []), at.in_bytes, takes.place);
       checks = rw (takes.place, slice_kept seen (byte ∷ []) start old.place at.in_block at.in_bytes, longer)
           (subst (λ (covered : List ℕ). Covers check new.checks covered)
           (append_assoc front (replicate count 0) (0 ∷ []) ∙ ap (λ (zeros : List ℕ). front ++ zeros) (replicate_more count 0))
@@ -163,18 +171,18 @@ pub grown_stored : (field left stored : ℕ) (kind : CheckKind) (old new : Curso
     → HasCome (Stored field (left - 1) (stored * 256 + byte) kind) new draft (seen ++ byte ∷ [])
 unfolding stage_left
 grown_stored field left stored kind old new draft seen byte come small some takes =
-    let longer = length-grown seen byte in
+    let longer = length-append seen (byte ∷ []) in
     let zeros : length (seen ++ byte ∷ []) + (left - 1) - old.place ≡ length seen + left - old.place = omega (arith, longer, some) in
     record {
-      all_bytes = all_grown seen byte come.all_bytes small;
+      all_bytes = all_grown seen (byte ∷ []) come.all_bytes (one_byte byte small);
       count = takes.count ∙ ap (λ (count : ℕ). count + 1) come.count ∙ sym longer;
       start = come.start;
       reads = λ more.
           let bytes = (seen ++ byte ∷ []) ++ more in
           let check = zeroed_check kind come.start old.place (length seen + left - old.place) bytes in
-          regrown (λ (all : List ℕ). stage_left (Stored field left stored kind) draft come.start old.place all (length seen)) seen byte come.reads more
+          regrown (λ (all : List ℕ). stage_left (Stored field left stored kind) draft come.start old.place all (length seen)) seen (byte ∷ []) come.reads more
           ∙ ap (λ (reading : Reading Bool). by_field draft bytes reading)
-          (stored_left-step left stored check field bytes more byte (length seen) (next_byte seen more byte) some
+          (stored_left-step left stored check field bytes more byte (length seen) (next_run seen more (byte ∷ [])) some
           ∙ rw (takes.place, zeros, longer) refl);
       stands = stored_grown draft.check old new come.start seen byte come.stands takes;
     }
@@ -202,16 +210,16 @@ last_stored : (field left stored expected : ℕ) (kind : CheckKind) (old new : C
 unfolding stage_left
 last_stored field left stored expected kind old new draft seen more byte come one takes checks =
     let bytes = (seen ++ byte ∷ []) ++ more in
-    let longer = length-grown seen byte in
+    let longer = length-append seen (byte ∷ []) in
     let zeros : length seen + left - old.place ≡ length (seen ++ byte ∷ []) - new.place = omega (arith, longer, one, takes.place) in
     let check : zeroed_check kind come.start old.place (length seen + left - old.place) bytes ≡ expected =
     rw (zeros, sym takes.place)
     (checked kind draft.check new expected come.start (seen ++ byte ∷ []) more
     (stored_grown draft.check old new come.start seen byte come.stands takes) checks) in
-    regrown (λ (all : List ℕ). stage_left (Stored field left stored kind) draft come.start old.place all (length seen)) seen byte come.reads more
+    regrown (λ (all : List ℕ). stage_left (Stored field left stored kind) draft come.start old.place all (length seen)) seen (byte ∷ []) come.reads more
     ∙ ap (λ (reading : Reading Bool). by_field draft bytes reading)
     (ap (λ (check : ℕ). stored_left left stored check field bytes (length seen)) check
-    ∙ stored_left-last left stored expected field bytes more byte (length seen) (next_byte seen more byte) one
+    ∙ stored_left-last left stored expected field bytes more byte (length seen) (next_run seen more (byte ∷ [])) one
     ∙ ap (λ (place : ℕ). check_told (stored * 256 + byte == expected) place field) (sym longer))
 
 -- the check is there, and nothing more of the block is checked
@@ -221,8 +229,8 @@ pub equal_stored : (field left stored expected : ℕ) (kind : CheckKind) (old gr
     → BlockEnds (record draft { check = Is None }) stage after → KeepsCheck (Is None) stage after.check → Enters stage grown_cursor new
     → HasCome stage new after (seen ++ byte ∷ [])
 equal_stored field left stored expected kind old grown_cursor new draft after stage seen byte come small one same takes checks ends keeps enters =
-    let longer = length-grown seen byte in
-    entered stage grown_cursor new (Is None) after 0 (seen ++ byte ∷ []) (all_grown seen byte come.all_bytes small)
+    let longer = length-append seen (byte ∷ []) in
+    entered stage grown_cursor new (Is None) after 0 (seen ++ byte ∷ []) (all_grown seen (byte ∷ []) come.all_bytes (one_byte byte small))
     (takes.count ∙ ap (λ (count : ℕ). count + 1) come.count ∙ sym longer) (omega arith) tt keeps enters
     (λ more.
     let bytes = (seen ++ byte ∷ []) ++ more in
@@ -237,9 +245,9 @@ pub other_stored : (field left stored expected : ℕ) (kind : CheckKind) (old ne
     → HasCome (Failed CheckDiffers field) new draft (seen ++ byte ∷ [])
 unfolding stage_left
 other_stored field left stored expected kind old new draft seen byte come small one differs takes checks =
-    let longer = length-grown seen byte in
+    let longer = length-append seen (byte ∷ []) in
     record {
-      all_bytes = all_grown seen byte come.all_bytes small;
+      all_bytes = all_grown seen (byte ∷ []) come.all_bytes (one_byte byte small);
       count = takes.count ∙ ap (λ (count : ℕ). count + 1) come.count ∙ sym longer;
       start = come.start;
       reads = λ more.
@@ -262,14 +270,14 @@ pub trailing : (old new : Cursor) (draft : Draft) (seen : List ℕ) (byte : ℕ)
     → HasCome (Failed Trailing old.place) new draft (seen ++ byte ∷ [])
 unfolding stage_left
 trailing old new draft seen byte come small told counts =
-    let longer = length-grown seen byte in
+    let longer = length-append seen (byte ∷ []) in
     record {
-      all_bytes = all_grown seen byte come.all_bytes small;
+      all_bytes = all_grown seen (byte ∷ []) come.all_bytes (one_byte byte small);
       count = counts ∙ ap (λ (count : ℕ). count + 1) come.count ∙ sym longer;
       start = come.start;
       reads = λ more.
           let bytes = (seen ++ byte ∷ []) ++ more in
-          regrown (λ (all : List ℕ). stage_left Ended draft come.start old.place all (length seen)) seen byte come.reads more
+          regrown (λ (all : List ℕ). stage_left Ended draft come.start old.place all (length seen)) seen (byte ∷ []) come.reads more
           ∙ ends-trailing draft.payload (bundle_of draft old.place).info old.place bytes told
           (omega (arith, length-append (seen ++ byte ∷ []) more, longer, come.stands));
       stands = tt;

@@ -1,22 +1,22 @@
 -- the content of a check field
 
-use Rattle.std.proofs.Common.{◌≡◌, ℕ, zero, suc, ◌+◌, ◌-◌, ◌*◌, ◌^◌, ◌<◌, Bool, true, false, ◌&&◌, List, ◌∷◌, drop, None, Some, Ok, Err, refl, ap, ◌∙◌, arith}
+use Rattle.std.proofs.Common.{◌≡◌, ℕ, zero, suc, ◌+◌, ◌-◌, ◌*◌, ◌^◌, ◌<◌, Bool, true, false, ◌&&◌, List, [], ◌∷◌, drop, None, Some, Ok, Err, refl, ap, ◌∙◌, arith}
 use Rattle.std.specs.Prelude.{IsTrue, nat_lt, nat_le, ◌==◌, if◌then◌else◌}
 use Rattle.std.proofs.lemmas.Bool.Decides.{nat_tests}
 use Rattle.std.proofs.lemmas.Bool.{ltb-true, false≢true}
 use Rattle.link_cbor.specs.declared.check.CheckKind.{CheckKind}
 use Rattle.link_cbor.specs.declared.check.CheckKind.TheVariants.{Crc16, Crc32}
 use Rattle.link_cbor.specs.declared.head.Head.{Head}
-use Rattle.link_bundle.specs.declared.fault.BundleFault.TheVariants.{CheckDiffers}
+use Rattle.link_bundle_types.specs.declared.fault.BundleFault.TheVariants.{CheckDiffers}
 use Rattle.link_bundle.specs.declared.stage.CheckType.{CheckType}
 use Rattle.link_bundle.specs.declared.stage.CheckType.TheVariants.{Unread, Is}
 use Rattle.link_bundle.specs.CheckKinds.{kind_of, is_kind}
 use Rattle.link_bundle.specs.Rows.{◌>>=◌, check_width, check_field}
 use Rattle.link_bundle.specs.Reading.{stopped, Reading, head_at, bytes_at}
-use Rattle.link_bundle.specs.Blocks.{number_from, check_of, field_at}
+use Rattle.link_bundle.specs.CheckField.{number_from, check_of, field_at}
 use Rattle.link_bundle.specs.Left.{zeroed_check, stored_left}
 use Rattle.link_bundle.proofs.Heads.{row_at-told}
-use Rattle.link_bundle.proofs.Runs.{with_byte, bytes_at-step, bytes_at-last}
+use Rattle.link_bundle.proofs.Runs.{with_run, bytes_at-step, bytes_at-last}
 
 -- the check type that was read is that of the field
 pub same_check : (check : CheckType) (kind : CheckKind) → IsTrue (is_kind (kind_of check) kind) → check ≡ Is (Some kind)
@@ -41,11 +41,11 @@ compared : ℕ → ℕ → ℕ → Reading (List ℕ) → Reading Bool
 compared stored expected field reading =
     reading >>= λ (rest, next). if number_from stored rest == expected then Ok (true, next) else Err (stopped CheckDiffers field)
 
-compared-with_byte : (stored expected field byte : ℕ) (reading : Reading (List ℕ))
-    → compared stored expected field (with_byte byte reading) ≡ compared (stored * 256 + byte) expected field reading
+compared-with_run : (stored expected field byte : ℕ) (reading : Reading (List ℕ))
+    → compared stored expected field (with_run (byte ∷ []) reading) ≡ compared (stored * 256 + byte) expected field reading
 unfolding compared
-compared-with_byte stored expected field byte (Ok (rest, next)) = refl
-compared-with_byte stored expected field byte (Err stop) = refl
+compared-with_run stored expected field byte (Ok (rest, next)) = refl
+compared-with_run stored expected field byte (Err stop) = refl
 
 pub stored_left-step : (left stored expected field : ℕ) (bytes more : List ℕ) (byte place : ℕ)
     → drop place bytes ≡ byte ∷ more → 0 < left
@@ -53,7 +53,7 @@ pub stored_left-step : (left stored expected field : ℕ) (bytes more : List ℕ
 unfolding stored_left compared
 stored_left-step left stored expected field bytes more byte place here some =
     ap (λ (reading : Reading (List ℕ)). compared stored expected field reading) (bytes_at-step left bytes more byte place here some)
-    ∙ compared-with_byte stored expected field byte (bytes_at (left - 1) bytes (place + 1))
+    ∙ compared-with_run stored expected field byte (bytes_at (left - 1) bytes (place + 1))
 
 -- the last byte
 pub stored_left-last : (left stored expected field : ℕ) (bytes more : List ℕ) (byte place : ℕ)
@@ -80,13 +80,17 @@ has_room_at (suc (suc (suc zero))) stored byte fits small = record { wants = ome
 has_room_at (suc (suc (suc (suc zero)))) stored byte fits small = record { wants = omega arith; scaled = omega (arith, ltb-true stored (256 ^ 0) fits) }
 has_room_at (suc (suc (suc (suc (suc left))))) stored byte fits small = absurd (grind (arith, nat_tests))
 
-pub behind_and : (a b : Bool) → IsTrue (a && b) → IsTrue b
-behind_and true b both = both
-behind_and false b both = absurd (false≢true both)
+pub after_and : (a b : Bool) → IsTrue (a && b) → IsTrue b
+after_and true b both = both
+after_and false b both = absurd (false≢true both)
 
 pub before_and : (a b : Bool) → IsTrue (a && b) → IsTrue a
 before_and true b both = refl
 before_and false b both = absurd (false≢true both)
 
+-- bytes of a content are left
+pub some_left : (left : ℕ) (fits : Bool) → IsTrue (nat_lt 0 left && fits) → 0 < left
+some_left left fits both = ltb-true 0 left (before_and (nat_lt 0 left) fits both)
+
 pub has_room : (settled : Bool) (left stored byte : ℕ) → IsTrue (settled && room left stored) → byte < 256 → HasRoom left stored byte
-has_room settled left stored byte fits small = has_room_at left stored byte (behind_and settled (room left stored) fits) small
+has_room settled left stored byte fits small = has_room_at left stored byte (after_and settled (room left stored) fits) small

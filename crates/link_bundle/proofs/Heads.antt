@@ -6,10 +6,12 @@ use Rattle.std.specs.Bool.{then_some}
 use Rattle.link_bundle.proofs.Runs.{bytes_at-none}
 use Rattle.link_cbor.specs.declared.check.CheckKind.{CheckKind}
 use Rattle.link_cbor.specs.declared.head.Head.{Head}
-use Rattle.link_bundle.specs.declared.fault.BundleFault.{BundleFault}
+use Rattle.link_bundle_types.specs.declared.fault.BundleFault.{BundleFault}
 use Rattle.link_bundle.specs.Rows.{◌>>=◌, closing}
 use Rattle.link_bundle.specs.Reading.{Stop, stopped, head_at, row_at}
-use Rattle.link_bundle.specs.Blocks.{Primary, field_at, content_at}
+use Rattle.link_bundle.specs.CheckField.{field_at}
+use Rattle.link_bundle.specs.Primary.{Primary}
+use Rattle.link_bundle.specs.Canonical.{content_at}
 use Rattle.link_bundle.specs.Bundle.{info_of, payload_at, blocks_at}
 use Rattle.link_bundle.specs.Left.{ends_of, with_note, block_end, span_of}
 

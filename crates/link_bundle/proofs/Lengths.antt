@@ -9,14 +9,16 @@ use Rattle.link_cbor.specs.declared.check.CheckKind.{CheckKind}
 use Rattle.link_cbor.specs.declared.head.Head.{Head}
 use Rattle.link_cbor.specs.Head.{HeadFront, Cut as CutHead, IllFormed, Whole, big_endian, with_argument, argument_front, no_argument, front_by, head_front}
 use Rattle.link_cbor.specs.HeadLaws.{argument_front-cut, argument_front-there, front_by-small, front_by-argument, front_by-reserved, front_by-none}
-use Rattle.link_bundle.specs.declared.fault.BundleFault.{BundleFault}
-use Rattle.link_bundle.specs.declared.fault.BundleFault.TheVariants.{Cut, Trailing}
-use Rattle.link_bundle.specs.declared.info.BundleInfo.{BundleInfo}
-use Rattle.link_bundle.specs.Faults.{lasts}
+use Rattle.link_bundle_types.specs.declared.fault.BundleFault.{BundleFault}
+use Rattle.link_bundle_types.specs.declared.fault.BundleFault.TheVariants.{Cut, Trailing}
+use Rattle.link_bundle_types.specs.declared.info.BundleInfo.{BundleInfo}
+use Rattle.link_bundle_types.specs.Faults.{lasts}
 use Rattle.link_bundle.specs.Laws.{FaultLasts, TrailingLasts}
 use Rattle.link_bundle.specs.Rows.{◌>>=◌, unsigned, byte_string, block, block_too_many, block_number, block_check_type, closing}
 use Rattle.link_bundle.specs.Reading.{Stop, Reading, placed, judged_at, head_at, row_at}
-use Rattle.link_bundle.specs.Blocks.{Primary, primary_at, field_at, content_at}
+use Rattle.link_bundle.specs.CheckField.{field_at}
+use Rattle.link_bundle.specs.Primary.{Primary, primary_at}
+use Rattle.link_bundle.specs.Canonical.{content_at}
 use Rattle.link_bundle.specs.Bundle.{Bundle, noting, info_of, payload_at, blocks_at, opening_at, bundle_at, ends, judged, told, verdict}
 use Rattle.link_bundle.proofs.Steady.{Stays, cuts, same, bundle_at-stays}
 
@@ -57,6 +59,10 @@ head_front-within : (bytes : List ℕ) → HeadWithin bytes (head_front bytes)
 unfolding head_front HeadWithin
 head_front-within [] = tt
 head_front-within (first ∷ rest) = front_by-within first rest (first / 32) (first % 32)
+
+pub whole-within : (bytes : List ℕ) (head : Head) (size : ℕ) → head_front bytes ≡ Whole head size → size ≤ length bytes
+unfolding HeadWithin
+whole-within bytes head size told = rw told at (head_front-within bytes)
 
 -- what is read ends within the bytes
 NextWithin : {A : Type 0} → List ℕ → Reading A → Type 0

@@ -2,7 +2,7 @@ pub mod Heads
 pub mod Runs
 pub mod Names
 pub mod Fields
-pub mod Blocks
+pub mod Canonical
 pub mod Stops
 pub mod Steps
 pub mod Contents
@@ -11,3 +11,5 @@ pub mod Verdicts
 pub mod Steady
 pub mod Lengths
 pub mod Notes
+pub mod Feeding
+pub mod FirstHead

@@ -1,78 +1,99 @@
--- the name of an endpoint ID, byte by byte
+-- an endpoint ID that goes to its place, and its name in runs
 
-use Rattle.std.proofs.Common.{◌≡◌, ◌≢◌, ℕ, ◌+◌, ◌-◌, ◌<◌, ◌≤◌, ◌&&◌, List, [], ◌∷◌, ◌++◌, length, drop, Some, Ok, Err, refl, sym, ap, ◌∙◌, append_assoc, arith}
-use Rattle.std.specs.Prelude.{IsTrue, nat_lt, nat_le}
-use Rattle.std.proofs.lemmas.Bool.Decides.{nat_tests}
-use Rattle.arrayvec.specs.ArrayVec.{ArrayVec}
+use Rattle.std.proofs.Common.{◌≡◌, ℕ, ◌+◌, ◌-◌, ◌<◌, ◌≤◌, List, ◌++◌, length, drop, Result, Ok, Err, refl, sym, ap, ◌∙◌, append_assoc, append-nil, arith}
 use Rattle.link_bundle.specs.declared.draft.Draft.{Draft}
-use Rattle.link_bundle.specs.declared.eid.Eid.{Eid}
-use Rattle.link_bundle.specs.declared.eid.Eid.TheVariants.{Dtn}
+use Rattle.link_bundle_types.specs.declared.eid.Eid.{Eid}
+use Rattle.link_bundle_types.specs.declared.eid.Eid.TheVariants.{Dtn}
 use Rattle.link_bundle.specs.declared.stage.Role.{Role}
 use Rattle.link_bundle.specs.declared.stage.Role.TheVariants.{Destination, Source, ReportTo}
+use Rattle.link_bundle.specs.declared.stage.Stage.TheVariants.{Name}
+use Rattle.link_bundle.specs.Bundle.{Bundle}
 use Rattle.link_bundle.specs.Rows.{◌>>=◌}
-use Rattle.link_bundle.specs.Reading.{Reading, bytes_at}
-use Rattle.link_bundle.specs.EndpointId.{dtn_at}
-use Rattle.link_bundle.specs.Left.{behind_role, behind_eid, name_left, source_left, report_to_left, timestamp_left, time_left, sequence_left, lifetime_left}
-use Rattle.link_bundle.proofs.Runs.{with_byte, bytes_at-step, bytes_at-last}
+use Rattle.link_bundle.specs.Reading.{Reading, Stop, bytes_at}
+use Rattle.link_bundle.specs.Left.{with_eid, after_eid, after_primary, ends_of, with_note, kept_name, name_left, field_left, stage_left, source_left, report_to_left}
+use Rattle.link_bundle.specs.Stages.{stage_after}
+use Rattle.link_bundle.proofs.Runs.{with_run, bytes_at-none, bytes_at-run, run_within}
 
--- the name that was read makes no difference behind it
-behind_role-named : (role : Role) (draft : Draft) (name : ArrayVec ℕ) (eid : Eid) (bytes : List ℕ) (place : ℕ)
-    → behind_role role (record draft { name = name }) eid bytes place ≡ behind_role role draft eid bytes place
-unfolding source_left report_to_left timestamp_left time_left sequence_left lifetime_left
-behind_role-named Destination draft name eid bytes place = refl
-behind_role-named Source draft name eid bytes place = refl
-behind_role-named ReportTo draft name eid bytes place = refl
+-- the reading of the whole bundle, by what stands at an endpoint ID
+abbrev by_eid : Role → Draft → ℕ → List ℕ → Reading Eid → Result Bundle Stop
+by_eid role draft start bytes reading =
+    ends_of bytes (with_note draft.payload (after_primary draft start bytes (after_eid role draft bytes reading)))
 
-pub behind_eid-named : (role : Role) (draft : Draft) (name : ArrayVec ℕ) (bytes : List ℕ) (reading : Reading Eid)
-    → behind_eid role (record draft { name = name }) bytes reading ≡ behind_eid role draft bytes reading
-behind_eid-named role draft name bytes (Ok (eid, place)) = behind_role-named role draft name eid bytes place
-behind_eid-named role draft name bytes (Err stop) = refl
+-- an endpoint ID that was read is in its place
+pub eid_ends : (role : Role) (old new : Draft) (eid : Eid) (bytes : List ℕ) (start next : ℕ) → new ≡ with_eid role old eid
+    → by_eid role old start bytes (Ok (eid, next)) ≡ stage_left (stage_after role) new start next bytes next
+unfolding stage_left field_left source_left report_to_left
+eid_ends Destination old new eid bytes start next is = rw is refl
+eid_ends Source old new eid bytes start next is = rw is refl
+eid_ends ReportTo old new eid bytes start next is = rw is refl
 
 -- the name of these bytes and those that a reading gives
-abbrev pub name_of : List ℕ → Reading (List ℕ) → Reading Eid
-name_of name reading = reading >>= λ (rest, place). Ok (Dtn (record { items = name ++ rest }), place)
+abbrev name_then : List ℕ → Reading (List ℕ) → Reading Eid
+name_then name reading = reading >>= λ (rest, place). Ok (Dtn (record { items = name ++ rest }), place)
 
-pub name_of-with_byte : (name : List ℕ) (byte : ℕ) (reading : Reading (List ℕ))
-    → name_of name (with_byte byte reading) ≡ name_of (name ++ byte ∷ []) reading
-name_of-with_byte name byte (Ok (rest, place)) =
-    ap (λ (items : List ℕ). Ok (Dtn (record { items = items }), place)) (sym (append_assoc name (byte ∷ []) rest))
-name_of-with_byte name byte (Err stop) = refl
+name_then-with_run : (name run : List ℕ) (reading : Reading (List ℕ)) → name_then name (with_run run reading) ≡ name_then (name ++ run) reading
+name_then-with_run name run (Ok (rest, place)) =
+    ap (λ (items : List ℕ). Ok (Dtn (record { items = items }), place)) (sym (append_assoc name run rest))
+name_then-with_run name run (Err stop) = refl
 
-pub name_begins : (role : Role) (draft : Draft) (name : ArrayVec ℕ) (left : ℕ) (bytes : List ℕ) (place : ℕ) → name.items ≡ []
-    → behind_eid role draft bytes (dtn_at (Some left) bytes place)
-    ≡ behind_eid role (record draft { name = name }) bytes (name_left (record draft { name = name }) left bytes place)
-unfolding dtn_at name_left
-name_begins role draft name left bytes place empty =
-    ap (λ (items : List ℕ). behind_eid role draft bytes (name_of items (bytes_at left bytes place))) (sym empty)
-    ∙ sym (behind_eid-named role draft name bytes (name_of name.items (bytes_at left bytes place)))
-
-pub name_goes_on : (role : Role) (draft : Draft) (name : ArrayVec ℕ) (left : ℕ) (bytes more : List ℕ) (byte place : ℕ)
-    → drop place bytes ≡ byte ∷ more → 0 < left → name.items ≡ draft.name.items ++ byte ∷ []
-    → behind_eid role draft bytes (name_left draft left bytes place)
-    ≡ behind_eid role (record draft { name = name }) bytes (name_left (record draft { name = name }) (left - 1) bytes (place + 1))
+name_left-run : (name run : List ℕ) (left : ℕ) (bytes more : List ℕ) (place : ℕ) → drop place bytes ≡ run ++ more → length run ≤ left
+    → name_left name left bytes place ≡ name_left (name ++ run) (left - length run) bytes (place + length run)
 unfolding name_left
-name_goes_on role draft name left bytes more byte place here some pushed =
-    ap (λ (reading : Reading Eid). behind_eid role draft bytes reading)
-    (ap (λ (reading : Reading (List ℕ)). name_of draft.name.items reading) (bytes_at-step left bytes more byte place here some)
-    ∙ name_of-with_byte draft.name.items byte (bytes_at (left - 1) bytes (place + 1))
-    ∙ ap (λ (items : List ℕ). name_of items (bytes_at (left - 1) bytes (place + 1))) (sym pushed))
-    ∙ sym (behind_eid-named role draft name bytes (name_of name.items (bytes_at (left - 1) bytes (place + 1))))
+name_left-run name run left bytes more place here fits =
+    ap (λ (reading : Reading (List ℕ)). name_then name reading) (bytes_at-run left bytes more run place here fits)
+    ∙ name_then-with_run name run (bytes_at (left - length run) bytes (place + length run))
 
-pub name_ends : (role : Role) (draft : Draft) (name after : ArrayVec ℕ) (left : ℕ) (bytes more : List ℕ) (byte place : ℕ)
-    → drop place bytes ≡ byte ∷ more → left ≡ 1 → name.items ≡ draft.name.items ++ byte ∷ []
-    → behind_eid role draft bytes (name_left draft left bytes place)
-    ≡ behind_eid role (record draft { name = after }) bytes (Ok (Dtn name, place + 1))
+-- the bytes so far of a name are in its place, and those of the report-to endpoint nowhere
+in_place : (role : Role) (draft : Draft) (name : List ℕ) (start : ℕ) (bytes : List ℕ) (reading : Reading (List ℕ))
+    → by_eid role draft start bytes (name_then name reading)
+    ≡ by_eid role (with_eid role draft (Dtn (record { items = name }))) start bytes
+    (name_then (kept_name role (with_eid role draft (Dtn (record { items = name })))) reading)
+in_place Destination draft name start bytes (Ok (rest, place)) = refl
+in_place Destination draft name start bytes (Err stop) = refl
+in_place Source draft name start bytes (Ok (rest, place)) = refl
+in_place Source draft name start bytes (Err stop) = refl
+in_place ReportTo draft name start bytes (Ok (rest, place)) = refl
+in_place ReportTo draft name start bytes (Err stop) = refl
+
+-- a name goes on
+pub name_goes_on : (role : Role) (old new : Draft) (name : List ℕ) (left : ℕ) (bytes : List ℕ) (start field place : ℕ)
+    → new ≡ with_eid role old (Dtn (record { items = name }))
+    → by_eid role old start bytes (name_left name left bytes place) ≡ stage_left (Name role left) new start field bytes place
+unfolding stage_left name_left
+name_goes_on role old new name left bytes start field place is =
+    in_place role old name start bytes (bytes_at left bytes place)
+    ∙ ap (λ (draft : Draft). by_eid role draft start bytes (name_then (kept_name role draft) (bytes_at left bytes place))) (sym is)
+
+-- a name is whole
+pub name_ends : (role : Role) (old new : Draft) (name bytes : List ℕ) (start next : ℕ) → next ≤ length bytes
+    → new ≡ with_eid role old (Dtn (record { items = name }))
+    → by_eid role old start bytes (name_left name 0 bytes next) ≡ stage_left (stage_after role) new start next bytes next
 unfolding name_left
-name_ends role draft name after left bytes more byte place here one pushed =
-    ap (λ (reading : Reading Eid). behind_eid role draft bytes reading)
-    (ap (λ (left : ℕ). name_of draft.name.items (bytes_at left bytes place)) one
-    ∙ ap (λ (reading : Reading (List ℕ)). name_of draft.name.items reading) (bytes_at-last bytes more byte place here)
-    ∙ ap (λ (items : List ℕ). Ok (Dtn (record { items = items }), place + 1)) (sym pushed))
-    ∙ sym (behind_eid-named role draft after bytes (Ok (Dtn name, place + 1)))
+name_ends role old new name bytes start next within is =
+    ap (λ (reading : Reading (List ℕ)). by_eid role old start bytes (name_then name reading)) (bytes_at-none bytes next within)
+    ∙ ap (λ (items : List ℕ). by_eid role old start bytes (Ok (Dtn (record { items = items }), next))) (append-nil name)
+    ∙ eid_ends role old new (Dtn (record { items = name })) bytes start next is
 
-pub name_fits : (items : List ℕ) (left : ℕ) → items ≡ [] → left ≢ 0 → left ≤ 1024
-    → IsTrue (nat_lt 0 left && nat_le (length items + left) 1024)
-name_fits items left empty some short = rw empty (grind (arith, nat_tests))
+-- the same after more of its bytes
+pub name_run_goes_on : (role : Role) (old new : Draft) (run : List ℕ) (left rest : ℕ) (bytes more : List ℕ) (start field place : ℕ)
+    → drop place bytes ≡ run ++ more → length run ≤ left → rest ≡ left - length run
+    → new ≡ with_eid role old (Dtn (record { items = kept_name role old ++ run }))
+    → stage_left (Name role left) old start field bytes place
+    ≡ stage_left (Name role rest) new start (place + length run) bytes (place + length run)
+unfolding stage_left
+name_run_goes_on role old new run left rest bytes more start field place here fits is_rest is =
+    ap (λ (reading : Reading Eid). by_eid role old start bytes reading) (name_left-run (kept_name role old) run left bytes more place here fits)
+    ∙ ap (λ (rest : ℕ). by_eid role old start bytes (name_left (kept_name role old ++ run) rest bytes (place + length run))) (sym is_rest)
+    ∙ name_goes_on role old new (kept_name role old ++ run) rest bytes start (place + length run) (place + length run) is
 
-pub name_wants : (items : List ℕ) (left : ℕ) → IsTrue (nat_lt 0 left && nat_le (length items + left) 1024) → 0 < left
-name_wants items left fits = grind (arith, nat_tests)
+pub name_run_ends : (role : Role) (old new : Draft) (run : List ℕ) (left : ℕ) (bytes more : List ℕ) (start field place : ℕ)
+    → drop place bytes ≡ run ++ more → 0 < left → left ≡ length run
+    → new ≡ with_eid role old (Dtn (record { items = kept_name role old ++ run }))
+    → stage_left (Name role left) old start field bytes place
+    ≡ stage_left (stage_after role) new start (place + length run) bytes (place + length run)
+unfolding stage_left
+name_run_ends role old new run left bytes more start field place here some all is =
+    let none : left - length run ≡ 0 = omega arith in
+    ap (λ (reading : Reading Eid). by_eid role old start bytes reading) (name_left-run (kept_name role old) run left bytes more place here (omega arith))
+    ∙ ap (λ (rest : ℕ). by_eid role old start bytes (name_left (kept_name role old ++ run) rest bytes (place + length run))) none
+    ∙ name_ends role old new (kept_name role old ++ run) bytes start (place + length run) (run_within bytes more run place here (omega arith)) is

@@ -5,14 +5,16 @@ use Rattle.std.specs.Prelude.{◌==◌, if◌then◌else◌}
 use Rattle.link_cbor.specs.declared.check.CheckKind.{CheckKind}
 use Rattle.link_cbor.specs.declared.head.Head.{Head}
 use Rattle.link_cbor.specs.Head.{HeadFront, Cut as CutHead, IllFormed, Whole}
-use Rattle.link_bundle.specs.declared.fault.BundleFault.{BundleFault}
+use Rattle.link_bundle_types.specs.declared.fault.BundleFault.{BundleFault}
 use Rattle.link_bundle.specs.declared.stage.Scheme.{Scheme}
 use Rattle.link_bundle.specs.declared.stage.Scheme.TheVariants.{Dtn, Ipn}
 use Rattle.link_bundle.specs.Laws.{PayloadLasts}
 use Rattle.link_bundle.specs.Rows.{◌>>=◌, unsigned, byte_string, pair, scheme, dtn_part, ipn_part, version, is_fragment, primary_block, primary_check_type, block, block_too_many, block_number, block_check_type, check_width, check_field, closing}
 use Rattle.link_bundle.specs.Reading.{Stop, Reading, cut_short, placed, judged_at, head_at, row_at, bytes_at}
-use Rattle.link_bundle.specs.EndpointId.{dtn_at, specific_at, eid_at}
-use Rattle.link_bundle.specs.Blocks.{Primary, number_from, check_of, field_at, fragment_at, primary_at, content_at}
+use Rattle.link_bundle.specs.EndpointId.{dtn_at, ipn_at, specific_at, eid_at}
+use Rattle.link_bundle.specs.CheckField.{number_from, check_of, field_at}
+use Rattle.link_bundle.specs.Primary.{Primary, fragment_at, primary_at}
+use Rattle.link_bundle.specs.Canonical.{content_at}
 use Rattle.link_bundle.specs.Bundle.{Bundle, noting, payload_at, blocks_at, opening_at, bundle_at, ends, judged, noted}
 use Rattle.link_bundle.proofs.Steady.{Stays, cuts, same, row_at-stays, field_at-stays, content_at-stays, primary_at-stays, opening_at-stays}
 
@@ -55,13 +57,21 @@ unfolding dtn_at Plain
 plain-dtn None bytes place = tt
 plain-dtn (Some count) bytes place = plain-then (bytes_at count bytes place) _ (plain-bytes count bytes place) (λ name. tt)
 
+plain-ipn : (allocated : Bool) (bytes : List ℕ) (place : ℕ) → Plain (ipn_at allocated bytes place)
+unfolding ipn_at Plain
+plain-ipn false bytes place =
+    plain-then (row_at unsigned bytes place) _ (plain-row unsigned bytes place)
+    (λ (node, place). plain-then (row_at unsigned bytes place) _ (plain-row unsigned bytes place) (λ service. tt))
+plain-ipn true bytes place =
+    plain-then (row_at unsigned bytes place) _ (plain-row unsigned bytes place)
+    (λ (allocator, place). plain-then (row_at unsigned bytes place) _ (plain-row unsigned bytes place)
+    (λ (node, place). plain-then (row_at unsigned bytes place) _ (plain-row unsigned bytes place) (λ service. tt)))
+
 plain-specific : (which : Scheme) (bytes : List ℕ) (place : ℕ) → Plain (specific_at which bytes place)
 unfolding specific_at Plain
 plain-specific Dtn bytes place = plain-then (row_at dtn_part bytes place) _ (plain-row dtn_part bytes place) (λ (part, next). plain-dtn part bytes next)
 plain-specific Ipn bytes place =
-    plain-then (row_at ipn_part bytes place) _ (plain-row ipn_part bytes place)
-    (λ (_, place). plain-then (row_at unsigned bytes place) _ (plain-row unsigned bytes place)
-    (λ (node, place). plain-then (row_at unsigned bytes place) _ (plain-row unsigned bytes place) (λ service. tt)))
+    plain-then (row_at ipn_part bytes place) _ (plain-row ipn_part bytes place) (λ (count, place). plain-ipn (count == 3) bytes place)
 
 plain-eid : (bytes : List ℕ) (place : ℕ) → Plain (eid_at bytes place)
 unfolding eid_at

@@ -1,30 +1,30 @@
 -- the bundle's first byte
 
-use Rattle.std.proofs.Common.{◌≡◌, ◌≢◌, ℕ, ◌+◌, ◌<◌, ◌&&◌, List, [], ◌∷◌, ◌++◌, length, Option, None, Some, Err, refl, sym, ap, subst, ◌∙◌, arith}
+use Rattle.std.proofs.Common.{◌≡◌, ◌≢◌, ℕ, ◌+◌, ◌<◌, ◌&&◌, List, [], ◌∷◌, ◌++◌, length, Option, None, Some, Err, refl, sym, ap, subst, ◌∙◌, length-append, arith}
 use Rattle.std.specs.Prelude.{IsTrue, is_none, ◌==◌}
 use Rattle.std.proofs.lemmas.Bool.{ne_eqb, false≢true}
 use Rattle.std.proofs.lemmas.Bool.Decides.{nat_tests}
 use Rattle.std.proofs.Math.Seq.{drop-length}
 use Rattle.link_bundle.specs.declared.cursor.Cursor.{Cursor}
 use Rattle.link_bundle.specs.declared.draft.Draft.{Draft}
-use Rattle.link_bundle.specs.declared.fault.BundleFault.TheVariants.{NotABundle}
+use Rattle.link_bundle_types.specs.declared.fault.BundleFault.TheVariants.{NotABundle}
 use Rattle.link_bundle.specs.declared.stage.Field.TheVariants as field
 use Rattle.link_bundle.specs.declared.stage.PrimaryField.TheVariants as primary
 use Rattle.link_bundle.specs.declared.stage.Stage.TheVariants.{Start, Head, Failed}
 use Rattle.link_bundle.specs.CheckKinds.{is_unread}
 use Rattle.link_bundle.specs.Fits.{stage_fits}
 use Rattle.link_bundle.specs.Reading.{stopped}
-use Rattle.link_bundle.specs.Blocks.{primary_at}
+use Rattle.link_bundle.specs.Primary.{primary_at}
 use Rattle.link_bundle.specs.Bundle.{opening_at, bundle_at, judged}
 use Rattle.link_bundle.specs.Left.{field_left, stage_left, with_note, primary_block_left, version_left, flags_left, check_type_left, destination_left, source_left, report_to_left, timestamp_left, time_left, sequence_left, lifetime_left}
 use Rattle.link_bundle.specs.Scan.{HasCome}
-use Rattle.link_bundle.proofs.Fields.{before_and, behind_and}
-use Rattle.link_bundle.proofs.Steps.{Enters, entered, all_grown, length-grown}
+use Rattle.link_bundle.proofs.Fields.{before_and, after_and}
+use Rattle.link_bundle.proofs.Steps.{Enters, entered, all_grown, one_byte}
 
 -- a draft that nothing was put into
 pub record IsBlank (draft : Draft) : Type 0 where
   pub payload : draft.payload ≡ None
-  pub numbers : draft.numbers.items ≡ []
+  pub numbers : draft.numbers ≡ []
 
 none_of : (payload : Option (ℕ × ℕ)) → IsTrue (is_none payload) → payload ≡ None
 none_of None told = refl
@@ -36,10 +36,10 @@ empty_of (number ∷ numbers) told = absurd (grind (arith, nat_tests))
 
 pub blank : (draft : Draft) → IsTrue (stage_fits Start draft) → IsBlank draft
 blank draft fits = record {
-  payload = none_of draft.payload (before_and (is_none draft.payload) (is_unread draft.check && (length draft.numbers.items == 0)) fits);
-  numbers = empty_of draft.numbers.items
-      (behind_and (is_unread draft.check) (length draft.numbers.items == 0)
-      (behind_and (is_none draft.payload) (is_unread draft.check && (length draft.numbers.items == 0)) fits));
+  payload = none_of draft.payload (before_and (is_none draft.payload) (is_unread draft.check && (length draft.numbers == 0)) fits);
+  numbers = empty_of draft.numbers
+      (after_and (is_unread draft.check) (length draft.numbers == 0)
+      (after_and (is_none draft.payload) (is_unread draft.check && (length draft.numbers == 0)) fits));
 }
 
 open_reads : (draft : Draft) (more : List ℕ) (start : ℕ) → IsBlank draft
@@ -59,10 +59,10 @@ pub opened : (old grown_cursor new : Cursor) (draft : Draft) (seen : List ℕ) (
     → HasCome (Head (field.Primary primary.Block)) new draft (seen ++ byte ∷ [])
 opened old grown_cursor new draft seen byte come fits is counts same enters =
     let now = seen ++ byte ∷ [] in
-    let longer = length-grown seen byte in
+    let longer = length-append seen (byte ∷ []) in
     let first : now ≡ 0x9f ∷ [] = ap (λ (seen : List ℕ). seen ++ byte ∷ []) come.stands.nothing ∙ ap (λ (byte : ℕ). byte ∷ []) is in
     entered (Head (field.Primary primary.Block)) grown_cursor new draft.check draft (length now) now
-    (all_grown seen byte come.all_bytes (omega arith)) (counts ∙ ap (λ (count : ℕ). count + 1) come.count ∙ sym longer) (omega arith)
+    (all_grown seen (byte ∷ []) come.all_bytes (one_byte byte (omega arith))) (counts ∙ ap (λ (count : ℕ). count + 1) come.count ∙ sym longer) (omega arith)
     (rw (same, drop-length now) come.stands.checks) (refl, λ _ _ checks covered covers. covers) enters
     (λ more. subst (λ (now : List ℕ). judged (now ++ more)
     ≡ stage_left (Head (field.Primary primary.Block)) draft (length now) (length now) (now ++ more) (length now)) (sym first)
@@ -73,8 +73,8 @@ pub not_opened : (old new : Cursor) (draft : Draft) (seen : List ℕ) (byte : �
     → HasCome (Failed NotABundle 0) new draft (seen ++ byte ∷ [])
 unfolding stage_left
 not_opened old new draft seen byte come small fits other counts = record {
-  all_bytes = all_grown seen byte come.all_bytes small;
-  count = counts ∙ ap (λ (count : ℕ). count + 1) come.count ∙ sym (length-grown seen byte);
+  all_bytes = all_grown seen (byte ∷ []) come.all_bytes (one_byte byte small);
+  count = counts ∙ ap (λ (count : ℕ). count + 1) come.count ∙ sym (length-append seen (byte ∷ []));
   start = 0;
   reads = λ more. ap (λ (seen : List ℕ). judged ((seen ++ byte ∷ []) ++ more)) come.stands.nothing ∙ other_reads draft byte more (blank draft fits) other;
   stands = tt;

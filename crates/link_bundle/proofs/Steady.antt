@@ -9,14 +9,16 @@ use Rattle.link_cbor.specs.declared.check.CheckKind.{CheckKind}
 use Rattle.link_cbor.specs.declared.head.Head.{Head}
 use Rattle.link_cbor.specs.Head.{HeadFront, Cut as CutHead, IllFormed, Whole, head_front, is_cut}
 use Rattle.link_cbor.specs.HeadLaws.{told_stays}
-use Rattle.link_bundle.specs.declared.fault.BundleFault.{BundleFault}
-use Rattle.link_bundle.specs.declared.fault.BundleFault.TheVariants.{Cut, CheckDiffers}
+use Rattle.link_bundle_types.specs.declared.fault.BundleFault.{BundleFault}
+use Rattle.link_bundle_types.specs.declared.fault.BundleFault.TheVariants.{Cut, CheckDiffers}
 use Rattle.link_bundle.specs.declared.stage.Scheme.{Scheme}
 use Rattle.link_bundle.specs.declared.stage.Scheme.TheVariants.{Dtn, Ipn}
 use Rattle.link_bundle.specs.Rows.{◌>>=◌, unsigned, byte_string, pair, scheme, dtn_part, ipn_part, version, is_fragment, primary_block, primary_check_type, block, block_too_many, block_number, block_check_type, check_width, check_field, closing}
 use Rattle.link_bundle.specs.Reading.{Stop, stopped, placed, head_at, row_at, bytes_at}
-use Rattle.link_bundle.specs.EndpointId.{dtn_at, specific_at, eid_at}
-use Rattle.link_bundle.specs.Blocks.{Primary, number_from, check_of, field_at, fragment_at, primary_at, content_at}
+use Rattle.link_bundle.specs.EndpointId.{dtn_at, ipn_at, specific_at, eid_at}
+use Rattle.link_bundle.specs.CheckField.{number_from, check_of, field_at}
+use Rattle.link_bundle.specs.Primary.{Primary, fragment_at, primary_at}
+use Rattle.link_bundle.specs.Canonical.{content_at}
 use Rattle.link_bundle.specs.Bundle.{noting, payload_at, blocks_at, opening_at, bundle_at}
 
 -- the reading ends where the bytes end
@@ -87,6 +89,18 @@ dtn_at-stays None bytes more place = same refl
 dtn_at-stays (Some count) bytes more place =
     stays-then (bytes_at count bytes place) (bytes_at count (bytes ++ more) place) _ _ (bytes_at-stays count bytes more place) (λ name. same refl)
 
+ipn_at-stays : (allocated : Bool) (bytes more : List ℕ) (place : ℕ) → Stays (ipn_at allocated bytes place) (ipn_at allocated (bytes ++ more) place)
+unfolding ipn_at
+ipn_at-stays false bytes more place =
+    stays-then (row_at unsigned bytes place) (row_at unsigned (bytes ++ more) place) _ _ (row_at-stays unsigned bytes more place)
+    (λ (node, place). stays-then (row_at unsigned bytes place) (row_at unsigned (bytes ++ more) place) _ _ (row_at-stays unsigned bytes more place)
+    (λ service. same refl))
+ipn_at-stays true bytes more place =
+    stays-then (row_at unsigned bytes place) (row_at unsigned (bytes ++ more) place) _ _ (row_at-stays unsigned bytes more place)
+    (λ (allocator, place). stays-then (row_at unsigned bytes place) (row_at unsigned (bytes ++ more) place) _ _ (row_at-stays unsigned bytes more place)
+    (λ (node, place). stays-then (row_at unsigned bytes place) (row_at unsigned (bytes ++ more) place) _ _ (row_at-stays unsigned bytes more place)
+    (λ service. same refl)))
+
 specific_at-stays : (which : Scheme) (bytes more : List ℕ) (place : ℕ) → Stays (specific_at which bytes place) (specific_at which (bytes ++ more) place)
 unfolding specific_at
 specific_at-stays Dtn bytes more place =
@@ -94,9 +108,7 @@ specific_at-stays Dtn bytes more place =
     (λ (part, next). dtn_at-stays part bytes more next)
 specific_at-stays Ipn bytes more place =
     stays-then (row_at ipn_part bytes place) (row_at ipn_part (bytes ++ more) place) _ _ (row_at-stays ipn_part bytes more place)
-    (λ (_, place). stays-then (row_at unsigned bytes place) (row_at unsigned (bytes ++ more) place) _ _ (row_at-stays unsigned bytes more place)
-    (λ (node, place). stays-then (row_at unsigned bytes place) (row_at unsigned (bytes ++ more) place) _ _ (row_at-stays unsigned bytes more place)
-    (λ service. same refl)))
+    (λ (count, place). ipn_at-stays (count == 3) bytes more place)
 
 eid_at-stays : (bytes more : List ℕ) (place : ℕ) → Stays (eid_at bytes place) (eid_at (bytes ++ more) place)
 unfolding eid_at

@@ -7,7 +7,7 @@ use Rattle.std.specs.Bool.{MatchBool}
 use Rattle.std.proofs.lemmas.List.{drop-append-le}
 use Rattle.std.proofs.Math.Nat.{sub_self}
 use Rattle.std.proofs.Math.Seq.{drop-append_seam, drop-length, take-length}
-use Rattle.std.proofs.lemmas.List.Elements.{All-push}
+use Rattle.std.proofs.lemmas.List.Elements.{All-nil, All-push, All-append}
 use Rattle.link_cbor.specs.declared.head.Head.{Head as HeadItem}
 use Rattle.link_cbor.specs.Head.{AreBytes, Cut as CutHead, IllFormed, Whole, head_front}
 use Rattle.link_cbor.specs.HeadLaws.{whole_stays, ill_formed_stays}
@@ -15,8 +15,8 @@ use Rattle.link_cbor.specs.HeadScan.{HasScanned as HasScannedHead}
 use Rattle.link_bundle.specs.declared.checks.BlockChecks.{BlockChecks}
 use Rattle.link_bundle.specs.declared.cursor.Cursor.{Cursor}
 use Rattle.link_bundle.specs.declared.draft.Draft.{Draft}
-use Rattle.link_bundle.specs.declared.fault.BundleFault.{BundleFault}
-use Rattle.link_bundle.specs.declared.fault.BundleFault.TheVariants.{BadHead}
+use Rattle.link_bundle_types.specs.declared.fault.BundleFault.{BundleFault}
+use Rattle.link_bundle_types.specs.declared.fault.BundleFault.TheVariants.{BadHead}
 use Rattle.link_bundle.specs.declared.stage.CheckType.{CheckType}
 use Rattle.link_bundle.specs.declared.stage.CheckType.TheVariants.{Unread, Is}
 use Rattle.link_bundle.specs.declared.stage.Field.{Field}
@@ -34,17 +34,11 @@ use Rattle.link_bundle.specs.Reading.{Stop, stopped, head_at}
 use Rattle.link_bundle.specs.Left.{block_start, field_left, ends_of, with_note, stage_left, goes_on, JudgesFrom}
 use Rattle.link_bundle.proofs.Heads.{ends_of-stopped}
 use Rattle.link_bundle.proofs.Stops.{field_left-stopped}
-use Rattle.link_bundle.specs.Scan.{HasCome, Stands, IsAtHead, IsInHead, IsInside, IsInStored}
+use Rattle.link_bundle.specs.Scan.{HasCome, HeadCame, Stands, IsInHead, IsInside, IsInStored}
 
--- the bytes with one more, and those that follow
-pub grown : (seen more : List ℕ) (byte : ℕ) → (seen ++ byte ∷ []) ++ more ≡ seen ++ (byte ∷ more)
-grown seen more byte = append_assoc seen (byte ∷ []) more
-
-pub length-grown : (seen : List ℕ) (byte : ℕ) → length (seen ++ byte ∷ []) ≡ length seen + 1
-length-grown seen byte = length-append seen (byte ∷ [])
-
-pub next_byte : (seen more : List ℕ) (byte : ℕ) → drop (length seen) ((seen ++ byte ∷ []) ++ more) ≡ byte ∷ more
-next_byte seen more byte = ap (λ (bytes : List ℕ). drop (length seen) bytes) (grown seen more byte) ∙ drop-append_seam seen (byte ∷ more)
+-- the bytes with a run of more, and those that follow
+pub next_run : (seen more run : List ℕ) → drop (length seen) ((seen ++ run) ++ more) ≡ run ++ more
+next_run seen more run = ap (λ (bytes : List ℕ). drop (length seen) bytes) (append_assoc seen run more) ∙ drop-append_seam seen (run ++ more)
 
 up_to_the_end : (seen : List ℕ) (start : ℕ) → slice_range seen start (length seen) ≡ drop start seen
 up_to_the_end seen start =
@@ -183,51 +177,52 @@ entered stage old new check draft start seen all counted within covers keeps ent
   stands = stands_entered stage old new check draft.check start seen counted within covers keeps enters;
 }
 
--- what was left to be read with the byte before it
-pub regrown : (left : List ℕ → Result Bundle Stop) (seen : List ℕ) (byte : ℕ)
+-- what was left to be read with a run before it
+pub regrown : (left : List ℕ → Result Bundle Stop) (seen run : List ℕ)
     → ((more : List ℕ) → judged (seen ++ more) ≡ left (seen ++ more))
-    → (more : List ℕ) → judged ((seen ++ byte ∷ []) ++ more) ≡ left ((seen ++ byte ∷ []) ++ more)
-regrown left seen byte reads more =
-    subst (λ (bytes : List ℕ). judged bytes ≡ left bytes) (sym (grown seen more byte)) (reads (byte ∷ more))
+    → (more : List ℕ) → judged ((seen ++ run) ++ more) ≡ left ((seen ++ run) ++ more)
+regrown left seen run reads more =
+    subst (λ (bytes : List ℕ). judged bytes ≡ left bytes) (sym (append_assoc seen run more)) (reads (run ++ more))
 
-pub all_grown : (seen : List ℕ) (byte : ℕ) → AreBytes seen → byte < 256 → AreBytes (seen ++ byte ∷ [])
-all_grown seen byte all small = All-push (λ (b : ℕ). b < 256) seen byte all small
+pub all_grown : (seen run : List ℕ) → AreBytes seen → AreBytes run → AreBytes (seen ++ run)
+all_grown seen run all more = All-append (λ (b : ℕ). b < 256) seen run all more
 
-drop-grown : (place : ℕ) (seen : List ℕ) (byte : ℕ) → place ≤ length seen → drop place (seen ++ byte ∷ []) ≡ drop place seen ++ byte ∷ []
-drop-grown place seen byte within = drop-append-le place seen (byte ∷ []) within
+pub one_byte : (byte : ℕ) → byte < 256 → AreBytes (byte ∷ [])
+one_byte byte small = All-push (λ (b : ℕ). b < 256) [] byte (All-nil (λ (b : ℕ). b < 256)) small
 
--- a head has come, and is not told yet
-pub record HeadCame (which : Field) (cursor : Cursor) (draft : Draft) (seen : List ℕ) : Type 0 where
-  pub all_bytes : AreBytes seen
-  pub count : cursor.count ≡ length seen
-  pub start : ℕ
-  pub reads : (more : List ℕ) → judged (seen ++ more) ≡ stage_left (Head which) draft start cursor.place (seen ++ more) (length seen)
-  pub at : IsAtHead which cursor draft.check start seen
-
--- a byte of a head
-pub grown_head : (which : Field) (old new : Cursor) (draft : Draft) (seen : List ℕ) (byte : ℕ)
-    → HasCome (Head which) old draft seen → byte < 256
-    → new.count ≡ old.count + 1 → new.place ≡ old.place
-    → ((head : List ℕ) → HasScannedHead old.head head → HasScannedHead new.head (head ++ byte ∷ []))
-    → ((covered : List ℕ) → Covers draft.check old.checks covered → Covers draft.check new.checks (covered ++ byte ∷ []))
-    → HeadCame which new draft (seen ++ byte ∷ [])
+-- bytes of a head
+pub grown_head : (which : Field) (old new : Cursor) (draft : Draft) (seen run : List ℕ)
+    → HasCome (Head which) old draft seen → AreBytes run
+    → new.count ≡ old.count + length run → new.place ≡ old.place
+    → ((covered : List ℕ) → Covers draft.check old.checks covered → Covers draft.check new.checks (covered ++ run))
+    → HeadCame which new draft (seen ++ run)
 unfolding stage_left
-grown_head which old new draft seen byte come small counts stays heads covers =
+grown_head which old new draft seen run come small counts stays covers =
     let at = come.stands.at in
-    let longer = length-grown seen byte in
+    let longer = length-append seen run in
     record {
-      all_bytes = all_grown seen byte come.all_bytes small;
-      count = counts ∙ ap (λ (count : ℕ). count + 1) come.count ∙ sym longer;
+      all_bytes = all_grown seen run come.all_bytes small;
+      count = counts ∙ ap (λ (count : ℕ). count + length run) come.count ∙ sym longer;
       start = come.start;
-      reads = rw stays (regrown (λ (bytes : List ℕ). stage_left (Head which) draft come.start old.place bytes (length seen)) seen byte come.reads);
-      at = record {
-        in_bytes = omega (arith, at.in_bytes);
-        head = rw (stays, drop-grown old.place seen byte at.in_bytes) (heads (drop old.place seen) at.head);
-        in_block = rw stays (omega (arith, at.in_block));
-        checks = rw (stays, drop-grown (block_start which come.start old.place) seen byte at.in_block)
-            (covers (drop (block_start which come.start old.place) seen) at.checks);
-      };
+      reads = rw stays (regrown (λ (bytes : List ℕ). stage_left (Head which) draft come.start old.place bytes (length seen)) seen run come.reads);
+      in_bytes = omega (arith, at.in_bytes);
+      in_block = rw stays (omega (arith, at.in_block));
+      checks = rw (stays, drop-append-le (block_start which come.start old.place) seen run at.in_block)
+          (covers (drop (block_start which come.start old.place) seen) at.checks);
     }
+
+-- the bytes of a head that have come, with one more
+pub grown_bytes : (which : Field) (old new : Cursor) (draft : Draft) (seen : List ℕ) (byte : ℕ)
+    → HasCome (Head which) old draft seen → new.place ≡ old.place
+    → ((head : List ℕ) → HasScannedHead old.head head → HasScannedHead new.head (head ++ byte ∷ []))
+    → HasScannedHead new.head (drop new.place (seen ++ byte ∷ []))
+grown_bytes which old new draft seen byte come stays heads =
+    let at = come.stands.at in
+    rw (stays, drop-append-le old.place seen (byte ∷ []) at.in_bytes) (heads (drop old.place seen) at.head)
+
+-- a run after the bytes seen
+pub after_seen : (place : ℕ) (seen run : List ℕ) → place ≡ length seen → drop place (seen ++ run) ≡ run
+after_seen place seen run here = ap (λ (place : ℕ). drop place (seen ++ run)) here ∙ drop-append_seam seen run
 
 -- the head that has come, however the bytes go on
 front_stays : (place : ℕ) (seen more : List ℕ) → place ≤ length seen → drop place (seen ++ more) ≡ drop place seen ++ more
@@ -248,13 +243,13 @@ head_at-bad place seen more within told =
 
 -- a head that goes on
 pub more_head : (which : Field) (cursor : Cursor) (draft : Draft) (seen : List ℕ) → HeadCame which cursor draft seen
-    → head_front (drop cursor.place seen) ≡ CutHead → HasCome (Head which) cursor draft seen
-more_head which cursor draft seen come told = record {
+    → HasScannedHead cursor.head (drop cursor.place seen) → head_front (drop cursor.place seen) ≡ CutHead → HasCome (Head which) cursor draft seen
+more_head which cursor draft seen come head told = record {
   all_bytes = come.all_bytes;
   count = come.count;
   start = come.start;
   reads = come.reads;
-  stands = record { at = come.at; cut = told };
+  stands = record { at = record { in_bytes = come.in_bytes; head = head; in_block = come.in_block; checks = come.checks }; cut = told };
 }
 
 -- an ill-formed head
@@ -268,7 +263,7 @@ bad_head which cursor draft seen come told = record {
   reads = λ more. come.reads more
       ∙ ap (λ (reading : Result Bundle Stop). ends_of (seen ++ more) (with_note draft.payload reading))
       (field_left-stopped which draft (block_start which come.start cursor.place) (seen ++ more) cursor.place (stopped BadHead cursor.place)
-      (head_at-bad cursor.place seen more come.at.in_bytes told))
+      (head_at-bad cursor.place seen more come.in_bytes told))
       ∙ ends_of-stopped draft.payload (seen ++ more) (stopped BadHead cursor.place);
   stands = tt;
 }
@@ -281,8 +276,7 @@ judged_head : (which : Field) (cursor : Cursor) (draft new : Draft) (head : Head
     ≡ goes_on result new (block_start which come.start cursor.place) cursor.place (length seen) (seen ++ more)
 unfolding stage_left
 judged_head which cursor draft new head result seen come told judges more =
-    let at = come.at in
-    let whole = head_at-whole cursor.place seen more head at.in_bytes told in
+    let whole = head_at-whole cursor.place seen more head come.in_bytes told in
     come.reads more
     ∙ subst (λ (count : ℕ). ends_of (seen ++ more) (with_note draft.payload (field_left which draft (block_start which come.start cursor.place) (seen ++ more) cursor.place))
     ≡ goes_on result new (block_start which come.start cursor.place) cursor.place count (seen ++ more)) come.count
@@ -294,7 +288,7 @@ pub went_on : (which : Field) (old cursor : Cursor) (draft new : Draft) (head : 
     → KeepsCheck draft.check stage new.check → Enters stage old cursor → HasCome stage cursor new seen
 went_on which old cursor draft new head stage seen come told judges keeps enters =
     entered stage old cursor draft.check new (block_start which come.start old.place) seen come.all_bytes come.count
-    come.at.in_block come.at.checks keeps enters
+    come.in_block come.checks keeps enters
     (judged_head which old draft new head (Ok stage) seen come told judges)
 
 pub refused : (which : Field) (cursor : Cursor) (draft new : Draft) (head : HeadItem) (fault : BundleFault) (seen : List ℕ)

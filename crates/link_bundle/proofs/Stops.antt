@@ -3,7 +3,7 @@
 use Rattle.std.proofs.Common.{◌≡◌, ℕ, zero, suc, ◌-◌, List, length, Err, refl}
 use Rattle.link_cbor.specs.declared.head.Head.{Head}
 use Rattle.link_bundle.specs.declared.draft.Draft.{Draft}
-use Rattle.link_bundle.specs.declared.fault.BundleFault.{BundleFault}
+use Rattle.link_bundle_types.specs.declared.fault.BundleFault.{BundleFault}
 use Rattle.link_bundle.specs.declared.stage.Field.{Field}
 use Rattle.link_bundle.specs.declared.stage.Field.TheVariants as field
 use Rattle.link_bundle.specs.declared.stage.PrimaryField.TheVariants as primary
@@ -14,9 +14,10 @@ use Rattle.std.specs.Prelude.{Result}
 use Rattle.link_bundle.specs.Rows.{unsigned, byte_string, pair, scheme, dtn_part, ipn_part, version, primary_block, primary_check_type, block, block_too_many, block_number, block_check_type, check_field, closing}
 use Rattle.link_bundle.specs.Reading.{Stop, head_at, row_at}
 use Rattle.link_bundle.specs.EndpointId.{eid_at, specific_at}
-use Rattle.link_bundle.specs.Blocks.{Primary, field_at, fragment_at}
+use Rattle.link_bundle.specs.CheckField.{field_at}
+use Rattle.link_bundle.specs.Primary.{Primary, fragment_at}
 use Rattle.link_bundle.specs.Bundle.{blocks_at}
-use Rattle.link_bundle.specs.Left.{field_left, primary_of, primary_block_left, version_left, flags_left, check_type_left, timestamp_left, time_left, sequence_left, lifetime_left, offset_left, total_left, scheme_left, node_left, service_left, type_left, number_left, block_flags_left, block_check_left, data_left}
+use Rattle.link_bundle.specs.Left.{field_left, primary_of, primary_block_left, version_left, flags_left, check_type_left, timestamp_left, time_left, sequence_left, lifetime_left, offset_left, total_left, scheme_left, allocator_left, node_left, service_left, type_left, number_left, block_flags_left, block_check_left, data_left}
 
 row_at-stopped : {A : Type 0} (row : Head → Result A BundleFault) (bytes : List ℕ) (place : ℕ) (stop : Stop)
     → head_at bytes place ≡ Err stop → row_at row bytes place ≡ Err stop
@@ -31,7 +32,7 @@ blocks_at-stopped (suc left) numbers primary bytes place stop told = rw (row_at-
 
 pub field_left-stopped : (which : Field) (draft : Draft) (start : ℕ) (bytes : List ℕ) (place : ℕ) (stop : Stop)
     → head_at bytes place ≡ Err stop → field_left which draft start bytes place ≡ Err stop
-unfolding field_left primary_block_left version_left flags_left check_type_left timestamp_left time_left sequence_left lifetime_left offset_left total_left fragment_at eid_at specific_at scheme_left node_left service_left type_left number_left block_flags_left block_check_left data_left field_at
+unfolding field_left primary_block_left version_left flags_left check_type_left timestamp_left time_left sequence_left lifetime_left offset_left total_left fragment_at eid_at specific_at scheme_left allocator_left node_left service_left type_left number_left block_flags_left block_check_left data_left field_at
 field_left-stopped (field.Primary primary.Block) draft start bytes place stop told = rw (row_at-stopped primary_block bytes place stop told) refl
 field_left-stopped (field.Primary primary.Version) draft start bytes place stop told = rw (row_at-stopped version bytes place stop told) refl
 field_left-stopped (field.Primary primary.Flags) draft start bytes place stop told = rw (row_at-stopped unsigned bytes place stop told) refl
@@ -47,13 +48,14 @@ field_left-stopped (field.Endpoint role part.Whole) draft start bytes place stop
 field_left-stopped (field.Endpoint role part.Scheme) draft start bytes place stop told = rw (row_at-stopped scheme bytes place stop told) refl
 field_left-stopped (field.Endpoint role (part.Specific Dtn)) draft start bytes place stop told = rw (row_at-stopped dtn_part bytes place stop told) refl
 field_left-stopped (field.Endpoint role (part.Specific Ipn)) draft start bytes place stop told = rw (row_at-stopped ipn_part bytes place stop told) refl
-field_left-stopped (field.Endpoint role part.Node) draft start bytes place stop told = rw (row_at-stopped unsigned bytes place stop told) refl
-field_left-stopped (field.Endpoint role (part.Service node)) draft start bytes place stop told = rw (row_at-stopped unsigned bytes place stop told) refl
+field_left-stopped (field.Endpoint role part.Allocator) draft start bytes place stop told = rw (row_at-stopped unsigned bytes place stop told) refl
+field_left-stopped (field.Endpoint role (part.Node allocator)) draft start bytes place stop told = rw (row_at-stopped unsigned bytes place stop told) refl
+field_left-stopped (field.Endpoint role (part.Service allocator node)) draft start bytes place stop told = rw (row_at-stopped unsigned bytes place stop told) refl
 field_left-stopped (field.Canonical canonical.Block) draft start bytes place stop told =
-    blocks_at-stopped (64 - length draft.numbers.items) draft.numbers.items (primary_of draft) bytes place stop told
+    blocks_at-stopped (64 - length draft.numbers) draft.numbers (primary_of draft) bytes place stop told
 field_left-stopped (field.Canonical canonical.Type) draft start bytes place stop told = rw (row_at-stopped unsigned bytes place stop told) refl
 field_left-stopped (field.Canonical canonical.Number) draft start bytes place stop told =
-    rw (row_at-stopped (block_number draft.block_type draft.numbers.items) bytes place stop told) refl
+    rw (row_at-stopped (block_number draft.block_type draft.numbers) bytes place stop told) refl
 field_left-stopped (field.Canonical canonical.Flags) draft start bytes place stop told = rw (row_at-stopped unsigned bytes place stop told) refl
 field_left-stopped (field.Canonical canonical.CheckType) draft start bytes place stop told =
     rw (row_at-stopped (block_check_type draft.count) bytes place stop told) refl

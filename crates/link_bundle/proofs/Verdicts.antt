@@ -6,22 +6,21 @@ use Rattle.std.proofs.lemmas.Bool.{eq-eqb, ltb-true}
 use Rattle.link_cbor.specs.Head.{Cut as CutHead, head_front}
 use Rattle.link_bundle.specs.declared.cursor.Cursor.{Cursor}
 use Rattle.link_bundle.specs.declared.draft.Draft.{Draft}
-use Rattle.link_bundle.specs.declared.fault.BundleFault.{BundleFault}
-use Rattle.link_bundle.specs.declared.fault.BundleFault.TheVariants.{Cut}
-use Rattle.link_bundle.specs.declared.fault.State.TheVariants as state
+use Rattle.link_bundle_types.specs.declared.fault.BundleFault.{BundleFault}
+use Rattle.link_bundle_types.specs.declared.fault.BundleFault.TheVariants.{Cut}
+use Rattle.link_bundle_types.specs.declared.fault.State.TheVariants as state
 use Rattle.link_bundle.specs.declared.stage.Stage.{Stage}
 use Rattle.link_bundle.specs.declared.stage.Stage.TheVariants.{Start, Head, Name, Content, Stored, Ended, Failed}
 use Rattle.link_bundle.specs.CheckKinds.{kind_of, is_kind}
-use Rattle.link_bundle.specs.Fits.{scan_fits}
+use Rattle.link_bundle.specs.Fits.{rest_fits, scan_fits}
 use Rattle.link_bundle.specs.Reading.{Stop, stopped, cut_short, head_at}
-use Rattle.link_bundle.specs.Blocks.{content_at}
+use Rattle.link_bundle.specs.Canonical.{content_at}
 use Rattle.link_bundle.specs.Bundle.{Bundle, opening_at, bundle_at, judged, told, verdict, noted, payload_in, payload_span, state_of}
 use Rattle.link_bundle.specs.Left.{bundle_of, block_start, ends_of, with_note, name_left, stored_left, stage_left}
 use Rattle.link_bundle.specs.Scan.{HasCome}
 use Rattle.link_bundle.specs.Stages.{stage_state}
-use Rattle.link_bundle.proofs.Fields.{has_room}
+use Rattle.link_bundle.proofs.Fields.{has_room, some_left}
 use Rattle.link_bundle.proofs.Heads.{ends_of-stopped}
-use Rattle.link_bundle.proofs.Names.{name_wants}
 use Rattle.link_bundle.proofs.Opening.{blank}
 use Rattle.link_bundle.proofs.Runs.{bytes_at-cut}
 use Rattle.link_bundle.proofs.Stops.{field_left-stopped}
@@ -32,7 +31,7 @@ read_now : (stage : Stage) (cursor : Cursor) (draft : Draft) (seen : List ℕ) �
 read_now stage cursor draft seen come =
     subst (λ (bytes : List ℕ). judged bytes ≡ stage_left stage draft come.start cursor.place bytes (length seen)) (append-nil seen) (come.reads [])
 
-head_at-cut : (bytes : List ℕ) (place : ℕ) → head_front (drop place bytes) ≡ CutHead → head_at bytes place ≡ cut_short bytes
+pub head_at-cut : (bytes : List ℕ) (place : ℕ) → head_front (drop place bytes) ≡ CutHead → head_at bytes place ≡ cut_short bytes
 unfolding head_at
 head_at-cut bytes place cut = rw cut refl
 
@@ -51,13 +50,13 @@ going_cut (Head which) cursor draft seen come fits going =
     ∙ ends_of-stopped draft.payload seen (stopped Cut (length seen))
 going_cut (Name role left) cursor draft seen come fits going =
     read_now (Name role left) cursor draft seen come
-    ∙ rw (bytes_at-cut left seen (length seen) (name_wants draft.name.items left fits) refl) (ends_of-stopped draft.payload seen (stopped Cut (length seen)))
+    ∙ rw (bytes_at-cut left seen (length seen) (omega (arith, some_left left (rest_fits role draft left) fits))) (ends_of-stopped draft.payload seen (stopped Cut (length seen)))
 going_cut (Content left) cursor draft seen come fits going =
     read_now (Content left) cursor draft seen come
-    ∙ rw (bytes_at-cut left seen (length seen) (ltb-true 0 left fits) refl) (ends_of-stopped draft.payload seen (stopped Cut (length seen)))
+    ∙ rw (bytes_at-cut left seen (length seen) (omega (arith, ltb-true 0 left fits))) (ends_of-stopped draft.payload seen (stopped Cut (length seen)))
 going_cut (Stored field left stored kind) cursor draft seen come fits going =
     read_now (Stored field left stored kind) cursor draft seen come
-    ∙ rw (bytes_at-cut left seen (length seen) (has_room (is_kind (kind_of draft.check) kind) left stored 0 fits (omega arith)).wants refl)
+    ∙ rw (bytes_at-cut left seen (length seen) (omega (arith, (has_room (is_kind (kind_of draft.check) kind) left stored 0 fits (omega arith)).wants)))
     (ends_of-stopped draft.payload seen (stopped Cut (length seen)))
 going_cut Ended cursor draft seen come fits going = cc
 going_cut (Failed fault place) cursor draft seen come fits going = cc

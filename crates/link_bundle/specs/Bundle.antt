@@ -1,16 +1,18 @@
 -- bundles (RFC 9171 section 4.1), and the verdict on a list of bytes
 
 use Rattle.std.specs.Prelude.{ℕ, zero, suc, ◌+◌, ◌==◌, Bool, true, false, List, [], ◌∷◌, ◌++◌, length, take, drop, Option, Some, None, Result, Ok, Err, if◌then◌else◌}
-use Rattle.link_bundle.specs.declared.fault.BundleFault.{BundleFault}
-use Rattle.link_bundle.specs.declared.fault.BundleFault.TheVariants.{NotABundle, Trailing}
-use Rattle.link_bundle.specs.declared.fault.State.{State}
-use Rattle.link_bundle.specs.declared.fault.State.TheVariants as state
-use Rattle.link_bundle.specs.declared.info.BundleInfo.{BundleInfo}
-use Rattle.link_bundle.specs.Faults.{lasts}
+use Rattle.link_bundle_types.specs.declared.fault.BundleFault.{BundleFault}
+use Rattle.link_bundle_types.specs.declared.fault.BundleFault.TheVariants.{NotABundle, Trailing}
+use Rattle.link_bundle_types.specs.declared.fault.State.{State}
+use Rattle.link_bundle_types.specs.declared.fault.State.TheVariants as state
+use Rattle.link_bundle_types.specs.declared.info.BundleInfo.{BundleInfo}
+use Rattle.link_bundle_types.specs.Faults.{lasts}
 use Rattle.link_cbor.specs.declared.check.CheckKind.{CheckKind}
 use Rattle.link_bundle.specs.Rows.{◌>>=◌, unsigned, byte_string, block, block_too_many, block_number, block_check_type, closing}
 use Rattle.link_bundle.specs.Reading.{Reading, Stop, stopped, cut_short, row_at}
-use Rattle.link_bundle.specs.Blocks.{Primary, primary_at, field_at, content_at}
+use Rattle.link_bundle.specs.CheckField.{field_at}
+use Rattle.link_bundle.specs.Primary.{Primary, primary_at}
+use Rattle.link_bundle.specs.Canonical.{content_at}
 
 -- a whole bundle: its length, and where the payload's bytes begin and how many they are
 pub record Bundle : Type 0 where

@@ -1,11 +1,11 @@
 -- what keeps a scan in bounds at each stage
 
-use Rattle.std.specs.Prelude.{◌≡◌, ℕ, ◌+◌, ◌-◌, ◌^◌, Bool, true, false, ◌&&◌, ◌==◌, nat_lt, nat_le, List, length, is_none, is_some, Result, MatchResult, IsTrue}
+use Rattle.std.specs.Prelude.{◌≡◌, ℕ, ◌-◌, ◌^◌, Bool, true, false, ◌&&◌, ◌==◌, nat_lt, nat_le, List, length, is_none, is_some, Result, MatchResult, IsTrue}
 use Rattle.link_cbor.specs.declared.head_scan.HeadScan.{HeadScan}
 use Rattle.link_cbor.specs.HeadScan.{may_scan}
 use Rattle.link_bundle.specs.declared.cursor.Cursor.{Cursor}
-use Rattle.link_bundle.specs.declared.fault.BundleFault.{BundleFault}
-use Rattle.link_bundle.specs.Faults.{lasts}
+use Rattle.link_bundle_types.specs.declared.fault.BundleFault.{BundleFault}
+use Rattle.link_bundle_types.specs.Faults.{lasts}
 use Rattle.link_bundle.specs.declared.draft.Draft.{Draft}
 use Rattle.link_bundle.specs.declared.stage.Stage.{Stage}
 use Rattle.link_bundle.specs.declared.stage.Stage.TheVariants.{Start, Head, Name, Content, Stored, Ended, Failed}
@@ -16,6 +16,9 @@ use Rattle.link_bundle.specs.declared.stage.PrimaryField.TheVariants as primary
 use Rattle.link_bundle.specs.declared.stage.CanonicalField.{CanonicalField}
 use Rattle.link_bundle.specs.declared.stage.CanonicalField.TheVariants as canonical
 use Rattle.link_bundle.specs.declared.stage.CheckType.{CheckType}
+use Rattle.link_bundle.specs.declared.stage.Role.{Role}
+use Rattle.link_bundle.specs.declared.stage.Role.TheVariants.{Destination, Source, ReportTo}
+use Rattle.link_bundle.specs.KeptEid.{name_fits}
 use Rattle.link_bundle.specs.declared.checks.BlockChecks.{BlockChecks}
 use Rattle.link_bundle.specs.CheckKinds.{kind_of, is_unread, is_kind}
 use Rattle.link_bundle.specs.Covers.{Covers}
@@ -37,9 +40,9 @@ primary_fits primary.TotalLength draft = true
 abbrev pub canonical_fits : CanonicalField → Draft → Bool
 canonical_fits canonical.Block draft = is_none draft.payload && is_unread draft.check
 canonical_fits canonical.Type draft =
-    is_none draft.payload && (is_unread draft.check && nat_lt (length draft.numbers.items) 64)
+    is_none draft.payload && (is_unread draft.check && nat_lt (length draft.numbers) 64)
 canonical_fits canonical.Number draft =
-    is_none draft.payload && (is_unread draft.check && nat_lt (length draft.numbers.items) 64)
+    is_none draft.payload && (is_unread draft.check && nat_lt (length draft.numbers) 64)
 canonical_fits canonical.Flags draft = is_none draft.payload && is_unread draft.check
 canonical_fits canonical.CheckType draft = is_none draft.payload && is_unread draft.check
 canonical_fits canonical.Data draft = is_none draft.payload
@@ -51,10 +54,16 @@ field_fits (field.Canonical which) draft = canonical_fits which draft
 field_fits (field.Check kind) draft = is_kind (kind_of draft.check) kind
 field_fits field.Closing draft = is_some draft.payload
 
+-- a name that is kept has room for the rest of it
+abbrev pub rest_fits : Role → Draft → ℕ → Bool
+rest_fits Destination draft left = name_fits draft.destination left
+rest_fits Source draft left = name_fits draft.source left
+rest_fits ReportTo draft left = true
+
 abbrev pub stage_fits : Stage → Draft → Bool
-stage_fits Start draft = is_none draft.payload && (is_unread draft.check && length draft.numbers.items == 0)
+stage_fits Start draft = is_none draft.payload && (is_unread draft.check && length draft.numbers == 0)
 stage_fits (Head which) draft = field_fits which draft
-stage_fits (Name role left) draft = nat_lt 0 left && nat_le (length draft.name.items + left) 1024
+stage_fits (Name role left) draft = nat_lt 0 left && rest_fits role draft left
 stage_fits (Content left) draft = nat_lt 0 left
 stage_fits (Stored place left stored kind) draft =
     is_kind (kind_of draft.check) kind && (nat_lt 0 left && (nat_le left 4 && nat_lt stored (256 ^ (4 - left))))

@@ -1,10 +1,10 @@
 -- how a verdict lasts, over the definitions alone
 
 use Rattle.std.specs.Prelude.{◌≡◌, ℕ, List, ◌∷◌, ◌++◌, length, Some, Ok, Err, IsTrue}
-use Rattle.link_bundle.specs.declared.fault.BundleFault.{BundleFault}
-use Rattle.link_bundle.specs.declared.fault.BundleFault.TheVariants.{Trailing}
-use Rattle.link_bundle.specs.declared.info.BundleInfo.{BundleInfo}
-use Rattle.link_bundle.specs.Faults.{lasts}
+use Rattle.link_bundle_types.specs.declared.fault.BundleFault.{BundleFault}
+use Rattle.link_bundle_types.specs.declared.fault.BundleFault.TheVariants.{Trailing}
+use Rattle.link_bundle_types.specs.declared.info.BundleInfo.{BundleInfo}
+use Rattle.link_bundle_types.specs.Faults.{lasts}
 use Rattle.link_bundle.specs.Bundle.{judged, verdict, noted}
 
 -- a fault stays, unless it is that the bytes end inside the bundle

@@ -5,8 +5,8 @@ use Rattle.std.specs.Prelude.{◌≡◌, ◌≤◌, ℕ, ◌+◌, ◌-◌, ◌==
 use Rattle.link_cbor.specs.declared.check.CheckKind.{CheckKind}
 use Rattle.link_cbor.specs.declared.head.Head.{Head as HeadItem}
 use Rattle.link_cbor.specs.Crc.{crc}
-use Rattle.link_bundle.specs.declared.eid.Eid.{Eid}
-use Rattle.link_bundle.specs.declared.eid.Eid.TheVariants.{Dtn, Ipn}
+use Rattle.link_bundle_types.specs.declared.eid.Eid.{Eid}
+use Rattle.link_bundle_types.specs.declared.eid.Eid.TheVariants.{Dtn, Ipn, Ipn3}
 use Rattle.link_bundle.specs.declared.draft.Draft.{Draft}
 use Rattle.link_bundle.specs.declared.stage.Stage.{Stage}
 use Rattle.link_bundle.specs.declared.stage.Stage.TheVariants.{Start, Head, Name, Content, Stored, Ended, Failed}
@@ -21,13 +21,16 @@ use Rattle.link_bundle.specs.declared.stage.Role.TheVariants.{Destination, Sourc
 use Rattle.link_bundle.specs.declared.stage.Part.{Part}
 use Rattle.link_bundle.specs.declared.stage.Part.TheVariants as part
 use Rattle.link_bundle.specs.declared.stage.CheckType.TheVariants.{Is}
-use Rattle.link_bundle.specs.declared.fault.BundleFault.{BundleFault}
-use Rattle.link_bundle.specs.declared.fault.BundleFault.TheVariants.{CheckDiffers}
+use Rattle.link_bundle_types.specs.declared.fault.BundleFault.{BundleFault}
+use Rattle.link_bundle_types.specs.declared.fault.BundleFault.TheVariants.{CheckDiffers}
 use Rattle.link_bundle.specs.CheckKinds.{kind_of}
 use Rattle.link_bundle.specs.Rows.{◌>>=◌, unsigned, byte_string, pair, scheme, version, is_fragment, primary_block, primary_check_type, block_number, block_check_type, closing}
 use Rattle.link_bundle.specs.Reading.{Stop, stopped, Reading, head_at, row_at, bytes_at}
 use Rattle.link_bundle.specs.EndpointId.{specific_at, eid_at}
-use Rattle.link_bundle.specs.Blocks.{Primary, number_from, field_at, fragment_at, content_at}
+use Rattle.link_bundle.specs.KeptEid.{name_of}
+use Rattle.link_bundle.specs.CheckField.{number_from, field_at}
+use Rattle.link_bundle.specs.Primary.{Primary, fragment_at}
+use Rattle.link_bundle.specs.Canonical.{content_at}
 use Rattle.link_bundle.specs.Bundle.{Bundle, noting, info_of, payload_at, blocks_at, ends, judged}
 
 abbrev pub primary_of : Draft → Primary
@@ -40,7 +43,7 @@ span_of payload = unwrap_or payload (0, 0)
 abbrev pub bundle_of : Draft → ℕ → Bundle
 bundle_of draft end =
     let payload = span_of draft.payload in
-    record { info = info_of (primary_of draft) (length draft.numbers.items) payload.1; length = end; payload = payload }
+    record { info = info_of (primary_of draft) (length draft.numbers) payload.1; length = end; payload = payload }
 
 abbrev pub with_note : Option (ℕ × ℕ) → Result Bundle Stop → Result Bundle Stop
 with_note None reading = reading
@@ -54,40 +57,40 @@ block_end (Some (start, size)) numbers primary bytes place = do
   Ok (record { info = info_of primary (length numbers) size; length = end; payload = (start, size) })
 
 -- behind what a check field says
-abbrev pub behind_field : Draft → List ℕ → Reading Bool → Result Bundle Stop
-behind_field draft bytes field = do
+abbrev pub after_field : Draft → List ℕ → Reading Bool → Result Bundle Stop
+after_field draft bytes field = do
   (_, place) ← field
-  block_end draft.payload draft.numbers.items (primary_of draft) bytes place
+  block_end draft.payload draft.numbers (primary_of draft) bytes place
 
 -- behind the primary block's fields
-abbrev pub behind_primary : Draft → ℕ → List ℕ → Reading (Primary × Option CheckKind) → Result Bundle Stop
-behind_primary draft start bytes fields = do
+abbrev pub after_primary : Draft → ℕ → List ℕ → Reading (Primary × Option CheckKind) → Result Bundle Stop
+after_primary draft start bytes fields = do
   ((primary, check), place) ← fields
   (_, place) ← field_at check start bytes place
-  block_end draft.payload draft.numbers.items primary bytes place
+  block_end draft.payload draft.numbers primary bytes place
 
 -- in the primary block
 
 abbrev pub fields_of : Draft → ℕ → Reading (Primary × Option CheckKind)
 fields_of draft place = Ok ((primary_of draft, kind_of draft.check), place)
 
-abbrev pub behind_fragment : Draft → Reading (Option (ℕ × ℕ)) → Reading (Primary × Option CheckKind)
-behind_fragment draft reading = do
+abbrev pub after_fragment : Draft → Reading (Option (ℕ × ℕ)) → Reading (Primary × Option CheckKind)
+after_fragment draft reading = do
   (fragment, place) ← reading
   fields_of (record draft { fragment = fragment }) place
 
 unfoldable pub total_left : Draft → List ℕ → ℕ → Reading (Primary × Option CheckKind)
-total_left draft bytes place = behind_fragment draft do
+total_left draft bytes place = after_fragment draft do
   (total, place) ← row_at unsigned bytes place
   Ok (Some (draft.fragment_offset, total), place)
 
 unfoldable pub offset_left : Draft → List ℕ → ℕ → Reading (Primary × Option CheckKind)
-offset_left draft bytes place = behind_fragment draft (fragment_at true bytes place)
+offset_left draft bytes place = after_fragment draft (fragment_at true bytes place)
 
 unfoldable pub lifetime_left : Draft → List ℕ → ℕ → Reading (Primary × Option CheckKind)
 lifetime_left draft bytes place = do
   (lifetime, place) ← row_at unsigned bytes place
-  behind_fragment (record draft { lifetime = lifetime }) (fragment_at (is_fragment draft.flags) bytes place)
+  after_fragment (record draft { lifetime = lifetime }) (fragment_at (is_fragment draft.flags) bytes place)
 
 unfoldable pub sequence_left : Draft → List ℕ → ℕ → Reading (Primary × Option CheckKind)
 sequence_left draft bytes place = do
@@ -119,15 +122,24 @@ destination_left draft bytes place = do
   (eid, place) ← eid_at bytes place
   source_left (record draft { destination = eid }) bytes place
 
-abbrev pub behind_role : Role → Draft → Eid → List ℕ → ℕ → Reading (Primary × Option CheckKind)
-behind_role Destination draft eid bytes place = source_left (record draft { destination = eid }) bytes place
-behind_role Source draft eid bytes place = report_to_left (record draft { source = eid }) bytes place
-behind_role ReportTo draft eid bytes place = timestamp_left draft bytes place
+-- an endpoint ID in its place; the report-to endpoint is not kept
+abbrev pub with_eid : Role → Draft → Eid → Draft
+with_eid Destination draft eid = record draft { destination = eid }
+with_eid Source draft eid = record draft { source = eid }
+with_eid ReportTo draft eid = draft
 
-abbrev pub behind_eid : Role → Draft → List ℕ → Reading Eid → Reading (Primary × Option CheckKind)
-behind_eid role draft bytes reading = do
+abbrev pub role_left : Role → Draft → List ℕ → ℕ → Reading (Primary × Option CheckKind)
+role_left Destination draft bytes place = source_left draft bytes place
+role_left Source draft bytes place = report_to_left draft bytes place
+role_left ReportTo draft bytes place = timestamp_left draft bytes place
+
+abbrev pub after_role : Role → Draft → Eid → List ℕ → ℕ → Reading (Primary × Option CheckKind)
+after_role role draft eid bytes place = role_left role (with_eid role draft eid) bytes place
+
+abbrev pub after_eid : Role → Draft → List ℕ → Reading Eid → Reading (Primary × Option CheckKind)
+after_eid role draft bytes reading = do
   (eid, place) ← reading
-  behind_role role draft eid bytes place
+  after_role role draft eid bytes place
 
 unfoldable pub check_type_left : Draft → List ℕ → ℕ → Reading (Primary × Option CheckKind)
 check_type_left draft bytes place = do
@@ -163,15 +175,24 @@ primary_left primary.TotalLength draft bytes place = total_left draft bytes plac
 
 -- in an endpoint ID
 
-unfoldable pub service_left : ℕ → List ℕ → ℕ → Reading Eid
-service_left node bytes place = do
-  (service, place) ← row_at unsigned bytes place
-  Ok (Ipn node service, place)
+abbrev pub numbered : Option ℕ → ℕ → ℕ → Eid
+numbered None node service = Ipn node service
+numbered (Some allocator) node service = Ipn3 allocator node service
 
-unfoldable pub node_left : List ℕ → ℕ → Reading Eid
-node_left bytes place = do
+unfoldable pub service_left : Option ℕ → ℕ → List ℕ → ℕ → Reading Eid
+service_left allocator node bytes place = do
+  (service, place) ← row_at unsigned bytes place
+  Ok (numbered allocator node service, place)
+
+unfoldable pub node_left : Option ℕ → List ℕ → ℕ → Reading Eid
+node_left allocator bytes place = do
   (node, place) ← row_at unsigned bytes place
-  service_left node bytes place
+  service_left allocator node bytes place
+
+unfoldable pub allocator_left : List ℕ → ℕ → Reading Eid
+allocator_left bytes place = do
+  (allocator, place) ← row_at unsigned bytes place
+  node_left (Some allocator) bytes place
 
 unfoldable pub scheme_left : List ℕ → ℕ → Reading Eid
 scheme_left bytes place = do
@@ -182,13 +203,21 @@ abbrev pub part_left : Part → Draft → List ℕ → ℕ → Reading Eid
 part_left part.Whole draft bytes place = eid_at bytes place
 part_left part.Scheme draft bytes place = scheme_left bytes place
 part_left (part.Specific scheme) draft bytes place = specific_at scheme bytes place
-part_left part.Node draft bytes place = node_left bytes place
-part_left (part.Service node) draft bytes place = service_left node bytes place
+part_left part.Allocator draft bytes place = allocator_left bytes place
+part_left (part.Node allocator) draft bytes place = node_left allocator bytes place
+part_left (part.Service allocator node) draft bytes place = service_left allocator node bytes place
 
-unfoldable pub name_left : Draft → ℕ → List ℕ → ℕ → Reading Eid
-name_left draft left bytes place = do
+-- the bytes so far of a name that is kept
+abbrev pub kept_name : Role → Draft → List ℕ
+kept_name Destination draft = name_of draft.destination
+kept_name Source draft = name_of draft.source
+kept_name ReportTo draft = []
+
+-- in a name, of which these bytes have come
+unfoldable pub name_left : List ℕ → ℕ → List ℕ → ℕ → Reading Eid
+name_left name left bytes place = do
   (rest, place) ← bytes_at left bytes place
-  Ok (Dtn (record { items = draft.name.items ++ rest }), place)
+  Ok (Dtn (record { items = name ++ rest }), place)
 
 -- in a canonical block; `left` more blocks may come, and with this one `blocks` have come
 
@@ -197,7 +226,7 @@ data_left left blocks draft start bytes place = do
   (size, place) ← row_at byte_string bytes place
   if draft.block_type == 1 then payload_at (primary_of draft) blocks size (kind_of draft.check) start bytes place else do
     (_, place) ← content_at size (kind_of draft.check) start bytes place
-    blocks_at left draft.numbers.items (primary_of draft) bytes place
+    blocks_at left draft.numbers (primary_of draft) bytes place
 
 unfoldable pub block_check_left : ℕ → ℕ → Draft → ℕ → List ℕ → ℕ → Result Bundle Stop
 block_check_left left blocks draft start bytes place = do
@@ -211,8 +240,8 @@ block_flags_left left blocks draft start bytes place = do
 
 unfoldable pub number_left : ℕ → ℕ → Draft → ℕ → List ℕ → ℕ → Result Bundle Stop
 number_left left blocks draft start bytes place = do
-  (number, place) ← row_at (block_number draft.block_type draft.numbers.items) bytes place
-  block_flags_left left blocks (record draft { numbers = record { items = draft.numbers.items ++ number ∷ [] } }) start bytes place
+  (number, place) ← row_at (block_number draft.block_type draft.numbers) bytes place
+  block_flags_left left blocks (record draft { numbers = draft.numbers ++ number ∷ [] }) start bytes place
 
 unfoldable pub type_left : ℕ → ℕ → Draft → ℕ → List ℕ → ℕ → Result Bundle Stop
 type_left left blocks draft start bytes place = do
@@ -221,27 +250,27 @@ type_left left blocks draft start bytes place = do
 
 abbrev pub canonical_left : CanonicalField → Draft → ℕ → List ℕ → ℕ → Result Bundle Stop
 canonical_left canonical.Block draft start bytes place =
-    blocks_at (64 - length draft.numbers.items) draft.numbers.items (primary_of draft) bytes place
+    blocks_at (64 - length draft.numbers) draft.numbers (primary_of draft) bytes place
 canonical_left canonical.Type draft start bytes place =
-    type_left (63 - length draft.numbers.items) (length draft.numbers.items + 1) draft start bytes place
+    type_left (63 - length draft.numbers) (length draft.numbers + 1) draft start bytes place
 canonical_left canonical.Number draft start bytes place =
-    number_left (63 - length draft.numbers.items) (length draft.numbers.items + 1) draft start bytes place
+    number_left (63 - length draft.numbers) (length draft.numbers + 1) draft start bytes place
 canonical_left canonical.Flags draft start bytes place =
-    block_flags_left (64 - length draft.numbers.items) (length draft.numbers.items) draft start bytes place
+    block_flags_left (64 - length draft.numbers) (length draft.numbers) draft start bytes place
 canonical_left canonical.CheckType draft start bytes place =
-    block_check_left (64 - length draft.numbers.items) (length draft.numbers.items) draft start bytes place
+    block_check_left (64 - length draft.numbers) (length draft.numbers) draft start bytes place
 canonical_left canonical.Data draft start bytes place =
-    data_left (64 - length draft.numbers.items) (length draft.numbers.items) draft start bytes place
+    data_left (64 - length draft.numbers) (length draft.numbers) draft start bytes place
 
 -- at each field, of a block that begins at `start`
 unfoldable pub field_left : Field → Draft → ℕ → List ℕ → ℕ → Result Bundle Stop
 field_left (field.Primary which) draft start bytes place =
-    behind_primary draft start bytes (primary_left which draft bytes place)
+    after_primary draft start bytes (primary_left which draft bytes place)
 field_left (field.Endpoint role which) draft start bytes place =
-    behind_primary draft start bytes (behind_eid role draft bytes (part_left which draft bytes place))
+    after_primary draft start bytes (after_eid role draft bytes (part_left which draft bytes place))
 field_left (field.Canonical which) draft start bytes place = canonical_left which draft start bytes place
 field_left (field.Check kind) draft start bytes place =
-    behind_field draft bytes (field_at (Some kind) start bytes place)
+    after_field draft bytes (field_at (Some kind) start bytes place)
 field_left field.Closing draft start bytes place = do
   (_, end) ← row_at closing bytes place
   Ok (bundle_of draft end)
@@ -290,12 +319,12 @@ stage_left Start draft start field bytes place = judged bytes
 stage_left (Head which) draft start field bytes place =
     ends_of bytes (with_note draft.payload (field_left which draft (block_start which start field) bytes field))
 stage_left (Name role left) draft start field bytes place =
-    ends_of bytes (with_note draft.payload (behind_primary draft start bytes (behind_eid role draft bytes (name_left draft left bytes place))))
+    ends_of bytes (with_note draft.payload (after_primary draft start bytes (after_eid role draft bytes (name_left (kept_name role draft) left bytes place))))
 stage_left (Content left) draft start field bytes place =
-    ends_of bytes (with_note draft.payload (behind_field draft bytes (content_at left (kind_of draft.check) start bytes place)))
+    ends_of bytes (with_note draft.payload (after_field draft bytes (content_at left (kind_of draft.check) start bytes place)))
 stage_left (Stored field left stored kind) draft start content bytes place =
     let check = zeroed_check kind start content (place + left - content) bytes in
-    ends_of bytes (with_note draft.payload (behind_field draft bytes (stored_left left stored check field bytes place)))
+    ends_of bytes (with_note draft.payload (after_field draft bytes (stored_left left stored check field bytes place)))
 stage_left Ended draft start field bytes place = ends bytes (bundle_of draft field)
 stage_left (Failed fault at) draft start field bytes place = with_note draft.payload (Err (stopped fault at))
 
@@ -325,30 +354,37 @@ Judges which old head result new = (next : ℕ) → JudgesAt next which old head
 abbrev pub BlockEnds : Draft → Stage → Draft → Type 0
 BlockEnds old stage new =
     (bytes : List ℕ) (start next : ℕ) →
-    ends_of bytes (with_note old.payload (block_end old.payload old.numbers.items (primary_of old) bytes next))
+    ends_of bytes (with_note old.payload (block_end old.payload old.numbers (primary_of old) bytes next))
     ≡ stage_left stage new start next bytes next
 
 abbrev pub FieldsEnd : Draft → Stage → Draft → Type 0
 FieldsEnd old stage new =
     (bytes : List ℕ) (start next : ℕ) →
-    ends_of bytes (with_note old.payload (behind_field old bytes (field_at (kind_of old.check) start bytes next)))
+    ends_of bytes (with_note old.payload (after_field old bytes (field_at (kind_of old.check) start bytes next)))
     ≡ stage_left stage new start next bytes next
 
 -- behind the head of data of this size
 abbrev pub ContentBegins : ℕ → Draft → Stage → Draft → Type 0
 ContentBegins size old stage new =
     (bytes : List ℕ) (start next : ℕ) → next ≤ length bytes →
-    ends_of bytes (with_note old.payload (behind_field old bytes (content_at size (kind_of old.check) start bytes next)))
+    ends_of bytes (with_note old.payload (after_field old bytes (content_at size (kind_of old.check) start bytes next)))
     ≡ stage_left stage new start next bytes next
 
 abbrev pub EidEnds : Role → Eid → Draft → Stage → Draft → Type 0
 EidEnds role eid old stage new =
     (bytes : List ℕ) (start next : ℕ) →
-    ends_of bytes (with_note old.payload (behind_primary old start bytes (behind_eid role old bytes (Ok (eid, next)))))
+    ends_of bytes (with_note old.payload (after_primary old start bytes (after_eid role old bytes (Ok (eid, next)))))
     ≡ stage_left stage new start next bytes next
 
--- one more byte of a name, of which `left` bytes were left
-abbrev pub NameGoesOn : Role → ℕ → ℕ → Draft → Stage → Draft → Type 0
-NameGoesOn role left byte old stage new =
-    (bytes more : List ℕ) (start field place : ℕ) → drop place bytes ≡ byte ∷ more →
-    stage_left (Name role left) old start field bytes place ≡ stage_left stage new start (place + 1) bytes (place + 1)
+-- a name begins, of this many bytes
+abbrev pub NameBegins : Role → ℕ → Draft → Stage → Draft → Type 0
+NameBegins role size old stage new =
+    (bytes : List ℕ) (start next : ℕ) → next ≤ length bytes →
+    ends_of bytes (with_note old.payload (after_primary old start bytes (after_eid role old bytes (name_left [] size bytes next))))
+    ≡ stage_left stage new start next bytes next
+
+-- more bytes of a name, of which `left` bytes were left
+abbrev pub NameGoesOn : Role → ℕ → List ℕ → Draft → Stage → Draft → Type 0
+NameGoesOn role left run old stage new =
+    (bytes more : List ℕ) (start field place : ℕ) → drop place bytes ≡ run ++ more →
+    stage_left (Name role left) old start field bytes place ≡ stage_left stage new start (place + length run) bytes (place + length run)

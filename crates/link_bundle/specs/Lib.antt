@@ -1,13 +1,15 @@
 pub mod Rows
 pub mod Reading
 pub mod EndpointId
-pub mod Blocks
+pub mod KeptEid
+pub mod CheckField
+pub mod Primary
+pub mod Canonical
 pub mod Bundle
 pub mod CheckKinds
 pub mod Left
 pub mod Fits
 pub mod Covers
-pub mod Faults
 pub mod Stages
 pub mod Scan
 pub mod Laws

@@ -1,12 +1,12 @@
 -- what each head of a bundle is judged: a value, or the first fault in the order given (RFC 9171 section 4)
 
-use Rattle.std.specs.Prelude.{ℕ, ◌+◌, Bool, true, false, not, ◌&&◌, ◌==◌, nat_le, List, Option, Some, None, Result, Ok, Err, if◌then◌else◌, bit_and, is_ok}
+use Rattle.std.specs.Prelude.{ℕ, ◌+◌, Bool, true, false, not, ◌&&◌, ◌||◌, ◌==◌, nat_le, List, Option, Some, None, Result, Ok, Err, if◌then◌else◌, bit_and}
 use Rattle.std.specs.List.{list_any}
 use Rattle.link_cbor.specs.declared.head.Head.{Head}
 use Rattle.link_cbor.specs.declared.check.CheckKind.{CheckKind}
 use Rattle.link_cbor.specs.declared.check.CheckKind.TheVariants.{Crc16, Crc32}
-use Rattle.link_bundle.specs.declared.fault.BundleFault.{BundleFault}
-use Rattle.link_bundle.specs.declared.fault.BundleFault.TheVariants.{WrongKind, BadCount, BadVersion, BadCheckType, BadScheme, BadSpecificPart, EidTooLong, BadCheckLength, BadBlockNumber, RepeatedBlockNumber, TooManyBlocks, NoPayloadLast}
+use Rattle.link_bundle_types.specs.declared.fault.BundleFault.{BundleFault}
+use Rattle.link_bundle_types.specs.declared.fault.BundleFault.TheVariants.{WrongKind, BadCount, BadVersion, BadCheckType, BadScheme, BadSpecificPart, EidTooLong, BadCheckLength, BadBlockNumber, RepeatedBlockNumber, TooManyBlocks, NoPayloadLast}
 use Rattle.link_bundle.specs.declared.stage.Scheme.{Scheme}
 use Rattle.link_bundle.specs.declared.stage.Scheme.TheVariants.{Dtn, Ipn}
 
@@ -105,9 +105,13 @@ dtn_by major (Some value) =
 unfoldable pub dtn_part : Head → Result (Option ℕ) BundleFault
 dtn_part head = dtn_by head.major head.value
 
--- the specific part of scheme ipn: an array of node number and service number
+-- the specific part of scheme ipn: an array of two or three numbers
+abbrev pub ipn_count : Result ℕ BundleFault → Result ℕ BundleFault
+ipn_count (Ok count) = wanted ((count == 2) || (count == 3)) count BadCount
+ipn_count (Err fault) = Err BadSpecificPart
+
 unfoldable pub ipn_part : Head → Result ℕ BundleFault
-ipn_part head = if is_ok (array head) then pair head else Err BadSpecificPart
+ipn_part head = ipn_count (array head)
 
 -- at the place of a canonical block (section 4.3.2), with the payload block still to come:
 -- five elements, one more with a check field

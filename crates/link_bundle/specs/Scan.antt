@@ -63,6 +63,16 @@ pub record HasCome (stage : Stage) (cursor : Cursor) (draft : Draft) (seen : Lis
   pub reads : (more : List ℕ) → judged (seen ++ more) ≡ stage_left stage draft start cursor.place (seen ++ more) (length seen)
   pub stands : Stands stage cursor draft.check start seen
 
+-- the head at `cursor.place` has come, and is not judged yet
+pub record HeadCame (which : Field) (cursor : Cursor) (draft : Draft) (seen : List ℕ) : Type 0 where
+  pub all_bytes : AreBytes seen
+  pub count : cursor.count ≡ length seen
+  pub start : ℕ
+  pub reads : (more : List ℕ) → judged (seen ++ more) ≡ stage_left (Head which) draft start cursor.place (seen ++ more) (length seen)
+  pub in_bytes : cursor.place ≤ length seen
+  pub in_block : block_start which start cursor.place ≤ length seen
+  pub checks : Covers draft.check cursor.checks (drop (block_start which start cursor.place) seen)
+
 -- the scan has stepped over exactly these bytes
 abbrev pub HasScanned : BundleScan → List ℕ → Type 0
 HasScanned scan seen = HasCome scan.stage scan.cursor scan.draft seen

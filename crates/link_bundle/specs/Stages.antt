@@ -1,8 +1,13 @@
 -- what a caller sees of a stage
 
 use Rattle.std.specs.Prelude.{Bool, true, false}
-use Rattle.link_bundle.specs.declared.fault.State.{State}
-use Rattle.link_bundle.specs.declared.fault.State.TheVariants as state
+use Rattle.link_bundle_types.specs.declared.fault.State.{State}
+use Rattle.link_bundle_types.specs.declared.fault.State.TheVariants as state
+use Rattle.link_bundle.specs.declared.stage.Field.TheVariants as field
+use Rattle.link_bundle.specs.declared.stage.Part.TheVariants as part
+use Rattle.link_bundle.specs.declared.stage.PrimaryField.TheVariants as primary
+use Rattle.link_bundle.specs.declared.stage.Role.{Role}
+use Rattle.link_bundle.specs.declared.stage.Role.TheVariants.{Destination, Source, ReportTo}
 use Rattle.link_bundle.specs.declared.stage.Stage.{Stage}
 use Rattle.link_bundle.specs.declared.stage.Stage.TheVariants.{Start, Head, Name, Content, Stored, Ended, Failed}
 
@@ -14,6 +19,12 @@ stage_state (Content left) = state.Going
 stage_state (Stored place left stored kind) = state.Going
 stage_state Ended = state.Ended
 stage_state (Failed fault place) = state.Failed fault place
+
+-- the head after an endpoint ID
+abbrev pub stage_after : Role → Stage
+stage_after Destination = Head (field.Endpoint Source part.Whole)
+stage_after Source = Head (field.Endpoint ReportTo part.Whole)
+stage_after ReportTo = Head (field.Primary primary.Timestamp)
 
 -- one more byte may be given where no fault was told
 abbrev pub takes_bytes : State → Bool

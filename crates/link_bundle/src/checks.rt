@@ -1,10 +1,10 @@
-ghost use Rattle.std.specs.Prelude.{◌≡◌, ℕ, List, [], ◌∷◌, ◌++◌};
+ghost use Rattle.std.specs.Prelude.{◌≡◌, ℕ, List, [], ◌++◌};
 
 use crate::stage::CheckType;
 use link_cbor::{Check, CheckKind};
 
 /// The checks that run along a block from its array's head (RFC 9171 section 4.2.1). Both run until the check type has
-/// come, since it stands behind other heads; then the one that is wanted.
+/// come, since it stands after other heads; then the one that the block has.
 #[derive(Drop)]
 pub(crate) struct BlockChecks {
     crc16: Check,
@@ -25,22 +25,22 @@ impl BlockChecks {
         }
     }
 
-    /// Takes a byte of the block into what is wanted.
-    pub fn push(&mut self, check: CheckType, byte: u8)
-        ensures { (covered : List ℕ) → Covers check self.old covered → Covers check self.new (covered ++ byte ∷ []) }
+    /// Takes bytes of the block into what is needed.
+    pub fn push_slice(&mut self, check: CheckType, bytes: &[u8])
+        ensures { (covered : List ℕ) → Covers check self.old covered → Covers check self.new (covered ++ bytes.now) }
     {
         match check {
             CheckType::Unread => {
-                self.crc16.push(byte);
-                self.crc32.push(byte);
+                self.crc16.push_slice(bytes);
+                self.crc32.push_slice(bytes);
             }
             CheckType::Is(None) => {}
-            CheckType::Is(Some(CheckKind::Crc16)) => self.crc16.push(byte),
-            CheckType::Is(Some(CheckKind::Crc32)) => self.crc32.push(byte),
+            CheckType::Is(Some(CheckKind::Crc16)) => self.crc16.push_slice(bytes),
+            CheckType::Is(Some(CheckKind::Crc32)) => self.crc32.push_slice(bytes),
         }
     }
 
-    /// The check of this kind, where it is wanted, of the bytes taken.
+    /// The check of this kind, where the block has it, of the bytes taken.
     pub fn value(&self, kind: CheckKind) -> u32
         ensures { (covered : List ℕ) → Covers (CheckType.Is (Some kind)) self.now covered → result ≡ crc kind covered }
     {

@@ -1,4 +1,4 @@
-ghost use Rattle.std.specs.Prelude.{◌≡◌, ℕ, ◌+◌, ◌-◌, ◌^◌, ◌<◌, ◌↔◌, IsTrue, List, ◌∷◌, [], ◌++◌, length};
+ghost use Rattle.std.specs.Prelude.{◌≡◌, ℕ, ◌+◌, ◌-◌, ◌^◌, ◌<◌, ◌≤◌, ◌↔◌, IsTrue, List, ◌∷◌, [], ◌++◌, length};
 ghost use Rattle.std.specs.Bool.{MatchBool};
 ghost use Rattle.link_cbor.specs.Head.{head_front, front_of};
 ghost use Rattle.link_cbor.specs.HeadScan.{HasScanned as HasScannedHead, may_scan as may_scan_head};
@@ -47,20 +47,20 @@ impl Cursor {
         ensures may_step { IsTrue (may_scan_head self.new.head) ↔ (result ≡ HeadStep.More) }
     {
         self.count += 1;
-        self.checks.push(check, byte);
+        self.checks.push_slice(check, &[byte]);
         self.head.step(byte);
         self.head.outcome()
     }
 
-    /// Takes a byte of a name or of data.
-    pub fn content_byte(&mut self, check: CheckType, byte: u8)
-        requires room { self.old.count < 2 ^ 63 - 1 }
-        ensures count { self.new.count ≡ self.old.count + 1 }
+    /// Takes bytes of a name, of data or of a check field.
+    pub fn content_run(&mut self, check: CheckType, run: &[u8])
+        requires room { self.old.count + length run.now ≤ 2 ^ 63 - 1 }
+        ensures count { self.new.count ≡ self.old.count + length run.now }
         ensures place { self.new.place ≡ self.old.place }
-        ensures checks { (covered : List ℕ) → Covers check self.old.checks covered → Covers check self.new.checks (covered ++ byte ∷ []) }
+        ensures checks { (covered : List ℕ) → Covers check self.old.checks covered → Covers check self.new.checks (covered ++ run.now) }
     {
-        self.count += 1;
-        self.checks.push(check, byte);
+        self.count += run.len() as u64;
+        self.checks.push_slice(check, run);
     }
 
     /// Makes ready for what comes next.

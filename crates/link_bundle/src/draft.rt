@@ -1,11 +1,10 @@
-ghost use Rattle.std.specs.Prelude.{◌≡◌, IfOk, IsTrue, length};
+ghost use Rattle.std.specs.Prelude.{◌≡◌, ◌≤◌, [], ◌++◌, IfOk, IsTrue, length};
 
-use crate::eid::{EID_LIMIT, Eid};
-use crate::fault::BundleFault;
-use crate::info::{BLOCK_LIMIT, BundleInfo};
+use crate::kept_eid::{EidForm, KeptEid};
+use crate::numbers::BlockNumbers;
 use crate::row;
 use crate::stage::{CanonicalField, CheckType, Field, Part, PrimaryField, Role, Scheme, Stage};
-use arrayvec::ArrayVec;
+use link_bundle_types::{BundleFault, BundleInfo, BundleView};
 use link_cbor::Head;
 
 /// What the heads so far have given.
@@ -16,10 +15,8 @@ pub(crate) struct Draft {
     /// The present block's check type.
     pub check: CheckType,
     pub flags: u64,
-    pub destination: Eid,
-    pub source: Eid,
-    /// What has come of the name that is being read.
-    pub name: ArrayVec<u8, EID_LIMIT>,
+    pub destination: KeptEid,
+    pub source: KeptEid,
     pub time: u64,
     pub sequence: u64,
     pub lifetime: u64,
@@ -29,7 +26,7 @@ pub(crate) struct Draft {
     /// The present canonical block's type code.
     pub block_type: u64,
     /// The numbers of the canonical blocks so far.
-    pub numbers: ArrayVec<u64, BLOCK_LIMIT>,
+    pub numbers: BlockNumbers,
     /// Where the payload's bytes begin, and how many they are.
     pub payload: Option<(u64, u64)>,
 }
@@ -37,6 +34,7 @@ pub(crate) struct Draft {
 impl Draft {
     ghost use Rattle.link_bundle.specs.Fits.{stage_fits, KeepsCheck};
     ghost use Rattle.link_bundle.specs.Bundle.{info_of};
+    ghost use Rattle.link_bundle_types.specs.BundleView.{viewed_info};
     ghost use Rattle.link_bundle.specs.Left.{BlockEnds, FieldsEnd, primary_of, span_of};
 
     /// The draft of a bundle of which no byte has come.
@@ -48,23 +46,32 @@ impl Draft {
             count: 0,
             check: CheckType::Unread,
             flags: 0,
-            destination: Eid::DtnNone,
-            source: Eid::DtnNone,
-            name: ArrayVec::new(),
+            destination: KeptEid::new(),
+            source: KeptEid::new(),
             time: 0,
             sequence: 0,
             lifetime: 0,
             fragment_offset: 0,
             fragment: None,
             block_type: 0,
-            numbers: ArrayVec::new(),
+            numbers: BlockNumbers::new(),
             payload: None,
         }
     }
 
+    /// Makes it the draft of a bundle of which no byte has come. What the heads give before it is asked for stays.
+    pub fn restart(&mut self)
+        ensures fits { IsTrue (stage_fits Stage.Start self.new) }
+        ensures check { self.new.check ≡ CheckType.Unread }
+    {
+        self.check = CheckType::Unread;
+        self.numbers.clear();
+        self.payload = None;
+    }
+
     /// What a whole bundle says.
     pub fn info(&self) -> BundleInfo
-        ensures { result ≡ info_of (primary_of self.now) (length self.now.numbers.items) (span_of self.now.payload).1 }
+        ensures { result ≡ info_of (primary_of self.now) (length self.now.numbers) (span_of self.now.payload).1 }
     {
         let (_, payload) = self.payload.unwrap_or((0, 0));
         BundleInfo {
@@ -75,14 +82,32 @@ impl Draft {
             sequence: self.sequence,
             lifetime: self.lifetime,
             fragment: self.fragment,
-            blocks: self.numbers.len() as u64,
+            blocks: self.numbers.as_slice().len() as u64,
+            payload,
+        }
+    }
+
+    /// The same by reference.
+    pub fn view(&self) -> BundleView<'_>
+        ensures { viewed_info result ≡ info_of (primary_of self.now) (length self.now.numbers) (span_of self.now.payload).1 }
+    {
+        let (_, payload) = self.payload.unwrap_or((0, 0));
+        BundleView {
+            flags: self.flags,
+            destination: self.destination.view(),
+            source: self.source.view(),
+            time: self.time,
+            sequence: self.sequence,
+            lifetime: self.lifetime,
+            fragment: self.fragment,
+            blocks: self.numbers.as_slice().len() as u64,
             payload,
         }
     }
 
     /// What stands behind a block: the next block, or behind the payload block the break.
     #[tactic(auto, using(crate::proofs::Heads::closes, crate::proofs::Heads::goes_to_block), unfolding(crate::specs::Left::stage_left, crate::specs::Left::field_left))]
-    pub fn behind_block(&mut self) -> Stage
+    pub fn after_block(&mut self) -> Stage
         ensures reads { BlockEnds self.old result self.new }
         ensures fits { IsTrue (stage_fits result self.new) }
         ensures keeps { KeepsCheck self.old.check result self.new.check }
@@ -95,15 +120,15 @@ impl Draft {
     }
 
     /// What stands behind the fields of a block but its check field.
-    #[tactic(auto, unfolding(crate::specs::Left::stage_left, crate::specs::Left::field_left, crate::specs::Blocks::field_at))]
-    pub fn behind_fields(&mut self) -> Stage
+    #[tactic(auto, unfolding(crate::specs::Left::stage_left, crate::specs::Left::field_left, crate::specs::CheckField::field_at))]
+    pub fn after_fields(&mut self) -> Stage
         ensures reads { FieldsEnd self.old result self.new }
         ensures fits { IsTrue (stage_fits result self.new) }
         ensures keeps { KeepsCheck self.old.check result self.new.check }
     {
         match self.check.kind() {
             Some(kind) => Stage::Head(Field::Check(kind)),
-            None => self.behind_block(),
+            None => self.after_block(),
         }
     }
 }
@@ -208,7 +233,7 @@ impl Draft {
         Ok(Stage::Head(Field::Primary(PrimaryField::Lifetime)))
     }
 
-    #[tactic(auto, using(crate::proofs::Heads::heads), unfolding(crate::specs::Left::field_left, crate::specs::Left::stage_left, crate::specs::Left::lifetime_left, crate::specs::Left::offset_left, crate::specs::Blocks::fragment_at))]
+    #[tactic(auto, using(crate::proofs::Heads::heads), unfolding(crate::specs::Left::field_left, crate::specs::Left::stage_left, crate::specs::Left::lifetime_left, crate::specs::Left::offset_left, crate::specs::Primary::fragment_at))]
     fn lifetime(&mut self, head: Head) -> Result<Stage, BundleFault>
         ensures judges { Judges (Field.Primary PrimaryField.Lifetime) self.old head result self.new }
         ensures follows { Follows result self.new }
@@ -219,10 +244,10 @@ impl Draft {
             return Ok(Stage::Head(Field::Primary(PrimaryField::FragmentOffset)));
         }
         self.fragment = None;
-        Ok(self.behind_fields())
+        Ok(self.after_fields())
     }
 
-    #[tactic(auto, using(crate::proofs::Heads::heads), unfolding(crate::specs::Left::field_left, crate::specs::Left::stage_left, crate::specs::Left::offset_left, crate::specs::Left::total_left, crate::specs::Blocks::fragment_at))]
+    #[tactic(auto, using(crate::proofs::Heads::heads), unfolding(crate::specs::Left::field_left, crate::specs::Left::stage_left, crate::specs::Left::offset_left, crate::specs::Left::total_left, crate::specs::Primary::fragment_at))]
     fn fragment_offset(&mut self, head: Head) -> Result<Stage, BundleFault>
         ensures judges { Judges (Field.Primary PrimaryField.FragmentOffset) self.old head result self.new }
         ensures follows { Follows result self.new }
@@ -240,14 +265,16 @@ impl Draft {
     {
         let total_length = row::unsigned(head)?;
         self.fragment = Some((self.fragment_offset, total_length));
-        Ok(self.behind_fields())
+        Ok(self.after_fields())
     }
 }
 
 /// Endpoint IDs (RFC 9171 section 4.2.5.1).
 impl Draft {
-    ghost use Rattle.link_bundle.specs.Fits.{stage_fits, Follows, KeepsCheck};
-    ghost use Rattle.link_bundle.specs.Left.{Judges, EidEnds, NameGoesOn};
+    ghost use Rattle.link_bundle.specs.Fits.{stage_fits, rest_fits, Follows, KeepsCheck};
+    ghost use Rattle.link_bundle.specs.Left.{Judges, EidEnds, NameBegins, NameGoesOn, with_eid, kept_name};
+    ghost use Rattle.link_bundle.specs.KeptEid.{formed};
+    ghost use Rattle.link_bundle_types.specs.declared.eid.Eid.TheVariants.{Dtn};
 
     /// Judges a head of an endpoint ID.
     pub fn endpoint(&mut self, role: Role, part: Part, head: Head) -> Result<Stage, BundleFault>
@@ -260,8 +287,9 @@ impl Draft {
             Part::Scheme => self.scheme(role, head),
             Part::Specific(Scheme::Dtn) => self.dtn(role, head),
             Part::Specific(Scheme::Ipn) => self.ipn(role, head),
-            Part::Node => self.node(role, head),
-            Part::Service(node) => self.service(role, node, head),
+            Part::Allocator => self.allocator(role, head),
+            Part::Node(allocator) => self.node(role, allocator, head),
+            Part::Service(allocator, node) => self.service(role, allocator, node, head),
         }
     }
 
@@ -292,78 +320,122 @@ impl Draft {
         ensures keeps { IfOk result (λ stage. KeepsCheck self.old.check stage self.new.check) }
     {
         match row::dtn_part(head)? {
-            None => Ok(self.behind_eid(role, Eid::DtnNone)),
-            Some(0) => Ok(self.behind_eid(role, Eid::Dtn(ArrayVec::new()))),
-            Some(left) => {
-                self.name.clear();
-                Ok(Stage::Name(role, left))
-            }
+            None => Ok(self.after_eid(role, EidForm::DtnNone)),
+            Some(size) => Ok(self.name(role, size)),
         }
     }
 
-    #[tactic(auto, using(crate::proofs::Heads::heads), unfolding(crate::specs::Left::field_left, crate::specs::Left::stage_left, crate::specs::EndpointId::specific_at, crate::specs::Left::node_left, crate::specs::Left::service_left))]
+    #[tactic(auto, using(crate::proofs::Heads::heads), unfolding(crate::specs::Left::field_left, crate::specs::Left::stage_left, crate::specs::EndpointId::specific_at, crate::specs::EndpointId::ipn_at, crate::specs::Left::allocator_left, crate::specs::Left::node_left, crate::specs::Left::service_left))]
     fn ipn(&mut self, role: Role, head: Head) -> Result<Stage, BundleFault>
         ensures judges { Judges (Field.Endpoint role (Part.Specific Scheme.Ipn)) self.old head result self.new }
         ensures follows { Follows result self.new }
         ensures keeps { IfOk result (λ stage. KeepsCheck self.old.check stage self.new.check) }
     {
-        row::ipn_part(head)?;
-        Ok(Stage::Head(Field::Endpoint(role, Part::Node)))
+        let part = match row::ipn_part(head)? {
+            3 => Part::Allocator,
+            _ => Part::Node(None),
+        };
+        Ok(Stage::Head(Field::Endpoint(role, part)))
+    }
+
+    #[tactic(auto, using(crate::proofs::Heads::heads), unfolding(crate::specs::Left::field_left, crate::specs::Left::stage_left, crate::specs::Left::allocator_left))]
+    fn allocator(&mut self, role: Role, head: Head) -> Result<Stage, BundleFault>
+        ensures judges { Judges (Field.Endpoint role Part.Allocator) self.old head result self.new }
+        ensures follows { Follows result self.new }
+        ensures keeps { IfOk result (λ stage. KeepsCheck self.old.check stage self.new.check) }
+    {
+        let allocator = row::unsigned(head)?;
+        Ok(Stage::Head(Field::Endpoint(role, Part::Node(Some(allocator)))))
     }
 
     #[tactic(auto, using(crate::proofs::Heads::heads), unfolding(crate::specs::Left::field_left, crate::specs::Left::stage_left, crate::specs::Left::node_left))]
-    fn node(&mut self, role: Role, head: Head) -> Result<Stage, BundleFault>
-        ensures judges { Judges (Field.Endpoint role Part.Node) self.old head result self.new }
+    fn node(&mut self, role: Role, allocator: Option<u64>, head: Head) -> Result<Stage, BundleFault>
+        ensures judges { Judges (Field.Endpoint role (Part.Node allocator)) self.old head result self.new }
         ensures follows { Follows result self.new }
         ensures keeps { IfOk result (λ stage. KeepsCheck self.old.check stage self.new.check) }
     {
         let node = row::unsigned(head)?;
-        Ok(Stage::Head(Field::Endpoint(role, Part::Service(node))))
+        Ok(Stage::Head(Field::Endpoint(role, Part::Service(allocator, node))))
     }
 
     #[tactic(auto, using(crate::proofs::Heads::heads), unfolding(crate::specs::Left::field_left, crate::specs::Left::stage_left, crate::specs::Left::service_left))]
-    fn service(&mut self, role: Role, node: u64, head: Head) -> Result<Stage, BundleFault>
-        ensures judges { Judges (Field.Endpoint role (Part.Service node)) self.old head result self.new }
+    fn service(
+        &mut self,
+        role: Role,
+        allocator: Option<u64>,
+        node: u64,
+        head: Head,
+    ) -> Result<Stage, BundleFault>
+        ensures judges { Judges (Field.Endpoint role (Part.Service allocator node)) self.old head result self.new }
         ensures follows { Follows result self.new }
         ensures keeps { IfOk result (λ stage. KeepsCheck self.old.check stage self.new.check) }
     {
         let service = row::unsigned(head)?;
-        Ok(self.behind_eid(role, Eid::Ipn(node, service)))
+        match allocator {
+            None => Ok(self.after_eid(role, EidForm::Ipn(node, service))),
+            Some(allocator) => { Ok(self.after_eid(role, EidForm::Ipn3(allocator, node, service))) }
+        }
     }
 
-    /// Takes a byte of a dtn name, of which `left` bytes were left.
-    #[tactic(auto, unfolding(crate::specs::Left::stage_left))]
-    pub fn name_byte(&mut self, role: Role, left: u64, byte: u8) -> Stage
-        requires { IsTrue (stage_fits (Stage.Name role left) self.old) }
-        ensures reads { NameGoesOn role left byte self.old result self.new }
+    /// Begins a dtn name of this many bytes.
+    fn name(&mut self, role: Role, size: u64) -> Stage
+        requires { size ≤ 1024 }
+        ensures reads { NameBegins role size self.old result self.new }
         ensures fits { IsTrue (stage_fits result self.new) }
         ensures keeps { KeepsCheck self.old.check result self.new.check }
     {
-        self.name.push(byte);
-        if left > 1 {
-            return Stage::Name(role, left - 1);
+        self.keep(role, EidForm::Dtn);
+        match size {
+            0 => role.stage_after(),
+            left => Stage::Name(role, left),
         }
-        let name = self.name.take();
-        self.behind_eid(role, Eid::Dtn(name))
     }
 
-    /// Keeps an endpoint ID: the report-to is judged and not kept.
-    #[tactic(auto, unfolding(crate::specs::Left::field_left, crate::specs::Left::stage_left, crate::specs::Left::source_left, crate::specs::Left::report_to_left))]
-    fn behind_eid(&mut self, role: Role, eid: Eid) -> Stage
-        ensures reads { EidEnds role eid self.old result self.new }
+    /// Takes bytes of a dtn name, of which `left` bytes were left.
+    pub fn name_run(&mut self, role: Role, left: u64, run: &[u8]) -> Stage
+        requires fits { IsTrue (stage_fits (Stage.Name role left) self.old) }
+        requires within { length run.now ≤ left }
+        ensures reads { NameGoesOn role left run.now self.old result self.new }
         ensures fits { IsTrue (stage_fits result self.new) }
         ensures keeps { KeepsCheck self.old.check result self.new.check }
+    {
+        self.keep_more(role, run);
+        match left - run.len() as u64 {
+            0 => role.stage_after(),
+            left => Stage::Name(role, left),
+        }
+    }
+
+    /// Keeps an endpoint ID, and says what comes after it.
+    fn after_eid(&mut self, role: Role, form: EidForm) -> Stage
+        ensures reads { EidEnds role (formed form []) self.old result self.new }
+        ensures fits { IsTrue (stage_fits result self.new) }
+        ensures keeps { KeepsCheck self.old.check result self.new.check }
+    {
+        self.keep(role, form);
+        role.stage_after()
+    }
+
+    /// Keeps an endpoint ID in its place: the report-to endpoint is judged and not kept.
+    fn keep(&mut self, role: Role, form: EidForm)
+        ensures { self.new ≡ with_eid role self.old (formed form []) }
     {
         match role {
-            Role::Destination => {
-                self.destination = eid;
-                Stage::Head(Field::Endpoint(Role::Source, Part::Whole))
-            }
-            Role::Source => {
-                self.source = eid;
-                Stage::Head(Field::Endpoint(Role::ReportTo, Part::Whole))
-            }
-            Role::ReportTo => Stage::Head(Field::Primary(PrimaryField::Timestamp)),
+            Role::Destination => self.destination.set(form),
+            Role::Source => self.source.set(form),
+            Role::ReportTo => {}
+        }
+    }
+
+    /// Keeps more bytes of a dtn name.
+    fn keep_more(&mut self, role: Role, run: &[u8])
+        requires { IsTrue (rest_fits role self.old (length run.now)) }
+        ensures { self.new ≡ with_eid role self.old (Dtn (record { items = kept_name role self.old ++ run.now })) }
+    {
+        match role {
+            Role::Destination => self.destination.extend(run),
+            Role::Source => self.source.extend(run),
+            Role::ReportTo => {}
         }
     }
 }
@@ -427,7 +499,7 @@ impl Draft {
         ensures follows { Follows result self.new }
         ensures keeps { IfOk result (λ stage. KeepsCheck self.old.check stage self.new.check) }
     {
-        let number = row::block_number(self.block_type, &self.numbers, head)?;
+        let number = row::block_number(self.block_type, self.numbers.as_slice(), head)?;
         self.numbers.push(number);
         Ok(Stage::Head(Field::Canonical(CanonicalField::Flags)))
     }
@@ -474,7 +546,7 @@ impl Draft {
         ensures keeps { KeepsCheck self.old.check result self.new.check }
     {
         match size {
-            0 => self.behind_fields(),
+            0 => self.after_fields(),
             left => Stage::Content(left),
         }
     }

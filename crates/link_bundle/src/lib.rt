@@ -4,17 +4,17 @@
 mod checks;
 mod cursor;
 mod draft;
-mod eid;
-mod fault;
-mod info;
+mod judging;
+mod kept_eid;
 pub mod laws;
+mod numbers;
 mod row;
 mod scan;
 mod stage;
 
-pub use eid::{EID_LIMIT, Eid};
-pub use fault::{BundleFault, State};
-pub use info::{BLOCK_LIMIT, BundleInfo};
+pub use link_bundle_types::{
+    BLOCK_LIMIT, BundleFault, BundleInfo, BundleView, EID_LIMIT, Eid, EidView, State,
+};
 pub use scan::BundleScan;
 
 #[cfg(test)]

@@ -1,11 +1,10 @@
 //! What each head of a bundle is judged, once it is whole and well-formed: its kind first, then its value.
 ghost use Rattle.std.specs.Prelude.{◌≡◌, ◌≤◌, IfOk, IfErr, IfSome, IsTrue};
-ghost use Rattle.link_bundle.specs.Faults.{lasts};
+ghost use Rattle.link_bundle_types.specs.Faults.{lasts};
 ghost use Rattle.link_bundle.specs.Rows as row;
 
-use crate::eid::EID_LIMIT;
-use crate::fault::BundleFault;
 use crate::stage::Scheme;
+use link_bundle_types::{BundleFault, EID_LIMIT};
 use link_cbor::{CheckKind, Head};
 
 /// Major types (RFC 8949 section 3.1).
@@ -187,14 +186,15 @@ pub(crate) fn dtn_part(head: Head) -> Result<Option<u64>, BundleFault>
     }
 }
 
-/// The specific part of scheme ipn: an array of node number and service number.
+/// The specific part of scheme ipn, an array: how many numbers it has, two or three.
 #[tactic(auto, unfolding(crate::specs::Rows::ipn_part))]
 pub(crate) fn ipn_part(head: Head) -> Result<u64, BundleFault>
     ensures judged { result ≡ row.ipn_part head }
     ensures lasts { IfErr result (λ fault. IsTrue (lasts fault)) }
 {
     match array(head) {
-        Ok(_) => pair(head),
+        Ok(count @ 2..=3) => Ok(count),
+        Ok(_) => Err(BundleFault::BadCount),
         Err(_) => Err(BundleFault::BadSpecificPart),
     }
 }

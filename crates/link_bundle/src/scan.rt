@@ -1,13 +1,12 @@
-ghost use Rattle.std.specs.Prelude.{◌≡◌, ℕ, ◌+◌, ◌-◌, ◌^◌, ◌<◌, IfOk, IsTrue, List, ◌∷◌, [], ◌++◌};
-ghost use Rattle.link_bundle.specs.Fits.{scan_fits, stage_fits, Follows, KeepsCheck};
-ghost use Rattle.link_bundle.specs.Left.{JudgesFrom};
+ghost use Rattle.std.specs.Prelude.{◌≡◌, ℕ, ◌+◌, ◌-◌, ◌^◌, ◌<◌, ◌≤◌, IfOk, IsTrue, List, ◌∷◌, [], ◌++◌, length, take, drop, min, true};
+ghost use Rattle.link_bundle.specs.Fits.{scan_fits};
+ghost use Rattle.link_cbor.specs.Head.{Whole, head_front};
 
 use crate::cursor::Cursor;
 use crate::draft::Draft;
-use crate::fault::{BundleFault, State};
-use crate::info::BundleInfo;
-use crate::row;
+use crate::judging::{first_head, take_head};
 use crate::stage::{CheckType, Field, PrimaryField, Role, Stage};
+use link_bundle_types::{BundleFault, BundleInfo, BundleView, State};
 use link_cbor::{CheckKind, Head, HeadStep, Piecewise};
 use std::fmt;
 
@@ -23,36 +22,18 @@ pub struct BundleScan {
     ghost fits: { IsTrue (scan_fits stage cursor draft) },
 }
 
-/// Judges a whole head at a field: what comes next, or the fault.
-#[tactic(auto, using(crate::proofs::Heads::heads), unfolding(crate::specs::Left::field_left, crate::specs::Left::stage_left))]
-fn judge(draft: &mut Draft, cursor: &Cursor, field: Field, head: Head) -> Result<Stage, BundleFault>
-    requires { IsTrue (stage_fits (Stage.Head field) draft.old) }
-    ensures judges { JudgesFrom cursor.now.place cursor.now.count field draft.old head result draft.new }
-    ensures follows { Follows result draft.new }
-    ensures keeps { IfOk result (λ stage. KeepsCheck draft.old.check stage draft.new.check) }
+/// The first bytes of a piece, at most as many as are left.
+fn first_of(piece: &[u8], left: u64) -> &[u8]
+    ensures run { result.now ≡ take (min left (length piece.now)) piece.now }
+    ensures size { length result.now ≡ min left (length piece.now) }
 {
-    match field {
-        Field::Primary(which) => draft.primary(which, head),
-        Field::Endpoint(role, part) => draft.endpoint(role, part, head),
-        Field::Canonical(which) => draft.canonical(which, head, cursor.count),
-        Field::Check(kind) => {
-            row::check_field(kind, head)?;
-            Ok(Stage::Stored {
-                place: cursor.place,
-                left: row::check_width(kind),
-                stored: 0,
-                kind,
-            })
-        }
-        Field::Closing => {
-            row::closing(head)?;
-            Ok(Stage::Ended)
-        }
-    }
+    let size = left.min(piece.len() as u64) as usize;
+    &piece[..size]
 }
 
 impl BundleScan {
     ghost use Rattle.link_bundle.specs.Bundle.{verdict, state_of, payload_span};
+    ghost use Rattle.link_bundle_types.specs.BundleView.{viewed_verdict};
     ghost use Rattle.link_bundle.specs.Scan.{HasScanned, scan_size, may_scan};
     ghost use Rattle.link_bundle.specs.Stages.{takes_bytes};
 
@@ -67,6 +48,18 @@ impl BundleScan {
             cursor: Cursor::new(),
             draft: Draft::new(),
         }
+    }
+
+    /// Makes the scan new, whatever it has seen and met, also after a fault: the next byte is a bundle's first. What no
+    /// reader sees is not written over.
+    pub fn restart(&mut self)
+        ensures seen { HasScanned self.new [] }
+        ensures size { scan_size self.new ≡ 0 }
+        ensures may_step { IsTrue (may_scan self.new) }
+    {
+        self.draft.restart();
+        self.cursor = Cursor::new();
+        self.stage = Stage::Start;
     }
 
     /// Where the scan stands: what the verdict on the bytes seen says.
@@ -85,6 +78,17 @@ impl BundleScan {
         match self.stage.state() {
             State::Going => Err((BundleFault::Cut, self.cursor.count)),
             State::Ended => Ok(self.draft.info()),
+            State::Failed(fault, place) => Err((fault, place)),
+        }
+    }
+
+    /// The verdict on the bytes seen, as [`finish`](BundleScan::finish) gives it, with the bundle by reference.
+    pub fn view(&self) -> Result<BundleView<'_>, (BundleFault, u64)>
+        ensures { (seen : List ℕ) → HasScanned self.now seen → viewed_verdict result ≡ verdict seen }
+    {
+        match self.stage.state() {
+            State::Going => Err((BundleFault::Cut, self.cursor.count)),
+            State::Ended => Ok(self.draft.view()),
             State::Failed(fault, place) => Err((fault, place)),
         }
     }
@@ -126,41 +130,56 @@ impl BundleScan {
             HeadStep::Bad => {
                 self.stage = Stage::Failed(BundleFault::BadHead, self.cursor.place);
             }
-            HeadStep::Done(head) => match judge(&mut self.draft, &self.cursor, field, head) {
-                Ok(stage) => {
-                    self.cursor.enter(stage);
-                    self.stage = stage;
-                }
-                Err(fault) => self.stage = Stage::Failed(fault, self.cursor.place),
-            },
+            HeadStep::Done(head) => self.stage = take_head(
+                &mut self.draft,
+                &mut self.cursor,
+                field,
+                head,
+            ),
         }
     }
 
-    /// A byte of a dtn name.
-    fn name_byte(&mut self, role: Role, left: u64, byte: u8)
-        requires stage { self.old.stage ≡ Stage.Name role left }
-        requires room { self.old.cursor.count < 2 ^ 63 - 1 }
-        ensures size { scan_size self.new ≡ scan_size self.old + 1 }
-        ensures seen { (seen : List ℕ) → HasScanned self.old seen → HasScanned self.new (seen ++ byte ∷ []) }
+    /// A head that lies whole in a piece.
+    fn head_run(&mut self, field: Field, head: Head, run: &[u8])
+        requires stage { self.old.stage ≡ Stage.Head field }
+        requires begins { self.old.cursor.place ≡ self.old.cursor.count }
+        requires whole { head_front run.now ≡ Whole head (length run.now) }
+        requires room { self.old.cursor.count + length run.now ≤ 2 ^ 63 - 1 }
+        ensures size { scan_size self.new ≡ scan_size self.old + length run.now }
+        ensures seen { (seen : List ℕ) → HasScanned self.old seen → HasScanned self.new (seen ++ run.now) }
     {
-        self.cursor.content_byte(self.draft.check, byte);
-        let stage = self.draft.name_byte(role, left, byte);
+        self.cursor.content_run(self.draft.check, run);
+        self.stage = take_head(&mut self.draft, &mut self.cursor, field, head);
+    }
+
+    /// Bytes of a dtn name, of which `left` bytes were left.
+    fn name_run(&mut self, role: Role, left: u64, run: &[u8])
+        requires stage { self.old.stage ≡ Stage.Name role left }
+        requires within { length run.now ≤ left }
+        requires room { self.old.cursor.count + length run.now ≤ 2 ^ 63 - 1 }
+        ensures size { scan_size self.new ≡ scan_size self.old + length run.now }
+        ensures seen { (seen : List ℕ) → HasScanned self.old seen → HasScanned self.new (seen ++ run.now) }
+    {
+        self.cursor.content_run(self.draft.check, run);
+        let stage = self.draft.name_run(role, left, run);
         self.cursor.enter(stage);
         self.stage = stage;
     }
 
-    /// A byte of a block's data.
-    fn content_byte(&mut self, left: u64, byte: u8)
+    /// Bytes of a block's data, of which `left` bytes were left.
+    fn content_run(&mut self, left: u64, run: &[u8])
         requires stage { self.old.stage ≡ Stage.Content left }
-        requires room { self.old.cursor.count < 2 ^ 63 - 1 }
-        ensures size { scan_size self.new ≡ scan_size self.old + 1 }
-        ensures seen { (seen : List ℕ) → HasScanned self.old seen → HasScanned self.new (seen ++ byte ∷ []) }
+        requires within { length run.now ≤ left }
+        requires room { self.old.cursor.count + length run.now ≤ 2 ^ 63 - 1 }
+        ensures size { scan_size self.new ≡ scan_size self.old + length run.now }
+        ensures seen { (seen : List ℕ) → HasScanned self.old seen → HasScanned self.new (seen ++ run.now) }
     {
-        self.cursor.content_byte(self.draft.check, byte);
-        if left > 1 {
-            self.stage = Stage::Content(left - 1);
+        self.cursor.content_run(self.draft.check, run);
+        let left = left - run.len() as u64;
+        if left > 0 {
+            self.stage = Stage::Content(left);
         } else {
-            let stage = self.draft.behind_fields();
+            let stage = self.draft.after_fields();
             self.cursor.enter(stage);
             self.stage = stage;
         }
@@ -173,7 +192,7 @@ impl BundleScan {
         ensures size { scan_size self.new ≡ scan_size self.old + 1 }
         ensures seen { (seen : List ℕ) → HasScanned self.old seen → HasScanned self.new (seen ++ byte ∷ []) }
     {
-        self.cursor.content_byte(self.draft.check, 0);
+        self.cursor.content_run(self.draft.check, &[0]);
         let stored = stored * 256 + u32::from(byte);
         if left > 1 {
             self.stage = Stage::Stored {
@@ -185,7 +204,7 @@ impl BundleScan {
         } else if stored == self.cursor.checks.value(kind) {
             // Nothing more of the block is checked.
             self.draft.check = CheckType::Is(None);
-            let stage = self.draft.behind_block();
+            let stage = self.draft.after_block();
             self.cursor.enter(stage);
             self.stage = stage;
         } else {
@@ -202,6 +221,72 @@ impl BundleScan {
     {
         self.stage = Stage::Failed(BundleFault::Trailing, self.cursor.place);
         self.cursor.count += 1;
+    }
+}
+
+impl BundleScan {
+    ghost use Rattle.link_bundle.specs.Bundle.{bundle_goes};
+    ghost use Rattle.link_bundle.specs.Scan.{HasScanned, scan_size, may_scan};
+
+    /// Takes the next bytes of a piece where more are needed: of a name and of data as many as there are, else one byte.
+    fn advance(&mut self, piece: &[u8]) -> usize
+        requires may_step { IsTrue (may_scan self.old) }
+        requires goes { (seen : List ℕ) → HasScanned self.old seen → bundle_goes seen ≡ true }
+        requires some { 0 < length piece.now }
+        requires room { scan_size self.old + length piece.now ≤ 2 ^ 63 - 1 }
+        ensures some { 0 < result }
+        ensures within { result ≤ length piece.now }
+        ensures size { scan_size self.new ≡ scan_size self.old + result }
+        ensures seen { (seen : List ℕ) → HasScanned self.old seen → HasScanned self.new (seen ++ take result piece.now) }
+        // Before each of these bytes more were needed.
+        ensures goes { (seen : List ℕ) → HasScanned self.old seen →
+            (count : ℕ) → count < result → bundle_goes (seen ++ take count piece.now) ≡ true }
+    {
+        match self.stage {
+            Stage::Name(role, left) => {
+                let run = first_of(piece, left);
+                self.name_run(role, left, run);
+                run.len()
+            }
+            Stage::Content(left) => {
+                let run = first_of(piece, left);
+                self.content_run(left, run);
+                run.len()
+            }
+            Stage::Head(field) if self.cursor.place == self.cursor.count => {
+                self.advance_head(field, piece)
+            }
+            _ => {
+                self.step(piece[0]);
+                1
+            }
+        }
+    }
+
+    /// The same at a head of which no byte has come: the whole head if the piece has it, else one byte.
+    fn advance_head(&mut self, field: Field, piece: &[u8]) -> usize
+        requires stage { self.old.stage ≡ Stage.Head field }
+        requires begins { self.old.cursor.place ≡ self.old.cursor.count }
+        requires goes { (seen : List ℕ) → HasScanned self.old seen → bundle_goes seen ≡ true }
+        requires some { 0 < length piece.now }
+        requires room { scan_size self.old + length piece.now ≤ 2 ^ 63 - 1 }
+        ensures some { 0 < result }
+        ensures within { result ≤ length piece.now }
+        ensures size { scan_size self.new ≡ scan_size self.old + result }
+        ensures seen { (seen : List ℕ) → HasScanned self.old seen → HasScanned self.new (seen ++ take result piece.now) }
+        ensures goes { (seen : List ℕ) → HasScanned self.old seen →
+            (count : ℕ) → count < result → bundle_goes (seen ++ take count piece.now) ≡ true }
+    {
+        match first_head(piece) {
+            (HeadStep::Done(head), size) => {
+                self.head_run(field, head, &piece[..size]);
+                size
+            }
+            _ => {
+                self.head_byte(field, piece[0]);
+                1
+            }
+        }
     }
 }
 
@@ -235,12 +320,20 @@ impl Piecewise for BundleScan {
         self.cursor.count
     }
 
+    fn feed(&mut self, bytes: &[u8]) -> usize {
+        let mut taken = 0;
+        while taken < bytes.len() && self.going() {
+            taken += self.advance(&bytes[taken..]);
+        }
+        taken
+    }
+
     fn step(&mut self, byte: u8) {
         match self.stage {
             Stage::Start => self.open(byte),
             Stage::Head(field) => self.head_byte(field, byte),
-            Stage::Name(role, left) => self.name_byte(role, left, byte),
-            Stage::Content(left) => self.content_byte(left, byte),
+            Stage::Name(role, left) => self.name_run(role, left, &[byte]),
+            Stage::Content(left) => self.content_run(left, &[byte]),
             Stage::Stored {
                 place,
                 left,

@@ -1,6 +1,6 @@
 ghost use Rattle.std.specs.Prelude.{◌≡◌};
 
-use crate::fault::{BundleFault, State};
+use link_bundle_types::{BundleFault, State};
 use link_cbor::CheckKind;
 
 /// An endpoint ID of the primary block.
@@ -9,6 +9,21 @@ pub(crate) enum Role {
     Destination,
     Source,
     ReportTo,
+}
+
+impl Role {
+    ghost use Rattle.link_bundle.specs.Stages.{stage_after};
+
+    /// The head after this endpoint ID.
+    pub fn stage_after(self) -> Stage
+        ensures { result ≡ stage_after self }
+    {
+        match self {
+            Role::Destination => Stage::Head(Field::Endpoint(Role::Source, Part::Whole)),
+            Role::Source => Stage::Head(Field::Endpoint(Role::ReportTo, Part::Whole)),
+            Role::ReportTo => Stage::Head(Field::Primary(PrimaryField::Timestamp)),
+        }
+    }
 }
 
 /// An endpoint scheme (RFC 9171 section 4.2.5.1).
@@ -26,9 +41,12 @@ pub(crate) enum Part {
     Scheme,
     /// The specific part of this scheme.
     Specific(Scheme),
-    Node,
-    /// The service number behind this node number.
-    Service(u64),
+    /// The allocator identifier of an ipn endpoint ID of three numbers.
+    Allocator,
+    /// The node number, after an allocator identifier or without one.
+    Node(Option<u64>),
+    /// The service number, after an allocator identifier or without one, and a node number.
+    Service(Option<u64>, u64),
 }
 
 /// A head of the primary block (RFC 9171 section 4.3.1), but for its endpoint IDs and its check field.

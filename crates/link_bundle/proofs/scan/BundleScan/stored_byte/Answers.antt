@@ -26,9 +26,9 @@ returns-then-left-gt1-clause-seen c = λ seen come.
     let now = c.args.self.now in
     let here = subst (λ (stage : Stage). HasCome stage now.cursor now.draft seen) c.requires.stage come in
     rw c.from.ensures
-    (grown_stored c.args.place c.args.left c.args.stored c.args.kind now.cursor c.content_byte.new.self now.draft seen c.args.byte
+    (grown_stored c.args.place c.args.left c.args.stored c.args.kind now.cursor c.content_run.new.self now.draft seen c.args.byte
     here (omega arith) (omega arith)
-    (record { count = c.content_byte.ensures.count; place = c.content_byte.ensures.place; checks = c.content_byte.ensures.checks }))
+    (record { count = c.content_run.ensures.count; place = c.content_run.ensures.place; checks = c.content_run.ensures.checks }))
 
 pub returns-then-stored-value-clause-seen : goal.returns-then-stored-value-clause-seen
 returns-then-stored-value-clause-seen c = λ seen come.
@@ -37,13 +37,13 @@ returns-then-stored-value-clause-seen c = λ seen come.
     let fits = subst (λ (stage : Stage). IsTrue (scan_fits stage now.cursor now.draft)) c.requires.stage now.fits in
     let is_kind = is_kind (kind_of now.draft.check) c.args.kind in
     let wants = (has_room is_kind c.args.left c.args.stored c.args.byte fits (omega arith)).wants in
-    equal_stored c.args.place c.args.left c.args.stored c.value.result c.args.kind now.cursor c.content_byte.new.self c.enter.new.self
-    now.draft c.behind_block-stage.new.self c.behind_block-stage.result seen c.args.byte here (omega arith) (omega (arith, wants))
+    equal_stored c.args.place c.args.left c.args.stored c.value.result c.args.kind now.cursor c.content_run.new.self c.enter.new.self
+    now.draft c.after_block-stage.new.self c.after_block-stage.result seen c.args.byte here (omega arith) (omega (arith, wants))
     (eq-eqb (c.args.stored * 256 + c.args.byte) c.value.result
     (ap (λ (byte : ℕ). c.args.stored * 256 + byte) (sym c.from.ensures) ∙ c.if-stored-value.true))
-    (record { count = c.content_byte.ensures.count; place = c.content_byte.ensures.place; checks = c.content_byte.ensures.checks })
+    (record { count = c.content_run.ensures.count; place = c.content_run.ensures.place; checks = c.content_run.ensures.checks })
     (record { is = same_check now.draft.check c.args.kind (before_and is_kind (room c.args.left c.args.stored) fits); told = c.value.ensures })
-    c.behind_block-stage.ensures.reads c.behind_block-stage.ensures.keeps
+    c.after_block-stage.ensures.reads c.after_block-stage.ensures.keeps
     (record { count = c.enter.ensures.count; place = c.enter.ensures.place; head = c.enter.ensures.head; checks = c.enter.ensures.checks })
 
 pub returns-else-stored-value-clause-seen : goal.returns-else-stored-value-clause-seen
@@ -53,8 +53,8 @@ returns-else-stored-value-clause-seen c = λ seen come.
     let fits = subst (λ (stage : Stage). IsTrue (scan_fits stage now.cursor now.draft)) c.requires.stage now.fits in
     let is_kind = is_kind (kind_of now.draft.check) c.args.kind in
     let wants = (has_room is_kind c.args.left c.args.stored c.args.byte fits (omega arith)).wants in
-    other_stored c.args.place c.args.left c.args.stored c.value.result c.args.kind now.cursor c.content_byte.new.self now.draft seen c.args.byte
+    other_stored c.args.place c.args.left c.args.stored c.value.result c.args.kind now.cursor c.content_run.new.self now.draft seen c.args.byte
     here (omega arith) (omega (arith, wants)) (ne_eqb (c.args.stored * 256 + c.args.byte) c.value.result
     (λ same. c.if-stored-value.false (ap (λ (byte : ℕ). c.args.stored * 256 + byte) c.from.ensures ∙ same)))
-    (record { count = c.content_byte.ensures.count; place = c.content_byte.ensures.place; checks = c.content_byte.ensures.checks })
+    (record { count = c.content_run.ensures.count; place = c.content_run.ensures.place; checks = c.content_run.ensures.checks })
     (record { is = same_check now.draft.check c.args.kind (before_and is_kind (room c.args.left c.args.stored) fits); told = c.value.ensures })

@@ -5,11 +5,11 @@ use Rattle.std.specs.Prelude.{◌==◌}
 use Rattle.std.proofs.lemmas.Bool.Decides.{nat_tests}
 use Rattle.link_cbor.specs.declared.head.Head.{Head}
 use Rattle.link_bundle.specs.declared.draft.Draft.{Draft}
-use Rattle.link_bundle.specs.declared.fault.BundleFault.{BundleFault}
-use Rattle.link_bundle.specs.declared.fault.BundleFault.TheVariants.{TooManyBlocks}
+use Rattle.link_bundle_types.specs.declared.fault.BundleFault.{BundleFault}
+use Rattle.link_bundle_types.specs.declared.fault.BundleFault.TheVariants.{TooManyBlocks}
 use Rattle.link_bundle.specs.Rows.{block, block_too_many}
 use Rattle.link_bundle.specs.Reading.{stopped, head_at}
-use Rattle.link_bundle.specs.Blocks.{Primary}
+use Rattle.link_bundle.specs.Primary.{Primary}
 use Rattle.link_bundle.specs.Bundle.{blocks_at}
 use Rattle.link_bundle.specs.Left.{primary_of, type_left, number_left, block_flags_left, block_check_left, data_left}
 use Rattle.link_bundle.proofs.Heads.{row_at-told, row_at-refused}
@@ -31,12 +31,12 @@ blocks_at-full left numbers primary bytes place next head count none told judged
     rw (none, row_at-refused block_too_many bytes place next head TooManyBlocks told (rw judged refl)) refl
 
 pub blocks_at-open : (draft : Draft) (bytes : List ℕ) (place next : ℕ) (head : Head) (count : ℕ)
-    → length draft.numbers.items < 64 → head_at bytes place ≡ Ok (head, next) → block head ≡ Ok count
-    → blocks_at (64 - length draft.numbers.items) draft.numbers.items (primary_of draft) bytes place
-    ≡ type_left (63 - length draft.numbers.items) (length draft.numbers.items + 1) (record draft { count = count }) place bytes next
+    → length draft.numbers < 64 → head_at bytes place ≡ Ok (head, next) → block head ≡ Ok count
+    → blocks_at (64 - length draft.numbers) draft.numbers (primary_of draft) bytes place
+    ≡ type_left (63 - length draft.numbers) (length draft.numbers + 1) (record draft { count = count }) place bytes next
 unfolding blocks_at type_left number_left block_flags_left block_check_left data_left
 blocks_at-open draft bytes place next head count room told judged =
-    let more : 64 - length draft.numbers.items ≡ suc (63 - length draft.numbers.items) = omega arith in
+    let more : 64 - length draft.numbers ≡ suc (63 - length draft.numbers) = omega arith in
     rw (more, row_at-told block bytes place next head count told judged) refl
 
 pub no_room : (count : ℕ) → true ≡ (count == 64) → 64 - count ≡ 0

@@ -2,11 +2,11 @@ use Rattle.std.proofs.Common.{◌∙◌, Bool, sym, ap}
 use Rattle.std.proofs.lemmas.Result.{err_from_is_err_and}
 use Rattle.link_bundle.specs.Rows.{check_field}
 use Rattle.link_bundle.specs.Reading.{Reading, stopped}
-use Rattle.link_bundle.specs.Blocks.{field_at}
-use Rattle.link_bundle.specs.Left.{field_left, stage_left, ends_of, with_note, behind_field}
+use Rattle.link_bundle.specs.CheckField.{field_at}
+use Rattle.link_bundle.specs.Left.{field_left, stage_left, ends_of, with_note, after_field}
 use Rattle.link_bundle.proofs.Heads.{row_at-refused, ends_of-stopped}
 use Rattle.link_bundle.proofs.Fields.{field_at-told}
-use Rattle.link_bundle.proofs.scan.judge.Goals as goal
+use Rattle.link_bundle.proofs.judging.judge.Goals as goal
 
 pub returns-in_err-check_field-in-Check-clause-judges : goal.returns-in_err-check_field-in-Check-clause-judges
 unfolding field_left stage_left field_at
@@ -24,6 +24,6 @@ returns-in_ok-check_field-in-Check-clause-judges c =
     let cursor = c.args.cursor.now in
     rw c.in-Check.is
     (λ bytes start told within.
-    ap (λ (field : Reading Bool). ends_of bytes (with_note now.payload (behind_field now bytes field)))
+    ap (λ (field : Reading Bool). ends_of bytes (with_note now.payload (after_field now bytes field)))
     (field_at-told c.in-Check.kind bytes start cursor.place cursor.count c.check_width.result c.args.head c.in_ok-check_field-in-Check.field-0
     told (sym c.check_field.ensures.judged ∙ c.in_ok-check_field-in-Check.was) c.check_width.ensures))

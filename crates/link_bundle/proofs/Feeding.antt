@@ -1,0 +1,164 @@
+-- a piece that is taken in runs
+
+use Rattle.std.proofs.Common.{◌≡◌, ℕ, suc, ◌+◌, ◌-◌, ◌<◌, ◌≤◌, true, false, List, [], ◌∷◌, ◌++◌, length, take, drop, Option, None, Some, Result, Err, refl, sym, ap, ◌∙◌, append_assoc, append-nil, length-append, length-drop, arith}
+use Rattle.std.proofs.lemmas.List.{drop-drop, drop_all, length-take, length-take-le, take-take, take-append-drop}
+use Rattle.std.proofs.Math.Seq.{take-add, take-length}
+use Rattle.link_cbor.specs.declared.head.Head.{Head as HeadItem}
+use Rattle.link_cbor.specs.Head.{HeadFront, Cut as CutHead, IllFormed, Whole, head_front}
+use Rattle.link_cbor.specs.HeadLaws.{whole_stays, ill_formed_stays}
+use Rattle.link_cbor.specs.Pieces.{taken}
+use Rattle.link_cbor.specs.PieceLaws.{taken-cons, taken-nil, taken-idle}
+use Rattle.link_bundle.specs.declared.cursor.Cursor.{Cursor}
+use Rattle.link_bundle.specs.declared.draft.Draft.{Draft}
+use Rattle.link_bundle_types.specs.declared.fault.BundleFault.TheVariants.{Cut}
+use Rattle.link_bundle.specs.declared.stage.Field.{Field}
+use Rattle.link_bundle.specs.declared.stage.Role.{Role}
+use Rattle.link_bundle.specs.declared.stage.Stage.TheVariants.{Head, Name, Content}
+use Rattle.link_bundle.specs.Reading.{Stop, stopped}
+use Rattle.link_bundle.specs.Canonical.{content_at}
+use Rattle.link_bundle.specs.Bundle.{Bundle, judged, told, verdict, state_of, is_going, bundle_goes}
+use Rattle.link_bundle.specs.Left.{block_start, ends_of, with_note, name_left, stage_left}
+use Rattle.link_bundle.specs.Scan.{HasCome}
+use Rattle.link_bundle.proofs.Heads.{ends_of-stopped}
+use Rattle.link_bundle.proofs.Lengths.{whole-within}
+use Rattle.link_bundle.proofs.Runs.{bytes_at-cut}
+use Rattle.link_bundle.proofs.Steps.{after_seen}
+use Rattle.link_bundle.proofs.Stops.{field_left-stopped}
+use Rattle.link_bundle.proofs.Verdicts.{head_at-cut}
+
+-- a run before each byte of which more were needed is taken whole
+runs-wanted : (seen run : List ℕ) (byte : ℕ) → ((count : ℕ) → count < length (byte ∷ run) → bundle_goes (seen ++ take count (byte ∷ run)) ≡ true)
+    → (count : ℕ) → count < length run → bundle_goes ((seen ++ byte ∷ []) ++ take count run) ≡ true
+runs-wanted seen run byte wanted count below =
+    ap bundle_goes (append_assoc seen (byte ∷ []) (take count run)) ∙ wanted (suc count) (omega arith)
+
+taken-run : (seen run rest : List ℕ) → ((count : ℕ) → count < length run → bundle_goes (seen ++ take count run) ≡ true)
+    → taken bundle_goes seen (run ++ rest) ≡ run ++ taken bundle_goes (seen ++ run) rest
+taken-run seen [] rest wanted = ap (λ (seen : List ℕ). taken bundle_goes seen rest) (sym (append-nil seen))
+taken-run seen (byte ∷ run) rest wanted =
+    taken-cons bundle_goes seen byte (run ++ rest) (ap bundle_goes (sym (append-nil seen)) ∙ wanted 0 (omega arith))
+    ∙ ap (λ (rest : List ℕ). byte ∷ rest)
+    (taken-run (seen ++ byte ∷ []) run rest (runs-wanted seen run byte wanted)
+    ∙ ap (λ (seen : List ℕ). run ++ taken bundle_goes seen rest) (append_assoc seen (byte ∷ []) run))
+
+-- after `count` bytes of the piece, what is taken is these and what is taken of the rest
+pub record TakenSoFar (seen bytes : List ℕ) (count : ℕ) : Type 0 where
+  pub splits : taken bundle_goes seen bytes ≡ take count bytes ++ taken bundle_goes (seen ++ take count bytes) (drop count bytes)
+
+-- the same at the end, with how many they are
+pub record TakenInAll (seen bytes : List ℕ) (count : ℕ) : Type 0 where
+  pub prefix : taken bundle_goes seen bytes ≡ take count bytes
+  pub size : count ≡ length (taken bundle_goes seen bytes)
+
+pub none_taken : (seen bytes : List ℕ) → TakenSoFar seen bytes 0
+none_taken seen bytes = record { splits = ap (λ (seen : List ℕ). taken bundle_goes seen bytes) (sym (append-nil seen)) }
+
+-- the bytes from a place on, as the code takes them
+pub the_rest : (bytes : List ℕ) (count : ℕ) → take (length bytes - count) (drop count bytes) ≡ drop count bytes
+the_rest bytes count = ap (λ (size : ℕ). take size (drop count bytes)) (sym (length-drop count bytes)) ∙ take-length (drop count bytes)
+
+-- a history and the bytes of a piece, a run further
+pub joined_run : (seen bytes : List ℕ) (count more : ℕ)
+    → (seen ++ take count bytes) ++ take more (drop count bytes) ≡ seen ++ take (count + more) bytes
+joined_run seen bytes count more =
+    append_assoc seen (take count bytes) (take more (drop count bytes)) ∙ ap (λ (run : List ℕ). seen ++ run) (sym (take-add count more bytes))
+
+pub taken_more : (seen bytes : List ℕ) (count more : ℕ) → more ≤ length (drop count bytes)
+    → ((size : ℕ) → size < more → bundle_goes ((seen ++ take count bytes) ++ take size (drop count bytes)) ≡ true)
+    → TakenSoFar seen bytes count → TakenSoFar seen bytes (count + more)
+taken_more seen bytes count more within wanted before = record {
+  splits =
+      let rest = drop count bytes in
+      let run = take more rest in
+      let now = seen ++ take count bytes in
+      before.splits
+      ∙ ap (λ (bytes' : List ℕ). take count bytes ++ taken bundle_goes now bytes') (sym (take-append-drop more rest))
+      ∙ ap (λ (front : List ℕ). take count bytes ++ front)
+      (taken-run now run (drop more rest) (λ size below. ap (λ (front : List ℕ). bundle_goes (now ++ front))
+      (take-take size more rest (omega (arith, length-take-le more rest within))) ∙ wanted size (omega (arith, length-take-le more rest within))))
+      ∙ sym (append_assoc (take count bytes) run (taken bundle_goes (now ++ run) (drop more rest)))
+      ∙ ap (λ (front : List ℕ). front ++ taken bundle_goes (now ++ run) (drop more rest)) (sym (take-add count more bytes))
+      ∙ ap (λ (seen : List ℕ). take (count + more) bytes ++ taken bundle_goes seen (drop more rest)) (joined_run seen bytes count more)
+      ∙ ap (λ (rest : List ℕ). take (count + more) bytes ++ taken bundle_goes (seen ++ take (count + more) bytes) rest) (drop-drop more count bytes);
+}
+
+in_all : (seen bytes : List ℕ) (count : ℕ) → count ≤ length bytes → taken bundle_goes seen bytes ≡ take count bytes → TakenInAll seen bytes count
+in_all seen bytes count within prefix = record {
+  prefix = prefix;
+  size = sym (ap length prefix ∙ length-take-le count bytes within);
+}
+
+-- where no more is needed, these are the bytes taken
+pub taken_stop : (seen bytes : List ℕ) (count : ℕ) → count ≤ length bytes → bundle_goes (seen ++ take count bytes) ≡ false
+    → TakenSoFar seen bytes count → TakenInAll seen bytes count
+taken_stop seen bytes count within idle before =
+    in_all seen bytes count within
+    (before.splits
+    ∙ ap (λ (rest : List ℕ). take count bytes ++ rest) (taken-idle bundle_goes (seen ++ take count bytes) (drop count bytes) idle)
+    ∙ append-nil (take count bytes))
+
+-- where every byte was given, so were they taken
+pub taken_all : (seen bytes : List ℕ) (count : ℕ) → count ≡ length bytes → TakenSoFar seen bytes count → TakenInAll seen bytes count
+taken_all seen bytes count all before =
+    in_all seen bytes count (omega arith)
+    (before.splits
+    ∙ ap (λ (rest : List ℕ). take count bytes ++ taken bundle_goes (seen ++ take count bytes) rest) (drop_all count bytes (omega arith))
+    ∙ ap (λ (rest : List ℕ). take count bytes ++ rest) (taken-nil bundle_goes (seen ++ take count bytes))
+    ∙ append-nil (take count bytes))
+
+-- bytes that are cut go on
+told-cut : (payload : Option (ℕ × ℕ)) (place : ℕ) → is_going (state_of (told (with_note payload (Err (stopped Cut place))))) ≡ true
+told-cut None place = refl
+told-cut (Some payload) place = refl
+
+pub goes-cut : (payload : Option (ℕ × ℕ)) (bytes : List ℕ) (place : ℕ) → judged bytes ≡ with_note payload (Err (stopped Cut place))
+    → bundle_goes bytes ≡ true
+unfolding verdict
+goes-cut payload bytes place is = rw is (told-cut payload place)
+
+-- inside a name and inside data more is needed
+pub goes_in_content : (left : ℕ) (cursor : Cursor) (draft : Draft) (seen run : List ℕ) → HasCome (Content left) cursor draft seen
+    → length run < left → bundle_goes (seen ++ run) ≡ true
+unfolding stage_left content_at
+goes_in_content left cursor draft seen run come inside =
+    goes-cut draft.payload (seen ++ run) (length (seen ++ run))
+    (come.reads run
+    ∙ rw (bytes_at-cut left (seen ++ run) (length seen) (omega (arith, length-append seen run)))
+    (ends_of-stopped draft.payload (seen ++ run) (stopped Cut (length (seen ++ run)))))
+
+pub goes_in_name : (role : Role) (left : ℕ) (cursor : Cursor) (draft : Draft) (seen run : List ℕ) → HasCome (Name role left) cursor draft seen
+    → length run < left → bundle_goes (seen ++ run) ≡ true
+unfolding stage_left name_left
+goes_in_name role left cursor draft seen run come inside =
+    goes-cut draft.payload (seen ++ run) (length (seen ++ run))
+    (come.reads run
+    ∙ rw (bytes_at-cut left (seen ++ run) (length seen) (omega (arith, length-append seen run)))
+    (ends_of-stopped draft.payload (seen ++ run) (stopped Cut (length (seen ++ run)))))
+
+-- before its last byte a head is cut
+cut_by : (run : List ℕ) (head : HeadItem) (count : ℕ) (front : HeadFront) → head_front run ≡ Whole head (length run) → count < length run
+    → head_front (take count run) ≡ front → front ≡ CutHead
+cut_by run head count CutHead whole before is = refl
+cut_by run head count IllFormed whole before is =
+    absurd (let other : Whole head (length run) ≡ IllFormed =
+    sym whole ∙ ap head_front (sym (take-append-drop count run)) ∙ ill_formed_stays (take count run) (drop count run) is in cc)
+cut_by run head count (Whole other size) whole before is =
+    let same : Whole head (length run) ≡ Whole other size =
+    sym whole ∙ ap head_front (sym (take-append-drop count run)) ∙ whole_stays (take count run) (drop count run) other size is in
+    let sizes : length run ≡ size = cc in
+    absurd (omega (arith, whole-within (take count run) other size is, length-take count run))
+
+pub goes_in_head : (which : Field) (cursor : Cursor) (draft : Draft) (seen run : List ℕ) (head : HeadItem) (count : ℕ)
+    → HasCome (Head which) cursor draft seen → cursor.place ≡ cursor.count → head_front run ≡ Whole head (length run) → count < length run
+    → bundle_goes (seen ++ take count run) ≡ true
+unfolding stage_left
+goes_in_head which cursor draft seen run head count come begins whole before =
+    let bytes = seen ++ take count run in
+    let cut : head_front (drop cursor.place bytes) ≡ CutHead =
+    ap head_front (after_seen cursor.place seen (take count run) (begins ∙ come.count)) ∙ cut_by run head count (head_front (take count run)) whole before refl in
+    goes-cut draft.payload bytes (length bytes)
+    (come.reads (take count run)
+    ∙ ap (λ (reading : Result Bundle Stop). ends_of bytes (with_note draft.payload reading))
+    (field_left-stopped which draft (block_start which come.start cursor.place) bytes cursor.place (stopped Cut (length bytes))
+    (head_at-cut bytes cursor.place cut))
+    ∙ ends_of-stopped draft.payload bytes (stopped Cut (length bytes)))

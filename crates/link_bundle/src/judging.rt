@@ -1,0 +1,82 @@
+//! Heads of a bundle: the one that a piece begins with, and what a head that has come whole leads to.
+ghost use Rattle.std.specs.Prelude.{◌≡◌, ◌^◌, ◌-◌, ◌<◌, ◌≤◌, ℕ, IfOk, IsTrue, List, length, take, drop};
+ghost use Rattle.link_cbor.specs.Head.{Whole, head_front, front_of};
+ghost use Rattle.link_bundle.specs.Fits.{scan_fits, stage_fits, Follows, KeepsCheck};
+ghost use Rattle.link_bundle.specs.Left.{JudgesFrom};
+ghost use Rattle.link_bundle.specs.Scan.{HasCome, HeadCame};
+
+use crate::cursor::Cursor;
+use crate::draft::Draft;
+use crate::row;
+use crate::stage::{Field, Stage};
+use link_bundle_types::BundleFault;
+use link_cbor::{Head, HeadScan, HeadStep, Piecewise};
+
+/// Judges a whole head at a field: what comes next, or the fault.
+#[tactic(auto, using(crate::proofs::Heads::heads), unfolding(crate::specs::Left::field_left, crate::specs::Left::stage_left))]
+fn judge(draft: &mut Draft, cursor: &Cursor, field: Field, head: Head) -> Result<Stage, BundleFault>
+    requires { IsTrue (stage_fits (Stage.Head field) draft.old) }
+    ensures judges { JudgesFrom cursor.now.place cursor.now.count field draft.old head result draft.new }
+    ensures follows { Follows result draft.new }
+    ensures keeps { IfOk result (λ stage. KeepsCheck draft.old.check stage draft.new.check) }
+{
+    match field {
+        Field::Primary(which) => draft.primary(which, head),
+        Field::Endpoint(role, part) => draft.endpoint(role, part, head),
+        Field::Canonical(which) => draft.canonical(which, head, cursor.count),
+        Field::Check(kind) => {
+            row::check_field(kind, head)?;
+            Ok(Stage::Stored {
+                place: cursor.place,
+                left: row::check_width(kind),
+                stored: 0,
+                kind,
+            })
+        }
+        Field::Closing => {
+            row::closing(head)?;
+            Ok(Stage::Ended)
+        }
+    }
+}
+
+/// Takes a head at a field that has come whole: what the scan comes to.
+pub(crate) fn take_head(draft: &mut Draft, cursor: &mut Cursor, field: Field, head: Head) -> Stage
+    requires { IsTrue (stage_fits (Stage.Head field) draft.old) }
+    ensures count { cursor.new.count ≡ cursor.old.count }
+    ensures fits { IsTrue (scan_fits result cursor.new draft.new) }
+    ensures seen { (seen : List ℕ) → HeadCame field cursor.old draft.old seen → head_front (drop cursor.old.place seen) ≡ Whole head (length (drop cursor.old.place seen)) → HasCome result cursor.new draft.new seen }
+{
+    match judge(draft, cursor, field, head) {
+        Ok(stage) => {
+            cursor.enter(stage);
+            stage
+        }
+        Err(fault) => Stage::Failed(fault, cursor.place),
+    }
+}
+
+/// The head that a piece begins with, and how many of the piece's bytes show it.
+pub(crate) fn first_head(piece: &[u8]) -> (HeadStep, usize)
+    requires some { 0 < length piece.now }
+    requires room { length piece.now ≤ 2 ^ 63 - 1 }
+    ensures head { head_front (take result.1 piece.now) ≡ front_of result.0 result.1 }
+    ensures some { 0 < result.1 }
+    ensures within { result.1 ≤ length piece.now }
+{
+    let first = piece[0];
+    let information = first & 0x1f;
+    if information < 24 {
+        let value = Some(u64::from(information));
+        return (
+            HeadStep::Done(Head {
+                major: first >> 5,
+                value,
+            }),
+            1,
+        );
+    }
+    let mut scan = HeadScan::new();
+    let size = scan.feed(piece);
+    (scan.outcome(), size)
+}

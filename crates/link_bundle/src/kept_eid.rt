@@ -1,0 +1,107 @@
+//! An endpoint ID of the bundle that is scanned.
+ghost use Rattle.std.specs.Prelude.{◌≡◌, ◌+◌, ◌≤◌, [], ◌++◌, length, take, IsTrue};
+
+use arrayvec::ArrayVec;
+use link_bundle_types::{EID_LIMIT, Eid, EidView};
+use std::marker::Model;
+
+/// An endpoint ID but for the bytes of a dtn name.
+#[derive(Clone, Copy)]
+pub(crate) enum EidForm {
+    DtnNone,
+    Dtn,
+    Ipn(u64, u64),
+    Ipn3(u64, u64, u64),
+}
+
+/// An endpoint ID that is kept in place: the bytes of a dtn name go straight here, in pieces of any size.
+#[derive(Drop)]
+pub(crate) struct KeptEid {
+    form: EidForm,
+    /// The name's bytes so far, and then bytes that no reader sees.
+    name: [u8; EID_LIMIT],
+    length: usize,
+}
+
+impl Model for KeptEid {
+    ghost use Rattle.std.specs.Prelude.{◌≤◌, take};
+    ghost use Rattle.link_bundle_types.specs.declared.eid.Eid.{Eid};
+    ghost use Rattle.link_bundle.specs.KeptEid.{formed};
+
+    ghost Value = { Eid };
+
+    ghost view = { λ eid. formed eid.form (take eid.length eid.name) };
+
+    ghost invariant = { λ eid. eid.length ≤ 1024 };
+}
+
+/// Writes the bytes into a buffer from `at` on.
+fn write_at(buffer: &mut [u8], at: usize, bytes: &[u8])
+    requires { at + length bytes.now ≤ length buffer.old }
+    ensures { take (at + length bytes.now) buffer.new ≡ take at buffer.old ++ bytes.now }
+{
+    buffer[at..at + bytes.len()].copy_from_slice(bytes);
+}
+
+impl KeptEid {
+    ghost use Rattle.link_bundle_types.specs.EidView.{viewed_eid};
+    ghost use Rattle.link_bundle.specs.KeptEid.{formed, name_of, name_fits};
+    ghost use Rattle.link_bundle_types.specs.declared.eid.Eid.TheVariants.{DtnNone, Dtn};
+
+    /// `dtn:none`.
+    pub fn new() -> KeptEid
+        ensures { result ≡ DtnNone }
+    {
+        KeptEid {
+            form: EidForm::DtnNone,
+            name: [0; EID_LIMIT],
+            length: 0,
+        }
+    }
+
+    /// Keeps an endpoint ID of this form, with a name of no bytes.
+    pub fn set(&mut self, form: EidForm)
+        ensures { self.new ≡ formed form [] }
+    {
+        self.form = form;
+        self.length = 0;
+    }
+
+    /// Appends bytes to the dtn name.
+    pub fn extend(&mut self, bytes: &[u8])
+        requires { IsTrue (name_fits self.old (length bytes.now)) }
+        ensures { self.new ≡ Dtn (record { items = name_of self.old ++ bytes.now }) }
+    {
+        write_at(&mut self.name, self.length, bytes);
+        self.length += bytes.len();
+    }
+
+    /// The endpoint ID by reference.
+    pub fn view(&self) -> EidView<'_>
+        ensures { viewed_eid result ≡ self.now }
+    {
+        match self.form {
+            EidForm::DtnNone => EidView::DtnNone,
+            EidForm::Dtn => EidView::Dtn(&self.name[..self.length]),
+            EidForm::Ipn(node, service) => EidView::Ipn(node, service),
+            EidForm::Ipn3(allocator, node, service) => EidView::Ipn3(allocator, node, service),
+        }
+    }
+
+    /// The endpoint ID as a value.
+    pub fn copied(&self) -> Eid
+        ensures { result ≡ self.now }
+    {
+        match self.form {
+            EidForm::DtnNone => Eid::DtnNone,
+            EidForm::Dtn => {
+                let mut name = ArrayVec::new();
+                name.try_extend_from_slice(&self.name[..self.length])
+                    .unwrap();
+                Eid::Dtn(name)
+            }
+            EidForm::Ipn(node, service) => Eid::Ipn(node, service),
+            EidForm::Ipn3(allocator, node, service) => Eid::Ipn3(allocator, node, service),
+        }
+    }
+}

@@ -1,0 +1,66 @@
+//! The numbers of the canonical blocks so far.
+ghost use Rattle.std.specs.Prelude.{◌≡◌, ◌<◌, ◌≤◌, ◌==◌, [], ◌∷◌, ◌++◌, length};
+
+use link_bundle_types::BLOCK_LIMIT;
+use std::marker::Model;
+
+/// Block numbers in the order of their blocks. They are kept in place, and emptied without writing over them.
+#[derive(Drop)]
+pub(crate) struct BlockNumbers {
+    cells: [u64; BLOCK_LIMIT],
+    length: usize,
+}
+
+impl Model for BlockNumbers {
+    ghost use Rattle.std.specs.Prelude.{ℕ, ◌≤◌, List, take};
+
+    ghost Value = { List ℕ };
+
+    ghost view = { λ n. take n.length n.cells };
+
+    ghost invariant = { λ n. n.length ≤ 64 };
+}
+
+impl BlockNumbers {
+    /// No number.
+    pub fn new() -> BlockNumbers
+        ensures { result ≡ [] }
+    {
+        BlockNumbers {
+            cells: [0; BLOCK_LIMIT],
+            length: 0,
+        }
+    }
+
+    /// Forgets all numbers.
+    pub fn clear(&mut self)
+        ensures { self.new ≡ [] }
+    {
+        self.length = 0;
+    }
+
+    /// The numbers in order.
+    pub fn as_slice(&self) -> &[u64]
+        ensures value { result.now ≡ self.now }
+        ensures fits { length self.now ≤ 64 }
+    {
+        &self.cells[..self.length]
+    }
+
+    /// Whether there is no room for one more.
+    pub fn is_full(&self) -> bool
+        ensures value { result ≡ (length self.now == 64) }
+        ensures fits { length self.now ≤ 64 }
+    {
+        self.length == BLOCK_LIMIT
+    }
+
+    /// Appends a number.
+    pub fn push(&mut self, number: u64)
+        requires { length self.old < 64 }
+        ensures { self.new ≡ self.old ++ number ∷ [] }
+    {
+        self.cells[self.length] = number;
+        self.length += 1;
+    }
+}

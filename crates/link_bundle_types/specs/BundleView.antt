@@ -1,0 +1,16 @@
+-- what a view of a bundle shows
+
+use Rattle.std.specs.Prelude.{ℕ, Result, Ok, Err}
+use Rattle.link_bundle_types.specs.declared.fault.BundleFault.{BundleFault}
+use Rattle.link_bundle_types.specs.declared.info.BundleInfo.{BundleInfo}
+use Rattle.link_bundle_types.specs.declared.info.BundleView.{BundleView}
+use Rattle.link_bundle_types.specs.EidView.{viewed_eid}
+
+abbrev pub viewed_info : BundleView → BundleInfo
+viewed_info view =
+    record { flags = view.flags; destination = viewed_eid view.destination; source = viewed_eid view.source; time = view.time; sequence = view.sequence; lifetime = view.lifetime; fragment = view.fragment; blocks = view.blocks; payload = view.payload }
+
+-- a verdict whose bundle is a view
+abbrev pub viewed_verdict : Result BundleView (BundleFault × ℕ) → Result BundleInfo (BundleFault × ℕ)
+viewed_verdict (Ok view) = Ok (viewed_info view)
+viewed_verdict (Err stop) = Err stop

@@ -1,0 +1,3 @@
+pub mod EidView
+pub mod BundleView
+pub mod Faults

@@ -1,0 +1,49 @@
+//! Endpoint IDs (RFC 9171 section 4.2.5.1): as values, and as views of what another value holds.
+ghost use Rattle.std.specs.Prelude.{◌≡◌};
+ghost use Rattle.link_bundle_types.specs.EidView.{viewed_eid};
+
+use arrayvec::ArrayVec;
+
+/// The most bytes of the specific part of a dtn endpoint ID.
+pub const EID_LIMIT: usize = 1024;
+
+/// An endpoint ID, RFC 9171 section 4.2.5.1.
+#[derive(Debug, Drop, PartialEq, Eq)]
+pub enum Eid {
+    /// `dtn:none`, spelled as the number 0.
+    DtnNone,
+    /// The specific part of a dtn endpoint ID, the bytes after `dtn:` as they stand. They are not judged as UTF-8.
+    Dtn(ArrayVec<u8, EID_LIMIT>),
+    /// The node and service numbers of an ipn endpoint ID.
+    Ipn(u64, u64),
+    /// The allocator identifier, node and service numbers of an ipn endpoint ID of three numbers. An allocator identifier
+    /// of 0 stays.
+    Ipn3(u64, u64, u64),
+}
+
+impl Eid {
+    /// The same endpoint ID by reference.
+    pub fn view(&self) -> EidView<'_>
+        ensures { viewed_eid result ≡ self.now }
+    {
+        match self {
+            Eid::DtnNone => EidView::DtnNone,
+            Eid::Dtn(name) => EidView::Dtn(name.as_slice()),
+            Eid::Ipn(node, service) => EidView::Ipn(*node, *service),
+            Eid::Ipn3(allocator, node, service) => EidView::Ipn3(*allocator, *node, *service),
+        }
+    }
+}
+
+/// An [`Eid`] by reference: it has the same variants, and borrows the bytes of a dtn endpoint ID.
+#[derive(Clone, Copy, Debug, PartialEq, Eq)]
+pub enum EidView<'a> {
+    /// `dtn:none`, spelled as the number 0.
+    DtnNone,
+    /// The specific part of a dtn endpoint ID, the bytes after `dtn:` as they stand.
+    Dtn(&'a [u8]),
+    /// The node and service numbers of an ipn endpoint ID.
+    Ipn(u64, u64),
+    /// The allocator identifier, node and service numbers of an ipn endpoint ID of three numbers.
+    Ipn3(u64, u64, u64),
+}

@@ -1,0 +1,73 @@
+//! What a whole bundle says of itself: as a value, and as a view of what another value holds.
+ghost use Rattle.std.specs.Prelude.{◌≡◌};
+ghost use Rattle.link_bundle_types.specs.BundleView.{viewed_info};
+
+use crate::eid::{Eid, EidView};
+
+/// The most canonical blocks of one bundle.
+pub const BLOCK_LIMIT: usize = 64;
+
+/// What a whole bundle says of itself (RFC 9171 sections 4.3.1 and 4.3.2).
+#[derive(Debug, Drop, PartialEq, Eq)]
+pub struct BundleInfo {
+    /// The bundle processing control flags (RFC 9171 section 4.2.3).
+    pub flags: u64,
+    /// The endpoint ID of the destination (RFC 9171 section 4.2.5.1).
+    pub destination: Eid,
+    /// The endpoint ID of the source node.
+    pub source: Eid,
+    /// The creation timestamp's time, in milliseconds since 2000-01-01 UTC (RFC 9171 section 4.2.6).
+    pub time: u64,
+    /// The creation timestamp's sequence number (RFC 9171 section 4.2.7).
+    pub sequence: u64,
+    /// How long the bundle is of use after its creation, in milliseconds.
+    pub lifetime: u64,
+    /// Of a fragment the fragment offset and the total length, both in bytes (RFC 9171 section 4.3.1).
+    pub fragment: Option<(u64, u64)>,
+    /// How many canonical blocks the bundle has.
+    pub blocks: u64,
+    /// The payload's length in bytes.
+    pub payload: u64,
+}
+
+impl BundleInfo {
+    /// The same by reference.
+    pub fn view(&self) -> BundleView<'_>
+        ensures { viewed_info result ≡ self.now }
+    {
+        BundleView {
+            flags: self.flags,
+            destination: self.destination.view(),
+            source: self.source.view(),
+            time: self.time,
+            sequence: self.sequence,
+            lifetime: self.lifetime,
+            fragment: self.fragment,
+            blocks: self.blocks,
+            payload: self.payload,
+        }
+    }
+}
+
+/// A [`BundleInfo`] by reference: it has the same fields, and borrows the bytes of dtn endpoint IDs.
+#[derive(Clone, Copy, Debug, PartialEq, Eq)]
+pub struct BundleView<'a> {
+    /// The bundle processing control flags (RFC 9171 section 4.2.3).
+    pub flags: u64,
+    /// The endpoint ID of the destination (RFC 9171 section 4.2.5.1).
+    pub destination: EidView<'a>,
+    /// The endpoint ID of the source node.
+    pub source: EidView<'a>,
+    /// The creation timestamp's time, in milliseconds since 2000-01-01 UTC (RFC 9171 section 4.2.6).
+    pub time: u64,
+    /// The creation timestamp's sequence number (RFC 9171 section 4.2.7).
+    pub sequence: u64,
+    /// How long the bundle is of use after its creation, in milliseconds.
+    pub lifetime: u64,
+    /// Of a fragment the fragment offset and the total length, both in bytes (RFC 9171 section 4.3.1).
+    pub fragment: Option<(u64, u64)>,
+    /// How many canonical blocks the bundle has.
+    pub blocks: u64,
+    /// The payload's length in bytes.
+    pub payload: u64,
+}

@@ -1,0 +1,13 @@
+//! What a scan of a bundle (RFC 9171 section 4) reports: the bundle, or its fault.
+//!
+//! [`BundleInfo`] is what a whole bundle says of itself, with its endpoint IDs as [`Eid`]; [`BundleView`] and
+//! [`EidView`] are the same by reference. [`State`] is where a scan stands, and [`BundleFault`] why bytes are no bundle.
+#![tactic(auto)]
+
+mod eid;
+mod fault;
+mod info;
+
+pub use eid::{EID_LIMIT, Eid, EidView};
+pub use fault::{BundleFault, State};
+pub use info::{BLOCK_LIMIT, BundleInfo, BundleView};
