@@ -3,6 +3,8 @@
 #![tactic(auto)]
 
 mod bundle_fault;
+#[cfg(test)]
+mod bundle_tests;
 mod fault;
 mod identity;
 mod judgement;
