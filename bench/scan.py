@@ -1,8 +1,8 @@
 #!/usr/bin/env python3
-"""Measures a bundle scan: `bench/scan.py [PROGRAM [ROUNDS]]`.
+"""Measures bundle scans and checks: `bench/scan.py [PROGRAM [ROUNDS]]`.
 
-64 MiB of payload under CRC-32C go byte by byte through BundleScan, and through Check alone; what is printed is the ratio
-of the times. PROGRAM is by default the one that `rt run -- scan` left in crates/scan_bench/out.
+Each line is a ratio of user and system times that were taken in turn in the same run, over 64 MiB each. PROGRAM is by default
+the one that `rt run` leaves in crates/scan_bench/out.
 """
 
 import os
@@ -11,18 +11,29 @@ from pathlib import Path
 
 from measure import seconds
 
+# what is measured: its name, a word of the program, the word that it is compared with, and the most that is wanted
+MEASURED = (
+    ("crc16 in slices, to byte by byte", "crc16-slices", "crc16-bytes", 0.25),
+    ("crc32 in slices, to byte by byte", "crc32-slices", "crc32-bytes", 0.25),
+    ("a payload under crc32, to crc32 in slices", "scan", "crc32-slices", 1.15),
+    ("a payload without a check, to crc32 in slices", "plain", "crc32-slices", 0.1),
+    ("bundles of 200 bytes under crc32, to crc32 byte by byte", "bundles", "crc32-bytes", 0.8),
+)
+
 
 def main():
     built = Path(__file__).resolve().parent.parent / "crates/scan_bench/out/scan_bench"
     program = sys.argv[1] if len(sys.argv) > 1 else str(built)
     rounds = int(sys.argv[2]) if len(sys.argv) > 2 else 3
     if not os.access(program, os.X_OK):
-        sys.exit(f"{program} is no program: build it first, by 'rt run -- scan' in crates/scan_bench")
-    scan = check = 0.0
+        sys.exit(f"{program} is no program: build it first, by 'rt run' in crates/scan_bench")
+    words = {word for _, one, other, _ in MEASURED for word in (one, other)}
+    times = dict.fromkeys(words, 0.0)
     for _ in range(rounds):
-        scan += seconds([program, "scan"])
-        check += seconds([program, "check"])
-    print(f"64 MiB of payload byte by byte: {scan / check:.2f} times the check alone, at most 3 wanted")
+        for word in words:
+            times[word] += seconds([program, word])
+    for name, one, other, most in MEASURED:
+        print(f"{name}: {times[one] / times[other]:.2f}, at most {most} wanted")
 
 
 if __name__ == "__main__":

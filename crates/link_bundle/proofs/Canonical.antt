@@ -7,7 +7,7 @@ use Rattle.link_cbor.specs.declared.head.Head.{Head}
 use Rattle.link_bundle.specs.declared.draft.Draft.{Draft}
 use Rattle.link_bundle_types.specs.declared.fault.BundleFault.{BundleFault}
 use Rattle.link_bundle_types.specs.declared.fault.BundleFault.TheVariants.{TooManyBlocks}
-use Rattle.link_bundle.specs.Rows.{block, block_too_many}
+use Rattle.link_bundle_rows.specs.Rows.{block, block_too_many}
 use Rattle.link_bundle.specs.Reading.{stopped, head_at}
 use Rattle.link_bundle.specs.Primary.{Primary}
 use Rattle.link_bundle.specs.Bundle.{blocks_at}

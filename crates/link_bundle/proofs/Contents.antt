@@ -19,7 +19,7 @@ use Rattle.link_bundle.specs.declared.stage.CheckType.TheVariants.{Is}
 use Rattle.link_bundle.specs.CheckKinds.{kind_of}
 use Rattle.link_bundle.specs.Covers.{Covers}
 use Rattle.link_bundle.specs.Fits.{KeepsCheck}
-use Rattle.link_bundle.specs.Rows.{◌>>=◌}
+use Rattle.link_bundle_rows.specs.Rows.{◌>>=◌}
 use Rattle.link_bundle.specs.Reading.{Stop, stopped, Reading, bytes_at}
 use Rattle.link_bundle.specs.CheckField.{field_at}
 use Rattle.link_bundle.specs.Canonical.{content_at}

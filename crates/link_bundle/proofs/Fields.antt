@@ -11,7 +11,7 @@ use Rattle.link_bundle_types.specs.declared.fault.BundleFault.TheVariants.{Check
 use Rattle.link_bundle.specs.declared.stage.CheckType.{CheckType}
 use Rattle.link_bundle.specs.declared.stage.CheckType.TheVariants.{Unread, Is}
 use Rattle.link_bundle.specs.CheckKinds.{kind_of, is_kind}
-use Rattle.link_bundle.specs.Rows.{◌>>=◌, check_width, check_field}
+use Rattle.link_bundle_rows.specs.Rows.{◌>>=◌, check_width, check_field}
 use Rattle.link_bundle.specs.Reading.{stopped, Reading, head_at, bytes_at}
 use Rattle.link_bundle.specs.CheckField.{number_from, check_of, field_at}
 use Rattle.link_bundle.specs.Left.{zeroed_check, stored_left}

@@ -7,7 +7,7 @@ use Rattle.link_bundle.proofs.Runs.{bytes_at-none}
 use Rattle.link_cbor.specs.declared.check.CheckKind.{CheckKind}
 use Rattle.link_cbor.specs.declared.head.Head.{Head}
 use Rattle.link_bundle_types.specs.declared.fault.BundleFault.{BundleFault}
-use Rattle.link_bundle.specs.Rows.{◌>>=◌, closing}
+use Rattle.link_bundle_rows.specs.Rows.{◌>>=◌, closing}
 use Rattle.link_bundle.specs.Reading.{Stop, stopped, head_at, row_at}
 use Rattle.link_bundle.specs.CheckField.{field_at}
 use Rattle.link_bundle.specs.Primary.{Primary}

@@ -14,7 +14,7 @@ use Rattle.link_bundle_types.specs.declared.fault.BundleFault.TheVariants.{Cut, 
 use Rattle.link_bundle_types.specs.declared.info.BundleInfo.{BundleInfo}
 use Rattle.link_bundle_types.specs.Faults.{lasts}
 use Rattle.link_bundle.specs.Laws.{FaultLasts, TrailingLasts}
-use Rattle.link_bundle.specs.Rows.{◌>>=◌, unsigned, byte_string, block, block_too_many, block_number, block_check_type, closing}
+use Rattle.link_bundle_rows.specs.Rows.{◌>>=◌, unsigned, byte_string, block, block_too_many, block_number, block_check_type, closing}
 use Rattle.link_bundle.specs.Reading.{Stop, Reading, placed, judged_at, head_at, row_at}
 use Rattle.link_bundle.specs.CheckField.{field_at}
 use Rattle.link_bundle.specs.Primary.{Primary, primary_at}

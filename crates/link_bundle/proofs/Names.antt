@@ -8,7 +8,7 @@ use Rattle.link_bundle.specs.declared.stage.Role.{Role}
 use Rattle.link_bundle.specs.declared.stage.Role.TheVariants.{Destination, Source, ReportTo}
 use Rattle.link_bundle.specs.declared.stage.Stage.TheVariants.{Name}
 use Rattle.link_bundle.specs.Bundle.{Bundle}
-use Rattle.link_bundle.specs.Rows.{◌>>=◌}
+use Rattle.link_bundle_rows.specs.Rows.{◌>>=◌}
 use Rattle.link_bundle.specs.Reading.{Reading, Stop, bytes_at}
 use Rattle.link_bundle.specs.Left.{with_eid, after_eid, after_primary, ends_of, with_note, kept_name, name_left, field_left, stage_left, source_left, report_to_left}
 use Rattle.link_bundle.specs.Stages.{stage_after}

@@ -6,10 +6,10 @@ use Rattle.link_cbor.specs.declared.check.CheckKind.{CheckKind}
 use Rattle.link_cbor.specs.declared.head.Head.{Head}
 use Rattle.link_cbor.specs.Head.{HeadFront, Cut as CutHead, IllFormed, Whole}
 use Rattle.link_bundle_types.specs.declared.fault.BundleFault.{BundleFault}
-use Rattle.link_bundle.specs.declared.stage.Scheme.{Scheme}
-use Rattle.link_bundle.specs.declared.stage.Scheme.TheVariants.{Dtn, Ipn}
+use Rattle.link_bundle_rows.specs.declared.endpoint.Scheme.{Scheme}
+use Rattle.link_bundle_rows.specs.declared.endpoint.Scheme.TheVariants.{Dtn, Ipn}
 use Rattle.link_bundle.specs.Laws.{PayloadLasts}
-use Rattle.link_bundle.specs.Rows.{◌>>=◌, unsigned, byte_string, pair, scheme, dtn_part, ipn_part, version, is_fragment, primary_block, primary_check_type, block, block_too_many, block_number, block_check_type, check_width, check_field, closing}
+use Rattle.link_bundle_rows.specs.Rows.{◌>>=◌, unsigned, byte_string, pair, scheme, dtn_part, ipn_part, version, is_fragment, primary_block, primary_check_type, block, block_too_many, block_number, block_check_type, check_width, check_field, closing}
 use Rattle.link_bundle.specs.Reading.{Stop, Reading, cut_short, placed, judged_at, head_at, row_at, bytes_at}
 use Rattle.link_bundle.specs.EndpointId.{dtn_at, ipn_at, specific_at, eid_at}
 use Rattle.link_bundle.specs.CheckField.{number_from, check_of, field_at}

@@ -5,7 +5,7 @@ use Rattle.std.specs.Prelude.{if◌then◌else◌}
 use Rattle.std.proofs.lemmas.Bool.{le-ltb, lt-ltb}
 use Rattle.std.proofs.lemmas.List.{drop-drop}
 use Rattle.std.proofs.Math.Seq.{drop-append_seam, take-append-add}
-use Rattle.link_bundle.specs.Rows.{◌>>=◌}
+use Rattle.link_bundle_rows.specs.Rows.{◌>>=◌}
 use Rattle.link_bundle.specs.Reading.{Reading, cut_short, bytes_at}
 
 pub bytes_at-none : (bytes : List ℕ) (place : ℕ) → place ≤ length bytes → bytes_at 0 bytes place ≡ Ok ([], place)

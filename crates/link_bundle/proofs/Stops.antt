@@ -9,9 +9,9 @@ use Rattle.link_bundle.specs.declared.stage.Field.TheVariants as field
 use Rattle.link_bundle.specs.declared.stage.PrimaryField.TheVariants as primary
 use Rattle.link_bundle.specs.declared.stage.CanonicalField.TheVariants as canonical
 use Rattle.link_bundle.specs.declared.stage.Part.TheVariants as part
-use Rattle.link_bundle.specs.declared.stage.Scheme.TheVariants.{Dtn, Ipn}
+use Rattle.link_bundle_rows.specs.declared.endpoint.Scheme.TheVariants.{Dtn, Ipn}
 use Rattle.std.specs.Prelude.{Result}
-use Rattle.link_bundle.specs.Rows.{unsigned, byte_string, pair, scheme, dtn_part, ipn_part, version, primary_block, primary_check_type, block, block_too_many, block_number, block_check_type, check_field, closing}
+use Rattle.link_bundle_rows.specs.Rows.{unsigned, byte_string, pair, scheme, dtn_part, ipn_part, version, primary_block, primary_check_type, block, block_too_many, block_number, block_check_type, check_field, closing}
 use Rattle.link_bundle.specs.Reading.{Stop, head_at, row_at}
 use Rattle.link_bundle.specs.EndpointId.{eid_at, specific_at}
 use Rattle.link_bundle.specs.CheckField.{field_at}

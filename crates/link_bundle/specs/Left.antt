@@ -24,7 +24,7 @@ use Rattle.link_bundle.specs.declared.stage.CheckType.TheVariants.{Is}
 use Rattle.link_bundle_types.specs.declared.fault.BundleFault.{BundleFault}
 use Rattle.link_bundle_types.specs.declared.fault.BundleFault.TheVariants.{CheckDiffers}
 use Rattle.link_bundle.specs.CheckKinds.{kind_of}
-use Rattle.link_bundle.specs.Rows.{◌>>=◌, unsigned, byte_string, pair, scheme, version, is_fragment, primary_block, primary_check_type, block_number, block_check_type, closing}
+use Rattle.link_bundle_rows.specs.Rows.{◌>>=◌, unsigned, byte_string, pair, scheme, version, is_fragment, primary_block, primary_check_type, block_number, block_check_type, closing}
 use Rattle.link_bundle.specs.Reading.{Stop, stopped, Reading, head_at, row_at, bytes_at}
 use Rattle.link_bundle.specs.EndpointId.{specific_at, eid_at}
 use Rattle.link_bundle.specs.KeptEid.{name_of}

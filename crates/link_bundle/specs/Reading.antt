@@ -5,7 +5,7 @@ use Rattle.link_cbor.specs.declared.head.Head.{Head}
 use Rattle.link_cbor.specs.Head.{HeadFront, Cut as CutHead, IllFormed, Whole, head_front}
 use Rattle.link_bundle_types.specs.declared.fault.BundleFault.{BundleFault}
 use Rattle.link_bundle_types.specs.declared.fault.BundleFault.TheVariants.{Cut, BadHead}
-use Rattle.link_bundle.specs.Rows.{◌>>=◌}
+use Rattle.link_bundle_rows.specs.Rows.{◌>>=◌}
 
 -- what ends a reading: the fault, its place, and where the payload's bytes begin and how many its head says, if that
 -- head was accepted before

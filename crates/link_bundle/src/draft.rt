@@ -2,8 +2,8 @@ ghost use Rattle.std.specs.Prelude.{◌≡◌, ◌≤◌, [], ◌++◌, IfOk, Is
 
 use crate::kept_eid::{EidForm, KeptEid};
 use crate::numbers::BlockNumbers;
-use crate::row;
-use crate::stage::{CanonicalField, CheckType, Field, Part, PrimaryField, Role, Scheme, Stage};
+use crate::stage::{CanonicalField, CheckType, Field, Part, PrimaryField, Role, Stage};
+use link_bundle_rows::{Scheme, row};
 use link_bundle_types::{BundleFault, BundleInfo, BundleView};
 use link_cbor::Head;
 

@@ -7,8 +7,8 @@ ghost use Rattle.link_bundle.specs.Scan.{HasCome, HeadCame};
 
 use crate::cursor::Cursor;
 use crate::draft::Draft;
-use crate::row;
 use crate::stage::{Field, Stage};
+use link_bundle_rows::row;
 use link_bundle_types::BundleFault;
 use link_cbor::{Head, HeadScan, HeadStep, Piecewise};
 

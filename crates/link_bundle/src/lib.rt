@@ -8,7 +8,6 @@ mod judging;
 mod kept_eid;
 pub mod laws;
 mod numbers;
-mod row;
 mod scan;
 mod stage;
 

@@ -1,5 +1,6 @@
 ghost use Rattle.std.specs.Prelude.{◌≡◌};
 
+use link_bundle_rows::Scheme;
 use link_bundle_types::{BundleFault, State};
 use link_cbor::CheckKind;
 
@@ -24,13 +25,6 @@ impl Role {
             Role::ReportTo => Stage::Head(Field::Primary(PrimaryField::Timestamp)),
         }
     }
-}
-
-/// An endpoint scheme (RFC 9171 section 4.2.5.1).
-#[derive(Clone, Copy)]
-pub(crate) enum Scheme {
-    Dtn,
-    Ipn,
 }
 
 /// A head inside an endpoint ID.

@@ -21,7 +21,7 @@ const PLAIN: &[u8] =
     b"\x9f\x88\x07\x00\x00\x82\x02\x82\x02\x01\x82\x02\x82\x01\x01\x82\x01\x00\x82\x00\x00\x00\x85\x01\x01\x00\x00\x45\x68\x65\x6c\x6c\x6f\xff";
 
 /// Bundles with a fault, and its place.
-const FAULTS: [(&[u8], BundleFault, u64); 28] = [
+const FAULTS: [(&[u8], BundleFault, u64); 31] = [
     // another byte under the check
     (
         b"\x9f\x88\x07\x00\x00\x82\x02\x82\x02\x01\x82\x02\x82\x01\x01\x82\x01\x00\x82\x00\x00\x00\x86\x01\x01\x00\x01\x45\x69\x65\x6c\x6c\x6f\x42\x4b\xf3\xff",
@@ -34,7 +34,7 @@ const FAULTS: [(&[u8], BundleFault, u64); 28] = [
         BundleFault::BadCheckLength,
         33,
     ),
-    // a byte behind the break
+    // a byte after the break
     (
         b"\x9f\x88\x07\x00\x00\x82\x02\x82\x02\x01\x82\x02\x82\x01\x01\x82\x01\x00\x82\x00\x00\x00\x85\x01\x01\x00\x00\x45\x68\x65\x6c\x6c\x6f\xff\x00",
         BundleFault::Trailing,
@@ -132,7 +132,7 @@ const FAULTS: [(&[u8], BundleFault, u64); 28] = [
         BundleFault::RepeatedBlockNumber,
         30,
     ),
-    // a block behind the payload block
+    // a block after the payload block
     (
         b"\x9f\x88\x07\x00\x00\x82\x02\x82\x02\x01\x82\x02\x82\x01\x01\x82\x01\x00\x82\x00\x00\x00\x85\x01\x01\x00\x00\x45\x68\x65\x6c\x6c\x6f\x85\x0a\x02\x00\x00\x40\xff",
         BundleFault::NoPayloadLast,
@@ -156,13 +156,13 @@ const FAULTS: [(&[u8], BundleFault, u64); 28] = [
         BundleFault::BadCount,
         1,
     ),
-    // a cut head behind the payload
+    // a cut head after the payload
     (
         b"\x9f\x88\x07\x00\x00\x82\x02\x82\x02\x01\x82\x02\x82\x01\x01\x82\x01\x00\x82\x00\x00\x00\x85\x01\x01\x00\x00\x45\x68\x65\x6c\x6c\x6f\x1b\x00",
         BundleFault::Cut,
         35,
     ),
-    // an ill-formed head behind the payload
+    // an ill-formed head after the payload
     (
         b"\x9f\x88\x07\x00\x00\x82\x02\x82\x02\x01\x82\x02\x82\x01\x01\x82\x01\x00\x82\x00\x00\x00\x85\x01\x01\x00\x00\x45\x68\x65\x6c\x6c\x6f\xf8\x1f",
         BundleFault::BadHead,
@@ -186,56 +186,90 @@ const FAULTS: [(&[u8], BundleFault, u64); 28] = [
         BundleFault::CheckDiffers,
         33,
     ),
+    // an ipn part of four numbers
+    (
+        b"\x9f\x88\x07\x00\x00\x82\x02\x84\x00\x02\x01\x01\x82\x02\x82\x01\x01\x82\x01\x00\x82\x00\x00\x00\x85\x01\x01\x00\x00\x45\x68\x65\x6c\x6c\x6f\xff",
+        BundleFault::BadCount,
+        7,
+    ),
+    // an ipn part of one number
+    (
+        b"\x9f\x88\x07\x00\x00\x82\x02\x81\x02\x82\x02\x82\x01\x01\x82\x01\x00\x82\x00\x00\x00\x85\x01\x01\x00\x00\x45\x68\x65\x6c\x6c\x6f\xff",
+        BundleFault::BadCount,
+        7,
+    ),
+    // bytes in place of the service number, after an allocator identifier
+    (
+        b"\x9f\x88\x07\x00\x00\x82\x02\x83\x00\x02\x40\x82\x02\x82\x01\x01\x82\x01\x00\x82\x00\x00\x00\x85\x01\x01\x00\x00\x45\x68\x65\x6c\x6c\x6f\xff",
+        BundleFault::WrongKind,
+        10,
+    ),
 ];
 
 /// Whole bundles, and what they say.
-const WHOLE: [Expected; 6] = [
+const WHOLE: [Expected; 8] = [
     // the plain bundle
     Expected {
         bytes: PLAIN,
-        destination: Text::Ipn(2, 1),
-        source: Text::Ipn(1, 1),
+        destination: EidView::Ipn(2, 1),
+        source: EidView::Ipn(1, 1),
         numbers: [0, 0, 0, 0, 1, 5],
         fragment: None,
     },
     // with a check
     Expected {
         bytes: b"\x9f\x88\x07\x00\x00\x82\x02\x82\x02\x01\x82\x02\x82\x01\x01\x82\x01\x00\x82\x00\x00\x00\x86\x01\x01\x00\x01\x45\x68\x65\x6c\x6c\x6f\x42\x4b\xf3\xff",
-        destination: Text::Ipn(2, 1),
-        source: Text::Ipn(1, 1),
+        destination: EidView::Ipn(2, 1),
+        source: EidView::Ipn(1, 1),
         numbers: [0, 0, 0, 0, 1, 5],
         fragment: None,
     },
     // a long spelling of the version
     Expected {
         bytes: b"\x9f\x88\x1a\x00\x00\x00\x07\x00\x00\x82\x02\x82\x02\x01\x82\x02\x82\x01\x01\x82\x01\x00\x82\x00\x00\x00\x85\x01\x01\x00\x00\x45\x68\x65\x6c\x6c\x6f\xff",
-        destination: Text::Ipn(2, 1),
-        source: Text::Ipn(1, 1),
+        destination: EidView::Ipn(2, 1),
+        source: EidView::Ipn(1, 1),
         numbers: [0, 0, 0, 0, 1, 5],
         fragment: None,
     },
     // a fragment
     Expected {
         bytes: b"\x9f\x8a\x07\x01\x00\x82\x02\x82\x02\x01\x82\x02\x82\x01\x01\x82\x01\x00\x82\x00\x00\x00\x05\x0a\x85\x01\x01\x00\x00\x45\x68\x65\x6c\x6c\x6f\xff",
-        destination: Text::Ipn(2, 1),
-        source: Text::Ipn(1, 1),
+        destination: EidView::Ipn(2, 1),
+        source: EidView::Ipn(1, 1),
         numbers: [1, 0, 0, 0, 1, 5],
         fragment: Some((5, 10)),
     },
     // a dtn name
     Expected {
         bytes: b"\x9f\x88\x07\x00\x00\x82\x01\x68\x2f\x2f\x6e\x6f\x64\x65\x2f\x61\x82\x02\x82\x01\x01\x82\x01\x00\x82\x00\x00\x00\x85\x01\x01\x00\x00\x45\x68\x65\x6c\x6c\x6f\xff",
-        destination: Text::Dtn(b"//node/a"),
-        source: Text::Ipn(1, 1),
+        destination: EidView::Dtn(b"//node/a"),
+        source: EidView::Ipn(1, 1),
         numbers: [0, 0, 0, 0, 1, 5],
         fragment: None,
     },
     // a number that differs above 32 bits
     Expected {
         bytes: b"\x9f\x88\x07\x00\x00\x82\x02\x82\x02\x01\x82\x02\x82\x01\x01\x82\x01\x00\x82\x00\x00\x00\x85\x0a\x02\x00\x00\x40\x85\x0a\x1b\x00\x00\x00\x01\x00\x00\x00\x02\x00\x00\x40\x85\x01\x01\x00\x00\x45\x68\x65\x6c\x6c\x6f\xff",
-        destination: Text::Ipn(2, 1),
-        source: Text::Ipn(1, 1),
+        destination: EidView::Ipn(2, 1),
+        source: EidView::Ipn(1, 1),
         numbers: [0, 0, 0, 0, 3, 5],
+        fragment: None,
+    },
+    // three ipn numbers, of which the allocator identifier is 0
+    Expected {
+        bytes: b"\x9f\x88\x07\x00\x00\x82\x02\x83\x00\x02\x01\x82\x02\x82\x01\x01\x82\x01\x00\x82\x00\x00\x00\x85\x01\x01\x00\x00\x45\x68\x65\x6c\x6c\x6f\xff",
+        destination: EidView::Ipn3(0, 2, 1),
+        source: EidView::Ipn(1, 1),
+        numbers: [0, 0, 0, 0, 1, 5],
+        fragment: None,
+    },
+    // three ipn numbers
+    Expected {
+        bytes: b"\x9f\x88\x07\x00\x00\x82\x02\x82\x02\x01\x82\x02\x83\x19\x03\xe8\x01\x01\x82\x01\x00\x82\x00\x00\x00\x85\x01\x01\x00\x00\x45\x68\x65\x6c\x6c\x6f\xff",
+        destination: EidView::Ipn(2, 1),
+        source: EidView::Ipn3(1000, 1, 1),
+        numbers: [0, 0, 0, 0, 1, 5],
         fragment: None,
     },
 ];
@@ -257,7 +291,7 @@ const PAYLOADS: [(&[u8], Option<(u64, u64)>); 9] = [
         b"\x9f\x88\x07\x00\x00\x82\x02\x82\x02\x01\x82\x02\x82\x01\x01\x82\x01\x00\x82\x00\x00\x00\x85\x01\x01\x00\x00\x45",
         Some((28, 0)),
     ),
-    // cut behind the payload
+    // cut after the payload
     (
         b"\x9f\x88\x07\x00\x00\x82\x02\x82\x02\x01\x82\x02\x82\x01\x01\x82\x01\x00\x82\x00\x00\x00\x85\x01\x01\x00\x00\x45\x68\x65\x6c\x6c\x6f",
         Some((28, 5)),
@@ -286,20 +320,12 @@ const PAYLOADS: [(&[u8], Option<(u64, u64)>); 9] = [
     ),
 ];
 
-/// An endpoint ID, with a name as its bytes.
-#[derive(Clone, Copy)]
-enum Text {
-    None,
-    Dtn(&'static [u8]),
-    Ipn(u64, u64),
-}
-
 /// A bundle of another encoder, and what it says.
 #[derive(Clone, Copy)]
 struct Expected {
     bytes: &'static [u8],
-    destination: Text,
-    source: Text,
+    destination: EidView<'static>,
+    source: EidView<'static>,
     /// Flags, time, sequence number, lifetime, blocks and payload length.
     numbers: [u64; 6],
     fragment: Option<(u64, u64)>,
@@ -389,36 +415,84 @@ fn steps_past_the_end(rt: HostRuntime) {
     assert_eq!(rt; scan.feed(&[0]), 0);
 }
 
-fn is_text(eid: &Eid, text: Text) -> bool {
-    match (eid, text) {
-        (Eid::DtnNone, Text::None) => true,
-        (Eid::Dtn(name), Text::Dtn(bytes)) => name.as_slice() == bytes,
-        (Eid::Ipn(node, service), Text::Ipn(n, s)) => *node == n && *service == s,
-        _ => false,
-    }
+fn expect_info(rt: &impl Abort, info: &BundleView, expected: &Expected) {
+    assert_eq!(rt; info.destination, expected.destination);
+    assert_eq!(rt; info.source, expected.source);
+    let numbers = [
+        info.flags,
+        info.time,
+        info.sequence,
+        info.lifetime,
+        info.blocks,
+        info.payload,
+    ];
+    assert_eq!(rt; numbers, expected.numbers);
+    assert_eq!(rt; info.fragment, expected.fragment);
 }
 
 fn expect_bundles(rt: &impl Abort, bundles: &[Expected]) {
     for expected in bundles {
         expect_fault(rt, expected.bytes, None);
         assert!(rt; expected.bytes.len() < 10_000);
-        match by_bytes(expected.bytes).finish() {
-            Ok(info) => {
-                assert!(rt; is_text(&info.destination, expected.destination));
-                assert!(rt; is_text(&info.source, expected.source));
-                let numbers = [
-                    info.flags,
-                    info.time,
-                    info.sequence,
-                    info.lifetime,
-                    info.blocks,
-                    info.payload,
-                ];
-                assert_eq!(rt; numbers, expected.numbers);
-                assert_eq!(rt; info.fragment, expected.fragment);
-            }
+        let scan = by_bytes(expected.bytes);
+        match scan.view() {
+            Ok(view) => expect_info(rt, &view, expected),
             Err(_) => assert!(rt; false),
         }
+        match scan.finish() {
+            Ok(info) => expect_info(rt, &info.view(), expected),
+            Err(_) => assert!(rt; false),
+        }
+    }
+}
+
+/// The bytes in pieces of this size.
+fn in_pieces(scan: &mut BundleScan, bytes: &[u8], size: usize)
+    requires short { length bytes.now < 2 ^ 32 }
+    requires some { 0 < size }
+{
+    scan.restart();
+    let mut rest = bytes;
+    while !rest.is_empty() {
+        let (piece, after) = rest.split_at(rest.len().min(size));
+        give(scan, piece);
+        rest = after;
+    }
+}
+
+/// In pieces of 1 to 40 bytes, by one scan that is begun again for each.
+#[test]
+fn bundles_in_pieces(rt: HostRuntime) {
+    let mut scan = BundleScan::new();
+    for expected in &BUNDLES {
+        assert!(rt; expected.bytes.len() < 1_000);
+        let payload = by_bytes(expected.bytes).payload_seen();
+        for size in 1..41 {
+            in_pieces(&mut scan, expected.bytes, size);
+            assert_eq!(rt; scan.finish().err(), None, "pieces of {size}");
+            assert_eq!(rt; scan.payload_seen(), payload, "pieces of {size}");
+            match scan.view() {
+                Ok(view) => expect_info(&rt, &view, expected),
+                Err(_) => assert!(rt; false),
+            }
+        }
+    }
+}
+
+/// A scan is as new after each fault.
+#[test]
+fn faults_do_not_outlast_a_restart(rt: HostRuntime) {
+    let mut scan = BundleScan::new();
+    for (bytes, _, _) in FAULTS {
+        scan.restart();
+        assert_eq!(rt; scan.count(), 0);
+        assert_eq!(rt; scan.state(), State::Going);
+        assert_eq!(rt; scan.payload_seen(), None);
+        assert!(rt; bytes.len() < 1_000);
+        give(&mut scan, bytes);
+        scan.restart();
+        give(&mut scan, PLAIN);
+        assert!(rt; matches!(scan.state(), State::Ended));
     }
 }
 

@@ -1,4 +1,4 @@
--- a history and the bytes of a slice, one place further
+-- a history and the bytes of a slice, with one more of them
 
 use Rattle.std.proofs.Common.{◌≡◌, ℕ, ◌+◌, ◌<◌, List, ◌∷◌, [], ◌++◌, length, take, get_or, sym, ap, ◌∙◌}
 use Rattle.std.proofs.lemmas.List.{append_assoc, take_more}

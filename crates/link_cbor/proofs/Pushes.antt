@@ -1,13 +1,36 @@
 -- what a check holds after more bytes
 
-use Rattle.std.proofs.Common.{◌≡◌, ℕ, List, ◌++◌, sym, ap₂, ◌∙◌}
+use Rattle.std.proofs.Common.{◌≡◌, ℕ, zero, suc, ◌+◌, ◌*◌, ◌<◌, List, ◌++◌, take, drop, sym, ap, ap₂, ◌∙◌, arith}
+use Rattle.std.specs.List.{concat}
+use Rattle.std.proofs.Math.Seq.{take-add}
+use Rattle.std.proofs.lemmas.List.Elements.{All-append}
+use Rattle.std.specs.Simd.{first_chunks}
+use Rattle.link_cbor.specs.declared.check.Check.{Check}
 use Rattle.link_cbor.specs.declared.check.CheckKind.{CheckKind}
 use Rattle.link_cbor.specs.Crc.{all_ones, register_after}
-use Rattle.link_cbor.specs.CrcLaws.{register_after-append}
+use Rattle.link_cbor.specs.Head.{AreBytes}
+use Rattle.link_cbor.specs.Pushed.{HasPushed}
+use Rattle.link_cbor.proofs.CrcLaws.{register_after-append}
 
--- the register behind more bytes, from the fields of a check
-pub register_more : (kind other : CheckKind) (register : ℕ) (bytes more : List ℕ) → other ≡ kind
-    → register ≡ register_after kind (all_ones kind) bytes
-    → register_after other register more ≡ register_after kind (all_ones kind) (bytes ++ more)
-register_more kind other register bytes more same was =
-    ap₂ (λ k r. register_after k r more) same was ∙ sym (register_after-append kind (all_ones kind) bytes more)
+-- a check whose register has gone on by more bytes
+pub pushed_more : (kind : CheckKind) (old new : Check) (bytes more : List ℕ)
+    → HasPushed kind old bytes → AreBytes more
+    → new.kind ≡ old.kind → new.register ≡ register_after old.kind old.register more
+    → HasPushed kind new (bytes ++ more)
+pushed_more kind old new bytes more pushed all same went = record {
+  all_bytes = All-append (λ byte. byte < 256) bytes more pushed.all_bytes all;
+  same_kind = same ∙ pushed.same_kind;
+  register = went ∙ ap₂ (λ k r. register_after k r more) pushed.same_kind pushed.register
+      ∙ sym (register_after-append kind (all_ones kind) bytes more);
+}
+
+-- the blocks of a slice are its bytes, but for those after the last whole block
+pub concat-first_chunks : (size count : ℕ) (bytes : List ℕ)
+    → concat (first_chunks size count bytes) ≡ take (count * size) bytes
+concat-first_chunks size zero bytes =
+    let none : 0 ≡ 0 * size = omega arith in ap (λ n. take n bytes) none
+concat-first_chunks size (suc count) bytes =
+    let more : size + count * size ≡ suc count * size = omega arith in
+    ap (λ rest. take size bytes ++ rest) (concat-first_chunks size count (drop size bytes))
+    ∙ sym (take-add size (count * size) bytes)
+    ∙ ap (λ n. take n bytes) more

@@ -1,4 +1,4 @@
--- the stages of a scan, one byte further
+-- the stages of a scan, after one more byte
 
 use Rattle.std.proofs.Common.{◌≡◌, ℕ, zero, suc, ◌+◌, ◌-◌, ◌*◌, ◌/◌, ◌%◌, ◌^◌, ◌<◌, ◌≤◌, true, false, ◌&&◌, ◌||◌, ◌==◌, nat_lt, nat_le, List, [], ◌∷◌, ◌++◌, length, take, Some, None, refl, sym, ap, ◌∙◌, arith, ⊎_elim}
 use Rattle.std.proofs.lemmas.List.{append-nil, append_assoc, length-take-le}
@@ -40,7 +40,7 @@ unfolding stage_fits
 stage_fits-argument count major left value facts =
     rw (lt-ltb 0 left facts.wanted, le-leb left 8 facts.most, le-leb (count + left) 9 facts.room, lt-ltb value (256 ^ (8 - left)) facts.fits) refl
 
--- what a scan answers is what stands at the front of the bytes seen
+-- what a scan returns is what the bytes seen begin with
 told_from : (count : ℕ) (stage : Stage) → stage_fits count stage ≡ true → front_from count stage [] ≡ front_of (told_at stage) count
 unfolding front_from head_front argument_front
 told_from count Start fits = refl
@@ -59,7 +59,7 @@ pub told_front : (count : ℕ) (stage : Stage) (seen : List ℕ) → count ≡ l
 told_front count stage seen size stands =
     ap head_front (sym (append-nil seen)) ∙ stands.reads [] ∙ told_from count stage stands.fits ∙ ap (front_of (told_at stage)) size
 
--- what it answers is what a scan of these bytes answers
+-- what it returns is what a scan of these bytes returns
 pub told_step : (stage : Stage) (seen : List ℕ) → head_front seen ≡ front_of (told_at stage) (length seen) → told_at stage ≡ step_of seen
 told_step stage seen front = sym (ap step_at front ∙ step_at_front (told_at stage) (length seen))
 
@@ -282,7 +282,7 @@ stands-argued major information left least below other is =
           ∙ rw same (argument_begins major (2 ^ (information - 24)) more (λ seven one. other seven (one_byte information least one)));
     }
 
--- the stage behind the first byte is the one that its major type and additional information begin
+-- the stage after the first byte is that of its major type and additional information
 first_reads : (first : ℕ) (stage : Stage) → StandsAt 1 stage (front_by (first / 32) (bit_and first 31))
     → StandsAt 1 stage (λ more. head_front (first ∷ more))
 unfolding head_front
@@ -332,7 +332,7 @@ pub stands-right : (major : ℕ) → 2 ≤ major → (major ≡ 6 → ⊥)
 unfolding stage_fits front_from no_argument
 stands-right major two not_six = record { fits = refl; reads = λ _. rw (le-ltb major 2 two, ne_eqb major 6 not_six) refl }
 
--- ---- the history, one byte further
+-- ---- the history, with one more byte
 
 pub scanned_more : (count : ℕ) (stage next : Stage) (seen : List ℕ) (byte : ℕ)
     → StandsAt count stage (λ more. head_front (seen ++ more))

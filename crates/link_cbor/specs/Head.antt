@@ -9,20 +9,20 @@ use Rattle.link_cbor.specs.declared.head.HeadStep.TheVariants.{More, Done, Bad}
 abbrev pub AreBytes : List ℕ → Type 0
 AreBytes bytes = All (λ byte. byte < 256) bytes
 
--- the number that these bytes spell, the most significant first
+-- the number that these bytes encode, the most significant first
 unfoldable pub big_endian : List ℕ → ℕ
 big_endian [] = 0
 big_endian (byte ∷ bytes) = byte * 256 ^ length bytes + big_endian bytes
 
--- what stands at the front of a list of bytes: a head that the list does not have whole, no head at all,
--- or a whole head and how many bytes it has
+-- what a list of bytes begins with: a head that the list ends inside, no well-formed head, or a complete head and how many
+-- bytes it has
 pub data HeadFront : Type 0 where
   Cut : HeadFront
   IllFormed : HeadFront
   Whole : Head → ℕ → HeadFront
 
--- an argument that was spelled in `size` bytes behind the first: a simple value below 32 is not spelled in two bytes
--- (section 3.3), every other spelling that is longer than needed is a head
+-- an argument in `size` bytes after the first: a simple value below 32 is not encoded in two bytes (section 3.3), and every
+-- other encoding that is longer than needed is a head
 unfoldable pub with_argument : ℕ → ℕ → ℕ → HeadFront
 with_argument major size argument =
     if (major == 7) && ((size == 1) && nat_lt argument 32) then IllFormed else
@@ -38,7 +38,7 @@ unfoldable pub no_argument : ℕ → HeadFront
 no_argument major =
     if nat_lt major 2 || major == 6 then IllFormed else Whole (record { major = major; value = None }) 1
 
--- a head by its major type and additional information, with the bytes behind the first one (section 3): up to 23 the
+-- a head by its major type and additional information, with the bytes after the first one (section 3): up to 23 the
 -- information is the argument, and 24 to 27 say that it stands in the next 1, 2, 4 or 8 bytes
 unfoldable pub front_by : ℕ → ℕ → List ℕ → HeadFront
 front_by major information rest =
@@ -51,7 +51,7 @@ unfoldable pub head_front : List ℕ → HeadFront
 head_front [] = Cut
 head_front (first ∷ rest) = front_by (first / 32) (first % 32) rest
 
--- the answer of a scan that has seen these bytes
+-- what a scan that has seen these bytes returns
 abbrev pub step_at : HeadFront → HeadStep
 step_at Cut = More
 step_at IllFormed = Bad
@@ -60,13 +60,13 @@ step_at (Whole head size) = Done head
 abbrev pub step_of : List ℕ → HeadStep
 step_of bytes = step_at (head_front bytes)
 
--- what a scan's answer says of the `size` bytes that it has seen
+-- what that says of the `size` bytes that the scan has seen
 abbrev pub front_of : HeadStep → ℕ → HeadFront
 front_of More size = Cut
 front_of (Done head) size = Whole head size
 front_of Bad size = IllFormed
 
--- more bytes are wanted
+-- more bytes are needed
 abbrev pub is_cut : HeadFront → Bool
 is_cut Cut = true
 is_cut IllFormed = false

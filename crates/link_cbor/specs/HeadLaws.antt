@@ -1,4 +1,4 @@
--- what follows from the definition of a head: for scans of what stands above one
+-- what follows from the definition of a head, for scans of more than one
 
 use Rattle.std.proofs.Common.{◌≡◌, ℕ, ◌-◌, ◌/◌, ◌%◌, ◌^◌, ◌<◌, ◌≤◌, false, nat_lt, List, [], ◌∷◌, ◌++◌, length, take, Some, refl, sym, ap, ◌∙◌, ⊎_elim, arith}
 use Rattle.std.proofs.lemmas.List.{take-append-le, length-append}
@@ -41,7 +41,7 @@ front_by-none major information rest least =
     let second : 28 ≤ information = omega arith in
     rw (le-ltb information 24 first, le-ltb information 28 second, le-ltb information 31 least) refl
 
--- ---- told heads stay told
+-- ---- what is known of a head stays
 
 argument_stays : (major size : ℕ) (rest more : List ℕ)
     → is_cut (argument_front major size rest) ≡ false → argument_front major size (rest ++ more) ≡ argument_front major size rest
@@ -82,7 +82,7 @@ front_stays major information rest more (reserved least below) told =
 front_stays major information rest more (none least) told =
     front_by-none major information (rest ++ more) least ∙ sym (front_by-none major information rest least)
 
--- a head that is told, whole or ill-formed, is told so whatever follows it
+-- a head that is known to be complete or ill-formed is so whatever bytes follow
 pub told_stays : (seen more : List ℕ) → is_cut (head_front seen) ≡ false → head_front (seen ++ more) ≡ head_front seen
 unfolding head_front
 told_stays [] more told = absurd (false≢true (sym told))

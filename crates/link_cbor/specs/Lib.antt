@@ -1,5 +1,5 @@
 pub mod Crc
-pub mod CrcLaws
+pub mod CrcTables
 pub mod Head
 pub mod HeadLaws
 pub mod HeadScan

@@ -5,13 +5,13 @@ use Rattle.std.proofs.lemmas.List.{append-nil, take-take, length-take}
 use Rattle.std.proofs.lemmas.Bool.{cases_Bool, cases_order, false≢true}
 use Rattle.link_cbor.specs.Pieces.{taken, IsShortestFront, JoinsPieces, TakesShortest}
 
--- nothing is taken where nothing is wanted
+-- nothing is taken where nothing is needed
 pub taken-idle : (goes : List ℕ → Bool) (seen bytes : List ℕ) → goes seen ≡ false → taken goes seen bytes ≡ []
 unfolding taken
 taken-idle goes seen [] idle = refl
 taken-idle goes seen (byte ∷ bytes) idle = rw idle refl
 
--- a byte is taken where more are wanted
+-- a byte is taken where more are needed
 pub taken-cons : (goes : List ℕ → Bool) (seen : List ℕ) (byte : ℕ) (bytes : List ℕ) → goes seen ≡ true
     → taken goes seen (byte ∷ bytes) ≡ byte ∷ taken goes (seen ++ byte ∷ []) bytes
 unfolding taken
@@ -77,7 +77,7 @@ taken_is_shortest goes seen (byte ∷ bytes) =
     (λ idle. rw (taken-idle goes seen (byte ∷ bytes) idle) (shortest-none goes seen (byte ∷ bytes) (inl idle)))
     (cases_Bool (goes seen))
 
--- no front that stops is shorter than one that goes on to its end
+-- no prefix that stops is shorter than one before whose end more bytes are needed
 not_shorter : (goes : List ℕ → Bool) (seen bytes short long : List ℕ) → IsShortestFront goes seen bytes short
     → IsShortestFront goes seen bytes long → length short < length long → ⊥
 not_shorter goes seen bytes short long first second shorter =

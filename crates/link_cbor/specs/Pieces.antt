@@ -3,9 +3,9 @@
 use Rattle.std.specs.Prelude.{◌≡◌, ◌↔◌, ℕ, ◌<◌, Bool, true, false, List, [], ◌∷◌, ◌++◌, length, take, if◌then◌else◌}
 use Rattle.std.proofs.Common.{◌⊎◌}
 
--- `goes` says of all the bytes seen whether more are wanted; `seen` is what was seen before
+-- `goes` says of all the bytes seen whether more are needed; `seen` is what was seen before
 
--- the shortest front of the bytes after which no more is wanted, or all of them
+-- the shortest prefix of the bytes after which no more are needed, or all of them
 unfoldable pub taken : (List ℕ → Bool) → List ℕ → List ℕ → List ℕ
 taken goes seen [] = []
 taken goes seen (byte ∷ bytes) = if goes seen then byte ∷ taken goes (seen ++ byte ∷ []) bytes else []
@@ -13,9 +13,9 @@ taken goes seen (byte ∷ bytes) = if goes seen then byte ∷ taken goes (seen +
 -- the same in its own words
 pub record IsShortestFront (goes : List ℕ → Bool) (seen bytes front : List ℕ) : Type 0 where
   pub is_front : front ≡ take (length front) bytes
-  -- before each byte that was taken, more were wanted
+  -- before each byte that was taken, more were needed
   pub wanted : (count : ℕ) → count < length front → goes (seen ++ take count front) ≡ true
-  -- no more is wanted, or nothing is left
+  -- no more are needed, or none is left
   pub stops : (goes (seen ++ front) ≡ false) ⊎ (front ≡ bytes)
 
 -- what is taken of two pieces is what is taken of them joined
@@ -24,7 +24,7 @@ JoinsPieces goes =
     (seen first second : List ℕ) →
     taken goes seen (first ++ second) ≡ taken goes seen first ++ taken goes (seen ++ taken goes seen first) second
 
--- what is taken is that front, and no other is
+-- what is taken is that prefix, and no other is
 abbrev pub TakesShortest : (List ℕ → Bool) → Type 0
 TakesShortest goes =
     (seen bytes front : List ℕ) → IsShortestFront goes seen bytes front ↔ (front ≡ taken goes seen bytes)

@@ -7,7 +7,7 @@ use Rattle.link_cbor.specs.declared.head_scan.Stage.{Stage}
 use Rattle.link_cbor.specs.declared.head_scan.Stage.TheVariants.{Start, Argument, Simple, Whole as WholeHead, IllFormed as NoHead}
 use Rattle.link_cbor.specs.Head.{HeadFront, Cut, IllFormed, Whole, big_endian, head_front, argument_front}
 
--- however the bytes go on, this is what is left to be read, where `count` bytes were seen
+-- what this stage makes of the bytes that follow, where `count` bytes were seen
 unfoldable pub front_from : ℕ → Stage → List ℕ → HeadFront
 front_from count Start more = head_front more
 front_from count (Argument major left value) more =
@@ -17,7 +17,7 @@ front_from count Simple more = argument_front 7 1 more
 front_from count (WholeHead head) more = Whole head count
 front_from count NoHead more = IllFormed
 
--- more bytes are wanted
+-- more bytes are needed
 abbrev pub wants_more : Stage → Bool
 wants_more Start = true
 wants_more (Argument major left value) = true
@@ -33,7 +33,7 @@ told_at Simple = More
 told_at (WholeHead head) = Done head
 told_at NoHead = Bad
 
--- what keeps the argument in 64 bits: its bytes are at most eight, of which those that were seen spell `value`
+-- what keeps the argument in 64 bits: its bytes are at most eight, of which those that were seen encode `value`
 unfoldable pub stage_fits : ℕ → Stage → Bool
 stage_fits count Start = count == 0
 stage_fits count (Argument major left value) =
@@ -42,7 +42,7 @@ stage_fits count Simple = count == 1
 stage_fits count (WholeHead head) = nat_le count 9
 stage_fits count NoHead = nat_le count 9
 
--- a scan that has seen `count` bytes stands at this stage, where `reading` is what is left to be read
+-- a scan that has seen `count` bytes is at this stage, where `reading` is what the head is for the bytes that follow
 pub record StandsAt (count : ℕ) (stage : Stage) (reading : List ℕ → HeadFront) : Type 0 where
   pub fits : IsTrue (stage_fits count stage)
   pub reads : (more : List ℕ) → reading more ≡ front_from count stage more

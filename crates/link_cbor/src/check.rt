@@ -1,5 +1,13 @@
-ghost use Rattle.std.specs.Prelude.{◌≡◌, ℕ, ◌∷◌, [], ◌++◌, List, bit_xor};
-ghost use Rattle.link_cbor.specs.Crc.{polynomial, all_ones, register_after, crc};
+//! The check values of bundles, RFC 9171 section 4.2.1.
+ghost use Rattle.std.specs.Prelude.{◌≡◌, ℕ, ◌∷◌, [], ◌++◌, List};
+ghost use Rattle.link_cbor.specs.Crc.{all_ones, crc};
+ghost use Rattle.link_cbor.specs.CrcTables.{AreTables};
+
+mod crc16;
+mod crc32;
+mod register;
+
+use self::register::{Tables, register_after, register_after_blocks};
 
 /// Which check field a block has, RFC 9171 section 4.2.1.
 #[derive(Clone, Copy, PartialEq, Eq, Debug)]
@@ -11,16 +19,6 @@ pub enum CheckKind {
 }
 
 impl CheckKind {
-    /// The polynomial with its bits in reverse, as a register that goes right takes it.
-    fn polynomial(self) -> u32
-        ensures { result ≡ polynomial self }
-    {
-        match self {
-            CheckKind::Crc16 => 0x8408,
-            CheckKind::Crc32 => 0x82f6_3b78,
-        }
-    }
-
     /// The register at the start, and what is exclusive-ored into it at the end.
     fn all_ones(self) -> u32
         ensures { result ≡ all_ones self }
@@ -31,21 +29,15 @@ impl CheckKind {
         }
     }
 
-    /// The register one byte further.
-    fn register_after(self, register: u32, byte: u8) -> u32
-        ensures { result ≡ register_after self register (byte ∷ []) }
+    /// The tables by which a register of this kind takes bytes.
+    #[inline(always)]
+    fn tables(self) -> &'static Tables
+        ensures { AreTables self result.now }
     {
-        let polynomial = self.polynomial();
-        let mut register = register ^ u32::from(byte);
-        for _ in 0..u8::BITS {
-            let shifted = register >> 1;
-            register = if register % 2 == 0 {
-                shifted
-            } else {
-                shifted ^ polynomial
-            };
+        match self {
+            CheckKind::Crc16 => &crc16::TABLES,
+            CheckKind::Crc32 => &crc32::TABLES,
         }
-        register
     }
 }
 
@@ -71,20 +63,22 @@ impl Check {
         }
     }
 
-    /// Takes in one byte.
+    /// Takes one more byte.
     pub fn push(&mut self, byte: u8)
         ensures { (kind : CheckKind) (before : List ℕ) →
             HasPushed kind self.old before → HasPushed kind self.new (before ++ byte ∷ []) }
     {
-        self.register = self.kind.register_after(self.register, byte);
+        self.register = register_after(self.kind.tables(), self.register, byte);
     }
 
-    /// Takes in the bytes of the slice in order.
+    /// Takes the bytes of the slice, in order.
     pub fn push_slice(&mut self, bytes: &[u8])
         ensures { (kind : CheckKind) (before : List ℕ) →
             HasPushed kind self.old before → HasPushed kind self.new (before ++ bytes.now) }
     {
-        for &byte in bytes {
+        let (blocks, rest) = bytes.as_chunks();
+        self.register = register_after_blocks(self.kind.tables(), self.register, blocks);
+        for &byte in rest {
             self.push(byte);
         }
     }

@@ -1,17 +1,18 @@
+//! Reading a head byte by byte.
 ghost use Rattle.std.specs.Prelude.{◌≡◌, ℕ, ◌+◌, ◌<◌, ◌≤◌, ◌↔◌, List, [], ◌∷◌, ◌++◌, length, IsTrue};
 ghost use Rattle.link_cbor.specs.Stage.{stage_fits};
 
 use crate::head::{Head, HeadStep};
 use crate::piecewise::Piecewise;
 
-/// Where a scan stands in its head.
+/// How far a scan has read its head.
 #[derive(Clone, Copy, PartialEq, Eq, Debug)]
 enum Stage {
-    /// No byte was seen.
+    /// No byte has been seen.
     Start,
-    /// The bytes of the argument that were seen spell `value`, and `left` more are wanted.
+    /// The bytes of the argument that were seen encode `value`, and `left` more are needed.
     Argument { major: u8, left: u8, value: u64 },
-    /// `f8` was seen: a simple value from 32 up is wanted.
+    /// `f8` was seen: a simple value of at least 32 has to follow.
     Simple,
     Whole(Head),
     IllFormed,
@@ -38,7 +39,7 @@ impl Stage {
         }
     }
 
-    /// The stage behind the first byte: its top three bits are the major type, its low five the additional information.
+    /// The stage after the first byte: its top three bits are the major type, its low five the additional information.
     fn begin(first: u8) -> Stage
         ensures { StandsAt 1 result (λ more. head_front (first ∷ more)) }
     {
@@ -72,7 +73,8 @@ impl Stage {
     }
 }
 
-/// Reads one head, byte by byte. It is going until the head is told, whole or ill-formed, and takes at most nine bytes.
+/// Reads one head, byte by byte. It is going until the head is complete or known to be ill-formed, which takes at most
+/// nine bytes.
 #[derive(Clone, Copy, Debug)]
 pub struct HeadScan {
     count: u8,
@@ -86,7 +88,7 @@ impl HeadScan {
     ghost use Rattle.link_cbor.specs.Stage.{front_from, StandsAt};
     ghost use Rattle.link_cbor.specs.declared.head.HeadStep.TheVariants.{More};
 
-    /// A scan that has seen nothing.
+    /// A scan that has seen no byte.
     pub fn new() -> HeadScan
         ensures seen { HasScanned result [] }
         ensures size { scan_size result ≡ 0 }
@@ -107,7 +109,7 @@ impl HeadScan {
         self.stage.told()
     }
 
-    /// The stage one byte further.
+    /// The stage after one more byte.
     fn next_stage(&self, byte: u8) -> Stage
         requires { IsTrue (may_scan self.now) }
         ensures { StandsAt (self.now.count + 1) result

@@ -1,5 +1,5 @@
-//! The heads of CBOR data items (RFC 8949 section 3) and the check values of bundles (RFC 9171 section 4.2.1), taken
-//! byte by byte or in pieces of any size.
+//! The heads of CBOR data items (RFC 8949 section 3) and the check values of bundles (RFC 9171 section 4.2.1), of bytes
+//! that come one by one or in slices of any size.
 //!
 //! ```text
 //! |<---------- first byte ---------->|
@@ -10,12 +10,28 @@
 //! |<------------------------------ head ----------------------------->|
 //! ```
 //!
-//! A [`HeadScan`] is fed bytes until it has told its [`Head`]: the major type, and the argument as a value. What stands
-//! behind the head, as a string's bytes or an array's items, is the caller's. A [`Check`] is pushed the bytes of a block
-//! and gives their check value.
+//! A [`HeadScan`] is fed bytes until its [`Head`] is complete, and gives the major type and the argument as a value. What
+//! follows the head, such as a string's bytes or an array's items, is left to the caller:
 //!
-//! [`Piecewise`] is what a scan of a head has in common with the scans built on it: however the bytes are cut into
-//! pieces, the same bytes are taken.
+//! ```rust
+//! let mut scan = HeadScan::new();
+//! scan.feed(b"\x19\x03"); // 2: both bytes belong to the head
+//! scan.outcome(); // HeadStep::More
+//! scan.feed(b"\xe8\xff"); // 1: the head ends at the first of them
+//! scan.outcome(); // HeadStep::Done(Head { major: 0, value: Some(1000) })
+//! ```
+//!
+//! A [`Check`] is pushed the bytes of a block, and gives their check value:
+//!
+//! ```rust
+//! let mut check = Check::new(CheckKind::Crc32);
+//! check.push_slice(b"12345678");
+//! check.push(b'9');
+//! check.value(); // 0xe306_9283
+//! ```
+//!
+//! [`Piecewise`] is what a scan of a head and the scans built on it share: the same bytes are taken however they are cut
+//! into slices.
 #![tactic(auto)]
 
 mod check;

@@ -2,7 +2,7 @@
 use Rattle.std.specs.Prelude.{ℕ, List, [], Result, Ok, Err, codes}
 use Rattle.link_wire.specs.declared.fault.IoFault.{IoFault}
 use Rattle.link_wire.specs.declared.fault.IoFault.TheVariants.{Read, InputTooLong, Write, Memory}
-use Rattle.link_tools.specs.declared.run.Status.{Status}
+use Rattle.link_run.specs.declared.run.Status.{Status}
 
 -- the exit status: that of the run, or 4 after a failure
 abbrev pub status_of : Result Status IoFault → ℕ

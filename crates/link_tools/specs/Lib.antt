@@ -1,4 +1,1 @@
-pub mod Run
 pub mod Exit
-pub mod Listing
-pub mod ListRun

@@ -3,7 +3,7 @@
 ghost use Rattle.std.specs.Prelude.{◌≡◌};
 ghost use Rattle.link_tools.specs.Exit.{status_of, exit_text};
 
-use crate::run::Status;
+use link_run::Status;
 use link_wire::IoFault;
 
 /// The exit status, and the message for standard error without its newline, empty where there is none.

@@ -3,9 +3,7 @@
 #![tactic(auto)]
 
 mod exit;
-mod listing;
-mod run;
 
 pub use exit::run_exit;
-pub use listing::{ListRun, list};
-pub use run::{Progress, RunEnd, Status};
+pub use link_list::{ListRun, list};
+pub use link_run::{Progress, Run, RunEnd, Status};

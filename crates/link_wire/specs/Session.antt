@@ -76,6 +76,12 @@ is_unopened phase.Unopened = true
 is_unopened phase.Reading = false
 is_unopened (phase.Stopped why) = false
 
+-- the contact header was read, or refused
+abbrev pub past_opening : Phase → Bool
+past_opening phase.Unopened = false
+past_opening phase.Reading = true
+past_opening (phase.Stopped why) = true
+
 -- in this phase, with that many bytes of data to come, the next message may be asked for
 abbrev pub reads_next : Phase → ℕ → Bool
 reads_next phase.Unopened left = false
@@ -83,6 +89,10 @@ reads_next phase.Reading left = left == 0
 reads_next (phase.Stopped why) left = true
 
 module _ {R : Type 0} where
+  -- the source that it reads
+  abbrev pub source_of : Session R → Source R
+  source_of s = s.source
+
   -- how many bytes of data are to come
   abbrev pub left_of : Session R → ℕ
   left_of s = s.left
@@ -95,6 +105,10 @@ module _ {R : Type 0} where
   -- then returned again.
   abbrev pub may_read : Session R → Bool
   may_read s = reads_next s.phase s.left
+
+  -- the contact header was asked for
+  abbrev pub is_opened : Session R → Bool
+  is_opened s = past_opening s.phase
 
   -- the session has stopped
   abbrev pub HasStopped : Session R → Stop → Type 0

@@ -34,14 +34,14 @@ impl<R: InDevice> Session<R> {
     ghost use Rattle.link_wire.specs.Halt.{stop_at};
     ghost use Rattle.link_wire.specs.Source.{is_fresh};
     ghost use Rattle.link_wire.specs.MessageBuffer.{message_of};
-    ghost use Rattle.link_wire.specs.Session.{may_open, may_read, IsSessionAt, HasEndedBetween, HasStopped, left_of, with_message_read, GivesContact, GivesNext};
+    ghost use Rattle.link_wire.specs.Session.{source_of, may_open, may_read, is_opened, IsSessionAt, HasEndedBetween, HasStopped, left_of, with_message_read, GivesContact, GivesNext};
     ghost use Rattle.link_wire.specs.declared.session.Phase.TheVariants as phase;
 
     /// A session over a source that has taken nothing.
     pub fn new(source: Source<R>) -> Session<R>
         requires { IsTrue (is_fresh source) }
         ensures fresh { IsTrue (may_open result) }
-        ensures source { result.source ≡ source }
+        ensures source { source_of result ≡ source }
     {
         Session {
             source,
@@ -53,7 +53,7 @@ impl<R: InDevice> Session<R> {
 
     /// The source, as it stands.
     pub fn into_source(self) -> Source<R>
-        ensures { result ≡ self.source }
+        ensures { result ≡ source_of self }
     {
         let Session {
             source,
@@ -67,7 +67,9 @@ impl<R: InDevice> Session<R> {
     /// How many bytes of the segment's data have not come.
     #[inline(always)]
     pub fn left(&self) -> u64
-        ensures { result ≡ left_of self.now }
+        ensures left { result ≡ left_of self.now }
+        // Once it is 0, the next message may be asked for.
+        ensures may_read { IsTrue (is_opened self.now) → result ≡ 0 → IsTrue (may_read self.now) }
     {
         self.left
     }
@@ -77,6 +79,7 @@ impl<R: InDevice> Session<R> {
         requires { IsTrue (may_open self.old) }
         ensures settles { IfErr result (HasStopped self.new) }
         ensures gives { GivesContact R.state self.old self.new result }
+        ensures opened { IsTrue (is_opened self.new) }
         ensures may_read { IsTrue (may_read self.new) }
     {
         match contact(&mut self.source) {
@@ -96,6 +99,7 @@ impl<R: InDevice> Session<R> {
         requires { IsTrue (may_read self.old) }
         ensures settles { IfErr result (HasStopped self.new) }
         ensures again { HasEndedBetween self.old → (self.new ≡ self.old) × (result ≡ Ok None) }
+        ensures opened { IsTrue (is_opened self.new) }
         ensures gives { (history : List ℕ) → IsSessionAt R.state self.old history → GivesNext R.state self.old self.new history result }
         ensures stopped { (stop : _) → HasStopped self.old stop → (self.new ≡ self.old) × (result ≡ Err stop) }
     {
@@ -113,6 +117,7 @@ impl<R: InDevice> Session<R> {
         requires { IsTrue (may_read self.old) }
         ensures settles { IfErr result (HasStopped self.new) }
         ensures again { HasEndedBetween self.old → (self.new ≡ self.old) × (result ≡ Ok None) }
+        ensures opened { IsTrue (is_opened self.new) }
         ensures gives { (history : List ℕ) → IsSessionAt R.state self.old history → GivesNext R.state self.old self.new history (with_message_read (message_of message.new) result) }
         ensures stopped { (stop : _) → HasStopped self.old stop → (self.new ≡ self.old) × (result ≡ Err stop) }
     {
@@ -150,8 +155,8 @@ impl<R: InDevice> Session<R> {
 
 /// The data of segments.
 impl<R: InDevice> Session<R> {
-    ghost use Rattle.std.specs.Prelude.{◌≡◌, ◌≤◌, ℕ, List, length, take, IfOk, IfErr, Ok, Err};
-    ghost use Rattle.link_wire.specs.Session.{IsSessionAt, HasStopped, left_of, data_in, GaveBytes, GivesData, GivesLoad};
+    ghost use Rattle.std.specs.Prelude.{◌≡◌, ◌≤◌, ℕ, List, length, take, IfOk, IfErr, Ok, Err, IsTrue};
+    ghost use Rattle.link_wire.specs.Session.{is_opened, IsSessionAt, HasStopped, left_of, data_in, GaveBytes, GivesData, GivesLoad};
     ghost use Rattle.link_wire.specs.declared.session.Phase.TheVariants as phase;
 
     /// Copies the next bytes of the segment's data, after at most one read, and returns how many: 0
@@ -161,6 +166,7 @@ impl<R: InDevice> Session<R> {
         ensures bound { IfOk result (λ n. n ≤ length buffer.new) }
         ensures settles { IfErr result (HasStopped self.new) }
         ensures gives { (history : List ℕ) → IsSessionAt R.state self.old history → GivesData R.state self.old self.new history buffer.new result }
+        ensures opened { IsTrue (is_opened self.old) → IsTrue (is_opened self.new) }
         ensures none { left_of self.old ≡ 0 → ((stop : _) → HasStopped self.old stop → ⊥) → (self.new ≡ self.old) × (result ≡ Ok 0) }
         ensures stopped { (stop : _) → HasStopped self.old stop → (self.new ≡ self.old) × (result ≡ Err stop) }
     {
@@ -176,7 +182,8 @@ impl<R: InDevice> Session<R> {
     /// Fills the slice with the next data that lies in the window.
     fn copy(&mut self, part: &mut [u8])
         requires { length part.old ≤ length (data_in self.old) }
-        ensures { (history : List ℕ) → IsSessionAt R.state self.old history → GaveBytes R.state self.old self.new history part.new }
+        ensures opened { is_opened self.new ≡ is_opened self.old }
+        ensures gives { (history : List ℕ) → IsSessionAt R.state self.old history → GaveBytes R.state self.old self.new history part.new }
     {
         let count = part.len();
         part.copy_from_slice(&self.loaded()[..count]);
@@ -191,6 +198,7 @@ impl<R: InDevice> Session<R> {
         ensures size { IfOk result (λ n. n ≡ length (data_in self.new)) }
         ensures settles { IfErr result (HasStopped self.new) }
         ensures gives { (history : List ℕ) → IsSessionAt R.state self.old history → GivesLoad R.state self.old self.new history result }
+        ensures opened { IsTrue (is_opened self.old) → IsTrue (is_opened self.new) }
         ensures none { left_of self.old ≡ 0 → ((stop : _) → HasStopped self.old stop → ⊥) → (self.new ≡ self.old) × (result ≡ Ok 0) }
         ensures stopped { (stop : _) → HasStopped self.old stop → (self.new ≡ self.old) × (result ≡ Err stop) }
     {
@@ -221,7 +229,8 @@ impl<R: InDevice> Session<R> {
     #[inline(always)]
     pub fn pass(&mut self, count: usize)
         requires { count ≤ length (data_in self.old) }
-        ensures { (history : List ℕ) → IsSessionAt R.state self.old history → GaveBytes R.state self.old self.new history (take count (data_in self.old)) }
+        ensures opened { is_opened self.new ≡ is_opened self.old }
+        ensures gives { (history : List ℕ) → IsSessionAt R.state self.old history → GaveBytes R.state self.old self.new history (take count (data_in self.old)) }
     {
         self.source.give(count);
         self.left -= count as u64;

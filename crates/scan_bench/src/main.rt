@@ -1,6 +1,6 @@
 //! 64 MiB: `scan` feeds them to a bundle scan as a payload under CRC-32C, `plain` as a payload without a check, `bundles` as
-//! small bundles one after another, with a CRC-32C in the primary block. `check` pushes them into the check alone, byte by
-//! byte, and `slice` in slices. Compare the user times.
+//! small bundles one after another, with a CRC-32C in the primary block. `crc16-slices` and `crc32-slices` push them into a
+//! check alone in pieces, and `crc16-bytes` and `crc32-bytes` byte by byte. Compare the user times.
 #![tactic(auto)]
 
 ghost use Rattle.std.specs.Prelude.{◌≤◌, length};
@@ -55,18 +55,9 @@ fn bundles() -> u64 {
     whole
 }
 
-fn sliced() -> u64 {
+fn checked(kind: CheckKind) -> u64 {
     let piece = [0xa5; 4096];
-    let mut check = Check::new(CheckKind::Crc32);
-    for _ in 0..PIECES {
-        check.push_slice(&piece);
-    }
-    u64::from(check.value())
-}
-
-fn checked() -> u64 {
-    let piece = [0xa5; 4096];
-    let mut check = Check::new(CheckKind::Crc32);
+    let mut check = Check::new(kind);
     for _ in 0..PIECES {
         for byte in &piece {
             check.push(*byte);
@@ -75,24 +66,28 @@ fn checked() -> u64 {
     u64::from(check.value())
 }
 
+fn checked_in_slices(kind: CheckKind) -> u64 {
+    let piece = [0xa5; 4096];
+    let mut check = Check::new(kind);
+    for _ in 0..PIECES {
+        check.push_slice(&piece);
+    }
+    u64::from(check.value())
+}
+
 fn main(rt: HostRuntime) -> io::Result<()> {
     let mut answer = 0;
     for word in env::args(&rt)? {
-        if word.as_str() == "scan" {
-            answer = scanned(FRONT);
-        }
-        if word.as_str() == "plain" {
-            answer = scanned(PLAIN_FRONT);
-        }
-        if word.as_str() == "bundles" {
-            answer = bundles();
-        }
-        if word.as_str() == "slice" {
-            answer = sliced();
-        }
-        if word.as_str() == "check" {
-            answer = checked();
-        }
+        answer = match word.as_str() {
+            "scan" => scanned(FRONT),
+            "plain" => scanned(PLAIN_FRONT),
+            "bundles" => bundles(),
+            "crc32-bytes" => checked(CheckKind::Crc32),
+            "crc32-slices" => checked_in_slices(CheckKind::Crc32),
+            "crc16-bytes" => checked(CheckKind::Crc16),
+            "crc16-slices" => checked_in_slices(CheckKind::Crc16),
+            _ => answer,
+        };
     }
     println!(rt; "{answer}")?;
     Ok(())

@@ -1,5 +1,24 @@
 use super::*;
 
+/// Two blocks and half a block.
+const BYTES: &[u8; 40] = b"Sixteen bytes at a time, then one by one";
+
+fn bytewise(kind: CheckKind, bytes: &[u8]) -> Check {
+    let mut check = Check::new(kind);
+    for &byte in bytes {
+        check.push(byte);
+    }
+    check
+}
+
+fn in_slices(kind: CheckKind, slices: &[&[u8]]) -> Check {
+    let mut check = Check::new(kind);
+    for slice in slices {
+        check.push_slice(slice);
+    }
+    check
+}
+
 /// The values are those of the Debian package python3-crcmod 1.7, functions `x-25` and `crc-32c`.
 #[test]
 fn equals_outside_values(rt: HostRuntime) {
@@ -13,16 +32,62 @@ fn equals_outside_values(rt: HostRuntime) {
             0x4bf3,
             0xb4ec_ae35,
         ),
+        (&[0x00; 32], 0xcd70, 0x8a91_36aa),
+        (&[0xff; 32], 0xe051, 0x62a8_ab43),
+        (
+            b"A block of sixteen bytes, and another of as many.",
+            0xb3a6,
+            0xe1a2_35a9,
+        ),
     ] {
         for (kind, value) in [(CheckKind::Crc16, crc16), (CheckKind::Crc32, crc32)] {
-            let mut sliced = Check::new(kind);
-            sliced.push_slice(bytes);
-            assert_eq!(rt; sliced.value(), value, "{kind:?} of {bytes:?}");
-            let mut bytewise = Check::new(kind);
-            for &byte in bytes {
-                bytewise.push(byte);
+            assert_eq!(rt;
+                in_slices(kind, &[bytes]).value(),
+                value,
+                "{kind:?} of {bytes:?}"
+            );
+            assert_eq!(rt;
+                bytewise(kind, bytes).value(),
+                value,
+                "{kind:?} of {bytes:?}"
+            );
+        }
+    }
+}
+
+/// A register of zero after the byte 01, and after the byte 80, which leaves the polynomial in it.
+#[test]
+fn first_tables_begin_right(rt: HostRuntime) {
+    for (kind, byte, entry) in [
+        (CheckKind::Crc16, 0x01, 0x1189),
+        (CheckKind::Crc16, 0x80, 0x8408),
+        (CheckKind::Crc32, 0x01, 0xf26b_8303),
+        (CheckKind::Crc32, 0x80, 0x82f6_3b78),
+    ] {
+        assert_eq!(rt; kind.tables()[0][byte], entry, "{kind:?} at {byte}");
+    }
+}
+
+/// At each length, the slice at once and cut in two at every position.
+#[test]
+fn slices_of_every_length(rt: HostRuntime) {
+    for kind in [CheckKind::Crc16, CheckKind::Crc32] {
+        for length in 0..=40 {
+            let bytes = &BYTES[..length];
+            let expected = bytewise(kind, bytes);
+            assert_eq!(rt;
+                in_slices(kind, &[bytes]),
+                expected,
+                "{kind:?} of {length} bytes"
+            );
+            for cut in 0..=length {
+                let pieces = [&bytes[..cut], &bytes[cut..]];
+                assert_eq!(rt;
+                    in_slices(kind, &pieces),
+                    expected,
+                    "{kind:?} cut at {cut} of {length}"
+                );
             }
-            assert_eq!(rt; bytewise, sliced, "{kind:?} of {bytes:?}");
         }
     }
 }

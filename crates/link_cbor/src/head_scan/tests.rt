@@ -16,8 +16,8 @@ fn without_value(major: u8) -> HeadStep {
     HeadStep::Done(Head { major, value: None })
 }
 
-/// Feeds the bytes to a new scan, whole and byte by byte, and compares how many it took and what it answers. Fed again, a
-/// scan that has told its head takes none.
+/// Feeds the bytes to a new scan, at once and byte by byte, and compares how many it took and its outcome. Fed again, a
+/// scan that is not going takes none.
 fn compare(rt: &impl Abort, bytes: &[u8], taken: usize, outcome: HeadStep) {
     assert!(rt; bytes.len() < 16);
     let mut whole = HeadScan::new();
@@ -36,7 +36,7 @@ fn compare(rt: &impl Abort, bytes: &[u8], taken: usize, outcome: HeadStep) {
     assert_eq!(rt; bytewise.outcome(), outcome, "{bytes:?}");
 }
 
-/// Bytes behind the head, heads that are cut, spellings that are longer than needed, simple values in two bytes.
+/// Bytes after the head, heads that are cut, arguments in more bytes than needed, simple values in two bytes.
 #[test]
 fn takes_one_head(rt: HostRuntime) {
     for (bytes, taken, outcome) in [

@@ -1,6 +1,6 @@
 use Rattle.std.proofs.Common.{◌∙◌, Bool, sym, ap}
 use Rattle.std.proofs.lemmas.Result.{err_from_is_err_and}
-use Rattle.link_bundle.specs.Rows.{check_field}
+use Rattle.link_bundle_rows.specs.Rows.{check_field}
 use Rattle.link_bundle.specs.Reading.{Reading, stopped}
 use Rattle.link_bundle.specs.CheckField.{field_at}
 use Rattle.link_bundle.specs.Left.{field_left, stage_left, ends_of, with_note, after_field}

@@ -1,6 +1,6 @@
 use Rattle.std.proofs.Common.{◌≡◌, ℕ, ◌+◌, ◌-◌, List, [], ◌∷◌, length, ◌∙◌, refl, sym, ap, length-append, arith}
 use Rattle.link_bundle.specs.Left.{field_left, stage_left, number_left}
-use Rattle.link_bundle.specs.Rows.{block_number}
+use Rattle.link_bundle_rows.specs.Rows.{block_number}
 use Rattle.link_bundle.proofs.Heads.{row_at-told}
 use Rattle.link_bundle.proofs.draft.Draft.block_number.Goals as goal
 

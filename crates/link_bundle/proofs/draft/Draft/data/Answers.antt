@@ -4,7 +4,7 @@ use Rattle.link_bundle.specs.Left.{field_left, stage_left, data_left, ends_of, p
 use Rattle.link_bundle.specs.CheckKinds.{kind_of}
 use Rattle.link_bundle.specs.Bundle.{Bundle}
 use Rattle.link_bundle.specs.Reading.{Stop}
-use Rattle.link_bundle.specs.Rows.{byte_string}
+use Rattle.link_bundle_rows.specs.Rows.{byte_string}
 use Rattle.link_bundle.proofs.Heads.{row_at-told, data_read}
 use Rattle.link_bundle.proofs.draft.Draft.data.Goals as goal
 

@@ -1,7 +1,7 @@
 use Rattle.std.proofs.Common.{◌∙◌, sym, ap, None, Some, Ok}
 use Rattle.link_bundle.specs.Left.{field_left, stage_left, name_left}
 use Rattle.link_bundle.specs.EndpointId.{specific_at, dtn_at}
-use Rattle.link_bundle.specs.Rows.{dtn_part}
+use Rattle.link_bundle_rows.specs.Rows.{dtn_part}
 use Rattle.link_bundle.proofs.Heads.{row_at-told}
 use Rattle.link_bundle.proofs.draft.Draft.dtn.Goals as goal
 

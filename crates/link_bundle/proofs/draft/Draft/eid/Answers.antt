@@ -1,7 +1,7 @@
 use Rattle.std.proofs.Common.{◌∙◌, sym, refl}
 use Rattle.link_bundle.specs.Left.{field_left, stage_left, scheme_left}
 use Rattle.link_bundle.specs.EndpointId.{eid_at}
-use Rattle.link_bundle.specs.Rows.{pair}
+use Rattle.link_bundle_rows.specs.Rows.{pair}
 use Rattle.link_bundle.proofs.Heads.{row_at-told}
 use Rattle.link_bundle.proofs.draft.Draft.eid.Goals as goal
 

@@ -3,7 +3,7 @@ use Rattle.std.specs.Prelude.{◌==◌}
 use Rattle.std.proofs.lemmas.Bool.{ne_eqb}
 use Rattle.link_bundle.specs.Left.{field_left, stage_left, allocator_left, node_left, service_left}
 use Rattle.link_bundle.specs.EndpointId.{specific_at, ipn_at}
-use Rattle.link_bundle.specs.Rows.{ipn_part}
+use Rattle.link_bundle_rows.specs.Rows.{ipn_part}
 use Rattle.link_bundle.proofs.Heads.{row_at-told}
 use Rattle.link_bundle.proofs.draft.Draft.ipn.Goals as goal
 

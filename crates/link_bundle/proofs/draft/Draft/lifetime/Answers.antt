@@ -1,7 +1,7 @@
 use Rattle.std.proofs.Common.{◌∙◌, sym}
 use Rattle.link_bundle.specs.Left.{field_left, stage_left, lifetime_left, offset_left}
 use Rattle.link_bundle.specs.Primary.{fragment_at}
-use Rattle.link_bundle.specs.Rows.{unsigned}
+use Rattle.link_bundle_rows.specs.Rows.{unsigned}
 use Rattle.link_bundle.proofs.Heads.{row_at-told}
 use Rattle.link_bundle.proofs.draft.Draft.lifetime.Goals as goal
 

@@ -1,6 +1,6 @@
 use Rattle.std.proofs.Common.{◌∙◌, sym, refl}
 use Rattle.link_bundle.specs.Left.{field_left, stage_left, primary_block_left}
-use Rattle.link_bundle.specs.Rows.{primary_block}
+use Rattle.link_bundle_rows.specs.Rows.{primary_block}
 use Rattle.link_bundle.proofs.Heads.{row_at-told}
 use Rattle.link_bundle.proofs.draft.Draft.primary_block.Goals as goal
 

@@ -1,6 +1,6 @@
 use Rattle.std.proofs.Common.{◌∙◌, sym, refl}
 use Rattle.link_bundle.specs.Left.{field_left, stage_left, check_type_left, destination_left}
-use Rattle.link_bundle.specs.Rows.{primary_check_type}
+use Rattle.link_bundle_rows.specs.Rows.{primary_check_type}
 use Rattle.link_bundle.proofs.Heads.{row_at-told}
 use Rattle.link_bundle.proofs.draft.Draft.primary_check_type.Goals as goal
 

@@ -1,6 +1,6 @@
 use Rattle.std.proofs.Common.{◌∙◌, sym, refl}
 use Rattle.link_bundle.specs.Left.{field_left, stage_left, scheme_left}
-use Rattle.link_bundle.specs.Rows.{scheme}
+use Rattle.link_bundle_rows.specs.Rows.{scheme}
 use Rattle.link_bundle.proofs.Heads.{row_at-told}
 use Rattle.link_bundle.proofs.draft.Draft.scheme.Goals as goal
 

@@ -1,6 +1,6 @@
 use Rattle.std.proofs.Common.{◌∙◌, sym}
 use Rattle.link_bundle.specs.Left.{field_left, stage_left, total_left}
-use Rattle.link_bundle.specs.Rows.{unsigned}
+use Rattle.link_bundle_rows.specs.Rows.{unsigned}
 use Rattle.link_bundle.proofs.Heads.{row_at-told}
 use Rattle.link_bundle.proofs.draft.Draft.total_length.Goals as goal
 

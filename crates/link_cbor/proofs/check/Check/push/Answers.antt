@@ -1,12 +1,10 @@
-use Rattle.std.proofs.Common.{◌<◌, ◌∷◌, [], ◌∙◌, arith}
-use Rattle.std.proofs.lemmas.List.Elements.{All-push}
-use Rattle.link_cbor.proofs.Pushes.{register_more}
+use Rattle.std.proofs.Common.{◌<◌, ◌∷◌, [], refl, arith}
+use Rattle.std.proofs.lemmas.List.Elements.{All-nil, All-cons}
+use Rattle.link_cbor.proofs.Pushes.{pushed_more}
 use Rattle.link_cbor.proofs.check.Check.push.Goals as goal
 
 pub returns : goal.returns
-returns c kind bytes pushed = record {
-  all_bytes = All-push (λ byte. byte < 256) bytes c.args.byte pushed.all_bytes (omega arith);
-  same_kind = pushed.same_kind;
-  register = c.register_after-self.ensures
-      ∙ register_more kind c.args.self.now.kind c.args.self.now.register bytes (c.args.byte ∷ []) pushed.same_kind pushed.register;
-}
+returns c kind before pushed =
+    pushed_more kind c.args.self.now _ before (c.args.byte ∷ []) pushed
+    (All-cons (λ byte. byte < 256) c.args.byte [] (omega arith) (All-nil (λ byte. byte < 256)))
+    refl (c.register_after-self.ensures c.args.self.now.kind c.tables.ensures)

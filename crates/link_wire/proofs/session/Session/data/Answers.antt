@@ -15,7 +15,7 @@ returns-clause-gives g c = λ history at.
     let size : length part ≡ c.min-count.result = omega (arith, c.copy.auto.part, length-take c.min-count.result c.args.buffer.now) in
     let given : take c.min-count.result (part ++ rest) ≡ part = ap (λ n. take n (part ++ rest)) (sym size) ∙ take-append_seam part rest in
     let ready = rw append-nil at loaded.gave.at in
-    let copied = c.copy.ensures history ready in
+    let copied = c.copy.ensures.gives history ready in
     record {
       room = omega (arith, length-append part rest, size);
       gave = rw given (gave_then c.args.self.now c.load.new.self c.copy.new.self history part loaded.gave copied);

@@ -5,8 +5,8 @@ use Rattle.link_wire.specs.Source.{window_of}
 use Rattle.link_wire.proofs.Sessions.{data_given}
 use Rattle.link_wire.proofs.session.Session.pass.Goals as goal
 
-pub returns : goal.returns
-returns g c = λ history at.
+pub returns-clause-gives : goal.returns-clause-gives
+returns-clause-gives g c = λ history at.
     let old = c.args.self.now in
     let window = window_of old.source in
     let fits : c.args.count ≤ old.left = omega (arith, c.requires, length-take old.left window) in

@@ -1,0 +1,8 @@
+//! Endpoint schemes.
+
+/// An endpoint scheme (RFC 9171 section 4.2.5.1).
+#[derive(Clone, Copy)]
+pub enum Scheme {
+    Dtn,
+    Ipn,
+}

@@ -1,0 +1,8 @@
+//! How each head of a bundle is judged (RFC 9171 section 4), once it is whole and well-formed: its kind first, then its
+//! value.
+#![tactic(auto)]
+
+mod endpoint;
+pub mod row;
+
+pub use endpoint::Scheme;

@@ -1,0 +1,11 @@
+use Rattle.std.proofs.Common.{◌≡◌, take}
+use Rattle.std.specs.List.{concat}
+use Rattle.link_cbor.specs.Crc.{register_after}
+use Rattle.link_cbor.specs.CrcTables.{AreTables}
+use Rattle.link_cbor.specs.declared.check.CheckKind.{CheckKind}
+use Rattle.link_cbor.proofs.check.register.register_after_blocks.Given as goal
+
+abbrev pub invariant-loop-block : goal.invariant-loop-block
+invariant-loop-block l =
+    (kind : CheckKind) → AreTables kind l.tables
+    → l.register ≡ register_after kind l.fn.register (concat (take l.block-index l.blocks))

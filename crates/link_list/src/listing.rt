@@ -1,0 +1,268 @@
+//! `list`: a line for the contact header and for each message of a recorded stream.
+
+ghost use Rattle.std.specs.Prelude.{◌≡◌, false, true, IsTrue, List, ℕ};
+ghost use Rattle.link_wire.specs.Session.{may_open, may_read, is_opened, left_of};
+ghost use Rattle.link_run.specs.Run.{Devices, GivesAnswer};
+ghost use Rattle.link_list.specs.Listing.{list_tool};
+ghost use Rattle.link_list.specs.ListRun.{may_go_on, IsListing, GivesStage, GivesLine, GoesOn, GivesEnd};
+
+use link_report::{Fault, buffer_line, contact_line};
+use link_run::{Progress, Run, RunEnd, Status, Writers};
+use link_wire::{InDevice, IoFault, MessageBuffer, OutDevice, Session, Source, Stop};
+
+/// How many bytes of a segment's data one step is given at most.
+const PIECE: usize = 4096;
+
+/// What a run does next.
+#[derive(Clone, Copy, Debug, PartialEq, Eq)]
+enum Stage {
+    /// Read the contact header.
+    Contact,
+    /// Read a message.
+    Message,
+    /// Read data of a segment, whose line waits.
+    Data,
+    /// Nothing: the run has ended.
+    Ended(Result<Status, IoFault>),
+}
+
+impl Stage {
+    ghost use Rattle.link_list.specs.ListRun.{progress_of};
+
+    /// What the step that leads to this stage returns.
+    fn progress(self) -> Result<Progress, IoFault>
+        ensures { result ≡ progress_of self }
+    {
+        match self {
+            Stage::Ended(Ok(status)) => Ok(Progress::Done(status)),
+            Stage::Ended(Err(fault)) => Err(fault),
+            _ => Ok(Progress::More),
+        }
+    }
+}
+
+/// A run of `list`, step by step.
+#[derive(Drop)]
+pub struct ListRun<R, W, E> {
+    session: Session<R>,
+    writers: Writers<W, E>,
+    /// The message that was read last.
+    message: MessageBuffer,
+    stage: Stage,
+    ghost fits: { IsTrue (may_go_on stage session) },
+}
+
+/// Does what comes at this stage, and returns the next.
+fn take<R: InDevice, W: OutDevice, E: OutDevice>(
+    stage: Stage,
+    session: &mut Session<R>,
+    writers: &mut Writers<W, E>,
+    message: &mut MessageBuffer,
+) -> Stage
+    requires { IsTrue (may_go_on stage session.old) }
+    ensures fits { IsTrue (may_go_on result session.new) }
+    ensures gives { (start : Devices R W E) (history : List ℕ) → IsListing R.state W.state E.state start stage session.old writers.old history →
+        GivesStage R.state W.state E.state start stage session.old session.new writers.old writers.new history result }
+    ensures ended { (answer : _) → stage ≡ Stage.Ended answer → (session.new ≡ session.old) × (writers.new ≡ writers.old) × (message.new ≡ message.old) × (result ≡ stage) }
+{
+    match stage {
+        Stage::Contact => take_contact(session, writers),
+        Stage::Message => take_message(session, writers, message),
+        Stage::Data => take_data(session, writers),
+        Stage::Ended(answer) => Stage::Ended(answer),
+    }
+}
+
+/// Reads the contact header, and writes its line.
+fn take_contact<R: InDevice, W: OutDevice, E: OutDevice>(
+    session: &mut Session<R>,
+    writers: &mut Writers<W, E>,
+) -> Stage
+    requires { IsTrue (may_open session.old) }
+    ensures fits { IsTrue (may_go_on result session.new) }
+    ensures gives { (start : Devices R W E) (history : List ℕ) → IsListing R.state W.state E.state start Stage.Contact session.old writers.old history →
+        GivesStage R.state W.state E.state start Stage.Contact session.old session.new writers.old writers.new history result }
+{
+    match session.open() {
+        Ok(contact) => {
+            writers.line.clear();
+            contact_line(&mut writers.line, &contact);
+            write_line(writers)
+        }
+        Err(stop) => end(writers, stop),
+    }
+}
+
+/// Reads the head of a message, and writes its line if it has no data.
+fn take_message<R: InDevice, W: OutDevice, E: OutDevice>(
+    session: &mut Session<R>,
+    writers: &mut Writers<W, E>,
+    message: &mut MessageBuffer,
+) -> Stage
+    requires { IsTrue (may_read session.old) }
+    ensures fits { IsTrue (may_go_on result session.new) }
+    ensures gives { (start : Devices R W E) (history : List ℕ) → IsListing R.state W.state E.state start Stage.Message session.old writers.old history →
+        GivesStage R.state W.state E.state start Stage.Message session.old session.new writers.old writers.new history result }
+{
+    match session.read_next(message) {
+        Ok(Some(offset)) => {
+            writers.line.clear();
+            buffer_line(&mut writers.line, offset, message);
+            go_on(session, writers)
+        }
+        Ok(None) => Stage::Ended(Ok(Status::CLEAN)),
+        Err(stop) => end(writers, stop),
+    }
+}
+
+/// Passes over a piece of a segment's data, and writes the segment's line after the last.
+fn take_data<R: InDevice, W: OutDevice, E: OutDevice>(
+    session: &mut Session<R>,
+    writers: &mut Writers<W, E>,
+) -> Stage
+    requires { IsTrue (is_opened session.old) }
+    ensures fits { IsTrue (may_go_on result session.new) }
+    ensures gives { (start : Devices R W E) (history : List ℕ) → IsListing R.state W.state E.state start Stage.Data session.old writers.old history →
+        GivesStage R.state W.state E.state start Stage.Data session.old session.new writers.old writers.new history result }
+{
+    match session.load() {
+        Ok(ready) => {
+            session.pass(ready.min(PIECE));
+            go_on(session, writers)
+        }
+        Err(stop) => end(writers, stop),
+    }
+}
+
+/// Writes the line, unless data of the segment is to come.
+fn go_on<R: InDevice, W: OutDevice, E: OutDevice>(
+    session: &Session<R>,
+    writers: &mut Writers<W, E>,
+) -> Stage
+    requires { IsTrue (is_opened session.now) }
+    ensures fits { IsTrue (may_go_on result session.now) }
+    ensures line { GoesOn W.state E.state (left_of session.now) writers.old writers.new result }
+{
+    if session.left() > 0 {
+        return Stage::Data;
+    }
+    write_line(writers)
+}
+
+/// Writes the line: a message comes next.
+fn write_line<W: OutDevice, E: OutDevice>(writers: &mut Writers<W, E>) -> Stage
+    ensures { GivesLine W.state E.state writers.old writers.new result }
+{
+    match writers.write_line() {
+        Ok(()) => Stage::Message,
+        Err(fault) => Stage::Ended(Err(fault)),
+    }
+}
+
+/// The session has stopped: the report has the line of a fault of the wire.
+#[cold]
+fn end<W: OutDevice, E: OutDevice>(writers: &mut Writers<W, E>, stop: Stop) -> Stage
+    ensures { GivesEnd W.state E.state stop writers.old writers.new result }
+{
+    match stop {
+        Stop::Io(fault) => Stage::Ended(Err(fault)),
+        Stop::Wire(offset, fault) => {
+            Stage::Ended(writers.report_fault(&Fault::Wire(offset, fault)))
+        }
+    }
+}
+
+impl<R: InDevice, W: OutDevice, E: OutDevice> ListRun<R, W, E> {
+    ghost use Rattle.std.specs.Prelude.{◌≡◌, [], false};
+    ghost use Rattle.link_run.specs.Run.{devices_at};
+    ghost use Rattle.link_list.specs.ListRuns.{place_of_list, list_stands};
+
+    /// A run that has read and written nothing.
+    pub fn new(reader: R, output: W, report: E) -> ListRun<R, W, E>
+        requires reader { (R.state reader).failed ≡ false }
+        requires output { (W.state output).failed ≡ false }
+        requires report { (E.state report).failed ≡ false }
+        ensures start { list_stands R.state W.state E.state result (devices_at (place_of_list result)) [] }
+        ensures devices { devices_at (place_of_list result) ≡ record { reader = reader; output = output; report = report } }
+    {
+        ListRun {
+            session: Session::new(Source::new(reader)),
+            writers: Writers::new(output, report),
+            message: MessageBuffer::new(),
+            stage: Stage::Contact,
+        }
+    }
+
+    /// Where the output goes.
+    pub fn output(&self) -> &W
+        ensures { result.now ≡ (place_of_list self.now).output }
+    {
+        &self.writers.output
+    }
+
+    /// Where the report goes.
+    pub fn report(&self) -> &E
+        ensures { result.now ≡ (place_of_list self.now).report }
+    {
+        &self.writers.report
+    }
+}
+
+impl<R: InDevice, W: OutDevice, E: OutDevice> Run<R, W, E> for ListRun<R, W, E> {
+    ghost use Rattle.link_list.specs.Listing.{list_tool};
+    ghost use Rattle.link_list.specs.ListRuns.{place_of_list, list_stands, list_most, list_has_ended};
+
+    ghost tool = { λ run. list_tool };
+
+    ghost place = { place_of_list };
+
+    ghost stands = { list_stands R.state W.state E.state };
+
+    ghost most = { list_most };
+
+    ghost has_ended = { list_has_ended };
+
+    fn step(&mut self) -> Result<Progress, IoFault> {
+        let next = take(
+            self.stage,
+            &mut self.session,
+            &mut self.writers,
+            &mut self.message,
+        );
+        self.stage = next;
+        next.progress()
+    }
+
+    fn into_parts(self) -> (R, W, E) {
+        let ListRun {
+            session,
+            writers,
+            message: _,
+            stage: _,
+        } = self;
+        let Writers {
+            output,
+            report,
+            line: _,
+        } = writers;
+        (session.into_source().into_reader(), output, report)
+    }
+}
+
+/// Lists a recorded stream: the output has the line of the contact header and of each message, the
+/// report that of the fault which ended the stream, if any; status 3 at a fault, else 0.
+pub fn list<R: InDevice, W: OutDevice, E: OutDevice>(
+    reader: R,
+    output: W,
+    report: E,
+) -> RunEnd<R, W, E>
+    requires reader { (R.state reader).failed ≡ false }
+    requires output { (W.state output).failed ≡ false }
+    requires report { (E.state report).failed ≡ false }
+    ensures { GivesAnswer R.state W.state E.state list_tool
+        (record { reader = reader; output = output; report = report })
+        (record { reader = result.reader; output = result.output; report = result.report })
+        result.answer }
+{
+    ListRun::new(reader, output, report).run()
+}

@@ -1,0 +1,219 @@
+-- What a run tells in turn it tells in one, and how a run ends.
+use Rattle.std.proofs.Common.{◌≡◌, ℕ, ◌+◌, ◌-◌, ◌<◌, ◌≤◌, ◌⊎◌, inl, inr, true, false, List, [], ◌++◌, length, take, drop, Option, Some, None, Result, Ok, Err, refl, ap, sym, ◌∙◌, subst, add_assoc, length-append, append-nil, append_assoc, arith, length-take}
+use Rattle.std.proofs.Math.Seq.{take-append-add}
+use Rattle.std.specs.Io.KnownBytes.{Consumes, Appends, IsAtEnd, prepend_known}
+use Rattle.std.proofs.KnownBytes.{Consumes-nil, Consumes-trans, Appends-nil, Appends-trans}
+use Rattle.link_wire.specs.Device.{Input, Output}
+use Rattle.link_wire.specs.Limits.{window_size, longest_input}
+use Rattle.link_wire.specs.Source.{reader_of, given_by, window_of, ahead, Takes, StopsAfter, IsOver}
+use Rattle.link_wire.specs.declared.fault.IoFault.{IoFault}
+use Rattle.link_wire.specs.declared.fault.IoFault.TheVariants as io
+use Rattle.link_wire.specs.declared.source.Source.{Source}
+use Rattle.link_run.specs.Run.{Texts, Told, Tool, Devices, Place, devices_at, NoneFailed, Moves, HasTold, HasLeft, AllGiven, GaveAnswer, AreDue, Gave, GivesAnswer}
+use Rattle.link_run.specs.Writers.{Writes, WritesPart}
+use Rattle.link_run.specs.declared.run.Status.{Status}
+use Rattle.link_run.specs.declared.writers.Writers.{Writers}
+
+abbrev pub no_texts : Texts
+no_texts = record { output = []; report = [] }
+
+-- one text after another
+infixr 30 ◌then◌
+abbrev pub ◌then◌ : Texts → Texts → Texts
+first then second = record { output = first.output ++ second.output; report = first.report ++ second.report }
+
+-- what is ahead is the window and then what the reader has left
+Consumes-ahead : (window : List ℕ) (left : Option (List ℕ)) → Consumes (prepend_known window left) left window
+Consumes-ahead window None = tt
+Consumes-ahead window (Some xs) = refl
+
+-- texts whose parts are equal
+pub texts_as : {p q : Texts} → p.output ≡ q.output → p.report ≡ q.report → p ≡ q
+texts_as {p} {q} output report =
+    let of_output : List ℕ → Texts = λ xs. record { output = xs; report = p.report } in
+    let of_report : List ℕ → Texts = λ xs. record { output = q.output; report = xs } in
+    ap of_output output ∙ ap of_report report
+
+pub then_none : (texts : Texts) → texts then no_texts ≡ texts
+then_none texts = texts_as (append-nil texts.output) (append-nil texts.report)
+
+module _ {R W E : Type 0} (in_look : R → Input) (out_look : W → Output) (report_look : E → Output) where
+  pub moves_none : (p : Place R W E) → Moves in_look out_look report_look p p [] no_texts
+  moves_none p = record {
+    takes = Consumes-nil (ahead in_look p.source);
+    count = omega arith;
+    writes = Appends-nil (out_look p.output).written;
+    reports = Appends-nil (report_look p.report).written;
+  }
+
+  pub moves_then : (old mid new : Place R W E) (xs ys : List ℕ) (p q : Texts) → Moves in_look out_look report_look old mid xs p → Moves in_look out_look report_look mid new ys q → Moves in_look out_look report_look old new (xs ++ ys) (p then q)
+  moves_then old mid new xs ys p q first second =
+      let one = first.count in
+      let two = second.count in
+      record {
+        takes = Consumes-trans (ahead in_look old.source) (ahead in_look mid.source) (ahead in_look new.source) xs ys first.takes second.takes;
+        count = omega (arith, length-append xs ys);
+        writes = Appends-trans (out_look old.output).written (out_look mid.output).written (out_look new.output).written p.output q.output first.writes second.writes;
+        reports = Appends-trans (report_look old.report).written (report_look mid.report).written (report_look new.report).written p.report q.report first.reports second.reports;
+      }
+
+  pub told_then : (start : Devices R W E) (mid new : Place R W E) (xs ys : List ℕ) (p q : Texts) → HasTold in_look out_look report_look start mid xs p → Moves in_look out_look report_look mid new ys q → HasTold in_look out_look report_look start new (xs ++ ys) (p then q)
+  told_then start mid new xs ys p q first second =
+      let one = first.count in
+      let two = second.count in
+      record {
+        takes = Consumes-trans (in_look start.reader).left (ahead in_look mid.source) (ahead in_look new.source) xs ys first.takes second.takes;
+        count = omega (arith, length-append xs ys);
+        writes = Appends-trans (out_look start.output).written (out_look mid.output).written (out_look new.output).written p.output q.output first.writes second.writes;
+        reports = Appends-trans (report_look start.report).written (report_look mid.report).written (report_look new.report).written p.report q.report first.reports second.reports;
+      }
+
+  -- the devices as they are handed back, with what was read and not given
+  pub told_left : (start : Devices R W E) (now : Place R W E) (bytes : List ℕ) (texts : Texts) → HasTold in_look out_look report_look start now bytes texts → HasLeft in_look out_look report_look start (devices_at now) (bytes ++ window_of now.source) texts
+  told_left start now bytes texts told = record {
+    takes = Consumes-trans (in_look start.reader).left (ahead in_look now.source) (in_look (reader_of now.source)).left bytes (window_of now.source) told.takes (Consumes-ahead (window_of now.source) (in_look (reader_of now.source)).left);
+    writes = told.writes;
+    reports = told.reports;
+  }
+
+  -- the answer with the devices that were handed back
+  pub handed_back : (tool other : Tool) (start now devices : Devices R W E) (given : List ℕ) (answer result : Result Status IoFault) → Gave in_look out_look report_look tool start now given answer → tool ≡ other → devices ≡ now → result ≡ answer → GivesAnswer in_look out_look report_look other start devices result
+  handed_back tool other start now devices given answer result gave same back is =
+      let P : Tool → Type 0 = λ t. GivesAnswer in_look out_look report_look t start devices result in
+      let Q : Devices R W E → Type 0 = λ d. GivesAnswer in_look out_look report_look tool start d result in
+      let S : Result Status IoFault → Type 0 = λ r. GivesAnswer in_look out_look report_look tool start now r in
+      subst P same (subst Q (sym back) (subst S (sym is) (record { given = given; gave = gave })))
+
+-- a window has at most so many bytes
+pub window_few : {R : Type 0} (s : Source R) → length (window_of s) ≤ window_size
+window_few s =
+    let room = s.room in
+    omega (arith, length-take (s.end - s.start) (drop s.start s.window))
+
+-- a source that has ended has given all that it read
+none_between : (window : List ℕ) (start end : ℕ) → start ≡ end → take (end - start) (drop start window) ≡ []
+none_between window start end same =
+    let none : end - start ≡ 0 = omega arith in
+    rw none refl
+
+abbrev pub place_at : {R W E : Type 0} → Source R → Writers W E → Place R W E
+place_at source writers = record { source = source; output = writers.output; report = writers.report }
+
+module _ {R W E : Type 0} (in_look : R → Input) (out_look : W → Output) (report_look : E → Output) where
+  -- bytes were given, and nothing was written
+  pub takes_moves : (old new : Source R) (w : Writers W E) (bytes : List ℕ) → Takes in_look old new bytes → Moves in_look out_look report_look (place_at old w) (place_at new w) bytes no_texts
+  takes_moves old new w bytes takes = record {
+    takes = takes.next;
+    count = takes.count;
+    writes = Appends-nil (out_look w.output).written;
+    reports = Appends-nil (report_look w.report).written;
+  }
+
+  -- texts were written, and nothing was given
+  pub writes_moves : (s : Source R) (old new : Writers W E) (texts : Texts) → Writes out_look report_look old new texts → Moves in_look out_look report_look (place_at s old) (place_at s new) [] texts
+  writes_moves s old new texts writes = record {
+    takes = Consumes-nil (ahead in_look s);
+    count = omega arith;
+    writes = writes.output;
+    reports = writes.report;
+  }
+
+  pub told_as : {start : Devices R W E} {now : Place R W E} {xs ys : List ℕ} {p q : Texts} → HasTold in_look out_look report_look start now xs p → xs ≡ ys → p ≡ q → HasTold in_look out_look report_look start now ys q
+  told_as {start} {now} {xs} {ys} {p} {q} told bytes texts =
+      let P : List ℕ → Type 0 = λ b. HasTold in_look out_look report_look start now b q in
+      let Q : Texts → Type 0 = λ t. HasTold in_look out_look report_look start now xs t in
+      subst P bytes (subst Q texts told)
+
+  -- given bytes and written texts, after what was told before
+  pub told_given : (start : Devices R W E) (old new : Source R) (w : Writers W E) (history bytes : List ℕ) (texts : Texts) → HasTold in_look out_look report_look start (place_at old w) history texts → Takes in_look old new bytes → HasTold in_look out_look report_look start (place_at new w) (history ++ bytes) texts
+  told_given start old new w history bytes texts told takes =
+      told_as (told_then in_look out_look report_look start (place_at old w) (place_at new w) history bytes texts no_texts told (takes_moves old new w bytes takes)) refl (then_none texts)
+
+  pub told_written : (start : Devices R W E) (s : Source R) (old new : Writers W E) (history : List ℕ) (before texts : Texts) → HasTold in_look out_look report_look start (place_at s old) history before → Writes out_look report_look old new texts → HasTold in_look out_look report_look start (place_at s new) history (before then texts)
+  told_written start s old new history before texts told writes =
+      told_as (told_then in_look out_look report_look start (place_at s old) (place_at s new) history [] before texts told (writes_moves s old new texts writes)) (append-nil history) refl
+
+  pub sound_given : (old new : Source R) (w : Writers W E) (bytes : List ℕ) → NoneFailed in_look out_look report_look (devices_at (place_at old w)) → Takes in_look old new bytes → NoneFailed in_look out_look report_look (devices_at (place_at new w))
+  sound_given old new w bytes sound takes = record { reader = takes.device ∙ sound.reader; output = sound.output; report = sound.report }
+
+  pub sound_written : (s : Source R) (old new : Writers W E) (texts : Texts) → NoneFailed in_look out_look report_look (devices_at (place_at s old)) → Writes out_look report_look old new texts → NoneFailed in_look out_look report_look (devices_at (place_at s new))
+  sound_written s old new texts sound writes = record { reader = sound.reader; output = writes.output_sound ∙ sound.output; report = writes.report_sound ∙ sound.report }
+
+  -- ---- how a run ends
+
+  -- all of the input was given
+  pub all_given : (s : Source R) (w : Writers W E) → IsOver in_look s → AllGiven in_look out_look report_look (devices_at (place_at s w)) (window_of s)
+  all_given s w over = (none_between s.window s.start s.end over.ended.1, over.empty)
+
+  -- the run has told all that there is
+  pub answered : (tool : Tool) (start : Devices R W E) (s : Source R) (w : Writers W E) (given : List ℕ) (status : Status) → HasTold in_look out_look report_look start (place_at s w) given (tool.whole given).texts → NoneFailed in_look out_look report_look (devices_at (place_at s w)) → status.0 ≡ (tool.whole given).status
+      → AllGiven in_look out_look report_look (devices_at (place_at s w)) (window_of s) ⊎ ((more : List ℕ) → tool.whole (given ++ more) ≡ tool.whole given) → GaveAnswer in_look out_look report_look tool start (devices_at (place_at s w)) given status
+  answered tool start s w given status told sound ends settled = record {
+    unread = window_of s;
+    few = window_few s;
+    told = told_left in_look out_look report_look start (place_at s w) given (tool.whole given).texts told;
+    sound = sound;
+    ends = ends;
+    settled = settled;
+  }
+
+  -- a writer failed in texts that are due
+  pub writer_lost : (tool : Tool) (start : Devices R W E) (s : Source R) (old new : Writers W E) (given : List ℕ) (before texts due : Texts) (fault : IoFault)
+      → HasTold in_look out_look report_look start (place_at s old) given before → before then texts ≡ due
+      → AreDue in_look out_look report_look tool (devices_at (place_at s new)) given (window_of s) due
+      → WritesPart out_look report_look old new texts fault → Gave in_look out_look report_look tool start (devices_at (place_at s new)) given (Err fault)
+  writer_lost tool start s old new given before texts due fault told same are_due part =
+      let last : Moves in_look out_look report_look (place_at s old) (place_at s new) [] (record { output = take part.output_count texts.output; report = take part.report_count texts.report }) = record {
+        takes = Consumes-nil (ahead in_look s);
+        count = omega arith;
+        writes = part.output;
+        reports = part.report;
+      } in
+      let output = length before.output + part.output_count in
+      let report = length before.report + part.report_count in
+      let cut : before then (record { output = take part.output_count texts.output; report = take part.report_count texts.report }) ≡ record { output = take output due.output; report = take report due.report } =
+      texts_as
+      (sym (ap (λ (t : Texts). take output t.output) (sym same) ∙ take-append-add before.output texts.output part.output_count))
+      (sym (ap (λ (t : Texts). take report t.report) (sym same) ∙ take-append-add before.report texts.report part.report_count)) in
+      let written = told_as (told_then in_look out_look report_look start (place_at s old) (place_at s new) given [] before _ told last) (append-nil given) cut in
+      rw part.kind (record {
+        unread = window_of s;
+        few = window_few s;
+        due = due;
+        are_due = are_due;
+        output = output;
+        report = report;
+        told = told_left in_look out_look report_look start (place_at s new) given _ written;
+        failed = part.failed;
+      })
+
+  -- the source stopped after some bytes, and what is due was written
+  pub reader_lost : (tool : Tool) (start : Devices R W E) (old new : Source R) (w : Writers W E) (history given : List ℕ) (texts : Texts) (fault : IoFault)
+      → HasTold in_look out_look report_look start (place_at old w) history texts → texts ≡ tool.sofar (history ++ given)
+      → StopsAfter in_look old new given fault → Gave in_look out_look report_look tool start (devices_at (place_at new w)) (history ++ given) (Err fault)
+  reader_lost tool start old new w history given texts io.Read told due stops =
+      let none : given ++ stops.past ≡ given = rw stops.cause.0 (append-nil given) in
+      record {
+        told = record {
+          takes = rw none at (Consumes-trans (in_look start.reader).left (ahead in_look old) (in_look new.reader).left history (given ++ stops.past) told.takes stops.next);
+          writes = rw due at told.writes;
+          reports = rw due at told.reports;
+        };
+        failed = stops.cause.1;
+      }
+  reader_lost tool start old new w history given texts io.InputTooLong told due stops =
+      let before = told.count in
+      let count = stops.count in
+      let limit = stops.cause.1 in
+      record {
+        past = stops.past;
+        few = stops.cause.0;
+        limit = omega (arith, length-append history given);
+        told = record {
+          takes = rw (← append_assoc history given stops.past) at (Consumes-trans (in_look start.reader).left (ahead in_look old) (in_look new.reader).left history (given ++ stops.past) told.takes stops.next);
+          writes = rw due at told.writes;
+          reports = rw due at told.reports;
+        };
+      }
+  reader_lost tool start old new w history given texts io.Write told due stops = absurd stops.cause
+  reader_lost tool start old new w history given texts io.Memory told due stops = absurd stops.cause

@@ -1,0 +1,33 @@
+use Rattle.std.proofs.Common.{◌≡◌, ◌++◌, [], Ok, Err, refl, ap, ◌∙◌, arith}
+use Rattle.link_run.proofs.Runs.{handed_back}
+use Rattle.link_run.proofs.run.Run.run.Goals as goal
+
+pub steps-init : goal.steps-init
+steps-init g c = (refl, ([], c.requires))
+
+pub steps-smaller : goal.steps-smaller
+steps-smaller g c =
+    let stood = c.steps.invariant.1 in
+    let went = rw c.in-Ok-More.field-0-is at (c.in-Ok-More.ensures.gives _ stood.0 stood.1) in
+    let some = went.some in
+    let count = went.count in
+    let within = (g.Self.Run.place c.step.new.self).source.within in
+    omega arith
+
+pub steps-preserved : goal.steps-preserved
+steps-preserved g c =
+    let stood = c.steps.invariant.1 in
+    let went = rw c.in-Ok-More.field-0-is at (c.in-Ok-More.ensures.gives _ stood.0 stood.1) in
+    (c.in-Ok-More.ensures.tool ∙ c.steps.invariant.0, (stood.0 ++ went.given, went.at))
+
+pub returns-in-Ok-Done : goal.returns-in-Ok-Done
+returns-in-Ok-Done g c =
+    let stood = c.steps.invariant.1 in
+    let ended = rw c.in-Ok-Done.field-0-is at (c.in-Ok-Done.ensures.gives _ stood.0 stood.1) in
+    handed_back g.R.InDevice.state g.W.OutDevice.state g.E.OutDevice.state _ _ _ _ _ (stood.0 ++ ended.given) (Ok c.in-Ok-Done.status) _ ended.gave c.steps.invariant.0 c.end.ensures.devices c.end.ensures.answer
+
+pub returns-in-Err : goal.returns-in-Err
+returns-in-Err g c =
+    let stood = c.steps.invariant.1 in
+    let ended = c.in-Err.ensures.gives _ stood.0 stood.1 in
+    handed_back g.R.InDevice.state g.W.OutDevice.state g.E.OutDevice.state _ _ _ _ _ (stood.0 ++ ended.given) (Err c.in-Err.fault) _ ended.gave c.steps.invariant.0 c.end-in-Err.ensures.devices c.end-in-Err.ensures.answer

@@ -1,0 +1,14 @@
+use Rattle.std.proofs.Common.{◌≡◌, ◌-◌, ◌^◌, List, ℕ}
+use Rattle.link_wire.specs.Source.{given_by}
+use Rattle.link_run.specs.Run.{devices_at}
+use Rattle.link_run.proofs.run.Run.run.Given as goal
+
+-- it is a run of the tool, and stands after what it was given since it began
+abbrev pub invariant-steps : goal.invariant-steps
+invariant-steps g l =
+    (g.Self.Run.tool l.run ≡ g.Self.Run.tool l.fn.self)
+    × ((history : List ℕ) × g.Self.Run.stands l.run (devices_at (g.Self.Run.place l.fn.self)) history)
+
+-- each step is given a byte, and a source gives no more than 2^63 - 1
+abbrev pub decreases-steps : goal.decreases-steps
+decreases-steps g l = 2 ^ 63 - given_by (g.Self.Run.place l.run).source

@@ -1,0 +1,153 @@
+-- What a run of a tool has written, and how it ends.
+use Rattle.std.specs.Prelude.{◌≡◌, ℕ, ◌+◌, ◌^◌, ◌<◌, ◌≤◌, ◌⊎◌, true, false, List, [], ◌++◌, length, take, Result, Ok, Err}
+use Rattle.std.specs.Io.KnownBytes.{Consumes, Appends, IsAtEnd}
+use Rattle.link_wire.specs.Device.{Input, Output}
+use Rattle.link_wire.specs.Limits.{longest_input, window_size}
+use Rattle.link_wire.specs.Source.{reader_of, given_by, ahead}
+use Rattle.link_wire.specs.declared.fault.IoFault.{IoFault}
+use Rattle.link_wire.specs.declared.fault.IoFault.TheVariants as io
+use Rattle.link_wire.specs.declared.source.Source.{Source}
+use Rattle.link_run.specs.declared.run.Status.{Status}
+use Rattle.link_run.specs.declared.run.Progress.{Progress}
+use Rattle.link_run.specs.declared.run.Progress.TheVariants.{More, Done}
+
+-- what is written of some bytes
+pub record Texts : Type 0 where
+  pub output : List ℕ
+  pub report : List ℕ
+
+-- what is told of a whole input
+pub record Told : Type 0 where
+  pub texts : Texts
+  pub status : ℕ
+
+-- A tool: what it tells of an input that is exactly these bytes, and the texts that these bytes determine already, however
+-- they go on.
+pub record Tool : Type 0 where
+  pub whole : List ℕ → Told
+  pub sofar : List ℕ → Texts
+
+-- the devices of a run
+pub record Devices (R W E : Type 0) : Type 0 where
+  pub reader : R
+  pub output : W
+  pub report : E
+
+-- where a run stands: what it reads, over the reader, and what it writes to
+pub record Place (R W E : Type 0) : Type 0 where
+  pub source : Source R
+  pub output : W
+  pub report : E
+
+abbrev pub devices_at : {R W E : Type 0} → Place R W E → Devices R W E
+devices_at place = record { reader = reader_of place.source; output = place.output; report = place.report }
+
+module _ {R W E : Type 0} (in_look : R → Input) (out_look : W → Output) (report_look : E → Output) where
+  -- no device has failed
+  pub record NoneFailed (devices : Devices R W E) : Type 0 where
+    pub reader : (in_look devices.reader).failed ≡ false
+    pub output : (out_look devices.output).failed ≡ false
+    pub report : (report_look devices.report).failed ≡ false
+
+  -- from old to new these bytes were given, and these texts were written
+  pub record Moves (old new : Place R W E) (bytes : List ℕ) (texts : Texts) : Type 0 where
+    pub takes : Consumes (ahead in_look old.source) (ahead in_look new.source) bytes
+    pub count : given_by new.source ≡ given_by old.source + length bytes
+    pub writes : Appends (out_look old.output).written (out_look new.output).written texts.output
+    pub reports : Appends (report_look old.report).written (report_look new.report).written texts.report
+
+  -- since the devices stood so, these bytes were given, and these texts were written
+  pub record HasTold (start : Devices R W E) (now : Place R W E) (bytes : List ℕ) (texts : Texts) : Type 0 where
+    pub takes : Consumes (in_look start.reader).left (ahead in_look now.source) bytes
+    pub count : given_by now.source ≡ length bytes
+    pub writes : Appends (out_look start.output).written (out_look now.output).written texts.output
+    pub reports : Appends (report_look start.report).written (report_look now.report).written texts.report
+
+  -- the same of devices that were handed back: these bytes were taken
+  pub record HasLeft (start now : Devices R W E) (bytes : List ℕ) (texts : Texts) : Type 0 where
+    pub takes : Consumes (in_look start.reader).left (in_look now.reader).left bytes
+    pub writes : Appends (out_look start.output).written (out_look now.output).written texts.output
+    pub reports : Appends (report_look start.report).written (report_look now.report).written texts.report
+
+  -- all of the input was given
+  abbrev pub AllGiven : Devices R W E → (unread : List ℕ) → Type 0
+  AllGiven now unread = (unread ≡ []) × IsAtEnd (in_look now.reader).left
+
+  -- The run has told what the tool tells of the bytes that it was given. They are all of the input, or bytes that no others
+  -- after them change. At most a window of bytes was read and not given.
+  pub record GaveAnswer (tool : Tool) (start now : Devices R W E) (given : List ℕ) (status : Status) : Type 0 where
+    pub unread : List ℕ
+    pub few : length unread ≤ window_size
+    pub told : HasLeft start now (given ++ unread) (tool.whole given).texts
+    pub sound : NoneFailed now
+    pub ends : status.0 ≡ (tool.whole given).status
+    pub settled : AllGiven now unread ⊎ ((more : List ℕ) → tool.whole (given ++ more) ≡ tool.whole given)
+
+  -- The reader failed: all that it gave was given, and the texts are those that these bytes determine.
+  pub record LostReader (tool : Tool) (start now : Devices R W E) (given : List ℕ) : Type 0 where
+    pub told : HasLeft start now given (tool.sofar given)
+    pub failed : (in_look now.reader).failed ≡ true
+
+  -- The reader gave a byte past the limit: the last bytes that it gave were not given, and the texts are those that the
+  -- others determine.
+  pub record PassedLimit (tool : Tool) (start now : Devices R W E) (given : List ℕ) : Type 0 where
+    pub past : List ℕ
+    pub few : length past ≤ window_size
+    pub limit : longest_input < length given + length past
+    pub told : HasLeft start now (given ++ past) (tool.sofar given)
+
+  -- the texts that the bytes given determine; where they are all of the input, those of the whole input
+  abbrev pub AreDue : Tool → Devices R W E → (given unread : List ℕ) → Texts → Type 0
+  AreDue tool now given unread texts = (texts ≡ tool.sofar given) ⊎ (AllGiven now unread × (texts ≡ (tool.whole given).texts))
+
+  -- A writer failed: the texts are prefixes of those that the bytes given determine.
+  pub record LostWriter (tool : Tool) (start now : Devices R W E) (given : List ℕ) : Type 0 where
+    pub unread : List ℕ
+    pub few : length unread ≤ window_size
+    pub due : Texts
+    pub are_due : AreDue tool now given unread due
+    pub output : ℕ
+    pub report : ℕ
+    pub told : HasLeft start now (given ++ unread) (record { output = take output due.output; report = take report due.report })
+    pub failed : ((out_look now.output).failed ≡ true) ⊎ ((report_look now.report).failed ≡ true)
+
+  abbrev pub GaveFailure : Tool → Devices R W E → Devices R W E → List ℕ → IoFault → Type 0
+  GaveFailure tool start now given io.Read = LostReader tool start now given
+  GaveFailure tool start now given io.InputTooLong = PassedLimit tool start now given
+  GaveFailure tool start now given io.Write = LostWriter tool start now given
+  GaveFailure tool start now given io.Memory = ⊥
+
+  abbrev pub Gave : Tool → Devices R W E → Devices R W E → List ℕ → Result Status IoFault → Type 0
+  Gave tool start now given (Ok status) = GaveAnswer tool start now given status
+  Gave tool start now given (Err fault) = GaveFailure tool start now given fault
+
+  -- what a whole run gives
+  pub record GivesAnswer (tool : Tool) (start now : Devices R W E) (answer : Result Status IoFault) : Type 0 where
+    pub given : List ℕ
+    pub gave : Gave tool start now given answer
+
+  -- a step went on: it was given some bytes, at most so many, and the run stands after them
+  pub record WentOn (old new : Place R W E) (stands : List ℕ → Type 0) (most : ℕ) (history : List ℕ) : Type 0 where
+    pub given : List ℕ
+    pub some : 0 < length given
+    pub size : length given ≤ most
+    pub count : given_by new.source ≡ given_by old.source + length given
+    pub at : stands (history ++ given)
+
+  -- a step was the last: it was given at most so many bytes
+  pub record Ended (tool : Tool) (start now : Devices R W E) (most : ℕ) (history : List ℕ) (answer : Result Status IoFault) : Type 0 where
+    pub given : List ℕ
+    pub size : length given ≤ most
+    pub gave : Gave tool start now (history ++ given) answer
+
+  -- what a step gives after these bytes
+  abbrev pub GivesStep : Tool → Devices R W E → (old new : Place R W E) → (stands : List ℕ → Type 0) → (most : ℕ) → (history : List ℕ) → Result Progress IoFault → Type 0
+  GivesStep tool start old new stands most history (Ok More) = WentOn old new stands most history
+  GivesStep tool start old new stands most history (Ok (Done status)) = Ended tool start (devices_at new) most history (Ok status)
+  GivesStep tool start old new stands most history (Err fault) = Ended tool start (devices_at new) most history (Err fault)
+
+-- a step was the last of its run
+abbrev pub IsEnd : Result Progress IoFault → Type 0
+IsEnd (Ok More) = ⊥
+IsEnd (Ok (Done status)) = Unit {0}
+IsEnd (Err fault) = Unit {0}

@@ -1,0 +1,45 @@
+-- What the calls of a run's writers write.
+use Rattle.std.specs.Prelude.{◌≡◌, ℕ, ◌⊎◌, true, List, [], take, Result, Ok, Err}
+use Rattle.std.specs.Io.KnownBytes.{Appends}
+use Rattle.link_wire.specs.Device.{Output}
+use Rattle.link_wire.specs.declared.fault.IoFault.{IoFault}
+use Rattle.link_wire.specs.declared.fault.IoFault.TheVariants as io
+use Rattle.link_run.specs.Run.{Texts}
+use Rattle.link_run.specs.declared.run.Status.{Status}
+use Rattle.link_run.specs.declared.writers.Writers.{Writers}
+
+abbrev pub on_output : List ℕ → Texts
+on_output text = record { output = text; report = [] }
+
+abbrev pub on_report : List ℕ → Texts
+on_report text = record { output = []; report = text }
+
+module _ {W E : Type 0} (out_look : W → Output) (report_look : E → Output) where
+  -- these texts were written, and no writer has failed that had not
+  pub record Writes (old new : Writers W E) (texts : Texts) : Type 0 where
+    pub output : Appends (out_look old.output).written (out_look new.output).written texts.output
+    pub report : Appends (report_look old.report).written (report_look new.report).written texts.report
+    pub output_sound : (out_look new.output).failed ≡ (out_look old.output).failed
+    pub report_sound : (report_look new.report).failed ≡ (report_look old.report).failed
+
+  -- a prefix of each of these texts was written, and then a writer failed
+  pub record WritesPart (old new : Writers W E) (texts : Texts) (fault : IoFault) : Type 0 where
+    pub kind : fault ≡ io.Write
+    pub output_count : ℕ
+    pub report_count : ℕ
+    pub output : Appends (out_look old.output).written (out_look new.output).written (take output_count texts.output)
+    pub report : Appends (report_look old.report).written (report_look new.report).written (take report_count texts.report)
+    pub failed : ((out_look new.output).failed ≡ true) ⊎ ((report_look new.report).failed ≡ true)
+
+  abbrev pub GivesTexts : Writers W E → Writers W E → Texts → Result (Unit {0}) IoFault → Type 0
+  GivesTexts old new texts (Ok done) = Writes old new texts
+  GivesTexts old new texts (Err fault) = WritesPart old new texts fault
+
+  -- a fault's line was written to the report, and the run ends with the status of a fault
+  pub record Reports (old new : Writers W E) (text : List ℕ) (status : Status) : Type 0 where
+    pub writes : Writes old new (on_report text)
+    pub ends : status.0 ≡ 3
+
+  abbrev pub GivesReport : Writers W E → Writers W E → List ℕ → Result Status IoFault → Type 0
+  GivesReport old new text (Ok status) = Reports old new text status
+  GivesReport old new text (Err fault) = WritesPart old new (on_report text) fault

@@ -1,0 +1,8 @@
+//! What the runs of the tools have in common: each reads a device step by step, and writes an output and a report.
+#![tactic(auto)]
+
+mod run;
+mod writers;
+
+pub use run::{Progress, Run, RunEnd, Status};
+pub use writers::Writers;

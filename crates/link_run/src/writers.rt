@@ -1,0 +1,50 @@
+//! Where a run writes: its output, its report, and the line that it writes next.
+
+ghost use Rattle.std.specs.Prelude.{◌≡◌, []};
+ghost use Rattle.link_report.specs.Fault.{fault_text};
+ghost use Rattle.link_run.specs.Writers.{GivesTexts, GivesReport, on_output, on_report};
+
+use crate::run::Status;
+use link_report::{Fault, Line, fault_line};
+use link_wire::{IoFault, OutDevice, write_whole};
+
+/// The writers of a run.
+#[derive(Drop)]
+pub struct Writers<W, E> {
+    pub output: W,
+    pub report: E,
+    /// The line to be written next.
+    pub line: Line,
+}
+
+impl<W: OutDevice, E: OutDevice> Writers<W, E> {
+    /// Writers to which nothing was written.
+    pub fn new(output: W, report: E) -> Writers<W, E>
+        ensures output { result.output ≡ output }
+        ensures report { result.report ≡ report }
+    {
+        Writers {
+            output,
+            report,
+            line: Line::new(),
+        }
+    }
+
+    /// Writes the line to the output.
+    pub fn write_line(&mut self) -> Result<(), IoFault>
+        ensures { GivesTexts W.state E.state self.old self.new (on_output self.old.line.items) result }
+    {
+        write_whole(&mut self.output, self.line.as_slice())
+    }
+
+    /// Writes the line of a fault to the report, and returns the status with which the run ends.
+    #[cold]
+    pub fn report_fault(&mut self, fault: &Fault) -> Result<Status, IoFault>
+        ensures { GivesReport W.state E.state self.old self.new (fault_text fault.now) result }
+    {
+        self.line.clear();
+        fault_line(&mut self.line, fault);
+        write_whole(&mut self.report, self.line.as_slice())?;
+        Ok(Status::FAULT)
+    }
+}

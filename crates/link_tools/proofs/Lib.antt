@@ -1,5 +1,0 @@
-mod RunLaws
-mod ListSteps
-mod ListCalls
-mod ListMessages
-mod ListRuns

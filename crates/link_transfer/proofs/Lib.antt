@@ -1,0 +1,9 @@
+pub mod Joining
+pub mod Announcing
+pub mod Holding
+pub mod Due
+pub mod Steps
+pub mod Chunking
+pub mod Pushing
+pub mod Giving
+pub mod Cuttings

@@ -1,0 +1,95 @@
+-- What a bundle is cut into while its bytes come, and when each chunk is given.
+use Rattle.std.specs.Prelude.{◌≡◌, ℕ, ◌+◌, ◌*◌, ◌/◌, Bool, true, false, ◌&&◌, ◌==◌, nat_lt, nat_le, List, [], ◌∷◌, ◌++◌, length, drop, Option, Some, None, is_some, if◌then◌else◌}
+use Rattle.link_transfer.specs.Chunks.{chunk_at, chunk_count}
+use Rattle.link_transfer.specs.declared.cut.Cut.{Cut}
+
+-- the history of a cutter for segments of at most `segment` bytes that may announce up to `hold` bytes
+pub record Cutting : Type 0 where
+  pub segment : ℕ
+  pub hold : ℕ
+  -- the bytes of the present bundle that were pushed, and whether its last byte was among them
+  pub bundle : List ℕ
+  pub whole : Bool
+  -- its chunks that cuts have given
+  pub given : List (List ℕ)
+  -- the chunk that the last cut gave, until the next push or cut
+  pub chunk : Option (List ℕ)
+
+-- nothing was pushed yet
+abbrev pub beginning : (segment hold : ℕ) → Cutting
+beginning segment hold = record { segment = segment; hold = hold; bundle = []; whole = false; given = []; chunk = None }
+
+-- These bytes were pushed. `last` says that they end with the bundle's last byte.
+abbrev pub with_bytes : List ℕ → (last : Bool) → Cutting → Cutting
+with_bytes [] last so_far = so_far
+with_bytes (byte ∷ bytes) last so_far = record so_far { bundle = so_far.bundle ++ byte ∷ bytes; whole = last; chunk = None }
+
+-- How many chunks may be given, where `size` bytes of a bundle have come: all of a whole bundle. Of one that goes on none, as
+-- long as its length may yet be announced; then each that is full.
+abbrev pub due_of : (whole : Bool) (segment hold size : ℕ) → ℕ
+due_of whole segment hold size =
+    if whole then chunk_count segment size
+    else if nat_lt hold size then size / segment
+    else 0
+
+unfoldable pub due : Cutting → ℕ
+due so_far = due_of so_far.whole so_far.segment so_far.hold (length so_far.bundle)
+
+-- The length that is announced (RFC 9174 section 5.2.5.1): that of a whole bundle of more than one segment that was held.
+unfoldable pub announcement : Cutting → Option ℕ
+announcement so_far =
+    if so_far.whole && (nat_lt so_far.segment (length so_far.bundle) && nat_le (length so_far.bundle) so_far.hold)
+    then Some (length so_far.bundle)
+    else None
+
+-- the chunk that the next cut gives
+abbrev pub next_chunk : Cutting → List ℕ
+next_chunk so_far = chunk_at so_far.segment (length so_far.given) so_far.bundle
+
+-- it is the last
+abbrev pub is_last : Cutting → Bool
+is_last so_far = so_far.whole && (length so_far.given + 1 == chunk_count so_far.segment (length so_far.bundle))
+
+abbrev pub is_first : Cutting → Bool
+is_first so_far = length so_far.given == 0
+
+-- what the next cut is, if one waits
+unfoldable pub next_cut : Cutting → Option Cut
+next_cut so_far =
+    if nat_lt (length so_far.given) (due so_far)
+    then Some (record { first = is_first so_far; last = is_last so_far; announce = if is_first so_far then announcement so_far else None })
+    else None
+
+-- The chunk was given. After the last one another bundle begins.
+abbrev pub with_chunk : Cutting → Cutting
+with_chunk so_far =
+    if is_last so_far
+    then record (beginning so_far.segment so_far.hold) { chunk = Some (next_chunk so_far) }
+    else record so_far { given = so_far.given ++ next_chunk so_far ∷ []; chunk = Some (next_chunk so_far) }
+
+-- a cut was asked for
+unfoldable pub after_cut : Cutting → Cutting
+after_cut so_far = if is_some (next_cut so_far) then with_chunk so_far else record so_far { chunk = None }
+
+-- the bytes of the bundle that no cut has given
+abbrev pub left_of : Cutting → List ℕ
+left_of so_far = drop (length so_far.given * so_far.segment) so_far.bundle
+
+-- what is shown: the chunk that the last cut gave, or else the bytes that no cut has given
+abbrev pub shown_by : Option (List ℕ) → List ℕ → List ℕ
+shown_by (Some chunk) left = chunk
+shown_by None left = left
+
+unfoldable pub shown : Cutting → List ℕ
+shown so_far = shown_by so_far.chunk (left_of so_far)
+
+abbrev pub is_empty : List ℕ → Bool
+is_empty [] = true
+is_empty (byte ∷ bytes) = false
+
+-- these bytes were pushed one at a time until a cut waits, the last of them as the bundle's last if `last` says so
+unfoldable pub with_each : List ℕ → (last : Bool) → Cutting → Cutting
+with_each [] last so_far = so_far
+with_each (byte ∷ bytes) last so_far =
+    let after = with_bytes (byte ∷ []) (last && is_empty bytes) so_far in
+    if is_some (next_cut after) then after else with_each bytes last after

@@ -1,0 +1,113 @@
+-- The order of the messages that one entity sends in a session (RFC 9174): what may follow the messages that were
+-- accepted before, over the whole list of them.
+use Rattle.std.specs.Prelude.{ℕ, Bool, true, false, not, ◌&&◌, ◌==◌, List, map, reverse, find, Option, Some, None, Result, Ok, Err, if◌then◌else◌, bit_and}
+use Rattle.std.specs.List.{list_any}
+use Rattle.std.specs.Option.{option_and_then, option_eq}
+use Rattle.link_wire.specs.Codes.{is_start, is_end}
+use Rattle.link_wire.specs.declared.message.Message.{Message}
+use Rattle.link_transfer.specs.Event.{event_of}
+use Rattle.link_transfer.specs.declared.event.Event.{Event}
+use Rattle.link_transfer.specs.declared.event.Event.TheVariants.{SessInit, SessTerm, Segment, Other}
+use Rattle.link_transfer.specs.declared.fault.OrderFault.{OrderFault}
+use Rattle.link_transfer.specs.declared.fault.OrderFault.TheVariants.{SecondSessInit, SegmentBeforeSessInit, NoSuchOpenTransfer, StartRepeatsOpenId, StartAfterSessTerm}
+use Rattle.link_transfer.specs.declared.joiner.Turn.{Turn}
+use Rattle.link_transfer.specs.declared.joiner.Turn.TheVariants as turn
+
+abbrev pub is_sess_init : Event → Bool
+is_sess_init SessInit = true
+is_sess_init SessTerm = false
+is_sess_init (Segment flags id) = false
+is_sess_init Other = false
+
+abbrev pub is_sess_term : Event → Bool
+is_sess_term SessInit = false
+is_sess_term SessTerm = true
+is_sess_term (Segment flags id) = false
+is_sess_term Other = false
+
+abbrev pub is_segment : Event → Bool
+is_segment SessInit = false
+is_segment SessTerm = false
+is_segment (Segment flags id) = true
+is_segment Other = false
+
+-- a segment with START, and one without
+abbrev pub begins : Event → Bool
+begins SessInit = false
+begins SessTerm = false
+begins (Segment flags id) = is_start flags
+begins Other = false
+
+abbrev pub continues : Event → Bool
+continues event = is_segment event && not (begins event)
+
+-- of the messages before, what the order depends on
+abbrev pub events_of : List Message → List Event
+events_of before = map event_of before
+
+-- SESS_INIT has come, and SESS_TERM
+unfoldable pub has_sess_init : List Message → Bool
+has_sess_init before = list_any is_sess_init (events_of before)
+
+unfoldable pub has_sess_term : List Message → Bool
+has_sess_term before = list_any is_sess_term (events_of before)
+
+-- The transfer that is open after a segment: its own, unless it has END. Segments of two transfers are never interleaved
+-- (section 5.2.2), so no other is.
+abbrev pub open_after : Event → Option ℕ
+open_after (Segment flags id) = if is_end flags then None else Some id
+open_after SessInit = None
+open_after SessTerm = None
+open_after Other = None
+
+-- the open transfer's ID: that of the last segment, if it lacks END
+unfoldable pub open_of : List Message → Option ℕ
+open_of before = option_and_then open_after (find is_segment (reverse (events_of before)))
+
+-- the event is a segment of this transfer
+abbrev pub is_of : Option ℕ → Event → Bool
+is_of transfer SessInit = false
+is_of transfer SessTerm = false
+is_of transfer (Segment flags id) = option_eq ◌==◌ transfer (Some id)
+is_of transfer Other = false
+
+-- Why a message may not come, where a SESS_INIT and a SESS_TERM have come or not, and this transfer is open: the first
+-- reason that holds.
+-- 1. SESS_INIT gives the parameters of the whole session (section 4.6), so a second is refused.
+-- 2. No bundle is transferred before the parameters are there (section 4.6).
+-- 3. A segment without START goes on with the transfer of the segments before it (section 5.2.2), so that is open.
+-- 4. A segment with START is the first of its transfer (section 5.2.2), so that is not open yet.
+-- 5. After SESS_TERM no transfer begins; the open one may be finished (section 6.1).
+-- A START of another ID than the open one is no fault: the sender of a transfer that was refused leaves it without END
+-- (section 5.2.4).
+abbrev pub refusal_by : (initiated terminated : Bool) (transfer : Option ℕ) → Event → Option OrderFault
+refusal_by initiated terminated transfer event =
+    if is_sess_init event && initiated then Some SecondSessInit
+    else if is_segment event && not initiated then Some SegmentBeforeSessInit
+    else if continues event && not (is_of transfer event) then Some NoSuchOpenTransfer
+    else if begins event && is_of transfer event then Some StartRepeatsOpenId
+    else if begins event && terminated then Some StartAfterSessTerm
+    else None
+
+-- why a message may not follow those before it
+unfoldable pub refusal : List Message → Event → Option OrderFault
+refusal before event = refusal_by (has_sess_init before) (has_sess_term before) (open_of before) event
+
+-- What an accepted message does to the transfers, of which this one is open: a segment with START begins a transfer, and
+-- abandons the open one; without START it goes on with the open one.
+abbrev pub turn_by : Option ℕ → Event → Turn
+turn_by transfer SessInit = turn.Other
+turn_by transfer SessTerm = turn.Other
+turn_by transfer (Segment flags id) = if is_start flags then turn.Begin transfer (is_end flags) else turn.Continue (is_end flags)
+turn_by transfer Other = turn.Other
+
+unfoldable pub turn_of : List Message → Event → Turn
+turn_of before event = turn_by (open_of before) event
+
+-- a message is refused, or does this
+abbrev pub judged_by : Option OrderFault → Turn → Result Turn OrderFault
+judged_by (Some fault) done = Err fault
+judged_by None done = Ok done
+
+unfoldable pub judged : List Message → Event → Result Turn OrderFault
+judged before event = judged_by (refusal before event) (turn_of before event)

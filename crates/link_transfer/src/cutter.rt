@@ -1,0 +1,194 @@
+//! Bundles cut into the chunks that become the data of segments.
+
+ghost use Rattle.std.specs.Prelude.{◌≡◌, ◌+◌, ◌<◌, ◌≤◌, Bool, true, false, ◌&&◌, ◌==◌, max, List, [], ◌∷◌, ◌++◌, length, take, is_some, is_ok, IfOk, IfSome, vec_len};
+ghost use Rattle.std.specs.Bool.{OnTrue, OnFalse};
+
+use crate::cut::Cut;
+use crate::held::Held;
+use std::alloc::{AllocError, Global};
+
+/// Cuts bundles, one after another, into the chunks that become the data of their segments (RFC 9174 section 5.2.2).
+///
+/// A chunk has the size of a segment, but for a bundle's last. A chunk waits to be taken by `cut` as soon as it is full
+/// or the bundle ends; but while a bundle has at most `hold` bytes none does, so that the first can announce the length
+/// of the whole bundle.
+#[derive(Drop)]
+pub struct Cutter {
+    held: Held,
+    segment: usize,
+    hold: usize,
+    /// Whether a chunk of the present bundle has been given.
+    begun: bool,
+    /// Whether the last byte of the present bundle has been pushed.
+    ended: bool,
+    ghost room: { held.room ≡ max segment (hold + 1) },
+    ghost hold_within: { hold ≤ 1048576 },
+}
+
+impl Cutter {
+    ghost use Rattle.link_transfer.specs.Chunks.{chunks};
+    ghost use Rattle.link_transfer.specs.Cutting.{Cutting, beginning, with_bytes, with_each, due, next_chunk, next_cut, after_cut, shown};
+    ghost use Rattle.link_transfer.specs.Cutter.{IsCutterAt, cut_waits};
+    ghost use Rattle.link_transfer.specs.Held.{wanted_of, cut_of, is_last_of, announced_by};
+
+    /// A cutter for segments of at most `segment` bytes, 1 to 65,536, which announces the lengths of bundles of at most
+    /// `hold` bytes, 0 to 1,048,576. It takes memory once, for the greater of `segment` and `hold + 1` bytes.
+    pub fn new(alloc: Global, segment: usize, hold: usize) -> Result<Cutter, AllocError>
+        requires positive { 0 < segment }
+        requires segment_within { segment ≤ 65536 }
+        requires hold_within { hold ≤ 1048576 }
+        ensures { IfOk result (λ cutter. IsCutterAt cutter (beginning segment hold)) }
+    {
+        Cutter::over(vec![in alloc; 0; segment.max(hold + 1)], segment, hold)
+    }
+
+    /// A cutter over this memory, where it was given.
+    fn over(
+        memory: Result<Vec<u8>, AllocError>,
+        segment: usize,
+        hold: usize,
+    ) -> Result<Cutter, AllocError>
+        requires positive { 0 < segment }
+        requires segment_within { segment ≤ 65536 }
+        requires hold_within { hold ≤ 1048576 }
+        requires room { IfOk memory (λ buffer. vec_len buffer ≡ max segment (hold + 1)) }
+        ensures start { IfOk result (λ cutter. IsCutterAt cutter (beginning segment hold)) }
+        ensures given { is_ok result ≡ is_ok memory }
+    {
+        Ok(Cutter {
+            held: Held::new(memory?),
+            segment,
+            hold,
+            begun: false,
+            ended: false,
+        })
+    }
+
+    /// Whether a cut waits. Where none does, every chunk that may be given yet has been given.
+    #[inline]
+    pub fn waiting(&self) -> bool
+        ensures waits { result ≡ cut_waits self.now }
+        ensures cut { (so_far : Cutting) → IsCutterAt self.now so_far → result ≡ is_some (next_cut so_far) }
+        ensures given { (so_far : Cutting) → IsCutterAt self.now so_far →
+            OnFalse result (length so_far.given ≡ due so_far) }
+    {
+        self.waits()
+    }
+
+    /// Whether a cut waits: the bundle has ended, or a chunk is full and the length is announced no more.
+    #[inline]
+    fn waits(&self) -> bool
+        ensures { result ≡ cut_waits self.now }
+    {
+        let size = self.held.len();
+        self.ended || size >= self.segment && (self.begun || size > self.hold)
+    }
+
+    /// The chunk that the last cut gave, until the next push or cut; else the bytes that no cut has given.
+    pub fn bytes(&self) -> &[u8]
+        ensures { (so_far : Cutting) → IsCutterAt self.now so_far → result.now ≡ shown so_far }
+    {
+        let given = self.held.given();
+        if given.is_empty() {
+            self.held.bytes()
+        } else {
+            given
+        }
+    }
+
+    /// Takes the next byte of the present bundle; `last` says that it is the bundle's last. Asked for once no cut waits.
+    #[inline]
+    pub fn push(&mut self, byte: u8, last: bool)
+        requires { cut_waits self.old ≡ false }
+        ensures { (so_far : Cutting) → IsCutterAt self.old so_far →
+            IsCutterAt self.new (with_bytes (byte ∷ []) last so_far) }
+    {
+        self.held.push(byte);
+        self.ended = last;
+    }
+
+    /// Takes the next bytes of the present bundle up to the first after which a cut waits, or all, and returns how many;
+    /// `last` says that the last byte of the slice is the bundle's last. Asked for once no cut waits. It is the same as to
+    /// push these bytes one by one.
+    #[inline]
+    pub fn push_slice(&mut self, bytes: &[u8], last: bool) -> usize
+        requires { cut_waits self.old ≡ false }
+        ensures within { result ≤ length bytes.now }
+        ensures pushed { (so_far : Cutting) → IsCutterAt self.old so_far →
+            IsCutterAt self.new (with_bytes (take result bytes.now) (last && result == length bytes.now) so_far) }
+        ensures each { (so_far : Cutting) → IsCutterAt self.old so_far →
+            with_bytes (take result bytes.now) (last && result == length bytes.now) so_far ≡ with_each bytes.now last so_far }
+    {
+        if bytes.is_empty() {
+            return 0;
+        }
+        let count = self.wanted().min(bytes.len());
+        self.held.append(&bytes[..count]);
+        self.ended = last && count == bytes.len();
+        count
+    }
+
+    /// After how many further bytes a cut waits, if none of them is the bundle's last.
+    #[inline]
+    fn wanted(&self) -> usize
+        requires { cut_waits self.now ≡ false }
+        ensures value { result ≡ wanted_of self.now.begun self.now.segment self.now.hold (length self.now.held.bytes) }
+        ensures room { length self.now.held.bytes + result ≤ self.now.held.room }
+    {
+        let full = if self.begun {
+            self.segment
+        } else {
+            self.segment.max(self.hold + 1)
+        };
+        full - self.held.len()
+    }
+
+    /// Gives the next chunk, if a cut waits: `bytes` is that chunk then. After the bundle's last chunk the next push
+    /// begins another bundle.
+    pub fn cut(&mut self) -> Option<Cut>
+        ensures cut { (so_far : Cutting) → IsCutterAt self.old so_far → result ≡ next_cut so_far }
+        ensures after { (so_far : Cutting) → IsCutterAt self.old so_far → IsCutterAt self.new (after_cut so_far) }
+        // With the last chunk all are given.
+        ensures all { (so_far : Cutting) → IsCutterAt self.old so_far → IfSome result (λ cut. OnTrue cut.last
+            (so_far.given ++ next_chunk so_far ∷ [] ≡ chunks so_far.segment so_far.bundle)) }
+    {
+        if !self.waits() {
+            self.held.forget();
+            return None;
+        }
+        let cut = self.next_cut();
+        self.held.give(self.segment.min(self.held.len()));
+        self.begun = !cut.last;
+        self.ended &= !cut.last;
+        Some(cut)
+    }
+
+    /// The cut that waits.
+    fn next_cut(&self) -> Cut
+        ensures { result ≡ cut_of self.now.begun self.now.ended self.now.segment self.now.hold (length self.now.held.bytes) }
+    {
+        Cut {
+            first: !self.begun,
+            last: self.is_last(),
+            announce: self.announcement(),
+        }
+    }
+
+    /// Whether the bytes held are the bundle's last chunk.
+    fn is_last(&self) -> bool
+        ensures { result ≡ is_last_of self.now.ended self.now.segment (length self.now.held.bytes) }
+    {
+        self.ended && self.held.len() <= self.segment
+    }
+
+    /// The length to be announced with the next chunk.
+    fn announcement(&self) -> Option<u64>
+        ensures { result ≡ announced_by self.now.begun self.now.ended self.now.segment self.now.hold (length self.now.held.bytes) }
+    {
+        let size = self.held.len();
+        if self.begun || !self.ended || size <= self.segment || size > self.hold {
+            return None;
+        }
+        Some(size as u64)
+    }
+}

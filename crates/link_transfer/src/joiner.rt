@@ -1,0 +1,157 @@
+//! The order of a session's messages, judged message by message.
+
+ghost use Rattle.std.specs.Prelude.{◌≡◌, ◌==◌, List, [], ◌∷◌, ◌++◌, OnOk, OnErr, if◌then◌else◌};
+ghost use Rattle.link_wire.specs.declared.message.Message.{Message};
+
+use crate::event::{Event, has_end_flag, has_start_flag};
+use crate::fault::OrderFault;
+use link_wire::Message;
+
+/// What an accepted message does to the transfers of its session.
+#[derive(Clone, Copy, Debug, PartialEq, Eq)]
+pub enum Turn {
+    /// Nothing: it is no segment.
+    Other,
+    /// It is the first segment of a transfer.
+    Begin {
+        /// The transfer that was open until then. It has no END and gets no more segments, as one that was refused
+        /// (RFC 9174 section 5.2.4).
+        abandoned: Option<u64>,
+        /// Whether it is the last segment of its transfer too.
+        last: bool,
+    },
+    /// It is a further segment of the open transfer.
+    Continue {
+        /// Whether it is the last.
+        last: bool,
+    },
+}
+
+/// Judges the order of the messages that one entity sends in a session (RFC 9174 sections 4.6, 5.2 and 6.1).
+#[derive(Clone, Copy, Debug)]
+pub struct Joiner {
+    /// Whether a SESS_INIT has come.
+    initiated: bool,
+    /// Whether a SESS_TERM has come.
+    terminated: bool,
+    /// The ID of the transfer that is open.
+    transfer: Option<u64>,
+}
+
+impl Joiner {
+    ghost use Rattle.std.specs.Option.{option_eq};
+    ghost use Rattle.link_transfer.specs.Event.{event_of};
+    ghost use Rattle.link_transfer.specs.Order.{judged, open_of, refusal_by, turn_by};
+    ghost use Rattle.link_transfer.specs.Joiner.{IsJoinerAt, joiner_after};
+
+    /// A joiner that has accepted nothing.
+    pub fn new() -> Joiner
+        ensures { IsJoinerAt result [] }
+    {
+        Joiner {
+            initiated: false,
+            terminated: false,
+            transfer: None,
+        }
+    }
+
+    /// The ID of the open transfer: that of the last segment accepted, unless it had END.
+    pub fn open(&self) -> Option<u64>
+        ensures { (before : List Message) → IsJoinerAt self.now before → result ≡ open_of before }
+    {
+        self.transfer
+    }
+
+    /// Why the event may not come now: the first reason that holds.
+    fn refusal(&self, event: Event) -> Option<OrderFault>
+        ensures { result ≡ refusal_by self.now.initiated self.now.terminated self.now.transfer event }
+    {
+        match event {
+            Event::SessInit if self.initiated => Some(OrderFault::SecondSessInit),
+            Event::Segment { .. } if !self.initiated => Some(OrderFault::SegmentBeforeSessInit),
+            Event::Segment { flags, id } if !has_start_flag(flags) => self.continuation_refusal(id),
+            Event::Segment { flags: _, id } => self.start_refusal(id),
+            _ => None,
+        }
+    }
+
+    /// Why a segment without START may not come now, once a SESS_INIT has come.
+    fn continuation_refusal(&self, id: u64) -> Option<OrderFault>
+        ensures { result ≡ (if option_eq ◌==◌ self.now.transfer (Some id) then None else Some OrderFault.NoSuchOpenTransfer) }
+    {
+        if self.transfer == Some(id) {
+            None
+        } else {
+            Some(OrderFault::NoSuchOpenTransfer)
+        }
+    }
+
+    /// Why a segment with START may not come now, once a SESS_INIT has come.
+    fn start_refusal(&self, id: u64) -> Option<OrderFault>
+        ensures { result ≡ (if option_eq ◌==◌ self.now.transfer (Some id) then Some OrderFault.StartRepeatsOpenId
+            else if self.now.terminated then Some OrderFault.StartAfterSessTerm else None) }
+    {
+        if self.transfer == Some(id) {
+            Some(OrderFault::StartRepeatsOpenId)
+        } else if self.terminated {
+            Some(OrderFault::StartAfterSessTerm)
+        } else {
+            None
+        }
+    }
+
+    /// Takes in an event that may come, and returns what it does to the transfers.
+    fn accept(&mut self, event: Event) -> Turn
+        ensures turn { result ≡ turn_by self.old.transfer event }
+        ensures after { self.new ≡ joiner_after self.old event }
+    {
+        match event {
+            Event::SessInit => self.initiated = true,
+            Event::SessTerm => self.terminated = true,
+            Event::Segment { flags, id } => return self.accept_segment(flags, id),
+            Event::Other => {}
+        }
+        Turn::Other
+    }
+
+    /// The same of a segment.
+    fn accept_segment(&mut self, flags: u8, id: u64) -> Turn
+        ensures turn { result ≡ turn_by self.old.transfer (Event.Segment flags id) }
+        ensures after { self.new ≡ joiner_after self.old (Event.Segment flags id) }
+    {
+        let last = has_end_flag(flags);
+        let abandoned = self.transfer;
+        self.transfer = if last { None } else { Some(id) };
+        if has_start_flag(flags) {
+            Turn::Begin { abandoned, last }
+        } else {
+            Turn::Continue { last }
+        }
+    }
+
+    /// Accepts the message, and returns what it does to the transfers; or refuses it for the first reason that holds,
+    /// and is unchanged.
+    pub fn message(&mut self, message: &Message) -> Result<Turn, OrderFault>
+        ensures judged { (before : List Message) → IsJoinerAt self.old before →
+            result ≡ judged before (event_of message.now) }
+        ensures accepted { (before : List Message) → IsJoinerAt self.old before →
+            OnOk result (IsJoinerAt self.new (before ++ message.now ∷ [])) }
+        ensures refused { OnErr result (self.new ≡ self.old) }
+    {
+        self.event(Event::of(message))
+    }
+
+    /// As `message`, of any message in which the order depends on this event.
+    pub fn event(&mut self, event: Event) -> Result<Turn, OrderFault>
+        ensures judged { (before : List Message) → IsJoinerAt self.old before →
+            result ≡ judged before event }
+        ensures accepted { (before : List Message) (message : Message) → event_of message ≡ event →
+            IsJoinerAt self.old before → OnOk result (IsJoinerAt self.new (before ++ message ∷ [])) }
+        ensures refused { OnErr result (self.new ≡ self.old) }
+    {
+        if let Some(fault) = self.refusal(event) {
+            return Err(fault);
+        }
+        Ok(self.accept(event))
+    }
+}

@@ -1,0 +1,48 @@
+//! The length of a transfer that its extension items announce.
+
+ghost use Rattle.std.specs.Prelude.{◌≡◌};
+ghost use Rattle.link_transfer.specs.Announced.{announced_by, announced_with, announced_of, HasTotals};
+
+use crate::announcement::Announced;
+use link_wire::{Item, Items};
+
+/// The type of a Transfer Length item (RFC 9174 section 5.2.5.1).
+const TRANSFER_LENGTH: u16 = 0x0001;
+
+/// How many bytes its value has.
+const TOTAL_LENGTH: u16 = 8;
+
+/// What one item of that type announces.
+fn announced_by(item: &Item) -> Announced
+    ensures { result ≡ announced_by item.now }
+{
+    match item.total {
+        Some(total) if item.length == TOTAL_LENGTH => Announced::Total(total),
+        _ => Announced::Malformed,
+    }
+}
+
+/// What items announce after which this one comes.
+fn announced_with(announced: Announced, item: &Item) -> Announced
+    ensures { result ≡ announced_with announced item.now }
+{
+    if item.kind != TRANSFER_LENGTH {
+        return announced;
+    }
+    match announced {
+        Announced::Absent => announced_by(item),
+        _ => Announced::Malformed,
+    }
+}
+
+/// What the extension items of a transfer announce. A Transfer Length item of 8 bytes has the number that they spell.
+pub fn announced(items: &Items) -> Announced
+    requires { HasTotals items.now.items }
+    ensures { result ≡ announced_of items.now.items }
+{
+    let mut announced = Announced::Absent;
+    for item in items.as_slice() {
+        announced = announced_with(announced, item);
+    }
+    announced
+}

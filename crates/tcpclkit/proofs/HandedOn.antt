@@ -1,0 +1,87 @@
+-- What a run over buffered streams has handed on.
+use Rattle.std.proofs.Common.{◌≡◌, ℕ, List, [], ◌++◌, Option, Some, None, Bool, true, false, Result, Ok, Err, IfSome, if◌then◌else◌, ap, sym, subst, ◌∙◌, refl, ◌==◌}
+use Rattle.std.proofs.lemmas.List.{append-nil}
+use Rattle.std.specs.Io.KnownBytes.{Consumes, Appends, Keeps, append_known, prepend_known}
+use Rattle.link_wire.specs.Device.{Input, Output}
+use Rattle.link_wire.specs.declared.fault.IoFault.{IoFault}
+use Rattle.link_wire.specs.declared.fault.IoFault.TheVariants.{Write}
+use Rattle.link_tools.specs.Run.{Told, Devices, GivesAnswer, GaveAnswer}
+use Rattle.link_tools.specs.declared.run.Status.{Status}
+use Rattle.tcpclkit.specs.Ending.{answer_after_flush}
+
+-- the choice that the result is not, is not taken
+picked : (test : Bool) (answer other result : Result Status IoFault)
+    → (if test then answer else other) ≡ result → (other ≡ result → ⊥) → answer ≡ result
+picked true answer other result is differs = is
+picked false answer other result is differs = absurd (differs is)
+
+-- a status after the flush is the status of the run
+pub answered : (answer : Result Status IoFault) (flushed : Bool) (status : Status)
+    → answer_after_flush answer flushed ≡ Ok status → answer ≡ Ok status
+answered (Ok given) true status is = is
+answered (Ok given) false status is = picked (given.0 == 3) (Ok given) (Err Write) (Ok status) is (λ bad. cc)
+answered (Err fault) flushed status is = is
+
+-- what was read is all of the input, as far as the tool goes
+same_told : (tool : List ℕ → Told) (old new : Option (List ℕ)) (bytes taken : List ℕ)
+    → old ≡ Some bytes → Consumes old new taken
+    → ((rest : List ℕ) → new ≡ Some rest → tool (taken ++ rest) ≡ tool taken)
+    → tool taken ≡ tool bytes
+same_told tool None new bytes taken is takes all = cc
+same_told tool (Some xs) None bytes taken is takes all = absurd takes
+same_told tool (Some xs) (Some ys) bytes taken is takes all =
+    let same : taken ++ ys ≡ bytes = cc in
+    sym (all ys refl) ∙ ap tool same
+
+module _ {R W E : Type 0} (in_look : R → Input) (out_look : W → Output) (report_look : E → Output) where
+  -- from start to now both texts were written, and the status is theirs
+  pub record HasRun (told : Told) (start now : Devices R W E) (status : Status) : Type 0 where
+    pub writes : Appends (out_look start.output).written (out_look now.output).written told.output
+    pub reports : Appends (report_look start.report).written (report_look now.report).written told.report
+    pub ends : status.0 ≡ told.status
+
+  -- a run over a known input has written the texts of that input
+  pub has_run : (tool : List ℕ → Told) (start now : Devices R W E) (answer : Result Status IoFault)
+      (status : Status) (bytes : List ℕ)
+      → GivesAnswer in_look out_look report_look tool start now answer → answer ≡ Ok status
+      → (in_look start.reader).left ≡ Some bytes → HasRun (tool bytes) start now status
+  has_run tool start now answer status bytes gives is known =
+      let Gives : Result Status IoFault → Type 0 = GivesAnswer in_look out_look report_look tool start now in
+      let gave : GaveAnswer in_look out_look report_look tool start now status = subst Gives is gives in
+      let same = same_told tool _ _ bytes gave.taken known gave.told.takes gave.all in
+      let of_taken : HasRun (tool gave.taken) start now status =
+      record { writes = gave.told.writes; reports = gave.told.reports; ends = gave.ends } in
+      subst (λ told. HasRun told start now status) same of_taken
+
+-- what was written into an empty buffer, and handed on
+handed : (old before after new : Option (List ℕ)) (text : List ℕ)
+    → before ≡ append_known old [] → Appends before after text → Keeps after new → Appends old new text
+handed None before after new text is written kept = tt
+handed (Some xs) None after new text is written kept = cc
+handed (Some xs) (Some bs) None new text is written kept = absurd written
+handed (Some xs) (Some bs) (Some as') None text is written kept = absurd kept
+handed (Some xs) (Some bs) (Some as') (Some ns) text is written kept =
+    let same : bs ≡ xs ++ [] = cc in
+    let plain : bs ≡ xs = same ∙ append-nil xs in
+    cc
+
+-- the same, where the writer below the buffer is given only if it holds all
+pub handed_on : {W : Type 0} (written : W → Option (List ℕ)) (result : Option W)
+    (old before after held : Option (List ℕ)) (text : List ℕ)
+    → before ≡ append_known old [] → Appends before after text → held ≡ after
+    → IfSome result (λ inner. Keeps held (written inner))
+    → IfSome result (λ new. Appends old (written new) text)
+handed_on written None old before after held text is wrote same kept = tt
+handed_on written (Some inner) old before after held text is wrote same kept =
+    handed old before after (written inner) text is wrote (subst (λ known. Keeps known (written inner)) same kept)
+
+-- what a reader with an empty buffer has left
+pub buffered : (capacity : ℕ) (buffer : List ℕ) (rest : Option (List ℕ)) (bytes : List ℕ)
+    → capacity ≡ 65536 → buffer ≡ [] → rest ≡ Some bytes
+    → (if capacity == 0 then None else prepend_known buffer rest) ≡ Some bytes
+buffered capacity buffer rest bytes size empty known = rw (size, empty, known) refl
+
+-- what a writer with an empty buffer holds
+pub unfilled : {W : Type 0} (written : W → Option (List ℕ)) (inner : W) (buffer : List ℕ) (writer : W)
+    → inner ≡ writer → buffer ≡ [] → append_known (written inner) buffer ≡ append_known (written writer) []
+unfilled written inner buffer writer same empty = rw (same, empty) refl

@@ -1,0 +1,25 @@
+-- How a call of the program ends.
+use Rattle.std.specs.Prelude.{ℕ, Bool, true, false, ◌==◌, if◌then◌else◌, List, Result, Ok, Err, codes}
+use Rattle.link_wire.specs.declared.fault.IoFault.{IoFault}
+use Rattle.link_wire.specs.declared.fault.IoFault.TheVariants as io
+use Rattle.link_tools.specs.Exit.{status_of, exit_text}
+use Rattle.link_tools.specs.declared.run.Status.{Status}
+use Rattle.tcpclkit.specs.declared.ending.Ending.{Ending}
+use Rattle.tcpclkit.specs.declared.ending.Ending.TheVariants.{Usage, Answer}
+
+-- The first fault decides. A run that a fault of its input stopped (status 3) or that failed keeps its answer,
+-- whether or not its texts were flushed; of any other run, a flush that fails makes a failed write.
+abbrev pub answer_after_flush : Result Status IoFault → Bool → Result Status IoFault
+answer_after_flush (Ok status) false = if status.0 == 3 then Ok status else Err io.Write
+answer_after_flush (Ok status) true = Ok status
+answer_after_flush (Err fault) flushed = Err fault
+
+-- the exit status
+abbrev pub ending_status : Ending → ℕ
+ending_status Usage = 2
+ending_status (Answer answer) = status_of answer
+
+-- what the program itself says on standard error, without the newline
+abbrev pub ending_text : Ending → List ℕ
+ending_text Usage = codes "usage: tcpclkit list < RECORDING"
+ending_text (Answer answer) = exit_text answer

@@ -1,0 +1,79 @@
+//! `list` over buffered streams.
+
+ghost use Rattle.std.specs.Prelude.{◌≡◌, ℕ, List, IfOk, IfErr, IfSome, Ok, Some};
+ghost use Rattle.std.specs.Io.Buffered.{writer_contents};
+ghost use Rattle.std.specs.Io.KnownBytes.{Keeps};
+ghost use Rattle.std.specs.IoError.{error_kind};
+ghost use Rattle.link_tools.specs.Listing.{listing};
+ghost use Rattle.link_tools.specs.declared.run.Status.{Status};
+ghost use Rattle.tcpclkit.specs.Listed.{HasWritten, IsFlushed};
+
+use crate::ending::after_flush;
+use link_tools::{Status, list};
+use link_wire::{IoFault, Reader, Writer};
+use std::alloc::Global;
+use std::io;
+use std::io::{BufReader, BufWriter, ErrorKind, Read, Write};
+
+/// How many bytes of the input are read at once.
+const INPUT_BUFFER: usize = 64 << 10;
+
+/// How many bytes of a text are written at once.
+const TEXT_BUFFER: usize = 256 << 10;
+
+/// A run over buffered streams that has ended.
+#[derive(Drop)]
+pub struct Listed<W, E> {
+    /// The answer, in which a failed flush counts.
+    pub answer: Result<Status, IoFault>,
+    /// Where the output went to, if all of it was handed on.
+    pub output: Option<W>,
+    /// Where the report went to, if all of it was handed on.
+    pub report: Option<E>,
+}
+
+/// Lists the input, and hands both texts on to their writers.
+///
+/// Where a device fails, nothing is said of how much of the texts has arrived.
+///
+/// # Errors
+///
+/// Want of memory for the buffers: nothing was read and nothing written.
+pub fn list_buffered<R: Read + Drop, W: Write + Drop, E: Write + Drop>(
+    alloc: Global,
+    input: R,
+    output: W,
+    report: E,
+) -> io::Result<Listed<W, E>>
+    ensures whole { IfOk result (λ listed. (status : Status) (bytes : List ℕ)
+        → listed.answer ≡ Ok status → R.remaining input ≡ Some bytes
+        → HasWritten W.contents E.contents (listing bytes) output report listed status) }
+    ensures flushed { IfOk result (λ listed. (status : Status)
+        → listed.answer ≡ Ok status → IsFlushed listed status) }
+    ensures err { IfErr result (λ error. error_kind error ≡ ErrorKind.OutOfMemory) }
+{
+    let reader = BufReader::with_capacity(alloc, INPUT_BUFFER, input)?;
+    let output = BufWriter::with_capacity(alloc, TEXT_BUFFER, output)?;
+    let report = BufWriter::with_capacity(alloc, TEXT_BUFFER, report)?;
+    let end = list(
+        Reader::new(reader),
+        Writer::new(output),
+        Writer::new(report),
+    );
+    let output = flushed(end.output.into_inner());
+    let report = flushed(end.report.into_inner());
+    Ok(Listed {
+        answer: after_flush(end.answer, output.is_some() && report.is_some()),
+        output,
+        report,
+    })
+}
+
+/// Hands on what the buffer holds. Returns the writer below it, or `None` where it failed.
+fn flushed<W: Write + Drop>(writer: BufWriter<W>) -> Option<W>
+    ensures { IfSome result (λ inner. Keeps (writer_contents W.contents writer) (W.contents inner)) }
+{
+    let mut inner = writer.into_inner().ok()?;
+    inner.flush().ok()?;
+    Some(inner)
+}
