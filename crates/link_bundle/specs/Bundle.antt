@@ -20,7 +20,7 @@ pub record Bundle : Type 0 where
   pub length : ℕ
   pub payload : ℕ × ℕ
 
--- a stop behind the payload's data head, whose bytes are noted
+-- a stop after the payload's data head, whose bytes are noted
 abbrev pub noting : {A : Type 0} → ℕ × ℕ → Result A Stop → Result A Stop
 noting payload (Ok value) = Ok value
 noting payload (Err stop) = Err (record stop { payload = Some payload })
@@ -29,7 +29,7 @@ abbrev pub info_of : Primary → ℕ → ℕ → BundleInfo
 info_of primary blocks payload =
     record { flags = primary.flags; destination = primary.destination; source = primary.source; time = primary.time; sequence = primary.sequence; lifetime = primary.lifetime; fragment = primary.fragment; blocks = blocks; payload = payload }
 
--- the data of the payload block that begins at `start`, its check field, and the break behind it
+-- the data of the payload block that begins at `start`, its check field, and the break after it
 unfoldable pub payload_at : Primary → ℕ → ℕ → Option CheckKind → ℕ → List ℕ → ℕ → Result Bundle Stop
 payload_at primary blocks size check start bytes place = noting (place, size) do
   (_, end) ← content_at size check start bytes place
@@ -82,7 +82,7 @@ abbrev pub told : Result Bundle Stop → Result BundleInfo (BundleFault × ℕ)
 told (Ok bundle) = Ok bundle.info
 told (Err stop) = Err (stop.fault, stop.place)
 
--- what the bytes are judged: a bundle, or the first fault and its place
+-- the verdict on the bytes: a bundle, or the first fault and its offset
 unfoldable pub verdict : List ℕ → Result BundleInfo (BundleFault × ℕ)
 verdict bytes = told (judged bytes)
 
@@ -98,7 +98,7 @@ bytes_of (Some (place, size)) bytes = take size (drop place bytes)
 unfoldable pub payload_in : List ℕ → List ℕ
 payload_in bytes = bytes_of (noted (judged bytes)) bytes
 
--- where the payload's first byte stands, and how many of its bytes are there
+-- the offset of the payload's first byte, and how many of its bytes are there
 abbrev pub spanned : Option (ℕ × ℕ) → ℕ → Option (ℕ × ℕ)
 spanned None count = None
 spanned (Some (place, size)) count = Some (place, count)

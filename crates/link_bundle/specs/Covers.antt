@@ -7,7 +7,7 @@ use Rattle.link_bundle.specs.declared.checks.BlockChecks.{BlockChecks}
 use Rattle.link_bundle.specs.declared.stage.CheckType.{CheckType}
 use Rattle.link_bundle.specs.declared.stage.CheckType.TheVariants.{Unread, Is}
 
--- those that may be wanted were given exactly these bytes
+-- those that the block may have were given exactly these bytes
 abbrev pub Covers : CheckType → BlockChecks → List ℕ → Type 0
 Covers Unread checks covered = HasPushed Crc16 checks.crc16 covered × HasPushed Crc32 checks.crc32 covered
 Covers (Is None) checks covered = Unit {0}

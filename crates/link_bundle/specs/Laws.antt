@@ -13,7 +13,7 @@ FaultLasts =
     (bytes more : List ℕ) (fault : BundleFault) (place : ℕ) → IsTrue (lasts fault) →
     verdict bytes ≡ Err (fault, place) → verdict (bytes ++ more) ≡ Err (fault, place)
 
--- a bundle with a byte behind it is trailing bytes at the bundle's length
+-- a bundle with a byte after it is trailing bytes at the bundle's length
 abbrev pub TrailingLasts : Type 0
 TrailingLasts =
     (bytes more : List ℕ) (byte : ℕ) (info : BundleInfo) →

@@ -1,4 +1,4 @@
--- What is left to be read where a scan stands: the reading of Blocks and Bundle from there on. A draft has what the heads
+-- What is left to be read where a scan is: the reading of Primary, Canonical and Bundle from there on. A draft has what the heads
 -- before gave. This joins the code to `judged`, and the promises need none of it.
 
 use Rattle.std.specs.Prelude.{◌≡◌, ◌≤◌, ℕ, ◌+◌, ◌-◌, ◌==◌, Bool, true, List, [], ◌∷◌, ◌++◌, length, replicate, slice_range, drop, unwrap_or, Option, Some, None, Result, Ok, Err, if◌then◌else◌}
@@ -49,20 +49,20 @@ abbrev pub with_note : Option (ℕ × ℕ) → Result Bundle Stop → Result Bun
 with_note None reading = reading
 with_note (Some payload) reading = noting payload reading
 
--- behind a block: the next block, or behind the payload block the break
+-- after a block: the next block, or after the payload block the break
 abbrev pub block_end : Option (ℕ × ℕ) → List ℕ → Primary → List ℕ → ℕ → Result Bundle Stop
 block_end None numbers primary bytes place = blocks_at (64 - length numbers) numbers primary bytes place
 block_end (Some (start, size)) numbers primary bytes place = do
   (_, end) ← row_at closing bytes place
   Ok (record { info = info_of primary (length numbers) size; length = end; payload = (start, size) })
 
--- behind what a check field says
+-- after what a check field says
 abbrev pub after_field : Draft → List ℕ → Reading Bool → Result Bundle Stop
 after_field draft bytes field = do
   (_, place) ← field
   block_end draft.payload draft.numbers (primary_of draft) bytes place
 
--- behind the primary block's fields
+-- after the primary block's fields
 abbrev pub after_primary : Draft → ℕ → List ℕ → Reading (Primary × Option CheckKind) → Result Bundle Stop
 after_primary draft start bytes fields = do
   ((primary, check), place) ← fields
@@ -281,7 +281,7 @@ ends_of bytes reading = do
   bundle ← reading
   ends bytes bundle
 
--- the check of a block from its start to its check field's content, and of so many zeros
+-- the check of a block from its start to its check field's content, and of that many zeros
 unfoldable pub zeroed_check : CheckKind → ℕ → ℕ → ℕ → List ℕ → ℕ
 zeroed_check kind start content zeros bytes = crc kind (slice_range bytes start content ++ replicate zeros 0)
 
@@ -328,13 +328,13 @@ stage_left (Stored field left stored kind) draft start content bytes place =
 stage_left Ended draft start field bytes place = ends bytes (bundle_of draft field)
 stage_left (Failed fault at) draft start field bytes place = with_note draft.payload (Err (stopped fault at))
 
--- what a whole head at `place`, with `next` behind it, leads to
+-- what a whole head at `place`, with `next` after it, leads to
 abbrev pub goes_on : Result Stage BundleFault → Draft → ℕ → ℕ → ℕ → List ℕ → Result Bundle Stop
 goes_on (Ok stage) draft start place next bytes = stage_left stage draft start next bytes next
 goes_on (Err fault) draft start place next bytes = with_note draft.payload (Err (stopped fault place))
 
--- the head at this place, with `next` behind it, is judged as the reading judges it: the stage and the draft are those
--- behind it
+-- the head at this offset, with `next` after it, is judged as the reading judges it: the stage and the draft are those
+-- after it
 abbrev pub JudgesFrom : ℕ → ℕ → Field → Draft → HeadItem → Result Stage BundleFault → Draft → Type 0
 JudgesFrom place next which old head result new =
     (bytes : List ℕ) (start : ℕ) → head_at bytes place ≡ Ok (head, next) → next ≤ length bytes →
@@ -349,7 +349,7 @@ JudgesAt next which old head result new = (place : ℕ) → JudgesFrom place nex
 abbrev pub Judges : Field → Draft → HeadItem → Result Stage BundleFault → Draft → Type 0
 Judges which old head result new = (next : ℕ) → JudgesAt next which old head result new
 
--- what stands behind a block, behind its fields and behind an endpoint ID
+-- what comes after a block, after its fields and after an endpoint ID
 
 abbrev pub BlockEnds : Draft → Stage → Draft → Type 0
 BlockEnds old stage new =
@@ -363,7 +363,7 @@ FieldsEnd old stage new =
     ends_of bytes (with_note old.payload (after_field old bytes (field_at (kind_of old.check) start bytes next)))
     ≡ stage_left stage new start next bytes next
 
--- behind the head of data of this size
+-- after the head of data of this size
 abbrev pub ContentBegins : ℕ → Draft → Stage → Draft → Type 0
 ContentBegins size old stage new =
     (bytes : List ℕ) (start next : ℕ) → next ≤ length bytes →

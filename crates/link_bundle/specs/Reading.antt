@@ -1,4 +1,4 @@
--- reading a bundle's parts at places of a whole list of bytes
+-- reading a bundle's parts at offsets of a whole list of bytes
 
 use Rattle.std.specs.Prelude.{ℕ, ◌+◌, nat_lt, List, length, take, drop, Option, None, Result, Ok, Err, if◌then◌else◌}
 use Rattle.link_cbor.specs.declared.head.Head.{Head}
@@ -7,7 +7,7 @@ use Rattle.link_bundle_types.specs.declared.fault.BundleFault.{BundleFault}
 use Rattle.link_bundle_types.specs.declared.fault.BundleFault.TheVariants.{Cut, BadHead}
 use Rattle.link_bundle_rows.specs.Rows.{◌>>=◌}
 
--- what ends a reading: the fault, its place, and where the payload's bytes begin and how many its head says, if that
+-- what ends a reading: the fault, its offset, and where the payload's bytes begin and how many its head says, if that
 -- head was accepted before
 pub record Stop : Type 0 where
   pub fault : BundleFault
@@ -17,11 +17,11 @@ pub record Stop : Type 0 where
 abbrev pub stopped : BundleFault → ℕ → Stop
 stopped fault place = record { fault = fault; place = place; payload = None }
 
--- what stands at a place and the place behind it, or the stop
+-- what is at an offset and the offset after it, or the stop
 abbrev pub Reading : Type 0 → Type 0
 Reading A = Result (A × ℕ) Stop
 
--- missing bytes: the place is the number of bytes that there are
+-- missing bytes: the offset is the number of bytes that there are
 abbrev pub cut_short : {A : Type 0} → List ℕ → Result A Stop
 cut_short bytes = Err (stopped Cut (length bytes))
 
@@ -30,7 +30,7 @@ placed bytes place CutHead = cut_short bytes
 placed bytes place IllFormed = Err (stopped BadHead place)
 placed bytes place (Whole head size) = Ok (head, place + size)
 
--- the head at a place (RFC 8949 section 3)
+-- the head at an offset (RFC 8949 section 3)
 unfoldable pub head_at : List ℕ → ℕ → Reading Head
 head_at bytes place = placed bytes place (head_front (drop place bytes))
 
@@ -38,13 +38,13 @@ abbrev pub judged_at : {A : Type 0} → ℕ → ℕ → Result A BundleFault →
 judged_at place next (Ok value) = Ok (value, next)
 judged_at place next (Err fault) = Err (stopped fault place)
 
--- the head at a place, judged; the place of a fault is that of the head
+-- the head at an offset, judged; the offset of a fault is that of the head
 unfoldable pub row_at : {A : Type 0} → (Head → Result A BundleFault) → List ℕ → ℕ → Reading A
 row_at row bytes place = do
   (head, next) ← head_at bytes place
   judged_at place next (row head)
 
--- so many bytes from a place
+-- that many bytes from an offset
 unfoldable pub bytes_at : ℕ → List ℕ → ℕ → Reading (List ℕ)
 bytes_at count bytes place =
     if nat_lt (length bytes) (place + count) then cut_short bytes else Ok (take count (drop place bytes), place + count)

@@ -26,7 +26,7 @@ stage_after Destination = Head (field.Endpoint Source part.Whole)
 stage_after Source = Head (field.Endpoint ReportTo part.Whole)
 stage_after ReportTo = Head (field.Primary primary.Timestamp)
 
--- one more byte may be given where no fault was told
+-- one more byte may be given where no fault was reported
 abbrev pub takes_bytes : State → Bool
 takes_bytes state.Going = true
 takes_bytes state.Ended = true

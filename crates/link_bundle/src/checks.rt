@@ -1,4 +1,5 @@
-ghost use Rattle.std.specs.Prelude.{◌≡◌, ℕ, List, [], ◌++◌};
+//! The checks of a block.
+ghost use Rattle.std.specs.Prelude.{◌≡◌, ℕ, List, [], ◌∷◌, ◌++◌};
 
 use crate::stage::CheckType;
 use link_cbor::{Check, CheckKind};
@@ -25,8 +26,33 @@ impl BlockChecks {
         }
     }
 
-    /// Takes bytes of the block into what is needed.
-    pub fn push_slice(&mut self, check: CheckType, bytes: &[u8])
+    /// Takes a byte of the block into what is needed.
+    fn push(&mut self, check: CheckType, byte: u8)
+        ensures { (covered : List ℕ) → Covers check self.old covered → Covers check self.new (covered ++ byte ∷ []) }
+    {
+        match check {
+            CheckType::Unread => {
+                self.crc16.push(byte);
+                self.crc32.push(byte);
+            }
+            CheckType::Is(None) => {}
+            CheckType::Is(Some(CheckKind::Crc16)) => self.crc16.push(byte),
+            CheckType::Is(Some(CheckKind::Crc32)) => self.crc32.push(byte),
+        }
+    }
+
+    /// The same for a run. Most heads are one byte, which goes faster alone.
+    pub fn take(&mut self, check: CheckType, run: &[u8])
+        ensures { (covered : List ℕ) → Covers check self.old covered → Covers check self.new (covered ++ run.now) }
+    {
+        if run.len() == 1 {
+            self.push(check, run[0]);
+        } else {
+            self.push_slice(check, run);
+        }
+    }
+
+    fn push_slice(&mut self, check: CheckType, bytes: &[u8])
         ensures { (covered : List ℕ) → Covers check self.old covered → Covers check self.new (covered ++ bytes.now) }
     {
         match check {

@@ -1,3 +1,4 @@
+//! How far a scan has come: bytes counted, the head in hand, and the checks.
 ghost use Rattle.std.specs.Prelude.{◌≡◌, ℕ, ◌+◌, ◌-◌, ◌^◌, ◌<◌, ◌≤◌, ◌↔◌, IsTrue, List, ◌∷◌, [], ◌++◌, length};
 ghost use Rattle.std.specs.Bool.{MatchBool};
 ghost use Rattle.link_cbor.specs.Head.{head_front, front_of};
@@ -47,7 +48,7 @@ impl Cursor {
         ensures may_step { IsTrue (may_scan_head self.new.head) ↔ (result ≡ HeadStep.More) }
     {
         self.count += 1;
-        self.checks.push_slice(check, &[byte]);
+        self.checks.take(check, &[byte]);
         self.head.step(byte);
         self.head.outcome()
     }
@@ -60,7 +61,7 @@ impl Cursor {
         ensures checks { (covered : List ℕ) → Covers check self.old.checks covered → Covers check self.new.checks (covered ++ run.now) }
     {
         self.count += run.len() as u64;
-        self.checks.push_slice(check, run);
+        self.checks.take(check, run);
     }
 
     /// Makes ready for what comes next.

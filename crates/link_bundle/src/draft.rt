@@ -1,3 +1,4 @@
+//! What is held of a bundle while its heads come, and how each head goes into it.
 ghost use Rattle.std.specs.Prelude.{◌≡◌, ◌≤◌, [], ◌++◌, IfOk, IsTrue, length};
 
 use crate::kept_eid::{EidForm, KeptEid};
@@ -105,7 +106,7 @@ impl Draft {
         }
     }
 
-    /// What stands behind a block: the next block, or behind the payload block the break.
+    /// What comes after a block: the next block, or after the payload block the break.
     #[tactic(auto, using(crate::proofs::Heads::closes, crate::proofs::Heads::goes_to_block), unfolding(crate::specs::Left::stage_left, crate::specs::Left::field_left))]
     pub fn after_block(&mut self) -> Stage
         ensures reads { BlockEnds self.old result self.new }
@@ -119,7 +120,7 @@ impl Draft {
         Stage::Head(Field::Canonical(CanonicalField::Block))
     }
 
-    /// What stands behind the fields of a block but its check field.
+    /// What comes after the fields of a block but its check field.
     #[tactic(auto, unfolding(crate::specs::Left::stage_left, crate::specs::Left::field_left, crate::specs::CheckField::field_at))]
     pub fn after_fields(&mut self) -> Stage
         ensures reads { FieldsEnd self.old result self.new }
@@ -373,7 +374,7 @@ impl Draft {
         let service = row::unsigned(head)?;
         match allocator {
             None => Ok(self.after_eid(role, EidForm::Ipn(node, service))),
-            Some(allocator) => { Ok(self.after_eid(role, EidForm::Ipn3(allocator, node, service))) }
+            Some(allocator) => Ok(self.after_eid(role, EidForm::Ipn3(allocator, node, service))),
         }
     }
 
@@ -445,7 +446,7 @@ impl Draft {
     ghost use Rattle.link_bundle.specs.Fits.{stage_fits, Follows, KeepsCheck};
     ghost use Rattle.link_bundle.specs.Left.{Judges, JudgesAt, ContentBegins};
 
-    /// Judges a head of a canonical block, with `next` the place behind it.
+    /// Judges a head of a canonical block, with `next` the offset after it.
     pub fn canonical(
         &mut self,
         field: CanonicalField,
@@ -538,7 +539,7 @@ impl Draft {
         Ok(self.content(size))
     }
 
-    /// What stands behind the head of data of this size.
+    /// What comes after the head of data of this size.
     #[tactic(auto, using(crate::proofs::Heads::no_content), unfolding(crate::specs::Left::stage_left))]
     fn content(&mut self, size: u64) -> Stage
         ensures reads { ContentBegins size self.old result self.new }

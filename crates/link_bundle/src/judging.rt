@@ -67,14 +67,11 @@ pub(crate) fn first_head(piece: &[u8]) -> (HeadStep, usize)
     let first = piece[0];
     let information = first & 0x1f;
     if information < 24 {
-        let value = Some(u64::from(information));
-        return (
-            HeadStep::Done(Head {
-                major: first >> 5,
-                value,
-            }),
-            1,
-        );
+        let head = Head {
+            major: first >> 5,
+            value: Some(u64::from(information)),
+        };
+        return (HeadStep::Done(head), 1);
     }
     let mut scan = HeadScan::new();
     let size = scan.feed(piece);

@@ -1,4 +1,32 @@
-//! Bundles (RFC 9171 section 4), scanned byte by byte in any pieces.
+//! Bundles of the Bundle Protocol version 7 (RFC 9171 section 4), scanned in pieces of any size.
+//!
+//! ```text
+//! |<-1->|                                                          |<-1->|
+//! +-----+----------------+------------------+--+-------------------+-----+
+//! | 9f  | primary block  | canonical blocks |..| payload block     | ff  |
+//! |     | (section 4.3.1)| (section 4.3.2)  |  | (number 1, last)  |     |
+//! +-----+----------------+------------------+--+-------------------+-----+
+//! ```
+//!
+//! A [`BundleScan`] is fed the bytes as they come, and judges each head as soon as it is complete. What it has found is
+//! at hand at any time, and one scan serves many bundles:
+//!
+//! ```text
+//! let mut scan = BundleScan::new();
+//! let taken = scan.feed(piece);            // stops after the bundle, or at the byte that shows a fault
+//! match scan.state() {
+//!     State::Going => {}                   // more bytes are needed
+//!     State::Ended => {
+//!         let bundle = scan.view()?;       // the bundle by reference; `finish` gives it as a value
+//!         let payload = scan.payload_seen();
+//!     }
+//!     State::Failed(fault, offset) => {}
+//! }
+//! scan.restart();                          // the next byte is a bundle's first
+//! ```
+//!
+//! The verdict depends on the bytes alone, however they are cut into pieces: it is the definition `verdict` of
+//! specs/Bundle.antt. The types stand in the crate `link_bundle_types`, and how each head is judged in `link_bundle_rows`.
 #![tactic(auto)]
 
 mod checks;

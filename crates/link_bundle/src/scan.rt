@@ -1,3 +1,4 @@
+//! The scanner of bundles.
 ghost use Rattle.std.specs.Prelude.{◌≡◌, ℕ, ◌+◌, ◌-◌, ◌^◌, ◌<◌, ◌≤◌, IfOk, IsTrue, List, ◌∷◌, [], ◌++◌, length, take, drop, min, true};
 ghost use Rattle.link_bundle.specs.Fits.{scan_fits};
 ghost use Rattle.link_cbor.specs.Head.{Whole, head_front};
@@ -13,7 +14,8 @@ use std::fmt;
 /// The first byte of a bundle: it opens an array of indefinite length (RFC 9171 section 4.1).
 const OPENING: u8 = 0x9f;
 
-/// Scans one bundle, byte by byte in any pieces. It holds what [`BundleInfo`] says and no bytes of the data.
+/// Scans one bundle (RFC 9171 section 4), in pieces of any size. It holds what [`BundleInfo`] says and no bytes of the
+/// data.
 #[derive(Drop)]
 pub struct BundleScan {
     stage: Stage,
@@ -62,7 +64,7 @@ impl BundleScan {
         self.stage = Stage::Start;
     }
 
-    /// Where the scan stands: what the verdict on the bytes seen says.
+    /// The state of the scan: what the verdict on the bytes seen says.
     pub fn state(&self) -> State
         ensures seen { (seen : List ℕ) → HasScanned self.now seen → result ≡ state_of (verdict seen) }
         // Where it has not failed it may be stepped.
@@ -71,7 +73,8 @@ impl BundleScan {
         self.stage.state()
     }
 
-    /// The verdict on the bytes seen: the bundle that they are, or their fault and its place.
+    /// The verdict on the bytes seen: the bundle that they are, or their fault and its offset. Where they end inside a
+    /// bundle, that is [`BundleFault::Cut`] at their number.
     pub fn finish(&self) -> Result<BundleInfo, (BundleFault, u64)>
         ensures { (seen : List ℕ) → HasScanned self.now seen → result ≡ verdict seen }
     {
@@ -93,8 +96,8 @@ impl BundleScan {
         }
     }
 
-    /// Where the payload's first byte stands, and how many bytes of it have come. `None` until the head of the payload
-    /// block's data is whole and accepted. A later fault leaves the answer.
+    /// The offset of the payload's first byte, and how many bytes of the payload have come. `None` until the head of the
+    /// payload block's data (RFC 9171 section 4.3.2) is whole and accepted. A later fault leaves the result as it is.
     pub fn payload_seen(&self) -> Option<(u64, u64)>
         ensures { (seen : List ℕ) → HasScanned self.now seen → result ≡ payload_span seen }
     {
@@ -212,7 +215,7 @@ impl BundleScan {
         }
     }
 
-    /// A byte behind the bundle.
+    /// A byte after the bundle.
     fn trailing_byte(&mut self, byte: u8)
         requires stage { self.old.stage ≡ Stage.Ended }
         requires room { self.old.cursor.count < 2 ^ 63 - 1 }

@@ -1,3 +1,4 @@
+//! The stages of a scan.
 ghost use Rattle.std.specs.Prelude.{◌≡◌};
 
 use link_bundle_rows::Scheme;
@@ -77,22 +78,23 @@ pub(crate) enum Field {
     Canonical(CanonicalField),
     /// The check field of a block with a check of this kind.
     Check(CheckKind),
-    /// The break behind the payload block.
+    /// The break after the payload block.
     Closing,
 }
 
-/// Where the scan stands in the bundle.
+/// Where in the bundle the scan is.
 #[derive(Clone, Copy)]
 pub(crate) enum Stage {
     /// Before the first byte.
     Start,
     /// At a head.
     Head(Field),
-    /// In a dtn name, of which so many bytes are left.
+    /// In a dtn name, of which this many bytes are left.
     Name(Role, u64),
-    /// In a block's data, of which so many bytes are left.
+    /// In a block's data, of which this many bytes are left.
     Content(u64),
-    /// In the content of the check field at `place`, of which `left` bytes are left. Those before spell `stored`.
+    /// In the content of the check field whose head is at `place`, of which `left` bytes are left. Those before spell
+    /// `stored`.
     Stored {
         place: u64,
         left: u64,

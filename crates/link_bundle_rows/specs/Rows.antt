@@ -113,7 +113,7 @@ ipn_count (Err fault) = Err BadSpecificPart
 unfoldable pub ipn_part : Head → Result ℕ BundleFault
 ipn_part head = ipn_count (array head)
 
--- at the place of a canonical block (section 4.3.2), with the payload block still to come:
+-- where a canonical block may begin (section 4.3.2), with the payload block still to come:
 -- five elements, one more with a check field
 unfoldable pub block : Head → Result ℕ BundleFault
 block head =
@@ -127,7 +127,7 @@ block_too_many head = do
   count ← block head
   Err TooManyBlocks
 
--- the payload block has number 1, and no other block has it; 0 stands for the primary block (section 4.1)
+-- the payload block has number 1, and no other block has it; 0 is the primary block's (section 4.1)
 abbrev pub fits_type : ℕ → ℕ → Bool
 fits_type type number = not (number == 0) && (if type == 1 then number == 1 else not (number == 1))
 
@@ -152,6 +152,6 @@ check_field kind head = do
   count ← byte_string head
   wanted (count == check_width kind) count BadCheckLength
 
--- behind the payload block
+-- after the payload block
 unfoldable pub closing : Head → Result Bool BundleFault
 closing head = wanted (is_break head) true NoPayloadLast

@@ -268,7 +268,7 @@ pub fn check_field(kind: CheckKind, head: Head) -> Result<u64, BundleFault>
     }
 }
 
-/// The break behind the payload block.
+/// The break after the payload block.
 #[tactic(auto, unfolding(crate::specs::Rows::closing))]
 pub fn closing(head: Head) -> Result<bool, BundleFault>
     ensures judged { result ≡ row.closing head }

@@ -1,7 +1,8 @@
+//! Faults of bundles, and the states of a scan.
 use thiserror::Error;
 
-/// Why bytes are no bundle. The scan tells it with its place, counted from the bundle's first byte: for `Cut` the number
-/// of bytes seen, for `Trailing` the bundle's length, for every other fault the place of the head that was judged.
+/// Why bytes are no bundle. The scan reports it with an offset, counted from the bundle's first byte: for `Cut` the number
+/// of bytes seen, for `Trailing` the bundle's length, for every other fault the offset of the head that was judged.
 #[derive(Clone, Copy, Debug, PartialEq, Eq, Error)]
 pub enum BundleFault {
     /// B1: the bytes end inside the bundle.
@@ -57,13 +58,13 @@ pub enum BundleFault {
     NoPayloadLast,
 }
 
-/// Where a scan stands.
+/// The state of a scan.
 #[derive(Clone, Copy, Debug, PartialEq, Eq)]
 pub enum State {
-    /// The bytes seen are the beginning of a bundle, and more are wanted.
+    /// The bytes seen are a prefix of a bundle, and more are needed.
     Going,
     /// The bytes seen are a whole bundle.
     Ended,
-    /// The bytes seen are no bundle, however they go on: the fault and its place.
+    /// The bytes seen are no bundle, however they go on: the fault and its offset.
     Failed(BundleFault, u64),
 }

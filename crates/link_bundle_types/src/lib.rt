@@ -1,7 +1,7 @@
 //! What a scan of a bundle (RFC 9171 section 4) reports: the bundle, or its fault.
 //!
 //! [`BundleInfo`] is what a whole bundle says of itself, with its endpoint IDs as [`Eid`]; [`BundleView`] and
-//! [`EidView`] are the same by reference. [`State`] is where a scan stands, and [`BundleFault`] why bytes are no bundle.
+//! [`EidView`] are the same by reference. [`State`] is the state of a scan, and [`BundleFault`] why bytes are no bundle.
 #![tactic(auto)]
 
 mod eid;
