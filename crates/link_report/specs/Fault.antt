@@ -5,7 +5,8 @@ use Rattle.link_wire.specs.declared.fault.WireFault.TheVariants as wire
 use Rattle.link_transfer.specs.declared.fault.OrderFault.{OrderFault}
 use Rattle.link_transfer.specs.declared.fault.OrderFault.TheVariants as order
 use Rattle.link_report.specs.declared.fault.Fault.{Fault}
-use Rattle.link_report.specs.declared.fault.Fault.TheVariants.{Wire, Order}
+use Rattle.link_report.specs.declared.fault.Fault.TheVariants.{Wire, Order, Bundle, TooLong}
+use Rattle.link_report.specs.BundleFault.{code_text, bundle_fault_text}
 use Rattle.link_report.specs.Text.{hex2, number_text, newline}
 
 -- a fault of the wire (RFC 9174 sections 4.1 to 4.8 and 5.2)
@@ -31,10 +32,17 @@ order_text order.StartAfterSessTerm = codes "start after session termination"
 unfoldable pub offset_text : ℕ → List ℕ
 offset_text offset = number_text (codes "byte ") offset ++ codes ": "
 
+-- the number of the bundle in which a fault stands, and the fault's offset in it
+unfoldable pub bundle_offset_text : ℕ → ℕ → List ℕ
+bundle_offset_text number offset = number_text (codes "bundle ") number ++ number_text (codes " byte ") offset ++ codes ": "
+
 -- where a fault stands, and what it is
 unfoldable pub place_text : Fault → List ℕ
 place_text (Wire offset fault) = offset_text offset ++ wire_text fault
 place_text (Order offset fault) = offset_text offset ++ order_text fault
+place_text (Bundle number offset fault) =
+    bundle_offset_text number offset ++ code_text fault ++ codes " " ++ bundle_fault_text fault
+place_text (TooLong number offset) = bundle_offset_text number offset ++ codes "P1 longer than the peer's transfer limit"
 
 -- the line of a fault
 unfoldable pub fault_text : Fault → List ℕ

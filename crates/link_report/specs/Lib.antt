@@ -1,4 +1,10 @@
 pub mod Text
 pub mod Reason
 pub mod Message
+pub mod Eid
+pub mod Identity
+pub mod BundleFault
+pub mod Judgement
+pub mod Transfer
+pub mod Packed
 pub mod Fault

@@ -2,19 +2,26 @@
 
 ghost use Rattle.std.specs.Prelude.{◌≡◌, ◌+◌, ◌<◌, ◌≤◌, [], ◌++◌, length};
 ghost use Rattle.arrayvec.specs.ArrayVec.{array_vec_len};
-ghost use Rattle.link_report.specs.Fault.{offset_text, wire_text, place_text, order_text, fault_text};
+ghost use Rattle.link_report.specs.Fault.{offset_text, bundle_offset_text, wire_text, place_text, order_text, fault_text};
 
+use crate::bundle_fault::{code_of, words_of};
 use crate::put::{LINE_MAX, Line, put_hex2, put_number, put_text};
+use link_bundle_types::BundleFault;
 use link_transfer::OrderFault;
 use link_wire::WireFault;
 
-/// A fault that ends a run, with the offset of the message in which it stands.
+/// A fault that ends a run, and where it stands: the offset of the message, or the bundle's number and the offset in
+/// that bundle.
 #[derive(Clone, Copy, Debug, PartialEq, Eq)]
 pub enum Fault {
     /// The stream is no recorded session.
     Wire(u64, WireFault),
     /// The message may not stand where it stands.
     Order(u64, OrderFault),
+    /// The bytes are no bundle.
+    Bundle(u64, u64, BundleFault),
+    /// The bundle is longer than the transfer MRU of its receiver (RFC 9174 section 4.6).
+    TooLong(u64, u64),
 }
 
 /// What a fault of the order says.
@@ -73,6 +80,18 @@ fn put_offset(line: &mut Line, offset: u64)
     put_text(line, ": ");
 }
 
+/// Appends `bundle `, its number, ` byte `, the offset in it and `: `, after `tcpclkit: `.
+#[tactic(auto, unfolding(crate::specs::Fault::bundle_offset_text))]
+fn put_bundle_offset(line: &mut Line, number: u64, offset: u64)
+    requires { array_vec_len line.old ≤ 10 }
+    ensures items { line.new.items ≡ line.old.items ++ bundle_offset_text number offset }
+    ensures len { array_vec_len line.new ≤ 65 }
+{
+    put_number(line, "bundle ", number);
+    put_number(line, " byte ", offset);
+    put_text(line, ": ");
+}
+
 /// Appends where the fault stands and what it is, after `tcpclkit: `.
 #[tactic(auto, unfolding(crate::specs::Fault::place_text))]
 fn put_place(line: &mut Line, fault: &Fault)
@@ -88,6 +107,16 @@ fn put_place(line: &mut Line, fault: &Fault)
         Fault::Order(offset, fault) => {
             put_offset(line, offset);
             put_text(line, order_words(fault));
+        }
+        Fault::Bundle(number, offset, fault) => {
+            put_bundle_offset(line, number, offset);
+            put_text(line, code_of(fault));
+            put_text(line, " ");
+            put_text(line, words_of(fault));
+        }
+        Fault::TooLong(number, offset) => {
+            put_bundle_offset(line, number, offset);
+            put_text(line, "P1 longer than the peer's transfer limit");
         }
     }
 }

@@ -6,15 +6,19 @@ ghost use Rattle.arrayvec.specs.ArrayVec.{array_vec_len};
 ghost use Rattle.link_report.specs.Text.{hex2, hex4, escaped, is_plain, number_text};
 
 use arrayvec::ArrayVec;
-use itoa::Buffer;
+use itoa::write_digits;
 
 /// The most bytes that a line holds, its newline among them.
 pub const LINE_MAX: usize = 9216;
+
+/// The most digits of a number of 64 bits.
+const MAX_DIGITS: usize = 20;
 
 /// A report line as it is written, in bytes.
 pub type Line = ArrayVec<u8, LINE_MAX>;
 
 /// Appends `bytes` as they stand.
+#[inline(always)]
 fn put_bytes(line: &mut Line, bytes: &[u8])
     requires { array_vec_len line.old + length bytes.now ≤ LINE_MAX }
     ensures items { line.new.items ≡ line.old.items ++ bytes.now }
@@ -24,6 +28,7 @@ fn put_bytes(line: &mut Line, bytes: &[u8])
 }
 
 /// Appends `text`.
+#[inline(always)]
 pub fn put_text(line: &mut Line, text: &str)
     requires { array_vec_len line.old + length text.now ≤ LINE_MAX }
     ensures items { line.new.items ≡ line.old.items ++ text.now }
@@ -33,16 +38,21 @@ pub fn put_text(line: &mut Line, text: &str)
 }
 
 /// Appends `number` in decimal, without leading zeros.
+#[tactic(auto, using(crate::proofs::Lengths::length_of_decimal))]
+#[inline(always)]
 pub fn put_decimal(line: &mut Line, number: u64)
     requires { array_vec_len line.old + length (decimal number) ≤ LINE_MAX }
     ensures items { line.new.items ≡ line.old.items ++ decimal number }
     ensures len { array_vec_len line.new ≡ array_vec_len line.old + length (decimal number) }
 {
-    put_text(line, Buffer::new().format(number));
+    let mut digits = [0; MAX_DIGITS];
+    let start = write_digits(number, &mut digits, MAX_DIGITS);
+    put_bytes(line, &digits[start..]);
 }
 
 /// Appends `byte` as two lower-case hexadecimal digits.
 #[tactic(auto, unfolding(crate::specs::Text::hex2, hex::specs::Hex::encode_with))]
+#[inline(always)]
 pub fn put_hex2(line: &mut Line, byte: u8)
     requires { array_vec_len line.old + 2 ≤ LINE_MAX }
     ensures items { line.new.items ≡ line.old.items ++ hex2 byte }
@@ -55,6 +65,7 @@ pub fn put_hex2(line: &mut Line, byte: u8)
 
 /// Appends `number` as four lower-case hexadecimal digits.
 #[tactic(auto, unfolding(crate::specs::Text::hex4, crate::specs::Text::hex2, hex::specs::Hex::encode_with))]
+#[inline(always)]
 pub fn put_hex4(line: &mut Line, number: u16)
     requires { array_vec_len line.old + 4 ≤ LINE_MAX }
     ensures items { line.new.items ≡ line.old.items ++ hex4 number }
@@ -106,6 +117,7 @@ pub fn put_escaped(line: &mut Line, bytes: &[u8])
 
 /// Appends `label` and `number` in decimal.
 #[tactic(auto, using(crate::proofs::Lengths::length_of_decimal), unfolding(crate::specs::Text::number_text))]
+#[inline(always)]
 pub(crate) fn put_number(line: &mut Line, label: &str, number: u64)
     requires { array_vec_len line.old + length label.now + 20 ≤ LINE_MAX }
     ensures items { line.new.items ≡ line.old.items ++ number_text label.now number }

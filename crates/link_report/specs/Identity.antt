@@ -1,0 +1,28 @@
+-- What a line says of a bundle: its source and creation timestamp, and of a fragment its offset and the payload's length
+-- (RFC 9171 section 4.3.1); and besides its destination.
+use Rattle.std.specs.Prelude.{ℕ, Option, Some, None, List, [], ◌++◌, codes}
+use Rattle.link_bundle_types.specs.declared.eid.Eid.{Eid}
+use Rattle.link_bundle_types.specs.declared.info.BundleInfo.{BundleInfo}
+use Rattle.link_report.specs.Eid.{eid_text, IsShort}
+use Rattle.link_report.specs.Text.{number_text}
+
+-- a fragment's offset and the total length; nothing of a bundle that is no fragment
+unfoldable pub fragment_text : Option (ℕ × ℕ) → List ℕ
+fragment_text None = []
+fragment_text (Some (offset, total)) = number_text (codes " fragment=") offset ++ number_text (codes "/") total
+
+-- a source, and the time and the sequence number of a creation timestamp
+unfoldable pub origin_text : Eid → ℕ → ℕ → List ℕ
+origin_text source time sequence =
+    codes "source=" ++ eid_text source ++ number_text (codes " time=") time
+    ++ number_text (codes " sequence=") sequence
+
+unfoldable pub identity_text : BundleInfo → List ℕ
+identity_text info =
+    origin_text info.source info.time info.sequence ++ codes " destination=" ++ eid_text info.destination
+    ++ number_text (codes " payload=") info.payload ++ fragment_text info.fragment
+
+-- the names in a bundle's source and destination have at most 1,024 bytes each
+pub record HasShortNames (info : BundleInfo) : Type 0 where
+  pub source : IsShort info.source
+  pub destination : IsShort info.destination

@@ -1,0 +1,33 @@
+-- What the line of a transfer says of its data.
+use Rattle.std.specs.Prelude.{ℕ, List, ◌++◌, codes}
+use Rattle.link_bundle_types.specs.BundleView.{viewed_info}
+use Rattle.link_report.specs.declared.judgement.Judgement.{Judgement}
+use Rattle.link_report.specs.declared.judgement.Judgement.TheVariants.{Abandoned, BadLengthItem, LengthDiffers, Bad, Good}
+use Rattle.link_report.specs.declared.judgement.JudgementView.{JudgementView}
+use Rattle.link_report.specs.declared.judgement.JudgementView.TheVariants as view
+use Rattle.link_report.specs.BundleFault.{code_text}
+use Rattle.link_report.specs.Identity.{identity_text, HasShortNames}
+use Rattle.link_report.specs.Text.{number_text}
+
+unfoldable pub judgement_text : Judgement → List ℕ
+judgement_text Abandoned = codes "abandoned"
+judgement_text BadLengthItem = codes "bad-length-item"
+judgement_text (LengthDiffers announced) = number_text (codes "length-differs announced=") announced
+judgement_text (Bad fault offset) = codes "bad=" ++ code_text fault ++ number_text (codes " byte=") offset
+judgement_text (Good info) = codes "good " ++ identity_text info
+
+-- the judgement that a view shows
+abbrev pub viewed_judgement : JudgementView → Judgement
+viewed_judgement view.Abandoned = Abandoned
+viewed_judgement view.BadLengthItem = BadLengthItem
+viewed_judgement (view.LengthDiffers announced) = LengthDiffers announced
+viewed_judgement (view.Bad fault offset) = Bad fault offset
+viewed_judgement (view.Good info) = Good (viewed_info info)
+
+-- the names of a good bundle have at most 1,024 bytes each
+abbrev pub IsShortJudgement : Judgement → Type 0
+IsShortJudgement Abandoned = Unit {0}
+IsShortJudgement BadLengthItem = Unit {0}
+IsShortJudgement (LengthDiffers announced) = Unit {0}
+IsShortJudgement (Bad fault offset) = Unit {0}
+IsShortJudgement (Good info) = HasShortNames info

@@ -1,0 +1,104 @@
+//! What a line says of a bundle (RFC 9171 section 4.3.1), and the texts of endpoint IDs.
+
+ghost use Rattle.std.specs.Prelude.{◌≡◌, ◌+◌, ◌≤◌, ◌++◌, length};
+ghost use Rattle.arrayvec.specs.ArrayVec.{array_vec_len};
+ghost use Rattle.link_bundle_types.specs.EidView.{viewed_eid};
+ghost use Rattle.link_bundle_types.specs.BundleView.{viewed_info};
+ghost use Rattle.link_report.specs.Eid.{eid_text, IsShort};
+ghost use Rattle.link_report.specs.Identity.{fragment_text, origin_text, identity_text, HasShortNames};
+
+use crate::put::{LINE_MAX, Line, put_escaped, put_number, put_text};
+use link_bundle_types::{BundleInfo, BundleView, Eid, EidView};
+
+/// An endpoint ID by reference. An `Eid` has room for no longer name.
+pub(crate) fn view_of_eid(eid: &Eid) -> EidView<'_>
+    ensures view { viewed_eid result ≡ eid.now }
+    ensures short { IsShort eid.now }
+{
+    match eid {
+        Eid::Dtn(name) => EidView::Dtn(name.as_slice()),
+        _ => eid.view(),
+    }
+}
+
+/// A bundle by reference.
+pub(crate) fn view_of_info(info: &BundleInfo) -> BundleView<'_>
+    ensures view { viewed_info result ≡ info.now }
+    ensures short { HasShortNames info.now }
+{
+    BundleView {
+        destination: view_of_eid(&info.destination),
+        source: view_of_eid(&info.source),
+        ..info.view()
+    }
+}
+
+/// Appends an endpoint ID: 4 bytes and an escaped name, or 6 bytes and three numbers.
+#[tactic(auto, using(crate::proofs::Escapes::length_of_escaped), unfolding(crate::specs::Eid::eid_text))]
+fn put_eid(line: &mut Line, eid: &EidView<'_>)
+    requires short { IsShort (viewed_eid eid.now) }
+    requires room { array_vec_len line.old + 4100 ≤ LINE_MAX }
+    ensures items { line.new.items ≡ line.old.items ++ eid_text (viewed_eid eid.now) }
+    ensures len { array_vec_len line.new ≤ array_vec_len line.old + 4100 }
+{
+    match *eid {
+        EidView::DtnNone => put_text(line, "dtn:none"),
+        EidView::Dtn(name) => {
+            put_text(line, "dtn:");
+            put_escaped(line, name);
+        }
+        EidView::Ipn(node, service) => {
+            put_number(line, "ipn:", node);
+            put_number(line, ".", service);
+        }
+        EidView::Ipn3(allocator, node, service) => {
+            put_number(line, "ipn:", allocator);
+            put_number(line, ".", node);
+            put_number(line, ".", service);
+        }
+    }
+}
+
+/// Appends what identifies a fragment within its bundle, and nothing of a bundle that is no fragment: 11 bytes and two
+/// numbers.
+#[tactic(auto, unfolding(crate::specs::Identity::fragment_text))]
+fn put_fragment(line: &mut Line, fragment: Option<(u64, u64)>)
+    requires { array_vec_len line.old + 51 ≤ LINE_MAX }
+    ensures items { line.new.items ≡ line.old.items ++ fragment_text fragment }
+    ensures len { array_vec_len line.new ≤ array_vec_len line.old + 51 }
+{
+    if let Some((offset, total)) = fragment {
+        put_number(line, " fragment=", offset);
+        put_number(line, "/", total);
+    }
+}
+
+/// Appends a source and a creation timestamp: 23 bytes, an endpoint ID and two numbers.
+#[tactic(auto, unfolding(crate::specs::Identity::origin_text))]
+fn put_origin(line: &mut Line, source: &EidView<'_>, time: u64, sequence: u64)
+    requires short { IsShort (viewed_eid source.now) }
+    requires room { array_vec_len line.old + 4163 ≤ LINE_MAX }
+    ensures items { line.new.items ≡ line.old.items ++ origin_text (viewed_eid source.now) time sequence }
+    ensures len { array_vec_len line.new ≤ array_vec_len line.old + 4163 }
+{
+    put_text(line, "source=");
+    put_eid(line, source);
+    put_number(line, " time=", time);
+    put_number(line, " sequence=", sequence);
+}
+
+/// Appends what a line says of a bundle: a source and a creation timestamp, 22 bytes, an endpoint ID, a number and a
+/// fragment's numbers.
+#[tactic(auto, unfolding(crate::specs::Identity::identity_text))]
+pub(crate) fn put_identity(line: &mut Line, info: &BundleView<'_>)
+    requires short { HasShortNames (viewed_info info.now) }
+    requires room { array_vec_len line.old + 8356 ≤ LINE_MAX }
+    ensures items { line.new.items ≡ line.old.items ++ identity_text (viewed_info info.now) }
+    ensures len { array_vec_len line.new ≤ array_vec_len line.old + 8356 }
+{
+    put_origin(line, &info.source, info.time, info.sequence);
+    put_text(line, " destination=");
+    put_eid(line, &info.destination);
+    put_number(line, " payload=", info.payload);
+    put_fragment(line, info.fragment);
+}

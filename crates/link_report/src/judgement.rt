@@ -1,0 +1,82 @@
+//! What the line of a transfer says of its data.
+
+ghost use Rattle.std.specs.Prelude.{◌≡◌, ◌+◌, ◌≤◌, ◌<◌, ◌++◌};
+ghost use Rattle.arrayvec.specs.ArrayVec.{array_vec_len};
+ghost use Rattle.link_report.specs.Judgement.{judgement_text, viewed_judgement, IsShortJudgement};
+
+use crate::bundle_fault::code_of;
+use crate::identity::{put_identity, view_of_info};
+use crate::put::{LINE_MAX, Line, put_number, put_text};
+use link_bundle_types::{BundleFault, BundleInfo, BundleView};
+
+/// What the data of a transfer are.
+#[derive(Debug, PartialEq, Eq, Drop)]
+pub enum Judgement {
+    /// Another transfer began before the last segment of this one (RFC 9174 section 5.2.4).
+    Abandoned,
+    /// More than one Transfer Length item, or one whose value has not 8 bytes (RFC 9174 section 5.2.5.1).
+    BadLengthItem,
+    /// The Transfer Length item announces this length, which is not that of the data.
+    LengthDiffers(u64),
+    /// No bundle: its fault, and the fault's offset in the data.
+    Bad(BundleFault, u64),
+    /// This bundle.
+    Good(BundleInfo),
+}
+
+/// A [`Judgement`] by reference.
+#[derive(Clone, Copy, Debug, PartialEq, Eq)]
+pub enum JudgementView<'a> {
+    /// Another transfer began before the last segment of this one.
+    Abandoned,
+    /// More than one Transfer Length item, or one whose value has not 8 bytes.
+    BadLengthItem,
+    /// The Transfer Length item announces this length, which is not that of the data.
+    LengthDiffers(u64),
+    /// No bundle: its fault, and the fault's offset in the data.
+    Bad(BundleFault, u64),
+    /// This bundle.
+    Good(BundleView<'a>),
+}
+
+impl Judgement {
+    /// The same by reference.
+    pub fn view(&self) -> JudgementView<'_>
+        ensures view { viewed_judgement result ≡ self.now }
+        ensures short { IsShortJudgement self.now }
+    {
+        match self {
+            Judgement::Abandoned => JudgementView::Abandoned,
+            Judgement::BadLengthItem => JudgementView::BadLengthItem,
+            Judgement::LengthDiffers(announced) => JudgementView::LengthDiffers(*announced),
+            Judgement::Bad(fault, offset) => JudgementView::Bad(*fault, *offset),
+            Judgement::Good(info) => JudgementView::Good(view_of_info(info)),
+        }
+    }
+}
+
+/// Appends a judgement: 5 bytes and what is said of a bundle at most.
+#[tactic(auto, unfolding(crate::specs::Judgement::judgement_text))]
+pub(crate) fn put_judgement(line: &mut Line, judgement: &JudgementView<'_>)
+    requires short { IsShortJudgement (viewed_judgement judgement.now) }
+    requires room { array_vec_len line.old + 8361 ≤ LINE_MAX }
+    ensures items { line.new.items ≡ line.old.items ++ judgement_text (viewed_judgement judgement.now) }
+    ensures len { array_vec_len line.new ≤ array_vec_len line.old + 8361 }
+{
+    match judgement {
+        JudgementView::Abandoned => put_text(line, "abandoned"),
+        JudgementView::BadLengthItem => put_text(line, "bad-length-item"),
+        JudgementView::LengthDiffers(announced) => {
+            put_number(line, "length-differs announced=", *announced);
+        }
+        JudgementView::Bad(fault, offset) => {
+            put_text(line, "bad=");
+            put_text(line, code_of(*fault));
+            put_number(line, " byte=", *offset);
+        }
+        JudgementView::Good(info) => {
+            put_text(line, "good ");
+            put_identity(line, info);
+        }
+    }
+}
