@@ -1,7 +1,7 @@
 use Rattle.std.proofs.Common.{arith, length-drop}
-use Rattle.link_wire.proofs.Writes.{Wrote-more}
-use Rattle.link_wire.specs.Bytes.{take-all_behind}
-use Rattle.link_wire.proofs.writing.write_whole.Goals as goal
+use Rattle.link_io.proofs.Writes.{Wrote-more}
+use Rattle.link_io.specs.Bytes.{take-all_behind}
+use Rattle.link_io.proofs.writing.write_whole.Goals as goal
 
 -- the front goes on by what `write` took
 pub loop-at-preserved : goal.loop-at-preserved

@@ -2,8 +2,8 @@
 use Rattle.std.proofs.Common.{ℕ, ◌+◌, List, ◌++◌, take, drop, ◌∙◌}
 use Rattle.std.proofs.Math.Seq.{take-add}
 use Rattle.std.proofs.KnownBytes.{Appends-trans}
-use Rattle.link_wire.specs.Device.{Output}
-use Rattle.link_wire.specs.Writing.{Wrote}
+use Rattle.link_io.specs.Device.{Output}
+use Rattle.link_io.specs.Writing.{Wrote}
 
 module _ {W : Type 0} (look : W → Output) where
   pub Wrote-then : (old mid new : W) (xs ys : List ℕ) → Wrote look old mid xs → Wrote look mid new ys → Wrote look old new (xs ++ ys)

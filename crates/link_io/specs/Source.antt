@@ -1,16 +1,16 @@
 -- What a `Source` has given of its reader's bytes. It reads ahead: the bytes that were read and not given are its window.
-use Rattle.std.specs.Prelude.{◌≡◌, ℕ, ◌+◌, ◌-◌, ◌^◌, ◌<◌, ◌≤◌, Bool, true, false, ◌&&◌, ◌==◌, List, [], ◌∷◌, ◌++◌, length, take, drop, slice_range, Option, Some, None, Result, Ok, Err}
+use Rattle.std.specs.Prelude.{◌≡◌, ℕ, ◌+◌, ◌-◌, ◌<◌, ◌≤◌, Bool, true, false, ◌&&◌, ◌==◌, List, [], ◌∷◌, ◌++◌, length, take, slice_range, Option, Result, Ok, Err}
 use Rattle.std.specs.Io.KnownBytes.{Consumes, IsAtEnd, prepend_known}
-use Rattle.link_wire.specs.Bytes.{AreBytes}
-use Rattle.link_wire.specs.Device.{Input}
-use Rattle.link_wire.specs.Limits.{longest_input, window_size}
-use Rattle.link_wire.specs.declared.fault.IoFault.{IoFault}
-use Rattle.link_wire.specs.declared.fault.IoFault.TheVariants as io
-use Rattle.link_wire.specs.declared.source.Filled.{Filled}
-use Rattle.link_wire.specs.declared.source.Filled.TheVariants as filled
-use Rattle.link_wire.specs.declared.source.Flow.{Flow}
-use Rattle.link_wire.specs.declared.source.Flow.TheVariants as flow
-use Rattle.link_wire.specs.declared.source.Source.{Source}
+use Rattle.link_io.specs.Bytes.{AreBytes}
+use Rattle.link_io.specs.Device.{Input}
+use Rattle.link_io.specs.Limits.{longest_input, window_size}
+use Rattle.link_io.specs.declared.fault.IoFault.{IoFault}
+use Rattle.link_io.specs.declared.fault.IoFault.TheVariants as io
+use Rattle.link_io.specs.declared.source.Filled.{Filled}
+use Rattle.link_io.specs.declared.source.Filled.TheVariants as filled
+use Rattle.link_io.specs.declared.source.Flow.{Flow}
+use Rattle.link_io.specs.declared.source.Flow.TheVariants as flow
+use Rattle.link_io.specs.declared.source.Source.{Source}
 
 -- what a `fill` returns after the end: an empty slice is full
 abbrev pub filled_at_end : List ℕ → Filled

@@ -1,8 +1,8 @@
 use Rattle.std.proofs.Common.{◌≡◌, ◌+◌, take, drop, ◌++◌, ap, ◌∙◌}
 use Rattle.std.proofs.Math.Seq.{take-add}
-use Rattle.link_wire.specs.Source.{HasEnded}
-use Rattle.link_wire.proofs.Sources.{Takes-then}
-use Rattle.link_wire.proofs.source.Source.fill_on.Goals as goal
+use Rattle.link_io.specs.Source.{HasEnded}
+use Rattle.link_io.proofs.Sources.{Takes-then}
+use Rattle.link_io.proofs.source.Source.fill_on.Goals as goal
 
 -- what was given goes on by what `some` gave
 pub loop-at-preserved : goal.loop-at-preserved

@@ -1,7 +1,7 @@
-use Rattle.std.proofs.Common.{◌≡◌, ◌++◌, ◌≤◌, [], length, take, drop, Ok, refl, ap, sym, ◌∙◌, arith, length-append, length-take, length-drop}
+use Rattle.std.proofs.Common.{◌≡◌, ◌++◌, [], length, take, drop, ap, sym, ◌∙◌, arith, length-append, length-take, length-drop}
 use Rattle.std.proofs.Math.Seq.{take-append_seam}
-use Rattle.link_wire.proofs.Sources.{Takes-then}
-use Rattle.link_wire.proofs.source.Source.some.Goals as goal
+use Rattle.link_io.proofs.Sources.{Takes-then}
+use Rattle.link_io.proofs.source.Source.some.Goals as goal
 
 pub returns-clause-gives : goal.returns-clause-gives
 returns-clause-gives g c = λ live.

@@ -1,6 +1,6 @@
 use Rattle.std.proofs.Common.{length, ◌-◌, ◌≤◌, take}
-use Rattle.link_wire.specs.Writing.{Wrote}
-use Rattle.link_wire.proofs.writing.write_whole.Given as goal
+use Rattle.link_io.specs.Writing.{Wrote}
+use Rattle.link_io.proofs.writing.write_whole.Given as goal
 
 -- what stands in front of `at` was written
 abbrev pub invariant-loop-at : goal.invariant-loop-at

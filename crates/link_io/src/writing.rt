@@ -2,7 +2,7 @@
 
 ghost use Rattle.std.specs.Prelude.{◌≡◌, ◌≤◌, true, length, take, drop, ℕ, OnOk, IfErr};
 ghost use Rattle.std.specs.Io.KnownBytes.{Appends};
-ghost use Rattle.link_wire.specs.Writing.{Wrote, WroteFront};
+ghost use Rattle.link_io.specs.Writing.{Wrote, WroteFront};
 
 use crate::device::OutDevice;
 use crate::fault::IoFault;

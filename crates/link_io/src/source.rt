@@ -4,7 +4,7 @@
 //! by [`Source::some`] and [`Source::fill`], or where the bytes lie, by [`Source::window`] and [`Source::give`].
 
 ghost use Rattle.std.specs.Prelude.{◌≡◌, ◌+◌, ◌-◌, ◌^◌, ◌<◌, ◌≤◌, true, length, slice_range, IfOk, MatchResult};
-ghost use Rattle.link_wire.specs.Bytes.{AreBytes};
+ghost use Rattle.link_io.specs.Bytes.{AreBytes};
 ghost use Rattle.std.specs.Io.KnownBytes.{ReadConsumes};
 
 use crate::device::{DeviceFault, InDevice};
@@ -51,7 +51,7 @@ pub struct Source<R> {
 
 impl<R: InDevice> Source<R> {
     ghost use Rattle.std.specs.Prelude.{◌≡◌, ◌+◌, ◌-◌, ◌<◌, ◌≤◌, ◌==◌, true, false, [], length, take, drop, IfOk, IfErr, OnOk, MatchResult, IsTrue};
-    ghost use Rattle.link_wire.specs.Source.{IsSourceAt, is_fresh, reader_of, given_by, taken_by, window_of, ahead, IsLive, IsOver, HasEnded, HasFailed, Takes, StopsAfter, GivesReady, GivesSome, GivesFill, filled_at_end};
+    ghost use Rattle.link_io.specs.Source.{IsSourceAt, is_fresh, reader_of, given_by, taken_by, window_of, ahead, IsLive, IsOver, HasEnded, HasFailed, Takes, StopsAfter, GivesReady, GivesSome, GivesFill, filled_at_end};
 
     /// A source that has taken nothing.
     pub fn new(reader: R) -> Source<R>
@@ -191,7 +191,7 @@ impl<R: InDevice> Source<R> {
 /// Copies.
 impl<R: InDevice> Source<R> {
     ghost use Rattle.std.specs.Prelude.{◌≡◌, ◌+◌, ◌-◌, ◌<◌, ◌≤◌, [], length, take, drop, IfOk};
-    ghost use Rattle.link_wire.specs.Source.{reader_of, window_of, IsLive, HasEnded, HasFailed, Takes, GivesSome, GivesFill, filled_at_end};
+    ghost use Rattle.link_io.specs.Source.{reader_of, window_of, IsLive, HasEnded, HasFailed, Takes, GivesSome, GivesFill, filled_at_end};
 
     /// Gives the next bytes, after at most one read, and returns how many: 0 only at the end, or for an empty slice. After
     /// a fault it returns that fault again, and after the end 0, and does not read.

@@ -1,9 +1,9 @@
 use Rattle.std.proofs.Common.{◌≡◌, [], length, take, slice_range, sym, add-zero, arith, refl, length-take}
 use Rattle.std.proofs.lemmas.List.Elements.{All-nil}
-use Rattle.link_wire.specs.Bytes.{IsByte}
-use Rattle.link_wire.proofs.Sources.{Consumes-empty}
-use Rattle.link_wire.proofs.Windows.{range_none}
-use Rattle.link_wire.proofs.source.Source.read.Goals as goal
+use Rattle.link_io.specs.Bytes.{IsByte}
+use Rattle.link_io.proofs.Sources.{Consumes-empty}
+use Rattle.link_io.proofs.Windows.{range_none}
+use Rattle.link_io.proofs.source.Source.read.Goals as goal
 
 -- the read gave a byte past the limit, and nothing of it is given
 pub returns-in-Ok-clause-gives : goal.returns-in-Ok-clause-gives

@@ -1,13 +1,15 @@
 -- What is given in turn is given in one.
-use Rattle.std.proofs.Common.{◌≡◌, ℕ, ◌+◌, ◌-◌, ◌≤◌, List, [], ◌++◌, length, take, drop, slice_range, Option, Some, None, ap, sym, ◌∙◌, add_assoc, length-append, append_assoc, add-zero, refl, take-append-drop}
-use Rattle.std.specs.Io.KnownBytes.{Consumes, IsAtEnd, prepend_known}
+use Rattle.std.proofs.Common.{◌≡◌, ℕ, ◌+◌, List, [], ◌++◌, length, take, drop, Option, Some, None, ap, sym, ◌∙◌, Bool, true, false, ◌&&◌, eqb, eqb-true, add_assoc, length-append, append_assoc, add-zero, refl, take-append-drop}
+use Rattle.std.specs.Io.KnownBytes.{Consumes, prepend_known}
 use Rattle.std.proofs.KnownBytes.{Consumes-nil, Consumes-trans}
 use Rattle.std.proofs.lemmas.List.Elements.{All-nil, All-append}
-use Rattle.link_wire.specs.Bytes.{IsByte}
-use Rattle.link_wire.specs.Device.{Input}
-use Rattle.link_wire.specs.Source.{IsSourceAt, given_by, ahead, Takes, StopsAfter}
-use Rattle.link_wire.specs.declared.fault.IoFault.{IoFault}
-use Rattle.link_wire.specs.declared.source.Source.{Source}
+use Rattle.link_io.specs.Bytes.{IsByte}
+use Rattle.link_io.specs.Device.{Input}
+use Rattle.link_io.specs.Source.{is_open, is_fresh, IsSourceAt, IsLiveBy, IsLive, given_by, ahead, Takes, StopsAfter}
+use Rattle.link_io.specs.declared.fault.IoFault.{IoFault}
+use Rattle.link_io.specs.declared.source.Flow.{Flow}
+use Rattle.link_io.specs.declared.source.Flow.TheVariants as flow
+use Rattle.link_io.specs.declared.source.Source.{Source}
 
 more_given : (a b c : ℕ) (xs ys : List ℕ) → b ≡ a + length xs → c ≡ b + length ys → c ≡ a + length (xs ++ ys)
 more_given a b c xs ys p q =
@@ -28,6 +30,28 @@ pub Consumes-read : (old new : Option (List ℕ)) (window : List ℕ) → Consum
 Consumes-read None new window read = tt
 Consumes-read (Some xs) None window read = absurd read
 Consumes-read (Some xs) (Some ys) window read = read
+
+-- both of two tests
+pub and_true : (first second : Bool) → (first && second) ≡ true → (first ≡ true) × (second ≡ true)
+and_true true second is = (refl, is)
+and_true false second is = absurd (cc)
+
+live_open : (now : Flow) (left : Option (List ℕ)) (start end : ℕ) → is_open now ≡ true → IsLiveBy now left start end
+live_open flow.Open left start end is = tt
+live_open flow.Ended left start end is = absurd (cc)
+live_open (flow.Failed fault) left start end is = absurd (cc)
+
+module _ {R : Type 0} (s : Source R) (fresh : is_fresh s ≡ true) where
+  -- a fresh source has given nothing
+  pub fresh_at : IsSourceAt s []
+  fresh_at = record { bytes = All-nil IsByte; given = eqb-true s.given 0 (and_true (eqb s.given 0) _ fresh).0 }
+
+module _ {R : Type 0} (look : R → Input) (s : Source R) (fresh : is_fresh s ≡ true) where
+  -- and more may come
+  pub fresh_live : IsLive look s
+  fresh_live =
+      let rest = (and_true (eqb s.given 0) _ fresh).1 in
+      live_open s.flow (look s.reader).left s.start s.end (and_true (is_open s.flow) _ rest).0
 
 module _ {R : Type 0} (look : R → Input) where
   pub Takes-none : (s : Source R) → Takes look s s []

@@ -1,6 +1,6 @@
 use Rattle.std.proofs.Common.{◌≡◌, length, ◌-◌, ◌≤◌, take}
-use Rattle.link_wire.specs.Source.{IsLive, HasEnded, Takes}
-use Rattle.link_wire.proofs.source.Source.fill_on.Given as goal
+use Rattle.link_io.specs.Source.{IsLive, HasEnded, Takes}
+use Rattle.link_io.proofs.source.Source.fill_on.Given as goal
 
 -- what stands before `at` was given, and a source that has ended gives nothing
 abbrev pub invariant-loop-at : goal.invariant-loop-at

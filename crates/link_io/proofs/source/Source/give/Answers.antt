@@ -1,11 +1,10 @@
-use Rattle.std.proofs.Common.{◌≡◌, ◌+◌, ◌-◌, ◌≤◌, length, take, drop, refl, sym, ap, subst, arith, length-take, length-drop}
-use Rattle.std.specs.Io.KnownBytes.{Consumes, prepend_known}
+use Rattle.std.proofs.Common.{◌-◌, ◌≤◌, drop, refl, arith, length-take}
 use Rattle.std.proofs.lemmas.List.Elements.{All-take}
-use Rattle.link_wire.specs.Bytes.{IsByte}
-use Rattle.link_wire.specs.Source.{window_of}
-use Rattle.link_wire.proofs.Sources.{Consumes-window}
-use Rattle.link_wire.proofs.Windows.{range_rest}
-use Rattle.link_wire.proofs.source.Source.give.Goals as goal
+use Rattle.link_io.specs.Bytes.{IsByte}
+use Rattle.link_io.specs.Source.{window_of}
+use Rattle.link_io.proofs.Sources.{Consumes-window}
+use Rattle.link_io.proofs.Windows.{range_rest}
+use Rattle.link_io.proofs.source.Source.give.Goals as goal
 
 pub returns-clause-takes : goal.returns-clause-takes
 returns-clause-takes g c =

@@ -1,9 +1,9 @@
 -- What a whole write leaves on a device.
 use Rattle.std.specs.Prelude.{◌≡◌, ℕ, ◌≤◌, true, List, length, take}
 use Rattle.std.specs.Io.KnownBytes.{Appends}
-use Rattle.link_wire.specs.Device.{Output}
-use Rattle.link_wire.specs.declared.fault.IoFault.{IoFault}
-use Rattle.link_wire.specs.declared.fault.IoFault.TheVariants as io
+use Rattle.link_io.specs.Device.{Output}
+use Rattle.link_io.specs.declared.fault.IoFault.{IoFault}
+use Rattle.link_io.specs.declared.fault.IoFault.TheVariants as io
 
 module _ {W : Type 0} where
   -- the bytes were written, and the device did not fail

@@ -2,7 +2,7 @@
 
 ghost use Rattle.std.specs.Prelude.{◌≡◌, ◌<◌, ◌≤◌, true, false, length, IfOk, MatchResult};
 ghost use Rattle.std.specs.Io.KnownBytes.{ReadConsumes, WriteAppends};
-ghost use Rattle.link_wire.specs.Device.{Input, Output};
+ghost use Rattle.link_io.specs.Device.{Input, Output};
 
 use std::io::{Read, Write};
 use thiserror::Error;
@@ -59,7 +59,7 @@ pub struct Reader<R: Read> {
 }
 
 impl<R: Read> Reader<R> {
-    ghost use Rattle.link_wire.specs.Device.{Input};
+    ghost use Rattle.link_io.specs.Device.{Input};
 
     /// A device that has not failed.
     pub fn new(inner: R) -> Self
