@@ -5,8 +5,9 @@ use Rattle.std.proofs.KnownBytes.{Consumes-nil, Consumes-trans}
 use Rattle.std.proofs.lemmas.List.Elements.{All-nil, All-append}
 use Rattle.link_io.specs.Bytes.{IsByte}
 use Rattle.link_io.specs.Device.{Input}
-use Rattle.link_io.specs.Source.{is_open, is_fresh, IsSourceAt, IsLiveBy, IsLive, given_by, ahead, Takes, StopsAfter}
+use Rattle.link_io.specs.Source.{is_open, is_fresh, IsSourceAt, IsLiveBy, IsLive, HasEnded, given_by, window_of, ahead, Takes, StopsAfter}
 use Rattle.link_io.specs.declared.fault.IoFault.{IoFault}
+use Rattle.link_io.proofs.Windows.{range_none}
 use Rattle.link_io.specs.declared.source.Flow.{Flow}
 use Rattle.link_io.specs.declared.source.Flow.TheVariants as flow
 use Rattle.link_io.specs.declared.source.Source.{Source}
@@ -45,6 +46,11 @@ module _ {R : Type 0} (s : Source R) (fresh : is_fresh s ≡ true) where
   -- a fresh source has given nothing
   pub fresh_at : IsSourceAt s []
   fresh_at = record { bytes = All-nil IsByte; given = eqb-true s.given 0 (and_true (eqb s.given 0) _ fresh).0 }
+
+module _ {R : Type 0} (s : Source R) where
+  -- after the end the window is empty
+  pub ended_window : HasEnded s → length (window_of s) ≡ 0
+  ended_window ended = ap length (range_none s.window s.start s.end ended.1)
 
 module _ {R : Type 0} (look : R → Input) (s : Source R) (fresh : is_fresh s ≡ true) where
   -- and more may come

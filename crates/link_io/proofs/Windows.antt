@@ -1,4 +1,4 @@
--- The window of a source: the part of an array between two places.
+-- The window of a source: the part of an array between two indices.
 use Rattle.std.proofs.Common.{◌≡◌, ℕ, ◌+◌, ◌-◌, ◌≤◌, List, [], take, drop, slice_range, arith, refl, ap, sym, ◌∙◌}
 use Rattle.std.proofs.lemmas.List.{drop-drop, drop-take}
 

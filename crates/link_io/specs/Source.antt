@@ -81,8 +81,8 @@ module _ {R : Type 0} where
     pub count : given_by new ≡ given_by old + length bytes
     pub device : (look new.reader).failed ≡ (look old.reader).failed
 
-  -- Why the source stopped after it has given so many bytes: the reader failed, and all that it gave before was given; or
-  -- the last read gave bytes, which were not given, of which one is past the limit.
+  -- Why the source stopped: the reader failed, and all that was taken before was given; or the last read brought bytes,
+  -- which were not given, of which one is past the limit.
   abbrev pub HasCause : (R → Input) → Source R → IoFault → List ℕ → Type 0
   HasCause look new io.Read past = (past ≡ []) × ((look new.reader).failed ≡ true)
   HasCause look new io.InputTooLong past = (length past ≤ window_size) × (longest_input < given_by new + length past)

@@ -14,10 +14,10 @@ pub struct DeviceFault;
 
 /// Where bytes come from.
 pub trait InDevice {
-    /// The bytes left, where the device tells them, and whether it has failed.
+    /// The bytes left, where they are known, and whether the device has failed.
     ghost state: { Self → Input };
 
-    /// Reads the next bytes to the front of the buffer, and answers how many. On a buffer with room,
+    /// Reads the next bytes to the start of the buffer, and returns how many. On a buffer with room,
     /// 0 is the end of the input.
     fn read(&mut self, buffer: &mut [u8]) -> Result<usize, DeviceFault>
         ensures bound { IfOk result (λ n. n ≤ length buffer.new) }
@@ -33,10 +33,10 @@ pub trait InDevice {
 
 /// Where bytes go to.
 pub trait OutDevice {
-    /// The bytes written, where the device tells them, and whether it has failed.
+    /// The bytes written, where they are known, and whether the device has failed.
     ghost state: { Self → Output };
 
-    /// Writes a front of the bytes, and answers how many: at least one of a nonempty slice. A fault
+    /// Writes a prefix of the bytes, and returns how many: at least one of a nonempty slice. A fault
     /// writes none.
     fn write(&mut self, bytes: &[u8]) -> Result<usize, DeviceFault>
         ensures bound { IfOk result (λ n. n ≤ length bytes.now) }

@@ -1,4 +1,17 @@
 //! Input and output: devices, a source that reads ahead and gives each byte once, and whole writes.
+//!
+//! ```
+//! let mut source = Source::new(Reader::new(stdin));
+//! let mut output = Writer::new(stdout);
+//! let mut buffer = [0; 512];
+//! loop {
+//!     let count = source.some(&mut buffer)?; // 0 only at the end of the input
+//!     if count == 0 {
+//!         break;
+//!     }
+//!     write_whole(&mut output, &buffer[..count])?;
+//! }
+//! ```
 #![tactic(auto)]
 
 mod device;

@@ -7,7 +7,7 @@ ghost use Rattle.link_io.specs.Writing.{Wrote, WroteFront};
 use crate::device::OutDevice;
 use crate::fault::IoFault;
 
-/// Writes all of the bytes, by repeated writes. After a fault a front of them was written.
+/// Writes all of the bytes, by repeated writes. After a fault a prefix of them was written.
 pub fn write_whole<W: OutDevice>(out: &mut W, bytes: &[u8]) -> Result<(), IoFault>
     ensures ok { OnOk result (Wrote W.state out.old out.new bytes.now) }
     ensures err { IfErr result (WroteFront W.state out.old out.new bytes.now) }

@@ -2,7 +2,7 @@ use Rattle.std.proofs.Common.{length, ◌-◌, ◌≤◌, take}
 use Rattle.link_io.specs.Writing.{Wrote}
 use Rattle.link_io.proofs.writing.write_whole.Given as goal
 
--- what stands in front of `at` was written
+-- the bytes before `at` were written
 abbrev pub invariant-loop-at : goal.invariant-loop-at
 invariant-loop-at g l = record {
   place : l.at ≤ length l.bytes;
