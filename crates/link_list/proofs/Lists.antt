@@ -8,8 +8,8 @@ use Rattle.link_wire.specs.Source.{Takes, StopsAfter, IsOver, window_of}
 use Rattle.link_wire.specs.Stream.{Entry, End, Clean, Cut, Fault, Stream, ended, with_entry, Reading, reading_of}
 use Rattle.link_wire.specs.Session.{source_of, left_of, joined, data_after, with_data, IsSessionAt, IsLeft, IsRead, IsUndecided, SameMessages, GaveContact, GivesContact, GaveMessage, GaveEnd, GivesNext, GaveBytes, GivesLoad}
 use Rattle.link_wire.proofs.Contacts.{reading-none}
-use Rattle.link_wire.proofs.Sources.{Takes-then}
-use Rattle.link_wire.specs.declared.fault.IoFault.{IoFault}
+use Rattle.link_io.proofs.Sources.{Takes-then}
+use Rattle.link_wire.specs.declared.IoFault.{IoFault}
 use Rattle.link_wire.specs.declared.fault.Stop.{Stop}
 use Rattle.link_wire.specs.declared.fault.Stop.TheVariants as stop
 use Rattle.link_wire.specs.declared.fault.WireFault.{WireFault}
@@ -17,7 +17,7 @@ use Rattle.link_wire.specs.declared.fault.WireFault.TheVariants as wire
 use Rattle.link_wire.specs.declared.message.Contact.{Contact}
 use Rattle.link_wire.specs.declared.message.Message.{Message}
 use Rattle.link_wire.specs.declared.session.Session.{Session}
-use Rattle.link_wire.specs.declared.source.Source.{Source}
+use Rattle.link_wire.specs.declared.Source.{Source}
 use Rattle.link_report.specs.Message.{contact_text, message_text}
 use Rattle.link_report.specs.Fault.{fault_text}
 use Rattle.link_report.specs.declared.fault.Fault.TheVariants.{Wire}

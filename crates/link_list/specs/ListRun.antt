@@ -4,7 +4,7 @@ use Rattle.link_wire.specs.Device.{Input, Output}
 use Rattle.link_wire.specs.Limits.{longest_head}
 use Rattle.link_wire.specs.Stream.{End, Clean, Cut, Fault, reading_of}
 use Rattle.link_wire.specs.Session.{source_of, IsSessionAt, may_open, may_read, is_opened}
-use Rattle.link_wire.specs.declared.fault.IoFault.{IoFault}
+use Rattle.link_wire.specs.declared.IoFault.{IoFault}
 use Rattle.link_wire.specs.declared.fault.Stop.{Stop}
 use Rattle.link_wire.specs.declared.fault.Stop.TheVariants as stop
 use Rattle.link_wire.specs.declared.session.Session.{Session}

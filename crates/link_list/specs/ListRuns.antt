@@ -1,7 +1,7 @@
 -- The words of a run of `list` for the trait of runs.
 use Rattle.std.specs.Prelude.{◌≡◌, ℕ, List, Result}
 use Rattle.link_wire.specs.Device.{Input, Output}
-use Rattle.link_wire.specs.declared.fault.IoFault.{IoFault}
+use Rattle.link_wire.specs.declared.IoFault.{IoFault}
 use Rattle.link_run.specs.Run.{Devices, Place}
 use Rattle.link_list.specs.ListRun.{most_given, place_of, progress_of, IsListing}
 use Rattle.link_list.specs.declared.listing.ListRun.{ListRun}

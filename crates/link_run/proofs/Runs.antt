@@ -6,9 +6,9 @@ use Rattle.std.proofs.KnownBytes.{Consumes-nil, Consumes-trans, Appends-nil, App
 use Rattle.link_wire.specs.Device.{Input, Output}
 use Rattle.link_wire.specs.Limits.{window_size, longest_input}
 use Rattle.link_wire.specs.Source.{reader_of, given_by, window_of, ahead, Takes, StopsAfter, IsOver}
-use Rattle.link_wire.specs.declared.fault.IoFault.{IoFault}
-use Rattle.link_wire.specs.declared.fault.IoFault.TheVariants as io
-use Rattle.link_wire.specs.declared.source.Source.{Source}
+use Rattle.link_wire.specs.declared.IoFault.{IoFault}
+use Rattle.link_wire.specs.declared.IoFault.TheVariants as io
+use Rattle.link_wire.specs.declared.Source.{Source}
 use Rattle.link_run.specs.Run.{Texts, Told, Tool, Devices, Place, devices_at, NoneFailed, Moves, HasTold, HasLeft, AllGiven, GaveAnswer, AreDue, Gave, GivesAnswer}
 use Rattle.link_run.specs.Writers.{Writes, WritesPart}
 use Rattle.link_run.specs.declared.run.Status.{Status}

@@ -2,8 +2,8 @@
 use Rattle.std.specs.Prelude.{◌≡◌, ℕ, ◌⊎◌, true, List, [], take, Result, Ok, Err}
 use Rattle.std.specs.Io.KnownBytes.{Appends}
 use Rattle.link_wire.specs.Device.{Output}
-use Rattle.link_wire.specs.declared.fault.IoFault.{IoFault}
-use Rattle.link_wire.specs.declared.fault.IoFault.TheVariants as io
+use Rattle.link_wire.specs.declared.IoFault.{IoFault}
+use Rattle.link_wire.specs.declared.IoFault.TheVariants as io
 use Rattle.link_run.specs.Run.{Texts}
 use Rattle.link_run.specs.declared.run.Status.{Status}
 use Rattle.link_run.specs.declared.writers.Writers.{Writers}

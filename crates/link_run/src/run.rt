@@ -1,7 +1,7 @@
 //! What every run of a tool is: steps, and the whole of them.
 
 ghost use Rattle.std.specs.Prelude.{◌≡◌, ℕ, List, [], Result};
-ghost use Rattle.link_wire.specs.declared.fault.IoFault.{IoFault};
+ghost use Rattle.link_wire.specs.declared.IoFault.{IoFault};
 ghost use Rattle.link_run.specs.Run.{Tool, Devices, Place, devices_at, GivesStep, GivesAnswer, IsEnd};
 ghost use Rattle.link_run.specs.declared.run.Progress.{Progress};
 

@@ -9,7 +9,7 @@ use Rattle.std.proofs.lemmas.Bool.{cases_lt, ltb-false, eqb-true}
 use Rattle.std.specs.Int.{byte_at, bytes_high_first}
 use Rattle.byteorder.specs.Endian.{big_number, big_from}
 use Rattle.byteorder.specs.Numbers.{big_from-cons, big_from-lt}
-use Rattle.link_wire.specs.Bytes.{IsByte, AreBytes}
+use Rattle.link_io.specs.Bytes.{IsByte, AreBytes}
 use Rattle.link_wire.specs.Part.{Part, ◌>>=◌, bytes_at, number_at}
 use Rattle.link_wire.proofs.FieldReads.{bytes_at-short, bytes_at-enough, same_part}
 use Rattle.link_wire.proofs.Shrinks.{both_read}

@@ -1,23 +1,23 @@
 -- A part that was read, and then what depends on it.
-use Rattle.std.proofs.Common.{◌≡◌, ◌≢◌, ◌+◌, ◌-◌, ◌<◌, ◌≤◌, ℕ, Bool, true, false, List, [], ◌∷◌, ◌++◌, length, take, Result, Ok, Err, if◌then◌else◌, ap, sym, ◌∙◌, subst, refl, append_assoc, length-append, slice_index, arith, ⊎_elim}
+use Rattle.std.proofs.Common.{◌≡◌, ◌≢◌, ◌+◌, ◌-◌, ◌≤◌, ℕ, Bool, true, false, List, [], ◌++◌, length, take, Result, Ok, Err, if◌then◌else◌, ap, sym, ◌∙◌, subst, refl, append_assoc, length-append, slice_index, arith, ⊎_elim}
 use mathlib.Core.Path.{fun_ext}
 use Rattle.std.specs.Prelude.{IsErrAnd}
 use Rattle.std.proofs.lemmas.Bool.{cases_lt}
 use Rattle.std.proofs.lemmas.List.{take-append-le}
 use Rattle.std.proofs.Math.Seq.{take-append-add}
 use Rattle.byteorder.specs.Endian.{big_number}
-use Rattle.link_wire.specs.Device.{Input}
+use Rattle.link_io.specs.Device.{Input}
 use Rattle.link_wire.specs.Part.{Part, ◌>>=◌, bytes_at, number_at}
 use Rattle.link_wire.specs.Message.{skipped_at}
 use Rattle.link_wire.proofs.Skips.{skipped_at-there, skipped_at-add}
-use Rattle.link_wire.specs.Source.{IsLive}
-use Rattle.link_wire.proofs.Sources.{Takes-none, Takes-then, StopsAfter-then}
+use Rattle.link_io.specs.Source.{IsLive}
+use Rattle.link_io.proofs.Sources.{Takes-none, Takes-then, StopsAfter-then}
 use Rattle.link_wire.specs.Getting.{Needs, IsPart, IsFault, Gets, with_value}
 use Rattle.link_wire.specs.declared.fault.WireFault.{WireFault}
 use Rattle.link_wire.specs.declared.fault.WireFault.TheVariants.{Truncated}
 use Rattle.link_wire.specs.declared.halt.Halt.{Halt}
 use Rattle.link_wire.specs.declared.halt.Halt.TheVariants as halt
-use Rattle.link_wire.specs.declared.source.Source.{Source}
+use Rattle.link_io.specs.declared.source.Source.{Source}
 
 -- ---- over lists
 

@@ -1,19 +1,18 @@
 -- The items of a list, one after another.
-use Rattle.std.proofs.Common.{◌≡◌, ℕ, zero, suc, ◌+◌, ◌-◌, ◌<◌, Bool, List, [], ◌∷◌, ◌++◌, Option, Result, Ok, Err, eqb, false, arith, refl, ap, sym, append_assoc}
+use Rattle.std.proofs.Common.{◌≡◌, ℕ, zero, suc, ◌+◌, ◌-◌, ◌<◌, List, [], ◌∷◌, ◌++◌, Option, Result, Ok, Err, eqb, false, arith, refl, ap, sym, append_assoc}
 use Rattle.std.proofs.lemmas.Bool.{ne_eqb}
-use Rattle.link_wire.specs.Device.{Input}
-use Rattle.link_wire.specs.Source.{IsLive}
+use Rattle.link_io.specs.Device.{Input}
+use Rattle.link_io.specs.Source.{IsLive}
 use Rattle.link_wire.specs.Getting.{Gets}
 use Rattle.link_wire.proofs.Gettings.{exit, after, pure, refuse, is_live, if_false}
 use Rattle.link_wire.specs.declared.message.ListOf.{ListOf}
-use Rattle.link_wire.specs.declared.message.ListOf.TheVariants.{Session, Transfer}
 use Rattle.link_wire.specs.Message.{item_head_at, total_at, items_at}
 use Rattle.link_wire.specs.declared.fault.WireFault.TheVariants as wire
 use Rattle.link_wire.specs.declared.halt.Halt.{Halt}
 use Rattle.link_wire.specs.declared.halt.Halt.TheVariants as halt
 use Rattle.link_wire.specs.declared.list.ItemHead.{ItemHead}
 use Rattle.link_wire.specs.declared.message.Item.{Item}
-use Rattle.link_wire.specs.declared.source.Source.{Source}
+use Rattle.link_io.specs.declared.source.Source.{Source}
 
 -- items before those that were read
 abbrev pub with_before : List Item → Result (List Item) Halt → Result (List Item) Halt

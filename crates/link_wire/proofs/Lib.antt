@@ -1,6 +1,3 @@
-mod Windows
-pub mod Sources
-mod Writes
 mod FieldReads
 mod Gettings
 mod Skips

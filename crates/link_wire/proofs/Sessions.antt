@@ -1,17 +1,15 @@
 -- What each call of a session does to where it stands.
-use Rattle.std.proofs.Common.{◌≡◌, ℕ, ◌+◌, ◌<◌, ◌≤◌, Bool, true, false, ◌&&◌, eqb, eqb-true, List, [], ◌∷◌, ◌++◌, length, take, Option, Some, None, Result, Ok, Err, arith, refl, ap, sym, ◌∙◌, subst, append_assoc, append-nil, length-append}
+use Rattle.std.proofs.Common.{◌≡◌, ℕ, ◌+◌, true, eqb, eqb-true, List, [], ◌∷◌, ◌++◌, length, take, Some, Result, Ok, Err, arith, refl, ap, sym, ◌∙◌, subst, append_assoc, append-nil, length-append}
 use Rattle.std.specs.Prelude.{IsErrAnd}
 use Rattle.std.proofs.lemmas.List.{nil_from_length}
-use Rattle.std.proofs.lemmas.List.Elements.{All-nil}
-use Rattle.link_wire.specs.Bytes.{IsByte}
-use Rattle.link_wire.specs.Device.{Input}
+use Rattle.link_io.specs.Device.{Input}
 use Rattle.link_wire.specs.Part.{bytes_at, number_at}
 use Rattle.link_wire.specs.Message.{contact_at, message_at, fields_at, data_length}
-use Rattle.link_wire.specs.Source.{is_open, given_by, IsSourceAt, IsLiveBy, IsLive, IsOver, Takes, StopsAfter}
-use Rattle.link_wire.specs.Getting.{Needs, IsPart, IsFault, GotPart, Gets, GotKind}
+use Rattle.link_io.specs.Source.{is_fresh, IsSourceAt, IsLive, Takes, StopsAfter}
+use Rattle.link_wire.specs.Getting.{Needs, IsFault, GotPart, Gets, GotKind}
 use Rattle.link_wire.specs.Stream.{End, Clean, Cut, Fault, Stream, ended, stream_at, Reading, reading_of}
-use Rattle.link_wire.specs.Session.{joined, data_after, with_data, rest_after, IsLeft, IsUndecided, SameMessages, ShownLast, is_unopened, reads_next, may_open, may_read, left_of, HasStopped, data_in, IsSessionAt, IsRead, GaveContact, GivesContact, GaveMessage, GivesNext, GaveStop, GaveBytes, GivesLoad, GivesData}
-use Rattle.link_wire.proofs.Sources.{IsSourceAt-then, Takes-then, StopsAfter-then}
+use Rattle.link_wire.specs.Session.{joined, data_after, with_data, rest_after, IsLeft, IsUndecided, SameMessages, ShownLast, is_unopened, reads_next, may_open, may_read, left_of, HasStopped, IsSessionAt, GaveContact, GivesContact, GaveMessage, GivesNext, GaveStop, GaveBytes, GivesLoad, GivesData}
+use Rattle.link_io.proofs.Sources.{and_true, fresh_at, fresh_live, IsSourceAt-then, Takes-then, StopsAfter-then}
 use Rattle.link_wire.proofs.Gettings.{after, IsFault-then, cut_then}
 use Rattle.link_wire.proofs.FieldReads.{IsPart-byte}
 use Rattle.link_wire.proofs.Shrinks.{shrinks_message}
@@ -20,7 +18,7 @@ use Rattle.link_wire.proofs.Streams.{stream_at-head, stream_at-fault}
 use Rattle.link_wire.proofs.Contacts.{contact_taken, reading-contact, reading-refused}
 use Rattle.link_wire.proofs.Rests.{appended, begun, begun_by, begun_left, data_by, data_left, clean_end, settled, goes_on_from}
 use Rattle.link_wire.specs.Halt.{stop_at}
-use Rattle.link_wire.specs.declared.fault.IoFault.{IoFault}
+use Rattle.link_io.specs.declared.fault.IoFault.{IoFault}
 use Rattle.link_wire.specs.declared.fault.Stop.{Stop}
 use Rattle.link_wire.specs.declared.fault.Stop.TheVariants as stop
 use Rattle.link_wire.specs.declared.fault.WireFault.{WireFault}
@@ -31,35 +29,21 @@ use Rattle.link_wire.specs.declared.message.Contact.{Contact}
 use Rattle.link_wire.specs.declared.message.Message.{Message}
 use Rattle.link_wire.specs.declared.session.Phase.TheVariants as phase
 use Rattle.link_wire.specs.declared.session.Session.{Session}
-use Rattle.link_wire.specs.declared.source.Flow.{Flow}
-use Rattle.link_wire.specs.declared.source.Flow.TheVariants as flow
-use Rattle.link_wire.specs.declared.source.Source.{Source}
-
--- what a fresh source has given, and that more may come
-live_open : (now : Flow) (left : Option (List ℕ)) (start end : ℕ) → is_open now ≡ true → IsLiveBy now left start end
-live_open flow.Open left start end is = tt
-live_open flow.Ended left start end is = absurd (cc)
-live_open (flow.Failed fault) left start end is = absurd (cc)
-
-and_true : (first second : Bool) → (first && second) ≡ true → (first ≡ true) × (second ≡ true)
-and_true true second is = (refl, is)
-and_true false second is = absurd (cc)
+use Rattle.link_io.specs.declared.source.Source.{Source}
 
 module _ {R : Type 0} (look : R → Input) (s : Session R) (fresh : may_open s ≡ true) where
   -- what a session knows that may be opened
-  parts : (is_unopened s.phase ≡ true) × (left_of s ≡ 0) × (given_by s.source ≡ 0) × (is_open s.source.flow ≡ true)
+  parts : (is_unopened s.phase ≡ true) × (left_of s ≡ 0) × (is_fresh s.source ≡ true)
   parts =
       let first = and_true (is_unopened s.phase) _ fresh in
       let second = and_true (eqb s.left 0) _ first.1 in
-      let third = and_true (eqb s.source.given 0) _ second.1 in
-      let fourth = and_true (is_open s.source.flow) _ third.1 in
-      (first.0, eqb-true s.left 0 second.0, eqb-true s.source.given 0 third.0, fourth.0)
+      (first.0, eqb-true s.left 0 second.0, second.1)
 
   pub opens_at : IsSourceAt s.source []
-  opens_at = record { bytes = All-nil IsByte; given = parts.2 }
+  opens_at = fresh_at s.source parts.2
 
   pub opens_live : IsLive look s.source
-  opens_live = live_open s.source.flow (look s.source.reader).left s.source.start s.source.end parts.3
+  opens_live = fresh_live look s.source parts.2
 
   pub opens_left : left_of s ≡ 0
   opens_left = parts.1

@@ -1,12 +1,12 @@
 -- What has been read stays so, whatever the reader has left.
 use Rattle.std.proofs.Common.{◌≡◌, ℕ, List, [], ◌++◌, Option, Some, None, refl, ap, sym, ◌∙◌, append-nil}
 use Rattle.std.specs.Io.KnownBytes.{IsAtEnd}
-use Rattle.link_wire.specs.Device.{Input}
-use Rattle.link_wire.specs.Source.{IsOver}
+use Rattle.link_io.specs.Device.{Input}
+use Rattle.link_io.specs.Source.{IsOver}
 use Rattle.link_wire.specs.Stream.{Reading, reading_of}
 use Rattle.link_wire.specs.Session.{IsRead}
 use Rattle.link_wire.specs.declared.fault.WireFault.{WireFault}
-use Rattle.link_wire.specs.declared.source.Source.{Source}
+use Rattle.link_io.specs.declared.source.Source.{Source}
 
 -- the reading of all the bytes of an input is that of these
 pub record IsWhole (left : Option (List ℕ)) (history : List ℕ) (reading : Reading) : Type 0 where

@@ -3,7 +3,7 @@ use Rattle.std.proofs.Common.{◌≡◌, ℕ, zero, suc, ◌+◌, ◌-◌, ◌<�
 use Rattle.std.proofs.lemmas.Bool.{cases_lt, ltb-false}
 use Rattle.byteorder.specs.Endian.{big_number}
 use Rattle.link_wire.specs.Codes.{is_start}
-use Rattle.link_wire.specs.Getting.{Needs, IsPart, IsFault}
+use Rattle.link_wire.specs.Getting.{Needs, IsPart}
 use Rattle.link_wire.specs.Limits.{longest_node, longest_list, most_items, longest_head}
 use Rattle.link_wire.specs.Part.{Part, ◌>>=◌, bytes_at, number_at}
 use Rattle.link_wire.specs.Message.{contact_at, skipped_at, gives_total, total_at, item_head_at, items_at, items_of, list_at, node_bytes_at, node_at, segment_items_at, segment_at, ack_at, refuse_at, sess_term_at, msg_reject_at, sess_init_at, fields_at, message_at}
@@ -11,7 +11,7 @@ use Rattle.link_wire.proofs.FieldReads.{bytes_at-short, bytes_at-enough, same_pa
 use Rattle.link_wire.proofs.Shrinks.{both_read}
 use Rattle.link_wire.proofs.Sound.{has_total_size}
 use Rattle.link_wire.specs.declared.fault.WireFault.{WireFault}
-use Rattle.link_wire.specs.declared.fault.WireFault.TheVariants.{Truncated, BadMagic, BadVersion, UnknownType, NodeIdTooLong, ListTooLong, TooManyItems, ItemsOverrun}
+use Rattle.link_wire.specs.declared.fault.WireFault.TheVariants.{Truncated, BadMagic, BadVersion, ItemsOverrun}
 use Rattle.link_wire.specs.declared.list.ItemHead.{ItemHead}
 use Rattle.link_wire.specs.declared.message.Contact.{Contact}
 use Rattle.link_wire.specs.declared.message.ListOf.{ListOf}

@@ -1,14 +1,14 @@
 -- A part that is read from a source, against its definition over lists.
 use Rattle.std.specs.Prelude.{◌≡◌, ℕ, ◌<◌, List, [], ◌∷◌, ◌++◌, length, take, Option, Some, None, Result, Ok, Err}
-use Rattle.link_wire.specs.Device.{Input}
+use Rattle.link_io.specs.Device.{Input}
 use Rattle.link_wire.specs.Part.{Part}
-use Rattle.link_wire.specs.Source.{IsLive, IsOver, Takes, StopsAfter}
-use Rattle.link_wire.specs.declared.fault.IoFault.{IoFault}
+use Rattle.link_io.specs.Source.{IsLive, IsOver, Takes, StopsAfter}
+use Rattle.link_io.specs.declared.fault.IoFault.{IoFault}
 use Rattle.link_wire.specs.declared.fault.WireFault.{WireFault}
 use Rattle.link_wire.specs.declared.fault.WireFault.TheVariants.{Truncated}
 use Rattle.link_wire.specs.declared.halt.Halt.{Halt}
 use Rattle.link_wire.specs.declared.halt.Halt.TheVariants as halt
-use Rattle.link_wire.specs.declared.source.Source.{Source}
+use Rattle.link_io.specs.declared.source.Source.{Source}
 
 -- what may follow bytes that show a fault: nothing where a field is missing, and anything else
 abbrev pub MayFollow : WireFault → List ℕ → Type 0

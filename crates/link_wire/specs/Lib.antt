@@ -1,9 +1,9 @@
-pub mod Bytes
+pub use Rattle.link_io.specs.Bytes
+pub use Rattle.link_io.specs.Device
+pub use Rattle.link_io.specs.Source
+pub use Rattle.link_io.specs.Writing
 pub mod Limits
 pub mod Codes
-pub mod Device
-pub mod Source
-pub mod Writing
 pub mod Part
 pub mod Message
 pub mod MessageBuffer

@@ -1,6 +1,6 @@
 -- The messages of TCPCLv4 (RFC 9174), read from a list of bytes field by field, in written order: the first field that
 -- is missing or breaks its rule gives the fault.
-use Rattle.std.specs.Prelude.{ℕ, zero, suc, ◌+◌, ◌-◌, Bool, true, false, ◌&&◌, List, [], ◌∷◌, slice_index, Option, Some, None, Ok, Err, nat_lt, ◌==◌, if◌then◌else◌}
+use Rattle.std.specs.Prelude.{ℕ, zero, suc, ◌+◌, ◌-◌, Bool, false, ◌&&◌, List, [], ◌∷◌, slice_index, Option, Some, None, Ok, Err, nat_lt, ◌==◌, if◌then◌else◌}
 use Rattle.arrayvec.specs.ArrayVec.{ArrayVec}
 use Rattle.byteorder.specs.Endian.{big_number}
 use Rattle.link_wire.specs.Codes.{magic, version, xfer_segment, xfer_ack, xfer_refuse, keepalive, sess_term, msg_reject, sess_init, is_start, item_head, transfer_length, total_size}

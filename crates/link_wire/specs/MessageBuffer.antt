@@ -1,5 +1,5 @@
 -- The message that stands in a buffer.
-use Rattle.std.specs.Prelude.{ℕ, List, [], if◌then◌else◌}
+use Rattle.std.specs.Prelude.{ℕ, [], if◌then◌else◌}
 use Rattle.arrayvec.specs.ArrayVec.{ArrayVec}
 use Rattle.link_wire.specs.Codes.{is_start}
 use Rattle.link_wire.specs.declared.message.Item.{Item}

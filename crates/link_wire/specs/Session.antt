@@ -1,12 +1,12 @@
 -- Where a session stands in the reading of the bytes that it was given.
-use Rattle.std.specs.Prelude.{◌≡◌, ℕ, ◌+◌, ◌<◌, ◌≤◌, min, Bool, true, false, ◌&&◌, ◌==◌, List, [], ◌∷◌, ◌++◌, length, take, drop, Option, Some, None, Result, Ok, Err, nat_lt, if◌then◌else◌}
-use Rattle.link_wire.specs.Device.{Input}
+use Rattle.std.specs.Prelude.{◌≡◌, ℕ, ◌+◌, ◌<◌, ◌≤◌, Bool, true, false, ◌&&◌, ◌==◌, List, [], ◌++◌, length, take, drop, Option, Some, None, Result, Ok, Err, nat_lt, if◌then◌else◌}
+use Rattle.link_io.specs.Device.{Input}
 use Rattle.link_wire.specs.Getting.{MayFollow}
 use Rattle.link_wire.specs.Limits.{longest_head}
 use Rattle.link_wire.specs.Message.{data_length}
-use Rattle.link_wire.specs.Source.{IsSourceAt, IsLive, IsOver, HasEnded, Takes, StopsAfter, is_fresh, window_of}
+use Rattle.link_io.specs.Source.{IsSourceAt, IsLive, IsOver, HasEnded, Takes, StopsAfter, is_fresh, window_of}
 use Rattle.link_wire.specs.Stream.{End, Clean, Cut, Fault, Stream, ended, with_entry, stream_at, Reading, reading_of}
-use Rattle.link_wire.specs.declared.fault.IoFault.{IoFault}
+use Rattle.link_io.specs.declared.fault.IoFault.{IoFault}
 use Rattle.link_wire.specs.declared.fault.Stop.{Stop}
 use Rattle.link_wire.specs.declared.fault.Stop.TheVariants as stop
 use Rattle.link_wire.specs.declared.fault.WireFault.{WireFault}
@@ -16,7 +16,7 @@ use Rattle.link_wire.specs.declared.message.Message.{Message}
 use Rattle.link_wire.specs.declared.session.Phase.{Phase}
 use Rattle.link_wire.specs.declared.session.Phase.TheVariants as phase
 use Rattle.link_wire.specs.declared.session.Session.{Session}
-use Rattle.link_wire.specs.declared.source.Source.{Source}
+use Rattle.link_io.specs.declared.source.Source.{Source}
 
 -- a reading that goes on
 abbrev pub joined : Reading → Stream → Reading

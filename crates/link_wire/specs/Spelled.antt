@@ -3,7 +3,7 @@
 use Rattle.std.specs.Prelude.{◌≡◌, ℕ, ◌^◌, ◌<◌, ◌≤◌, Bool, true, false, List, [], ◌∷◌, ◌++◌, length, Option, Some, None, if◌then◌else◌}
 use Rattle.arrayvec.specs.ArrayVec.{ArrayVec}
 use Rattle.byteorder.specs.Endian.{big_bytes, big_number}
-use Rattle.link_wire.specs.Bytes.{AreBytes}
+use Rattle.link_io.specs.Bytes.{AreBytes}
 use Rattle.link_wire.specs.Codes.{version, xfer_segment, xfer_ack, xfer_refuse, keepalive, sess_term, msg_reject, sess_init, is_start, total_size}
 use Rattle.link_wire.specs.Limits.{longest_node, longest_list, most_items}
 use Rattle.link_wire.specs.Message.{gives_total, data_length}

@@ -1,23 +1,7 @@
-//! What stops the reading of a stream, or the writing of a text.
+//! What stops the reading of a session.
 
+use link_io::IoFault;
 use thiserror::Error;
-
-/// A failure of a device or of memory, or an input past its limit.
-#[derive(Clone, Copy, Debug, PartialEq, Eq, Error)]
-pub enum IoFault {
-    /// The reader failed.
-    #[error("read failed")]
-    Read,
-    /// The reader gave a byte past 2^63 - 1 bytes.
-    #[error("input too long")]
-    InputTooLong,
-    /// A writer failed.
-    #[error("write failed")]
-    Write,
-    /// A request for memory was refused.
-    #[error("out of memory")]
-    Memory,
-}
 
 /// The first fault of a byte stream that is no recorded session (RFC 9174 sections 4.1 to 4.8 and 5.2).
 #[derive(Clone, Copy, Debug, PartialEq, Eq, Error)]

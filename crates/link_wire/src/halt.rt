@@ -1,6 +1,7 @@
 //! What stops the reading of a part of a message.
 
-use crate::fault::{IoFault, Stop, WireFault};
+use crate::fault::{Stop, WireFault};
+use link_io::IoFault;
 
 /// A `Stop` that does not know the offset of its message yet.
 #[derive(Clone, Copy, Debug, PartialEq, Eq)]

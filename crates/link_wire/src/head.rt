@@ -1,7 +1,7 @@
 //! The contact header and the heads of messages, field by field (RFC 9174 sections 4.2 to 6.1).
 
 ghost use Rattle.std.specs.Prelude.{◌≡◌, ◌≤◌, Ok, None};
-ghost use Rattle.link_wire.specs.Source.{HasEnded, IsLive};
+ghost use Rattle.link_io.specs.Source.{HasEnded, IsLive};
 ghost use Rattle.link_wire.specs.Message.{contact_at, node_at, node_bytes_at, segment_items_at, segment_at, ack_at, refuse_at, sess_term_at, msg_reject_at, sess_init_at, fields_at};
 ghost use Rattle.link_wire.specs.Getting.{Gets, with_value};
 ghost use Rattle.link_wire.specs.Getting.{GetsKind};
@@ -11,14 +11,13 @@ use crate::codes::{
     KEEPALIVE, MAGIC, MSG_REJECT, SESS_INIT, SESS_TERM, START, VERSION, XFER_ACK, XFER_REFUSE,
     XFER_SEGMENT,
 };
-use crate::device::InDevice;
-use crate::fault::{IoFault, WireFault};
+use crate::fault::WireFault;
 use crate::halt::Halt;
 use crate::list::list;
 use crate::message::{Contact, Fields, Items, ListOf, MAX_NODE_ID, MessageBuffer, NodeId};
 use crate::parts::{bytes, field, number8, number16, number64};
-use crate::source::{Filled, Source};
 use byteorder::{BigEndian, ByteOrder};
+use link_io::{Filled, InDevice, IoFault, Source};
 
 /// The contact header: six bytes, of which the first four are `dtn!` and the next is the version.
 pub fn contact<R: InDevice>(source: &mut Source<R>) -> Result<Contact, Halt>

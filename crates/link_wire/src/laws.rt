@@ -2,7 +2,7 @@
 //! and the function does nothing.
 
 ghost use Rattle.std.specs.Prelude.{◌≡◌, ℕ, List, [], ◌++◌};
-ghost use Rattle.link_wire.specs.Bytes.{AreBytes};
+ghost use Rattle.link_io.specs.Bytes.{AreBytes};
 ghost use Rattle.link_wire.specs.Spelled.{Spelled};
 ghost use Rattle.link_wire.specs.SpelledStream.{IsReading};
 ghost use Rattle.link_wire.specs.Stream.{Reading, reading_of};

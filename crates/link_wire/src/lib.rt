@@ -1,9 +1,7 @@
-//! The wire of a recorded TCPCLv4 session (RFC 9174, without TLS): devices, the input source, whole
-//! writes, and the messages of one entity's byte stream.
+//! The wire of a recorded TCPCLv4 session (RFC 9174, without TLS): the messages of one entity's byte stream.
 #![tactic(auto)]
 
 mod codes;
-mod device;
 mod fault;
 mod halt;
 mod head;
@@ -12,16 +10,15 @@ mod list;
 mod message;
 mod parts;
 mod session;
-mod source;
-mod writing;
 
 pub use codes::{END, START};
-pub use device::{DeviceFault, InDevice, OutDevice, Reader, Writer};
-pub use fault::{IoFault, Stop, WireFault};
+pub use fault::{Stop, WireFault};
+pub use link_io::{
+    DeviceFault, Filled, INPUT_LIMIT, InDevice, IoFault, OutDevice, Reader, Source, WINDOW, Writer,
+    write_whole,
+};
 pub use message::{
     Contact, Fields, Item, Items, ListOf, MAX_ITEMS, MAX_LIST_LENGTH, MAX_NODE_ID, Message,
     MessageBuffer, NodeId, SegmentHead,
 };
 pub use session::Session;
-pub use source::{Filled, INPUT_LIMIT, Source, WINDOW};
-pub use writing::write_whole;

@@ -1,17 +1,16 @@
 //! Extension lists (RFC 9174 sections 4.8 and 5.2.5), item by item.
 
 ghost use Rattle.std.specs.Prelude.{◌≡◌, ◌≤◌, ◌<◌, ◌+◌, length, IfOk};
-ghost use Rattle.link_wire.specs.Source.{IsLive};
+ghost use Rattle.link_io.specs.Source.{IsLive};
 ghost use Rattle.link_wire.specs.Message.{gives_total, skipped_at, total_at, item_head_at, items_of as items_by, list_at};
 ghost use Rattle.link_wire.specs.Getting.{Gets, with_value};
 
 use crate::codes::{ITEM_HEAD, TOTAL_SIZE, TRANSFER_LENGTH};
-use crate::device::InDevice;
 use crate::fault::WireFault;
 use crate::halt::Halt;
 use crate::message::{Item, Items, ListOf, MAX_LIST_LENGTH};
 use crate::parts::{bytes, number8, number16, number32, number64};
-use crate::source::Source;
+use link_io::{InDevice, Source};
 
 /// Values that nobody asks for are passed over in pieces of this many bytes.
 const PIECE: usize = 256;

@@ -1,15 +1,14 @@
 //! The fields of a message: bytes, and unsigned numbers in big-endian order.
 
 ghost use Rattle.std.specs.Prelude.{◌≡◌, ◌<◌, length, MatchResult};
-ghost use Rattle.link_wire.specs.Source.{IsLive};
+ghost use Rattle.link_io.specs.Source.{IsLive};
 ghost use Rattle.link_wire.specs.Part.{bytes_at, number_at};
 ghost use Rattle.link_wire.specs.Getting.{Gets, with_value};
 
-use crate::device::InDevice;
 use crate::fault::WireFault;
 use crate::halt::Halt;
-use crate::source::{Filled, Source};
 use byteorder::{BigEndian, ByteOrder};
+use link_io::{Filled, InDevice, Source};
 
 /// The next bytes, as many as the slice has room for.
 #[inline]

@@ -1,11 +1,10 @@
 //! A recorded session: the contact header, then messages, and the data of segments.
 
-use crate::device::InDevice;
 use crate::fault::{Stop, WireFault};
 use crate::halt::Halt;
 use crate::head::{contact, fields, kind};
 use crate::message::{Contact, Message, MessageBuffer};
-use crate::source::Source;
+use link_io::{InDevice, Source};
 
 /// What a session may be asked for.
 #[derive(Clone, Copy, Debug, PartialEq, Eq)]
@@ -32,7 +31,7 @@ pub struct Session<R> {
 impl<R: InDevice> Session<R> {
     ghost use Rattle.std.specs.Prelude.{◌≡◌, true, false, [], ℕ, List, IfErr, Some, None, Ok, Err, IsTrue};
     ghost use Rattle.link_wire.specs.Halt.{stop_at};
-    ghost use Rattle.link_wire.specs.Source.{is_fresh};
+    ghost use Rattle.link_io.specs.Source.{is_fresh};
     ghost use Rattle.link_wire.specs.MessageBuffer.{message_of};
     ghost use Rattle.link_wire.specs.Session.{source_of, may_open, may_read, is_opened, IsSessionAt, HasEndedBetween, HasStopped, left_of, with_message_read, GivesContact, GivesNext};
     ghost use Rattle.link_wire.specs.declared.session.Phase.TheVariants as phase;

@@ -3,8 +3,8 @@ use Rattle.std.proofs.Common.{◌≡◌, ℕ, ◌⊎◌, inl, inr, append_assoc,
 use Rattle.std.proofs.lemmas.List.{append-nil}
 use Rattle.std.specs.Io.KnownBytes.{Consumes, Appends, IsAtEnd, Keeps, append_known, prepend_known}
 use Rattle.link_wire.specs.Device.{Input, Output}
-use Rattle.link_wire.specs.declared.fault.IoFault.{IoFault}
-use Rattle.link_wire.specs.declared.fault.IoFault.TheVariants.{Write}
+use Rattle.link_wire.specs.declared.IoFault.{IoFault}
+use Rattle.link_wire.specs.declared.IoFault.TheVariants.{Write}
 use Rattle.link_run.specs.Run.{Told, Tool, Devices, AllGiven, GivesAnswer, Gave, GaveAnswer}
 use Rattle.link_run.specs.declared.run.Status.{Status}
 use Rattle.tcpclkit.specs.Ending.{answer_after_flush}

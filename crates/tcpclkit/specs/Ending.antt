@@ -1,7 +1,7 @@
 -- How a call of the program ends.
 use Rattle.std.specs.Prelude.{ℕ, Bool, true, false, ◌==◌, if◌then◌else◌, List, Result, Ok, Err, codes}
-use Rattle.link_wire.specs.declared.fault.IoFault.{IoFault}
-use Rattle.link_wire.specs.declared.fault.IoFault.TheVariants as io
+use Rattle.link_wire.specs.declared.IoFault.{IoFault}
+use Rattle.link_wire.specs.declared.IoFault.TheVariants as io
 use Rattle.link_tools.specs.Exit.{status_of, exit_text}
 use Rattle.link_run.specs.declared.run.Status.{Status}
 use Rattle.tcpclkit.specs.declared.ending.Ending.{Ending}

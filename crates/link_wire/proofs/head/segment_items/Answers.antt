@@ -1,10 +1,8 @@
-use Rattle.std.proofs.Common.{◌≡◌, eq-eqb, bit_and, false, [], arith}
+use Rattle.std.proofs.Common.{◌≡◌, eq-eqb, bit_and, false, arith}
 use Rattle.std.proofs.lemmas.Bool.Decides.{nat_tests}
-use Rattle.arrayvec.specs.ArrayVec.{ArrayVec}
 use Rattle.link_wire.proofs.Gettings.{pure, if_true, if_false}
 use Rattle.link_wire.specs.Codes.{is_start}
 use Rattle.link_wire.specs.Message.{segment_items_at}
-use Rattle.link_wire.specs.declared.message.Item.{Item}
 use Rattle.link_wire.proofs.head.segment_items.Goals as goal
 
 pub returns-then-flags-eq-START : goal.returns-then-flags-eq-START

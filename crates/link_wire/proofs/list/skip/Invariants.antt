@@ -1,5 +1,5 @@
 use Rattle.std.proofs.Common.{◌-◌, ◌≤◌, Ok}
-use Rattle.link_wire.specs.Source.{IsLive}
+use Rattle.link_io.specs.Source.{IsLive}
 use Rattle.link_wire.specs.Message.{skipped_at}
 use Rattle.link_wire.specs.Getting.{Gets}
 use Rattle.link_wire.proofs.list.skip.Given as goal

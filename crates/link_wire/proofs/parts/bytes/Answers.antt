@@ -1,4 +1,4 @@
-use Rattle.std.proofs.Common.{[], ◌++◌, take, refl, arith, sym, ap, ◌∙◌, append-nil, length-take}
+use Rattle.std.proofs.Common.{take, refl, arith, ap, ◌∙◌, append-nil, length-take}
 use Rattle.link_wire.specs.Part.{bytes_at}
 use Rattle.link_wire.proofs.FieldReads.{bytes_at-there, bytes_at-short}
 use Rattle.link_wire.proofs.parts.bytes.Goals as goal

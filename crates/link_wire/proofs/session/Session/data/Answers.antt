@@ -1,6 +1,5 @@
-use Rattle.std.proofs.Common.{◌≡◌, ◌≢◌, ◌++◌, ◌<◌, ◌≤◌, [], length, take, drop, append-nil, refl, ap, sym, ◌∙◌, arith, length-append, length-take, length-drop}
+use Rattle.std.proofs.Common.{◌≡◌, ◌≢◌, ◌++◌, length, take, drop, append-nil, ap, sym, ◌∙◌, arith, length-append, length-take, length-drop}
 use Rattle.std.proofs.Math.Seq.{take-append_seam}
-use Rattle.std.proofs.lemmas.Result.{err_from_is_err_and}
 use Rattle.link_wire.proofs.Sessions.{gave_then, data_stopped}
 use Rattle.link_wire.proofs.session.Session.data.Goals as goal
 

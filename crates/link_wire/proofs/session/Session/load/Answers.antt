@@ -1,6 +1,5 @@
-use Rattle.std.proofs.Common.{◌≡◌, ◌≢◌, ◌+◌, ◌-◌, ◌<◌, ◌≤◌, [], length, take, append-nil, refl, arith, sym, ap, length-take}
-use Rattle.link_wire.specs.Session.{data_in}
-use Rattle.link_wire.specs.Source.{window_of}
+use Rattle.std.proofs.Common.{◌≢◌, [], refl, arith, length-take}
+use Rattle.link_io.specs.Source.{window_of}
 use Rattle.link_wire.proofs.Sessions.{data_given}
 use Rattle.link_wire.proofs.session.Session.load.Goals as goal
 

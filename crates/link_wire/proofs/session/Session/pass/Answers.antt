@@ -1,7 +1,7 @@
-use Rattle.std.proofs.Common.{◌≡◌, ◌+◌, ◌-◌, ◌≤◌, length, take, refl, arith, sym, length-take}
+use Rattle.std.proofs.Common.{◌≡◌, ◌≤◌, length, take, refl, arith, length-take}
 use Rattle.std.proofs.Math.Seq.{take-take}
 use Rattle.link_wire.specs.Session.{data_in}
-use Rattle.link_wire.specs.Source.{window_of}
+use Rattle.link_io.specs.Source.{window_of}
 use Rattle.link_wire.proofs.Sessions.{data_given}
 use Rattle.link_wire.proofs.session.Session.pass.Goals as goal
 

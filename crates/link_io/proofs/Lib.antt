@@ -1,0 +1,3 @@
+mod Windows
+pub mod Sources
+mod Writes

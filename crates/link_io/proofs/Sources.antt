@@ -1,0 +1,94 @@
+-- What is given in turn is given in one.
+use Rattle.std.proofs.Common.{◌≡◌, ℕ, ◌+◌, List, [], ◌++◌, length, take, drop, Option, Some, None, ap, sym, ◌∙◌, Bool, true, false, ◌&&◌, eqb, eqb-true, add_assoc, length-append, append_assoc, add-zero, refl, take-append-drop}
+use Rattle.std.specs.Io.KnownBytes.{Consumes, prepend_known}
+use Rattle.std.proofs.KnownBytes.{Consumes-nil, Consumes-trans}
+use Rattle.std.proofs.lemmas.List.Elements.{All-nil, All-append}
+use Rattle.link_io.specs.Bytes.{IsByte}
+use Rattle.link_io.specs.Device.{Input}
+use Rattle.link_io.specs.Source.{is_open, is_fresh, IsSourceAt, IsLiveBy, IsLive, HasEnded, given_by, window_of, ahead, Takes, StopsAfter}
+use Rattle.link_io.specs.declared.fault.IoFault.{IoFault}
+use Rattle.link_io.proofs.Windows.{range_none}
+use Rattle.link_io.specs.declared.source.Flow.{Flow}
+use Rattle.link_io.specs.declared.source.Flow.TheVariants as flow
+use Rattle.link_io.specs.declared.source.Source.{Source}
+
+more_given : (a b c : ℕ) (xs ys : List ℕ) → b ≡ a + length xs → c ≡ b + length ys → c ≡ a + length (xs ++ ys)
+more_given a b c xs ys p q =
+    q ∙ ap (λ n. n + length ys) p ∙ add_assoc a (length xs) (length ys) ∙ ap (λ n. a + n) (sym (length-append xs ys))
+
+-- the first bytes of a window are the next of what is ahead
+pub Consumes-window : (window : List ℕ) (left : Option (List ℕ)) (n : ℕ) → Consumes (prepend_known window left) (prepend_known (drop n window) left) (take n window)
+Consumes-window window None n = tt
+Consumes-window window (Some xs) n = ap (λ w. w ++ xs) (sym (take-append-drop n window)) ∙ append_assoc (take n window) (drop n window) xs
+
+-- an empty window is nothing before what is left
+pub Consumes-empty : (old new : Option (List ℕ)) (bytes : List ℕ) → Consumes old new bytes → Consumes (prepend_known [] old) new bytes
+Consumes-empty None new bytes read = tt
+Consumes-empty (Some xs) new bytes read = read
+
+-- what a read into an empty window gives is ahead as it was before
+pub Consumes-read : (old new : Option (List ℕ)) (window : List ℕ) → Consumes old new window → Consumes (prepend_known [] old) (prepend_known window new) []
+Consumes-read None new window read = tt
+Consumes-read (Some xs) None window read = absurd read
+Consumes-read (Some xs) (Some ys) window read = read
+
+-- both of two tests
+pub and_true : (first second : Bool) → (first && second) ≡ true → (first ≡ true) × (second ≡ true)
+and_true true second is = (refl, is)
+and_true false second is = absurd (cc)
+
+live_open : (now : Flow) (left : Option (List ℕ)) (start end : ℕ) → is_open now ≡ true → IsLiveBy now left start end
+live_open flow.Open left start end is = tt
+live_open flow.Ended left start end is = absurd (cc)
+live_open (flow.Failed fault) left start end is = absurd (cc)
+
+module _ {R : Type 0} (s : Source R) (fresh : is_fresh s ≡ true) where
+  -- a fresh source has given nothing
+  pub fresh_at : IsSourceAt s []
+  fresh_at = record { bytes = All-nil IsByte; given = eqb-true s.given 0 (and_true (eqb s.given 0) _ fresh).0 }
+
+module _ {R : Type 0} (s : Source R) where
+  -- after the end the window is empty
+  pub ended_window : HasEnded s → length (window_of s) ≡ 0
+  ended_window ended = ap length (range_none s.window s.start s.end ended.1)
+
+module _ {R : Type 0} (look : R → Input) (s : Source R) (fresh : is_fresh s ≡ true) where
+  -- and more may come
+  pub fresh_live : IsLive look s
+  fresh_live =
+      let rest = (and_true (eqb s.given 0) _ fresh).1 in
+      live_open s.flow (look s.reader).left s.start s.end (and_true (is_open s.flow) _ rest).0
+
+module _ {R : Type 0} (look : R → Input) where
+  pub Takes-none : (s : Source R) → Takes look s s []
+  Takes-none s = record {
+    bytes_fit = All-nil IsByte;
+    next = Consumes-nil (ahead look s);
+    count = sym (add-zero (given_by s));
+    device = refl;
+  }
+
+  pub Takes-then : (old mid new : Source R) (xs ys : List ℕ) → Takes look old mid xs → Takes look mid new ys → Takes look old new (xs ++ ys)
+  Takes-then old mid new xs ys p q = record {
+    bytes_fit = All-append IsByte xs ys p.bytes_fit q.bytes_fit;
+    next = Consumes-trans (ahead look old) (ahead look mid) (ahead look new) xs ys p.next q.next;
+    count = more_given (given_by old) (given_by mid) (given_by new) xs ys p.count q.count;
+    device = q.device ∙ p.device;
+  }
+
+  pub StopsAfter-then : (old mid new : Source R) (xs ys : List ℕ) (fault : IoFault) → Takes look old mid xs → StopsAfter look mid new ys fault → StopsAfter look old new (xs ++ ys) fault
+  StopsAfter-then old mid new xs ys fault p q = record {
+    bytes_fit = All-append IsByte xs ys p.bytes_fit q.bytes_fit;
+    past = q.past;
+    next = rw append_assoc (Consumes-trans (ahead look old) (ahead look mid) (look new.reader).left xs (ys ++ q.past) p.next q.next);
+    count = more_given (given_by old) (given_by mid) (given_by new) xs ys p.count q.count;
+    cause = q.cause;
+    failed = q.failed;
+  }
+
+  -- a history goes on by what is given
+  pub IsSourceAt-then : (old new : Source R) (history bytes : List ℕ) → Takes look old new bytes → IsSourceAt old history → IsSourceAt new (history ++ bytes)
+  IsSourceAt-then old new history bytes p at = record {
+    bytes = All-append IsByte history bytes at.bytes p.bytes_fit;
+    given = p.count ∙ ap (λ n. n + length bytes) at.given ∙ sym (length-append history bytes);
+  }

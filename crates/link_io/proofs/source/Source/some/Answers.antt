@@ -1,0 +1,23 @@
+use Rattle.std.proofs.Common.{◌≡◌, ◌++◌, [], length, take, drop, ap, sym, ◌∙◌, arith, length-append, length-take, length-drop}
+use Rattle.std.proofs.Math.Seq.{take-append_seam}
+use Rattle.link_io.proofs.Sources.{Takes-then}
+use Rattle.link_io.proofs.source.Source.some.Goals as goal
+
+pub returns-clause-gives : goal.returns-clause-gives
+returns-clause-gives g c = λ live.
+    let ready = c.in_ok-ready.ensures.gives live in
+    let part = c.copy.new.part in
+    let rest = drop c.min-count.result c.args.buffer.now in
+    let size : length part ≡ c.min-count.result = omega (arith, c.copy.auto.part, length-take c.min-count.result c.args.buffer.now) in
+    let given : take c.min-count.result (part ++ rest) ≡ part = ap (λ n. take n (part ++ rest)) (sym size) ∙ take-append_seam part rest in
+    record {
+      room = omega (arith, length-append part rest, size);
+      takes = rw given (Takes-then g.R.InDevice.state _ _ _ [] part ready.takes c.copy.ensures.takes);
+      live = c.copy.ensures.live ready.live;
+      over = λ none some. absurd (c.if-ready-eq0.false (omega (arith, length-append part rest, size, length-drop c.min-count.result c.args.buffer.now)));
+    }
+
+pub returns-clause-ended : goal.returns-clause-ended
+returns-clause-ended g c = λ ended.
+    let none = c.in_ok-ready.ensures.ended ended in
+    absurd (c.if-ready-eq0.false (cc))

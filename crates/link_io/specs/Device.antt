@@ -1,0 +1,12 @@
+-- What a contract sees of a device.
+use Rattle.std.specs.Prelude.{ℕ, Bool, List, Option}
+
+-- a reader: the bytes that it has left, `None` where they are not known, and whether it has failed
+pub record Input : Type 0 where
+  pub left : Option (List ℕ)
+  pub failed : Bool
+
+-- a writer: the bytes that it has written, `None` where they are not known, and whether it has failed
+pub record Output : Type 0 where
+  pub written : Option (List ℕ)
+  pub failed : Bool

@@ -1,0 +1,5 @@
+pub mod Bytes
+pub mod Limits
+pub mod Device
+pub mod Source
+pub mod Writing

@@ -1,0 +1,141 @@
+-- What a `Source` has given of its reader's bytes. It reads ahead: the bytes that were read and not given are its window.
+use Rattle.std.specs.Prelude.{◌≡◌, ℕ, ◌+◌, ◌-◌, ◌<◌, ◌≤◌, Bool, true, false, ◌&&◌, ◌==◌, List, [], ◌∷◌, ◌++◌, length, take, slice_range, Option, Result, Ok, Err}
+use Rattle.std.specs.Io.KnownBytes.{Consumes, IsAtEnd, prepend_known}
+use Rattle.link_io.specs.Bytes.{AreBytes}
+use Rattle.link_io.specs.Device.{Input}
+use Rattle.link_io.specs.Limits.{longest_input, window_size}
+use Rattle.link_io.specs.declared.fault.IoFault.{IoFault}
+use Rattle.link_io.specs.declared.fault.IoFault.TheVariants as io
+use Rattle.link_io.specs.declared.source.Filled.{Filled}
+use Rattle.link_io.specs.declared.source.Filled.TheVariants as filled
+use Rattle.link_io.specs.declared.source.Flow.{Flow}
+use Rattle.link_io.specs.declared.source.Flow.TheVariants as flow
+use Rattle.link_io.specs.declared.source.Source.{Source}
+
+-- what a `fill` returns after the end: an empty slice is full
+abbrev pub filled_at_end : List ℕ → Filled
+filled_at_end [] = filled.Whole
+filled_at_end (b ∷ buffer) = filled.Ended 0
+
+abbrev pub is_open : Flow → Bool
+is_open flow.Open = true
+is_open flow.Ended = false
+is_open (flow.Failed fault) = false
+
+abbrev pub IsLiveBy : Flow → Option (List ℕ) → ℕ → ℕ → Type 0
+IsLiveBy flow.Open left start end = Unit {0}
+IsLiveBy flow.Ended left start end = IsAtEnd left × (start ≡ end)
+IsLiveBy (flow.Failed fault) left start end = ⊥
+
+module _ {R : Type 0} where
+  -- the reader, as it stands
+  abbrev pub reader_of : Source R → R
+  reader_of s = s.reader
+
+  -- how many bytes were given
+  abbrev pub given_by : Source R → ℕ
+  given_by s = s.given
+
+  -- the bytes that were read and not given
+  abbrev pub window_of : Source R → List ℕ
+  window_of s = slice_range s.window s.start s.end
+
+  -- how many bytes were taken from the reader
+  abbrev pub taken_by : Source R → ℕ
+  taken_by s = s.given + (s.end - s.start)
+
+  -- the bytes that are still to be given: the window, and what the reader has left, where that is known
+  abbrev pub ahead : (R → Input) → Source R → Option (List ℕ)
+  ahead look s = prepend_known (window_of s) (look s.reader).left
+
+  -- the source has given exactly these bytes, since it was made
+  pub record IsSourceAt (s : Source R) (history : List ℕ) : Type 0 where
+    pub bytes : AreBytes history
+    pub given : given_by s ≡ length history
+
+  -- nothing was given or read, and more may come
+  abbrev pub is_fresh : Source R → Bool
+  is_fresh s = (s.given == 0) && (is_open s.flow && (s.start == s.end))
+
+  -- the input has ended, and all was given: nothing more is read
+  abbrev pub HasEnded : Source R → Type 0
+  HasEnded s = (s.flow ≡ flow.Ended) × (s.start ≡ s.end)
+
+  -- the source has stopped at this fault, and all was given: nothing more is read
+  abbrev pub HasFailed : Source R → IoFault → Type 0
+  HasFailed s fault = (s.flow ≡ flow.Failed fault) × (s.start ≡ s.end)
+
+  -- more bytes may come, or none is left
+  abbrev pub IsLive : (R → Input) → Source R → Type 0
+  IsLive look s = IsLiveBy s.flow (look s.reader).left s.start s.end
+
+  -- the input has ended, and no byte of it is left
+  pub record IsOver (look : R → Input) (s : Source R) : Type 0 where
+    pub ended : HasEnded s
+    pub empty : IsAtEnd (look s.reader).left
+
+  -- from old to new these bytes were given, the next ones, and the reader did not fail
+  pub record Takes (look : R → Input) (old new : Source R) (bytes : List ℕ) : Type 0 where
+    pub bytes_fit : AreBytes bytes
+    pub next : Consumes (ahead look old) (ahead look new) bytes
+    pub count : given_by new ≡ given_by old + length bytes
+    pub device : (look new.reader).failed ≡ (look old.reader).failed
+
+  -- Why the source stopped: the reader failed, and all that was taken before was given; or the last read brought bytes,
+  -- which were not given, of which one is past the limit.
+  abbrev pub HasCause : (R → Input) → Source R → IoFault → List ℕ → Type 0
+  HasCause look new io.Read past = (past ≡ []) × ((look new.reader).failed ≡ true)
+  HasCause look new io.InputTooLong past = (length past ≤ window_size) × (longest_input < given_by new + length past)
+  HasCause look new io.Write past = ⊥
+  HasCause look new io.Memory past = ⊥
+
+  -- from old to new these bytes were given, the next ones; then the source stopped at this fault
+  pub record StopsAfter (look : R → Input) (old new : Source R) (bytes : List ℕ) (fault : IoFault) : Type 0 where
+    pub bytes_fit : AreBytes bytes
+    pub past : List ℕ
+    pub next : Consumes (ahead look old) (look new.reader).left (bytes ++ past)
+    pub count : given_by new ≡ given_by old + length bytes
+    pub cause : HasCause look new fault past
+    pub failed : HasFailed new fault
+
+  -- What a call gives that makes the window ready: some bytes lie in it, or the input has ended.
+  pub record GaveReady (look : R → Input) (old new : Source R) (n : ℕ) : Type 0 where
+    pub takes : Takes look old new []
+    pub live : IsLive look new
+    pub size : n ≡ length (window_of new)
+    pub over : n ≡ 0 → IsOver look new
+
+  abbrev pub GivesReady : (R → Input) → Source R → Source R → Result ℕ IoFault → Type 0
+  GivesReady look old new (Ok n) = GaveReady look old new n
+  GivesReady look old new (Err fault) = StopsAfter look old new [] fault
+
+  -- What one call of `some` gives.
+  pub record GaveSome (look : R → Input) (old new : Source R) (buffer : List ℕ) (n : ℕ) : Type 0 where
+    pub room : n ≤ length buffer
+    pub takes : Takes look old new (take n buffer)
+    pub live : IsLive look new
+    pub over : n ≡ 0 → 0 < length buffer → IsOver look new
+
+  abbrev pub GivesSome : (R → Input) → Source R → Source R → List ℕ → Result ℕ IoFault → Type 0
+  GivesSome look old new buffer (Ok n) = GaveSome look old new buffer n
+  GivesSome look old new buffer (Err fault) = StopsAfter look old new [] fault
+
+  -- What a `fill` gives: the whole slice, or what the input still had, or what came before a fault.
+  pub record GaveWhole (look : R → Input) (old new : Source R) (buffer : List ℕ) : Type 0 where
+    pub takes : Takes look old new buffer
+    pub live : IsLive look new
+
+  pub record GavePart (look : R → Input) (old new : Source R) (buffer : List ℕ) (n : ℕ) : Type 0 where
+    pub part : n < length buffer
+    pub takes : Takes look old new (take n buffer)
+    pub over : IsOver look new
+
+  pub record GaveBefore (look : R → Input) (old new : Source R) (buffer : List ℕ) (fault : IoFault) : Type 0 where
+    pub count : ℕ
+    pub part : count < length buffer
+    pub stops : StopsAfter look old new (take count buffer) fault
+
+  abbrev pub GivesFill : (R → Input) → Source R → Source R → List ℕ → Result Filled IoFault → Type 0
+  GivesFill look old new buffer (Ok filled.Whole) = GaveWhole look old new buffer
+  GivesFill look old new buffer (Ok (filled.Ended n)) = GavePart look old new buffer n
+  GivesFill look old new buffer (Err fault) = GaveBefore look old new buffer fault

@@ -1,0 +1,145 @@
+//! Where bytes come from and go to: two traits, and devices made of std's readers and writers.
+
+ghost use Rattle.std.specs.Prelude.{◌≡◌, ◌<◌, ◌≤◌, true, false, length, IfOk, MatchResult};
+ghost use Rattle.std.specs.Io.KnownBytes.{ReadConsumes, WriteAppends};
+ghost use Rattle.link_io.specs.Device.{Input, Output};
+
+use std::io::{Read, Write};
+use thiserror::Error;
+
+/// A device has failed. What it has read or written before stays as it was.
+#[derive(Clone, Copy, Debug, PartialEq, Eq, Error)]
+#[error("device failed")]
+pub struct DeviceFault;
+
+/// Where bytes come from.
+pub trait InDevice {
+    /// The bytes left, where they are known, and whether the device has failed.
+    ghost state: { Self → Input };
+
+    /// Reads the next bytes to the start of the buffer, and returns how many. On a buffer with room,
+    /// 0 is the end of the input.
+    fn read(&mut self, buffer: &mut [u8]) -> Result<usize, DeviceFault>
+        ensures bound { IfOk result (λ n. n ≤ length buffer.new) }
+        ensures bytes { ReadConsumes (state self.old).left (state self.new).left result buffer.new }
+        ensures failed { MatchResult result
+            (λ _. (state self.new).failed ≡ (state self.old).failed)
+            (λ _. (state self.new).failed ≡ true) };
+
+    /// Whether a read has failed.
+    fn failed(&self) -> bool
+        ensures { result ≡ (state self.now).failed };
+}
+
+/// Where bytes go to.
+pub trait OutDevice {
+    /// The bytes written, where they are known, and whether the device has failed.
+    ghost state: { Self → Output };
+
+    /// Writes a prefix of the bytes, and returns how many: at least one of a nonempty slice. A fault
+    /// writes none.
+    fn write(&mut self, bytes: &[u8]) -> Result<usize, DeviceFault>
+        ensures bound { IfOk result (λ n. n ≤ length bytes.now) }
+        ensures some { IfOk result (λ n. 0 < length bytes.now → 0 < n) }
+        ensures bytes { WriteAppends (state self.old).written (state self.new).written result bytes.now }
+        ensures failed { MatchResult result
+            (λ _. (state self.new).failed ≡ (state self.old).failed)
+            (λ _. (state self.new).failed ≡ true) };
+
+    /// Whether a write has failed.
+    fn failed(&self) -> bool
+        ensures { result ≡ (state self.now).failed };
+}
+
+/// A device made of a reader of std. Each of its errors, `Interrupted` too, is a fault.
+#[derive(Drop)]
+pub struct Reader<R: Read> {
+    inner: R,
+    failed: bool,
+}
+
+impl<R: Read> Reader<R> {
+    ghost use Rattle.link_io.specs.Device.{Input};
+
+    /// A device that has not failed.
+    pub fn new(inner: R) -> Self
+        ensures { ⟦<Reader<R> as InDevice>⟧.state result ≡ record { left = R.remaining inner; failed = false } }
+    {
+        Reader {
+            inner,
+            failed: false,
+        }
+    }
+
+    /// The reader, as it stands.
+    pub fn into_inner(self) -> R
+        ensures { R.remaining result ≡ (⟦<Reader<R> as InDevice>⟧.state self).left }
+    {
+        let Reader { inner, failed: _ } = self;
+        inner
+    }
+}
+
+impl<R: Read> InDevice for Reader<R> {
+    ghost state = { λ r. record { left = R.remaining r.inner; failed = r.failed } };
+
+    fn read(&mut self, buffer: &mut [u8]) -> Result<usize, DeviceFault> {
+        match self.inner.read(buffer) {
+            Ok(n) => Ok(n),
+            Err(_) => {
+                self.failed = true;
+                Err(DeviceFault)
+            }
+        }
+    }
+
+    fn failed(&self) -> bool {
+        self.failed
+    }
+}
+
+/// A device made of a writer of std. Each of its errors, and a write of no byte of a nonempty slice,
+/// is a fault.
+#[derive(Drop)]
+pub struct Writer<W: Write> {
+    inner: W,
+    failed: bool,
+}
+
+impl<W: Write> Writer<W> {
+    /// A device that has not failed.
+    pub fn new(inner: W) -> Self
+        ensures { ⟦<Writer<W> as OutDevice>⟧.state result ≡ record { written = W.contents inner; failed = false } }
+    {
+        Writer {
+            inner,
+            failed: false,
+        }
+    }
+
+    /// The writer, as it stands.
+    pub fn into_inner(self) -> W
+        ensures { W.contents result ≡ (⟦<Writer<W> as OutDevice>⟧.state self).written }
+    {
+        let Writer { inner, failed: _ } = self;
+        inner
+    }
+}
+
+impl<W: Write> OutDevice for Writer<W> {
+    ghost state = { λ w. record { written = W.contents w.inner; failed = w.failed } };
+
+    fn write(&mut self, bytes: &[u8]) -> Result<usize, DeviceFault> {
+        match self.inner.write(bytes) {
+            Ok(n) if n > 0 || bytes.is_empty() => Ok(n),
+            _ => {
+                self.failed = true;
+                Err(DeviceFault)
+            }
+        }
+    }
+
+    fn failed(&self) -> bool {
+        self.failed
+    }
+}

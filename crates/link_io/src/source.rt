@@ -1,0 +1,304 @@
+//! The input of a session: the bytes of a reader, in order, up to the end or the first fault.
+//!
+//! A source reads ahead, [`WINDOW`] bytes at a time. What it *took* from the reader it *gives* on, each byte once: copied
+//! by [`Source::some`] and [`Source::fill`], or where the bytes lie, by [`Source::window`] and [`Source::give`].
+
+ghost use Rattle.std.specs.Prelude.{◌≡◌, ◌+◌, ◌-◌, ◌^◌, ◌<◌, ◌≤◌, true, length, slice_range, IfOk, MatchResult};
+ghost use Rattle.link_io.specs.Bytes.{AreBytes};
+ghost use Rattle.std.specs.Io.KnownBytes.{ReadConsumes};
+
+use crate::device::{DeviceFault, InDevice};
+use crate::fault::IoFault;
+
+/// The most bytes that a source takes: offsets are counted in 63 bits.
+pub const INPUT_LIMIT: u64 = (1 << 63) - 1;
+
+/// How many bytes each read asks for.
+pub const WINDOW: usize = 8192;
+
+/// How far a `fill` came.
+#[derive(Clone, Copy, Debug, PartialEq, Eq)]
+pub enum Filled {
+    /// The slice is full of the next bytes.
+    Whole,
+    /// The input ended after this many bytes, fewer than the slice has room for. They stand at its start.
+    Ended(usize),
+}
+
+/// Whether more bytes may come.
+#[derive(Clone, Copy, Debug, PartialEq, Eq)]
+enum Flow {
+    Open,
+    Ended,
+    Failed(IoFault),
+}
+
+/// The bytes of a reader, each given once and in order.
+#[derive(Drop)]
+pub struct Source<R> {
+    reader: R,
+    /// From `start` to `end` it has the bytes that were taken and not given.
+    window: [u8; WINDOW],
+    start: usize,
+    end: usize,
+    /// How many bytes were given.
+    given: u64,
+    flow: Flow,
+    ghost ordered: { start ≤ end },
+    ghost room: { end ≤ 8192 },
+    ghost within: { given + (end - start) < 2 ^ 63 },
+}
+
+impl<R: InDevice> Source<R> {
+    ghost use Rattle.std.specs.Prelude.{◌≡◌, ◌+◌, ◌-◌, ◌<◌, ◌≤◌, ◌==◌, true, false, [], length, take, drop, IfOk, IfErr, OnOk, MatchResult, IsTrue};
+    ghost use Rattle.link_io.specs.Source.{IsSourceAt, is_fresh, reader_of, given_by, taken_by, window_of, ahead, IsLive, IsOver, HasEnded, HasFailed, Takes, StopsAfter, GivesReady, GivesSome, GivesFill, filled_at_end};
+
+    /// A source that has taken nothing.
+    pub fn new(reader: R) -> Source<R>
+        requires { (R.state reader).failed ≡ false }
+        ensures reader { reader_of result ≡ reader }
+        ensures start { IsSourceAt result [] }
+        ensures fresh { IsTrue (is_fresh result) }
+    {
+        Source {
+            reader,
+            window: [0; WINDOW],
+            start: 0,
+            end: 0,
+            given: 0,
+            flow: Flow::Open,
+        }
+    }
+
+    /// The reader, as it stands. Bytes that were taken and not given are lost.
+    pub fn into_reader(self) -> R
+        ensures { result ≡ reader_of self }
+    {
+        let Source {
+            reader,
+            window: _,
+            start: _,
+            end: _,
+            given: _,
+            flow: _,
+        } = self;
+        reader
+    }
+
+    /// How many bytes were given. Offsets go by it.
+    #[inline(always)]
+    pub fn given(&self) -> u64
+        ensures { result ≡ given_by self.now }
+    {
+        self.given
+    }
+
+    /// How many bytes were taken from the reader: at most [`WINDOW`] more than were given.
+    pub fn taken(&self) -> u64
+        ensures taken { result ≡ taken_by self.now }
+        ensures lag { result ≤ given_by self.now + WINDOW }
+    {
+        self.given + (self.end - self.start) as u64
+    }
+
+    /// The bytes that were taken and not given.
+    #[inline(always)]
+    pub fn window(&self) -> &[u8]
+        ensures window { result.now ≡ window_of self.now }
+        ensures bytes { AreBytes result.now }
+    {
+        part(&self.window, self.start, self.end)
+    }
+
+    /// Gives the next `count` bytes of the window, which the caller has looked at where they lie.
+    #[inline(always)]
+    pub fn give(&mut self, count: usize)
+        requires { count ≤ length (window_of self.old) }
+        ensures takes { Takes R.state self.old self.new (take count (window_of self.old)) }
+        ensures live { IsLive R.state self.old → IsLive R.state self.new }
+        ensures rest { window_of self.new ≡ drop count (window_of self.old) }
+        ensures reader { reader_of self.new ≡ reader_of self.old }
+    {
+        // What is given is bytes, since the window's are.
+        let _window = self.window();
+        self.start += count;
+        self.given += count as u64;
+    }
+
+    /// Reads where the window is empty, once, and returns how many bytes the window has then: 0 only at the end. After a
+    /// fault it returns that fault again, and after the end 0, and does not read.
+    #[inline(always)]
+    pub fn ready(&mut self) -> Result<usize, IoFault>
+        ensures size { IfOk result (λ n. n ≡ length (window_of self.new)) }
+        ensures gives { IsLive R.state self.old → GivesReady R.state self.old self.new result }
+        ensures kept { 0 < length (window_of self.old) → (self.new ≡ self.old) × (result ≡ Ok (length (window_of self.old))) }
+        ensures ended { HasEnded self.old → (self.new ≡ self.old) × (result ≡ Ok 0) }
+        ensures failed { (fault : _) → HasFailed self.old fault → (self.new ≡ self.old) × (result ≡ Err fault) }
+    {
+        if self.start < self.end {
+            return Ok(self.end - self.start);
+        }
+        self.read_on()
+    }
+
+    /// `ready` where the window is empty.
+    #[cold]
+    #[inline(never)]
+    fn read_on(&mut self) -> Result<usize, IoFault>
+        requires { self.old.start ≡ self.old.end }
+        ensures size { IfOk result (λ n. n ≡ length (window_of self.new)) }
+        ensures gives { IsLive R.state self.old → GivesReady R.state self.old self.new result }
+        ensures ended { HasEnded self.old → (self.new ≡ self.old) × (result ≡ Ok 0) }
+        ensures failed { (fault : _) → HasFailed self.old fault → (self.new ≡ self.old) × (result ≡ Err fault) }
+    {
+        match self.flow {
+            Flow::Open => self.read(),
+            Flow::Ended => Ok(0),
+            Flow::Failed(fault) => Err(fault),
+        }
+    }
+
+    /// One read into an empty window.
+    fn read(&mut self) -> Result<usize, IoFault>
+        requires open { self.old.flow ≡ Flow.Open }
+        requires empty { self.old.start ≡ self.old.end }
+        ensures gives { GivesReady R.state self.old self.new result }
+        ensures size { IfOk result (λ n. n ≡ length (window_of self.new)) }
+    {
+        self.start = 0;
+        self.end = 0;
+        match read_ahead(&mut self.reader, &mut self.window) {
+            Ok(0) => {
+                self.flow = Flow::Ended;
+                Ok(0)
+            }
+            Ok(n) if n as u64 > INPUT_LIMIT - self.given => {
+                self.flow = Flow::Failed(IoFault::InputTooLong);
+                Err(IoFault::InputTooLong)
+            }
+            Ok(n) => {
+                self.end = n;
+                Ok(n)
+            }
+            Err(_) => {
+                self.flow = Flow::Failed(IoFault::Read);
+                Err(IoFault::Read)
+            }
+        }
+    }
+}
+
+/// Copies.
+impl<R: InDevice> Source<R> {
+    ghost use Rattle.std.specs.Prelude.{◌≡◌, ◌+◌, ◌-◌, ◌<◌, ◌≤◌, [], length, take, drop, IfOk};
+    ghost use Rattle.link_io.specs.Source.{reader_of, window_of, IsLive, HasEnded, HasFailed, Takes, GivesSome, GivesFill, filled_at_end};
+
+    /// Gives the next bytes, after at most one read, and returns how many: 0 only at the end, or for an empty slice. After
+    /// a fault it returns that fault again, and after the end 0, and does not read.
+    #[inline]
+    pub fn some(&mut self, buffer: &mut [u8]) -> Result<usize, IoFault>
+        ensures bound { IfOk result (λ n. n ≤ length buffer.new) }
+        ensures gives { IsLive R.state self.old → GivesSome R.state self.old self.new buffer.new result }
+        ensures ended { HasEnded self.old → (self.new ≡ self.old) × (result ≡ Ok 0) }
+        ensures failed { (fault : _) → HasFailed self.old fault → (self.new ≡ self.old) × (result ≡ Err fault) }
+    {
+        if let Flow::Failed(fault) = self.flow {
+            return Err(fault);
+        }
+        if buffer.is_empty() {
+            return Ok(0);
+        }
+        let ready = self.ready()?;
+        if ready == 0 {
+            return Ok(0);
+        }
+        let count = ready.min(buffer.len());
+        self.copy(&mut buffer[..count]);
+        Ok(count)
+    }
+
+    /// Fills the slice with the next bytes of the window.
+    #[inline(always)]
+    fn copy(&mut self, part: &mut [u8])
+        requires { length part.old ≤ length (window_of self.old) }
+        ensures part { part.new ≡ take (length part.new) (window_of self.old) }
+        ensures takes { Takes R.state self.old self.new part.new }
+        ensures live { IsLive R.state self.old → IsLive R.state self.new }
+    {
+        let count = part.len();
+        part.copy_from_slice(&self.window()[..count]);
+        self.give(count);
+    }
+
+    /// Fills the slice with the next bytes, or as much of it as the input still has. It may read several times. After a
+    /// fault it returns that fault again, and after the end it gives nothing; neither reads.
+    #[inline(always)]
+    pub fn fill(&mut self, buffer: &mut [u8]) -> Result<Filled, IoFault>
+        ensures gives { IsLive R.state self.old → GivesFill R.state self.old self.new buffer.new result }
+        ensures ended { HasEnded self.old → (self.new ≡ self.old) × (result ≡ Ok (filled_at_end buffer.old)) }
+        ensures failed { (fault : _) → HasFailed self.old fault → (self.new ≡ self.old) × (result ≡ Err fault) }
+    {
+        if buffer.len() <= self.end - self.start && !buffer.is_empty() {
+            self.copy(buffer);
+            return Ok(Filled::Whole);
+        }
+        self.fill_on(buffer)
+    }
+
+    /// `fill` past the window's end.
+    #[inline(never)]
+    fn fill_on(&mut self, buffer: &mut [u8]) -> Result<Filled, IoFault>
+        ensures gives { IsLive R.state self.old → GivesFill R.state self.old self.new buffer.new result }
+        ensures ended { HasEnded self.old → (self.new ≡ self.old) × (result ≡ Ok (filled_at_end buffer.old)) }
+        ensures failed { (fault : _) → HasFailed self.old fault → (self.new ≡ self.old) × (result ≡ Err fault) }
+    {
+        if let Flow::Failed(fault) = self.flow {
+            return Err(fault);
+        }
+        let mut at = 0;
+        while at < buffer.len() {
+            let n = self.some_from(buffer, at)?;
+            if n == 0 {
+                return Ok(Filled::Ended(at));
+            }
+            at += n;
+        }
+        Ok(Filled::Whole)
+    }
+
+    /// `some` on the part of the buffer from an index on.
+    #[inline]
+    fn some_from(&mut self, buffer: &mut [u8], at: usize) -> Result<usize, IoFault>
+        requires { at < length buffer.old }
+        ensures before { take at buffer.new ≡ take at buffer.old }
+        ensures bound { IfOk result (λ n. at + n ≤ length buffer.new) }
+        ensures gives { IsLive R.state self.old → GivesSome R.state self.old self.new (drop at buffer.new) result }
+        ensures ended { HasEnded self.old → (self.new ≡ self.old) × (result ≡ Ok 0) }
+        ensures failed { (fault : _) → HasFailed self.old fault → (self.new ≡ self.old) × (result ≡ Err fault) }
+    {
+        self.some(&mut buffer[at..])
+    }
+}
+
+/// The bytes of a window from one index up to another.
+#[inline(always)]
+fn part(window: &[u8], start: usize, end: usize) -> &[u8]
+    requires ordered { start ≤ end }
+    requires within { end ≤ length window.now }
+    ensures part { result.now ≡ slice_range window.now start end }
+    ensures bytes { AreBytes result.now }
+{
+    &window[start..end]
+}
+
+/// One read that asks for a whole window.
+fn read_ahead<R: InDevice>(reader: &mut R, window: &mut [u8]) -> Result<usize, DeviceFault>
+    requires { length window.old ≡ 8192 }
+    ensures bound { IfOk result (λ n. n ≤ length window.new) }
+    ensures bytes { ReadConsumes (R.state reader.old).left (R.state reader.new).left result window.new }
+    ensures failed { MatchResult result
+        (λ _. (R.state reader.new).failed ≡ (R.state reader.old).failed)
+        (λ _. (R.state reader.new).failed ≡ true) }
+{
+    reader.read(window)
+}
