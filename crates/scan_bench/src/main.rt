@@ -1,6 +1,6 @@
 //! 64 MiB: `scan` feeds them to a bundle scan as a payload under CRC-32C, `plain` as a payload without a check, `bundles` as
 //! small bundles one after another, with a CRC-32C in the primary block. `check` pushes them into the check alone, byte by
-//! byte, and `slice` in slices. Compare the user times.
+//! byte, and `crc32-slices` in slices of 4,096 bytes. Compare the user times.
 #![tactic(auto)]
 
 ghost use Rattle.std.specs.Prelude.{◌≤◌, length};
@@ -55,7 +55,7 @@ fn bundles() -> u64 {
     whole
 }
 
-fn sliced() -> u64 {
+fn checked_in_slices() -> u64 {
     let piece = [0xa5; 4096];
     let mut check = Check::new(CheckKind::Crc32);
     for _ in 0..PIECES {
@@ -87,8 +87,8 @@ fn main(rt: HostRuntime) -> io::Result<()> {
         if word.as_str() == "bundles" {
             answer = bundles();
         }
-        if word.as_str() == "slice" {
-            answer = sliced();
+        if word.as_str() == "crc32-slices" {
+            answer = checked_in_slices();
         }
         if word.as_str() == "check" {
             answer = checked();
