@@ -49,8 +49,8 @@ field_left-stopped (field.Endpoint role part.Scheme) draft start bytes place sto
 field_left-stopped (field.Endpoint role (part.Specific Dtn)) draft start bytes place stop told = rw (row_at-stopped dtn_part bytes place stop told) refl
 field_left-stopped (field.Endpoint role (part.Specific Ipn)) draft start bytes place stop told = rw (row_at-stopped ipn_part bytes place stop told) refl
 field_left-stopped (field.Endpoint role part.Allocator) draft start bytes place stop told = rw (row_at-stopped unsigned bytes place stop told) refl
-field_left-stopped (field.Endpoint role (part.Node allocator)) draft start bytes place stop told = rw (row_at-stopped unsigned bytes place stop told) refl
-field_left-stopped (field.Endpoint role (part.Service allocator node)) draft start bytes place stop told = rw (row_at-stopped unsigned bytes place stop told) refl
+field_left-stopped (field.Endpoint role part.Node) draft start bytes place stop told = rw (row_at-stopped unsigned bytes place stop told) refl
+field_left-stopped (field.Endpoint role part.Service) draft start bytes place stop told = rw (row_at-stopped unsigned bytes place stop told) refl
 field_left-stopped (field.Canonical canonical.Block) draft start bytes place stop told =
     blocks_at-stopped (64 - length draft.numbers) draft.numbers (primary_of draft) bytes place stop told
 field_left-stopped (field.Canonical canonical.Type) draft start bytes place stop told = rw (row_at-stopped unsigned bytes place stop told) refl

@@ -204,8 +204,8 @@ part_left part.Whole draft bytes place = eid_at bytes place
 part_left part.Scheme draft bytes place = scheme_left bytes place
 part_left (part.Specific scheme) draft bytes place = specific_at scheme bytes place
 part_left part.Allocator draft bytes place = allocator_left bytes place
-part_left (part.Node allocator) draft bytes place = node_left allocator bytes place
-part_left (part.Service allocator node) draft bytes place = service_left allocator node bytes place
+part_left part.Node draft bytes place = node_left draft.allocator bytes place
+part_left part.Service draft bytes place = service_left draft.allocator draft.node bytes place
 
 -- the bytes so far of a name that is kept
 abbrev pub kept_name : Role → Draft → List ℕ

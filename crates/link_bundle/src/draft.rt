@@ -18,6 +18,10 @@ pub(crate) struct Draft {
     pub flags: u64,
     pub destination: KeptEid,
     pub source: KeptEid,
+    /// Of the ipn endpoint ID that is being read, the allocator identifier if it has one.
+    pub allocator: Option<u64>,
+    /// Its node number.
+    pub node: u64,
     pub time: u64,
     pub sequence: u64,
     pub lifetime: u64,
@@ -49,6 +53,8 @@ impl Draft {
             flags: 0,
             destination: KeptEid::new(),
             source: KeptEid::new(),
+            allocator: None,
+            node: 0,
             time: 0,
             sequence: 0,
             lifetime: 0,
@@ -289,8 +295,8 @@ impl Draft {
             Part::Specific(Scheme::Dtn) => self.dtn(role, head),
             Part::Specific(Scheme::Ipn) => self.ipn(role, head),
             Part::Allocator => self.allocator(role, head),
-            Part::Node(allocator) => self.node(role, allocator, head),
-            Part::Service(allocator, node) => self.service(role, allocator, node, head),
+            Part::Node => self.node(role, head),
+            Part::Service => self.service(role, head),
         }
     }
 
@@ -334,7 +340,10 @@ impl Draft {
     {
         let part = match row::ipn_part(head)? {
             3 => Part::Allocator,
-            _ => Part::Node(None),
+            _ => {
+                self.allocator = None;
+                Part::Node
+            }
         };
         Ok(Stage::Head(Field::Endpoint(role, part)))
     }
@@ -345,34 +354,29 @@ impl Draft {
         ensures follows { Follows result self.new }
         ensures keeps { IfOk result (λ stage. KeepsCheck self.old.check stage self.new.check) }
     {
-        let allocator = row::unsigned(head)?;
-        Ok(Stage::Head(Field::Endpoint(role, Part::Node(Some(allocator)))))
+        self.allocator = Some(row::unsigned(head)?);
+        Ok(Stage::Head(Field::Endpoint(role, Part::Node)))
     }
 
     #[tactic(auto, using(crate::proofs::Heads::heads), unfolding(crate::specs::Left::field_left, crate::specs::Left::stage_left, crate::specs::Left::node_left))]
-    fn node(&mut self, role: Role, allocator: Option<u64>, head: Head) -> Result<Stage, BundleFault>
-        ensures judges { Judges (Field.Endpoint role (Part.Node allocator)) self.old head result self.new }
+    fn node(&mut self, role: Role, head: Head) -> Result<Stage, BundleFault>
+        ensures judges { Judges (Field.Endpoint role Part.Node) self.old head result self.new }
         ensures follows { Follows result self.new }
         ensures keeps { IfOk result (λ stage. KeepsCheck self.old.check stage self.new.check) }
     {
-        let node = row::unsigned(head)?;
-        Ok(Stage::Head(Field::Endpoint(role, Part::Service(allocator, node))))
+        self.node = row::unsigned(head)?;
+        Ok(Stage::Head(Field::Endpoint(role, Part::Service)))
     }
 
     #[tactic(auto, using(crate::proofs::Heads::heads), unfolding(crate::specs::Left::field_left, crate::specs::Left::stage_left, crate::specs::Left::service_left))]
-    fn service(
-        &mut self,
-        role: Role,
-        allocator: Option<u64>,
-        node: u64,
-        head: Head,
-    ) -> Result<Stage, BundleFault>
-        ensures judges { Judges (Field.Endpoint role (Part.Service allocator node)) self.old head result self.new }
+    fn service(&mut self, role: Role, head: Head) -> Result<Stage, BundleFault>
+        ensures judges { Judges (Field.Endpoint role Part.Service) self.old head result self.new }
         ensures follows { Follows result self.new }
         ensures keeps { IfOk result (λ stage. KeepsCheck self.old.check stage self.new.check) }
     {
         let service = row::unsigned(head)?;
-        match allocator {
+        let node = self.node;
+        match self.allocator {
             None => Ok(self.after_eid(role, EidForm::Ipn(node, service))),
             Some(allocator) => Ok(self.after_eid(role, EidForm::Ipn3(allocator, node, service))),
         }

@@ -38,10 +38,8 @@ pub(crate) enum Part {
     Specific(Scheme),
     /// The allocator identifier of an ipn endpoint ID of three numbers.
     Allocator,
-    /// The node number, after an allocator identifier or without one.
-    Node(Option<u64>),
-    /// The service number, after an allocator identifier or without one, and a node number.
-    Service(Option<u64>, u64),
+    Node,
+    Service,
 }
 
 /// A head of the primary block (RFC 9171 section 4.3.1), but for its endpoint IDs and its check field.
