@@ -17,10 +17,23 @@ const PIECES: usize = 16;
 /// How many segments there are: those of 64 MiB, sixteen times.
 const SEGMENTS: u32 = 16_384;
 
-/// The first byte of a chunk and how many it has.
+/// How many bytes a chunk has, and one of them, which its first names.
 fn told(chunk: &[u8]) -> u64 {
     let first = chunk.first().copied().unwrap_or(0);
-    (chunk.len() as u64).wrapping_add(u64::from(first))
+    let other = chunk.get(usize::from(first) * 256).copied().unwrap_or(0);
+    (chunk.len() as u64).wrapping_add(u64::from(other))
+}
+
+/// A piece whose bytes the compiler does not know: they depend on a word of the command.
+#[inline(never)]
+fn first_piece(word: &str) -> [u8; PIECE] {
+    let mut value = (word.len() % 256) as u8;
+    let mut piece = [0; PIECE];
+    for byte in piece.iter_mut() {
+        value = value.wrapping_mul(5).wrapping_add(1);
+        *byte = value;
+    }
+    piece
 }
 
 /// The next piece: no two in a row are equal, so that each has to be copied.
@@ -28,14 +41,14 @@ fn next(piece: &mut [u8; PIECE]) {
     piece[0] = piece[0].wrapping_add(1);
 }
 
-fn cut(alloc: Global) -> Result<u64, AllocError> {
-    let mut piece = [0xa5; PIECE];
+#[inline(never)]
+fn cut(alloc: Global, piece: &mut [u8; PIECE]) -> Result<u64, AllocError> {
     let mut answer = 0u64;
     let mut cutter = Cutter::new(alloc, PIECE * PIECES, 0)?;
     for _segment in 0..SEGMENTS {
         for _piece in 0..PIECES {
-            next(&mut piece);
-            cutter.push_slice(&piece, false);
+            next(piece);
+            cutter.push_slice(piece, false);
             while let Some(_cut) = cutter.cut() {
                 answer = answer.wrapping_add(told(cutter.bytes()));
             }
@@ -44,12 +57,12 @@ fn cut(alloc: Global) -> Result<u64, AllocError> {
     Ok(answer)
 }
 
-fn copy(alloc: Global) -> Result<u64, AllocError> {
-    let mut piece = [0xa5; PIECE];
+#[inline(never)]
+fn copy(alloc: Global, piece: &mut [u8; PIECE]) -> Result<u64, AllocError> {
     let mut answer = 0u64;
     let mut buffer = vec![in alloc; 0u8; PIECE * PIECES]?;
     for _segment in 0..SEGMENTS {
-        fill(&mut buffer, &mut piece);
+        fill(&mut buffer, piece);
         answer = answer.wrapping_add(told(&buffer));
     }
     Ok(answer)
@@ -69,11 +82,12 @@ fn fill(segment: &mut [u8], piece: &mut [u8; PIECE])
 fn main(rt: HostRuntime) -> io::Result<()> {
     let mut answer = 0;
     for word in env::args(&rt)? {
+        let mut piece = first_piece(word.as_str());
         if word.as_str() == "cut" {
-            answer = cut(rt.alloc())?;
+            answer = cut(rt.alloc(), &mut piece)?;
         }
         if word.as_str() == "copy" {
-            answer = copy(rt.alloc())?;
+            answer = copy(rt.alloc(), &mut piece)?;
         }
     }
     println!(rt; "{answer}")?;
