@@ -17,7 +17,7 @@ mod tests;
 mod transfer;
 
 pub use fault::{Fault, fault_line};
-pub use judgement::{Judgement, JudgementView};
+pub use judgement::{Judgement, JudgementView, judge};
 pub use message::{buffer_line, contact_line, message_line};
 pub use packed::{PackedEntry, PackedView, packed_line, packed_view_line};
 pub use put::{LINE_MAX, Line, put_decimal, put_escaped, put_hex2, put_hex4, put_text};
