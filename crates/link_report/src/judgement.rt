@@ -66,7 +66,8 @@ pub fn judge<'a>(
     length: u64,
     verdict: Result<BundleView<'a>, (BundleFault, u64)>,
 ) -> JudgementView<'a>
-    ensures judged { viewed_judgement result ≡ judged abandoned announced length (viewed_verdict verdict.entry) }
+    ensures judged { viewed_judgement result
+        ≡ judged abandoned announced length (viewed_verdict verdict.entry) }
     ensures short { IfOk verdict.entry (λ view. HasShortNames (viewed_info view)) →
         IsShortJudgement (viewed_judgement result) }
 {
@@ -89,7 +90,8 @@ pub fn judge<'a>(
 pub(crate) fn put_judgement(line: &mut Line, judgement: &JudgementView<'_>)
     requires short { IsShortJudgement (viewed_judgement judgement.now) }
     requires room { array_vec_len line.old + 8361 ≤ LINE_MAX }
-    ensures items { line.new.items ≡ line.old.items ++ judgement_text (viewed_judgement judgement.now) }
+    ensures items { line.new.items
+        ≡ line.old.items ++ judgement_text (viewed_judgement judgement.now) }
     ensures len { array_vec_len line.new ≤ array_vec_len line.old + 8361 }
 {
     match judgement {
