@@ -1,8 +1,10 @@
 #!/usr/bin/env python3
-"""Makes the recordings that run.sh measures: `python3 make.py FOLDER`.
+"""Makes the recordings that run.sh measures: `python3 make.py FOLDER`. Each has some 128 MiB.
 
-large.tcpcl: 256 MiB of data in segments of 64 KiB, one transfer.
-small.tcpcl: a million segments of 3 data bytes, 21 bytes each on the wire, one transfer.
+long.tcpcl: one transfer in segments of 64 KiB.
+bundles.tcpcl: a small bundle a transfer, with an acknowledgement and a KEEPALIVE after each.
+short.tcpcl: one transfer in segments of 1 to 16 bytes.
+answers.tcpcl: acknowledgements, refusals and KEEPALIVEs alone.
 
 Only python's standard library is used.
 """
@@ -11,41 +13,65 @@ import struct
 import sys
 from pathlib import Path
 
+SIZE = 128 << 20
+
 # RFC 9174 section 4.2: `dtn!`, version 4, flags 00
 CONTACT = b"dtn!" + bytes([4, 0x00])
 
 # SESS_INIT (section 4.6): keepalive 60 s, MRUs 64 KiB and 1 MiB, node ID `ipn:1.0`, no extension items
 SESS_INIT = struct.pack(">BHQQH", 0x07, 60, 65536, 1048576, 7) + b"ipn:1.0" + struct.pack(">I", 0)
 
+# KEEPALIVE (section 5.1.1)
+KEEPALIVE = b"\x04"
+
 # flags of XFER_SEGMENT (section 5.2.2)
 END = 0x01
 START = 0x02
 
-LARGE = ("large.tcpcl", 4096, bytes(range(256)) * 256)
-SMALL = ("small.tcpcl", 1_000_000, b"abc")
+# a bundle of 34 bytes (RFC 9171 section 4): from ipn:1.1 to ipn:2.1, with the payload `hello`
+BUNDLE = bytes.fromhex("9f880700008202820201820282010182010082000000850101000045") + b"hello\xff"
 
 
-def segment(flags, data):
-    """XFER_SEGMENT of transfer 0; with START an empty extension list."""
+def segment(flags, number, data):
+    """XFER_SEGMENT (section 5.2.2); with START an empty extension list."""
     listed = struct.pack(">I", 0) if flags & START else b""
-    return struct.pack(">BBQ", 0x01, flags, 0) + listed + struct.pack(">Q", len(data)) + data
+    return struct.pack(">BBQ", 0x01, flags, number) + listed + struct.pack(">Q", len(data)) + data
 
 
-def write(path, count, data):
-    """One transfer of `count` segments with the same data each."""
-    middle = segment(0, data)
-    with path.open("wb") as out:
-        out.write(CONTACT + SESS_INIT)
-        out.write(segment(START, data))
-        for _ in range(count - 2):
-            out.write(middle)
-        out.write(segment(END, data))
+def ack(flags, number, length):
+    """XFER_ACK (section 5.2.3)."""
+    return struct.pack(">BBQQ", 0x02, flags, number, length)
+
+
+def refuse(reason, number):
+    """XFER_REFUSE (section 5.2.4)."""
+    return struct.pack(">BBQ", 0x03, reason, number)
+
+
+def repeated(block, size):
+    """The block as often as it fits."""
+    return block * (size // len(block))
+
+
+def one_transfer(pieces):
+    """A transfer that begins with an empty segment and ends with one, and has these between."""
+    middle = b"".join(segment(0, 0, piece) for piece in pieces)
+    return segment(START, 0, b"") + repeated(middle, SIZE) + segment(END, 0, b"")
+
+
+def recordings():
+    """The name of each recording, and what follows its SESS_INIT."""
+    data = bytes(range(256)) * 256
+    yield "long.tcpcl", one_transfer([data])
+    yield "bundles.tcpcl", repeated(segment(START | END, 7, BUNDLE) + ack(START | END, 7, len(BUNDLE)) + KEEPALIVE, SIZE)
+    yield "short.tcpcl", one_transfer([data[:length] for length in range(1, 17)])
+    yield "answers.tcpcl", repeated(ack(0, 1, 4096) + refuse(1, 1) + KEEPALIVE, SIZE)
 
 
 def main():
     folder = Path(sys.argv[1])
-    for name, count, data in (LARGE, SMALL):
-        write(folder / name, count, data)
+    for name, messages in recordings():
+        (folder / name).write_bytes(CONTACT + SESS_INIT + messages)
 
 
 if __name__ == "__main__":

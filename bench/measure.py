@@ -1,8 +1,8 @@
 #!/usr/bin/env python3
-"""Measures `PROGRAM list` against cat and xxd: `python3 measure.py PROGRAM FOLDER [ROUNDS]`.
+"""Measures `PROGRAM list` against `cat`: `python3 measure.py PROGRAM FOLDER [ROUNDS]`.
 
-The times are user plus system time of the process alone, all three taken in turn in each round, and what is printed is
-the ratio of their sums. The peak memory is that of the program once it has been given all of its input.
+The times are user plus system time of the process alone, both taken in turn in each round, and what is printed is the ratio
+of their sums. The output goes to /dev/null. The peak memory is that of the program once it was given all of its input.
 """
 
 import os
@@ -37,26 +37,33 @@ def peak_kilobytes(program, path):
     return next(int(line.split()[1]) for line in lines if line.startswith("VmHWM:"))
 
 
-def ratio(program, path, other, rounds):
-    """How many times as long as the other command the program takes for the file."""
+def ratio(program, path, rounds):
+    """How many times as long as `cat` the program takes for the file."""
     ours = theirs = 0.0
     for _ in range(rounds):
         ours += seconds([program, "list"], path)
-        theirs += seconds([other, path])
+        theirs += seconds(["cat", path])
     return ours / theirs
+
+
+# the recordings, what they have, and the most that is wanted
+MEASURED = (
+    ("long.tcpcl", "segments of 64 KiB", 1.3),
+    ("bundles.tcpcl", "one small bundle a transfer, with acknowledgements and keepalives", 2.5),
+    ("short.tcpcl", "segments of 1 to 16 bytes", 7),
+    ("answers.tcpcl", "acknowledgements, refusals and keepalives", 18),
+)
 
 
 def main():
     program, folder = os.path.abspath(sys.argv[1]), sys.argv[2]
     rounds = int(sys.argv[3]) if len(sys.argv) > 3 else 5
-    large = os.path.join(folder, "large.tcpcl")
-    small = os.path.join(folder, "small.tcpcl")
-    seconds([program, "list"], large)  # the files are in memory from here on
-    seconds([program, "list"], small)
-    print("user and system time of `tcpclkit list`, sums over", rounds, "rounds:")
-    print(f"  256 MiB in 64 KiB segments: {ratio(program, large, 'cat', rounds):.2f} times cat's, at most 3 wanted")
-    print(f"  a million 3-byte segments: {ratio(program, small, 'xxd', rounds):.2f} times xxd's, at most 1 wanted")
-    print(f"peak memory at 256 MiB: {peak_kilobytes(program, large) / 1024:.1f} MB, below 4 wanted")
+    print(f"user and system time of `tcpclkit list`, to that of `cat`, over {rounds} rounds of 128 MiB:")
+    for name, what, most in MEASURED:
+        path = os.path.join(folder, name)
+        seconds([program, "list"], path)  # the file is in memory from here on
+        memory = peak_kilobytes(program, path) / 1024
+        print(f"  {what}: {ratio(program, path, rounds):.2f}, at most {most} wanted; peak memory {memory:.1f} MB, below 4 wanted")
 
 
 if __name__ == "__main__":

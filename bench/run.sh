@@ -9,7 +9,7 @@ rounds=${2:-5}
   echo "$program is no program: build it first, by 'rt run' in crates/tcpclkit" >&2
   exit 1
 }
-for tool in python3 cat xxd; do
+for tool in python3 cat; do
   command -v "$tool" >/dev/null || {
     echo "$tool is not on this machine" >&2
     exit 1

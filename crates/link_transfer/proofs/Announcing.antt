@@ -4,10 +4,11 @@ use Rattle.std.specs.List.{filter}
 use Rattle.std.proofs.lemmas.List.{append-nil, take_more}
 use Rattle.std.proofs.lemmas.List.Elements.{filter-append}
 use Rattle.link_wire.specs.declared.message.Item.{Item}
-use Rattle.link_transfer.specs.Announced.{announced_by, announced_by_all, announced_after, announced_with, announced_of, is_transfer_length, total_or_malformed}
+use Rattle.link_transfer.specs.Announced.{announced_by_all, announced_after, announced_with, announced_of, is_transfer_length, total_or_malformed}
 use Rattle.link_transfer.specs.declared.announcement.Announced.TheVariants.{Malformed}
 
-after-total : (total : Option ℕ) (item : Item) → announced_after (total_or_malformed total) item ≡ Malformed
+after-total : (total : Option ℕ) (item : Item)
+    → announced_after (total_or_malformed total) item ≡ Malformed
 after-total (Some total) item = refl
 after-total None item = refl
 
@@ -16,7 +17,8 @@ after-one : (size_fits : Bool) (total : Option ℕ) (item : Item)
 after-one true total item = sym (after-total total item)
 after-one false total item = refl
 
-by_all-push : (items : List Item) (item : Item) → announced_by_all (items ++ item ∷ []) ≡ announced_after (announced_by_all items) item
+by_all-push : (items : List Item) (item : Item)
+    → announced_by_all (items ++ item ∷ []) ≡ announced_after (announced_by_all items) item
 by_all-push [] item = refl
 by_all-push (one ∷ []) item = after-one (eqb one.length 8) one.total item
 by_all-push (one ∷ another ∷ more) item = refl
@@ -33,7 +35,8 @@ with-test items item false is =
     ap announced_by_all (filter-append is_transfer_length items (item ∷ [])
     ∙ ap (λ more. filter is_transfer_length items ++ more) left ∙ append-nil (filter is_transfer_length items))
 
-pub announced_of-push : (items : List Item) (item : Item) → announced_of (items ++ item ∷ []) ≡ announced_with (announced_of items) item
+pub announced_of-push : (items : List Item) (item : Item)
+    → announced_of (items ++ item ∷ []) ≡ announced_with (announced_of items) item
 announced_of-push items item = with-test items item (is_transfer_length item) refl
 
 pub announced_of-more : (items : List Item) (at : ℕ) (item : Item) → at < length items

@@ -1,6 +1,6 @@
 -- The chunks of a bundle whose bytes still come.
-use Rattle.std.proofs.Common.{◌≡◌, ℕ, zero, suc, ◌+◌, ◌-◌, ◌*◌, ◌<◌, ◌≤◌, List, [], ◌∷◌, ◌++◌, length, take, drop, min, refl, ap, ap₂, sym, ◌∙◌, arith}
-use Rattle.std.proofs.lemmas.List.{take-append-le, drop-append-le, drop-drop, drop_all, take_min, length-drop, length_push}
+use Rattle.std.proofs.Common.{◌≡◌, ℕ, zero, suc, ◌+◌, ◌*◌, ◌≤◌, List, [], ◌∷◌, ◌++◌, length, take, drop, refl, ap, ap₂, ◌∙◌, arith}
+use Rattle.std.proofs.lemmas.List.{take-append-le, drop-append-le, length-drop, length_push}
 use Rattle.link_transfer.specs.Chunks.{chunk_at, first_chunks}
 
 -- a chunk that is whole stays as it is
@@ -11,7 +11,8 @@ chunk_at-append segment k bundle more within =
     ∙ take-append-le segment (drop (k * segment) bundle) more (omega (arith, length-drop (k * segment) bundle))
 
 -- and so do the chunks before the bytes that come
-pub first_chunks-append : (segment count : ℕ) (bundle more : List ℕ) → count * segment ≤ length bundle
+pub first_chunks-append : (segment count : ℕ) (bundle more : List ℕ)
+    → count * segment ≤ length bundle
     → first_chunks segment count (bundle ++ more) ≡ first_chunks segment count bundle
 unfolding first_chunks
 first_chunks-append segment zero bundle more within = refl
@@ -25,7 +26,8 @@ unfolding first_chunks
 first_chunks-zero segment bundle = refl
 
 -- one chunk more
-pub first_chunks-push : (segment : ℕ) (bundle : List ℕ) (given : List (List ℕ)) → given ≡ first_chunks segment (length given) bundle
+pub first_chunks-push : (segment : ℕ) (bundle : List ℕ) (given : List (List ℕ))
+    → given ≡ first_chunks segment (length given) bundle
     → given ++ chunk_at segment (length given) bundle ∷ []
     ≡ first_chunks segment (length (given ++ chunk_at segment (length given) bundle ∷ [])) bundle
 unfolding first_chunks

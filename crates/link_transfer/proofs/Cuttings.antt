@@ -4,7 +4,7 @@ use Rattle.std.specs.List.{flat_map}
 use Rattle.std.proofs.lemmas.Bool.{cases_lt}
 use Rattle.std.proofs.lemmas.Nat.{div_below}
 use Rattle.std.proofs.lemmas.List.{append-nil, length-append, length-take, length-take-le, length-drop, take_all, take_at, drop_at, drop-drop, nil_from_length, take-append-drop}
-use Rattle.link_transfer.specs.Chunks.{chunk_at, chunk_count, chunks, first_chunks, AreSegments, AreChunks}
+use Rattle.link_transfer.specs.Chunks.{chunk_count, chunks, first_chunks, AreSegments, AreChunks}
 use Rattle.link_transfer.proofs.Chunking.{first_chunks-zero}
 use Rattle.link_transfer.proofs.Due.{fits, fits_back}
 
@@ -22,13 +22,15 @@ first_chunks-suc segment (suc count) bundle =
     ap₂ (λ chunks rest. chunks ++ take segment rest ∷ []) (first_chunks-suc segment count bundle) same
 
 -- a quotient, by its two bounds
-below_next : (segment count size : ℕ) → 0 < segment → count ≡ size / segment → size < count * segment + segment
+below_next : (segment count size : ℕ) → 0 < segment → count ≡ size / segment
+    → size < count * segment + segment
 below_next segment count size some is =
     ⊎_elim (λ below. below)
     (λ over. absurd (omega (arith, fits_back segment (count + 1) size some (omega arith))))
     (cases_lt size (count * segment + segment))
 
-from_bounds : (segment count size : ℕ) → 0 < segment → count * segment ≤ size → size < count * segment + segment → count ≡ size / segment
+from_bounds : (segment count size : ℕ) → 0 < segment → count * segment ≤ size
+    → size < count * segment + segment → count ≡ size / segment
 from_bounds segment count size some least most =
     let low = fits_back segment count size some least in
     let high = div_below size segment (count + 1) some (omega arith) in
@@ -41,16 +43,19 @@ count_none segment size some is = omega (arith, below_next segment 0 (size + (se
 count_zero : (segment : ℕ) → 0 < segment → 0 ≡ chunk_count segment 0
 count_zero segment some = from_bounds segment 0 (0 + (segment - 1)) some (omega arith) (omega arith)
 
-count_one : (segment size : ℕ) → 0 < segment → 0 < size → size ≤ segment → 1 ≡ chunk_count segment size
+count_one : (segment size : ℕ) → 0 < segment → 0 < size → size ≤ segment
+    → 1 ≡ chunk_count segment size
 count_one segment size some byte within = from_bounds segment 1 (size + (segment - 1)) some (omega arith) (omega arith)
 
-one_count : (segment size : ℕ) → 0 < segment → 1 ≡ chunk_count segment size → (0 < size) × (size ≤ segment)
+one_count : (segment size : ℕ) → 0 < segment → 1 ≡ chunk_count segment size
+    → (0 < size) × (size ≤ segment)
 one_count segment size some is =
     let least = fits segment 1 (size + (segment - 1)) some (omega arith) in
     let most = below_next segment 1 (size + (segment - 1)) some is in
     (omega arith, omega arith)
 
-count_more : (segment size : ℕ) → 0 < segment → suc (chunk_count segment size) ≡ chunk_count segment (segment + size)
+count_more : (segment size : ℕ) → 0 < segment
+    → suc (chunk_count segment size) ≡ chunk_count segment (segment + size)
 count_more segment size some =
     let least = fits segment (chunk_count segment size) (size + (segment - 1)) some (omega arith) in
     let most = below_next segment (chunk_count segment size) (size + (segment - 1)) some refl in
@@ -69,7 +74,8 @@ sizes_more : (segment : ℕ) (chunk next : List ℕ) (more : List (List ℕ)) �
     → AreSegments segment (next ∷ more) → AreSegments segment (chunk ∷ next ∷ more)
 sizes_more segment chunk next more size rest = (size, rest)
 
-sizes_of : (segment count : ℕ) (bundle : List ℕ) → 0 < segment → count ≡ chunk_count segment (length bundle)
+sizes_of : (segment count : ℕ) (bundle : List ℕ) → 0 < segment
+    → count ≡ chunk_count segment (length bundle)
     → AreSegments segment (first_chunks segment count bundle)
 unfolding first_chunks
 sizes_of segment zero bundle some is = tt
@@ -86,7 +92,8 @@ sizes_of segment (suc (suc count)) bundle some is =
     subst (AreSegments segment) (sym (front ∙ ap (λ chunks. take segment bundle ∷ chunks) next))
     (sizes_more segment (take segment bundle) _ _ (length-take-le segment bundle (omega (arith, rest.0))) (subst (AreSegments segment) next others))
 
-rest_count : (segment count size : ℕ) → 0 < segment → suc count ≡ chunk_count segment size → count ≡ chunk_count segment (size - segment)
+rest_count : (segment count size : ℕ) → 0 < segment → suc count ≡ chunk_count segment size
+    → count ≡ chunk_count segment (size - segment)
 rest_count segment zero size some is =
     let bounds = one_count segment size some is in
     let none : size - segment ≡ 0 = omega arith in
@@ -97,7 +104,8 @@ abbrev joined : List (List ℕ) → List ℕ
 joined list = flat_map (λ (chunk : List ℕ). chunk) list
 
 -- and joined they are the bundle
-joined_of : (segment count : ℕ) (bundle : List ℕ) → 0 < segment → count ≡ chunk_count segment (length bundle)
+joined_of : (segment count : ℕ) (bundle : List ℕ) → 0 < segment
+    → count ≡ chunk_count segment (length bundle)
     → joined (first_chunks segment count bundle) ≡ bundle
 joined_of segment zero bundle some is =
     ap joined (first_chunks-zero segment bundle) ∙ sym (nil_from_length bundle (count_none segment (length bundle) some is))
@@ -108,7 +116,8 @@ joined_of segment (suc count) bundle some is =
     ∙ take-append-drop segment bundle
 
 -- a list with the sizes of segments is that of the chunks
-only_chunks : (segment : ℕ) (list : List (List ℕ)) → 0 < segment → AreSegments segment list → list ≡ chunks segment (joined list)
+only_chunks : (segment : ℕ) (list : List (List ℕ)) → 0 < segment → AreSegments segment list
+    → list ≡ chunks segment (joined list)
 unfolding chunks
 only_chunks segment [] some sizes =
     sym (ap (λ count. first_chunks segment count []) (sym (count_zero segment some)) ∙ first_chunks-zero segment [])
@@ -129,12 +138,14 @@ only_chunks segment (chunk ∷ next ∷ more) some sizes =
     (take_at chunk rest segment sizes.0) (drop_at chunk rest segment sizes.0)
     ∙ ap (λ chunks. chunk ∷ chunks) (sym (only_chunks segment (next ∷ more) some sizes.1)))
 
-pub AreChunks-chunks : (segment : ℕ) (bundle : List ℕ) → 0 < segment → AreChunks segment bundle (chunks segment bundle)
+pub AreChunks-chunks : (segment : ℕ) (bundle : List ℕ) → 0 < segment
+    → AreChunks segment bundle (chunks segment bundle)
 unfolding chunks
 AreChunks-chunks segment bundle some = record {
   joined = joined_of segment (chunk_count segment (length bundle)) bundle some refl;
   sizes = sizes_of segment (chunk_count segment (length bundle)) bundle some refl;
 }
 
-pub chunks_only : (segment : ℕ) (bundle : List ℕ) (list : List (List ℕ)) → 0 < segment → AreChunks segment bundle list → list ≡ chunks segment bundle
+pub chunks_only : (segment : ℕ) (bundle : List ℕ) (list : List (List ℕ)) → 0 < segment
+    → AreChunks segment bundle list → list ≡ chunks segment bundle
 chunks_only segment bundle list some are = only_chunks segment list some are.sizes ∙ ap (chunks segment) are.joined

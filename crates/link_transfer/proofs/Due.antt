@@ -1,5 +1,5 @@
 -- How many chunks are due, in numbers.
-use Rattle.std.proofs.Common.{◌≡◌, ℕ, ◌+◌, ◌-◌, ◌*◌, ◌/◌, ◌<◌, ◌≤◌, Bool, true, false, ltb, leb, eqb, cond, ◌&&◌, ◌||◌, refl, ap, ap₂, sym, ◌∙◌, arith, rules, tests}
+use Rattle.std.proofs.Common.{◌≡◌, ℕ, ◌+◌, ◌-◌, ◌*◌, ◌/◌, ◌<◌, ◌≤◌, Bool, true, false, ltb, leb, eqb, refl, arith}
 use Rattle.std.proofs.Math.Nat.{le-div_iff_mul-le}
 use Rattle.std.proofs.lemmas.Bool.Decides.{nat_tests}
 use Rattle.link_transfer.specs.Chunks.{chunk_count}
@@ -10,17 +10,20 @@ use Rattle.link_transfer.specs.Held.{waits, wanted_of}
 pub fits : (segment count size : ℕ) → 0 < segment → count ≤ size / segment → count * segment ≤ size
 fits segment count size some few = (le-div_iff_mul-le some).0 few
 
-pub fits_back : (segment count size : ℕ) → 0 < segment → count * segment ≤ size → count ≤ size / segment
+pub fits_back : (segment count size : ℕ) → 0 < segment → count * segment ≤ size
+    → count ≤ size / segment
 fits_back segment count size some few = (le-div_iff_mul-le some).1 few
 
 -- what is given of a bundle that goes on is in it
-pub given_within : (segment hold count size : ℕ) → 0 < segment → count ≤ due_of false segment hold size → count * segment ≤ size
+pub given_within : (segment hold count size : ℕ) → 0 < segment
+    → count ≤ due_of false segment hold size → count * segment ≤ size
 given_within segment hold count size some few =
     grind (arith, nat_tests, fits segment count size some)
 
 -- whether a cut waits
 pub waits_as_due : (whole : Bool) (segment hold count size : ℕ) → 0 < segment
-    → count ≤ due_of whole segment hold size → (whole ≡ true → count < due_of whole segment hold size)
+    → count ≤ due_of whole segment hold size
+    → (whole ≡ true → count < due_of whole segment hold size)
     → ltb count (due_of whole segment hold size) ≡ waits (ltb 0 count) whole segment hold (size - count * segment)
 waits_as_due true segment hold count size some few left = grind (arith, nat_tests, left refl)
 waits_as_due false segment hold count size some few left =
@@ -35,11 +38,13 @@ due_more false segment hold count size more some next few =
     grind (arith, nat_tests, given_within segment hold count size some few, fits_back segment count (size + more) some)
 
 -- of a whole bundle a chunk is left while a byte is
-pub chunk_left : (segment count size : ℕ) → 0 < segment → count * segment < size → count < chunk_count segment size
+pub chunk_left : (segment count size : ℕ) → 0 < segment → count * segment < size
+    → count < chunk_count segment size
 chunk_left segment count size some within =
     omega (arith, fits_back segment (count + 1) (size + (segment - 1)) some (omega arith))
 
-pub byte_left : (segment count size : ℕ) → 0 < segment → count < chunk_count segment size → count * segment < size
+pub byte_left : (segment count size : ℕ) → 0 < segment → count < chunk_count segment size
+    → count * segment < size
 byte_left segment count size some within =
     omega (arith, fits segment (count + 1) (size + (segment - 1)) some (omega arith))
 
@@ -50,12 +55,14 @@ last_of segment count size some within =
     grind (arith, nat_tests, fits segment (count + 2) (size + (segment - 1)) some, fits_back segment (count + 2) (size + (segment - 1)) some, fits segment (count + 1) (size + (segment - 1)) some)
 
 -- where no cut waits at least one byte is wanted
-pub wanted_some : (begun : Bool) (segment hold size : ℕ) → waits begun false segment hold size ≡ false → 0 < segment
+pub wanted_some : (begun : Bool) (segment hold size : ℕ)
+    → waits begun false segment hold size ≡ false → 0 < segment
     → 0 < wanted_of begun segment hold size
 wanted_some true segment hold size quiet some = grind (arith, nat_tests)
 wanted_some false segment hold size quiet some = grind (arith, nat_tests)
 
 -- after the last byte that is wanted a cut waits, and not before
-pub waits_when_wanted : (begun : Bool) (segment hold size : ℕ) → waits begun false segment hold (size + 1) ≡ leb (wanted_of begun segment hold size) 1
+pub waits_when_wanted : (begun : Bool) (segment hold size : ℕ)
+    → waits begun false segment hold (size + 1) ≡ leb (wanted_of begun segment hold size) 1
 waits_when_wanted true segment hold size = grind (arith, nat_tests)
 waits_when_wanted false segment hold size = grind (arith, nat_tests)

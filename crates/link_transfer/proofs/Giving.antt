@@ -1,15 +1,15 @@
 -- A cutter and its history, one cut further.
-use Rattle.std.proofs.Common.{◌≡◌, ℕ, zero, suc, ◌+◌, ◌-◌, ◌*◌, ◌<◌, ◌≤◌, Bool, true, false, not, ltb, leb, eqb, cond, ◌&&◌, List, [], ◌∷◌, ◌++◌, length, take, drop, min, Option, Some, None, is_some, refl, ap, ap₂, subst, sym, ◌∙◌, arith}
+use Rattle.std.proofs.Common.{◌≡◌, ℕ, zero, suc, ◌+◌, ◌-◌, ◌*◌, ◌<◌, ◌≤◌, Bool, true, false, not, ltb, leb, eqb, cond, ◌&&◌, [], ◌∷◌, ◌++◌, length, take, drop, min, Option, Some, None, is_some, refl, ap, ap₂, subst, sym, ◌∙◌, arith}
 use Rattle.std.specs.Bool.{OnTrue}
 use Rattle.std.proofs.lemmas.List.{length-drop, length-take, length_push, take_min, drop_min, drop-drop, drop_all}
 use Rattle.std.proofs.lemmas.List.Elements.{All-nil}
 use Rattle.std.proofs.lemmas.Bool.{false≢true}
 use Rattle.std.proofs.lemmas.Bool.Decides.{nat_tests}
 use Rattle.link_wire.specs.Bytes.{IsByte}
-use Rattle.link_transfer.specs.Chunks.{chunk_at, chunk_count, chunks, first_chunks}
-use Rattle.link_transfer.specs.Cutting.{Cutting, beginning, due, due_of, announcement, is_first, is_last, next_chunk, next_cut, with_chunk, after_cut, left_of}
+use Rattle.link_transfer.specs.Chunks.{chunk_count, chunks, first_chunks}
+use Rattle.link_transfer.specs.Cutting.{Cutting, beginning, due, due_of, announcement, is_first, is_last, next_chunk, next_cut, after_cut, left_of}
 use Rattle.link_transfer.specs.Cutter.{IsCutterAt, IsGiven, cut_waits}
-use Rattle.link_transfer.specs.Held.{waits, is_last_of, announced_by, cut_of}
+use Rattle.link_transfer.specs.Held.{is_last_of, announced_by, cut_of}
 use Rattle.link_transfer.specs.declared.cut.Cut.{Cut}
 use Rattle.link_transfer.specs.declared.cutter.Cutter.{Cutter}
 use Rattle.link_transfer.proofs.Chunking.{first_chunks-zero, first_chunks-push}
@@ -17,7 +17,8 @@ use Rattle.link_transfer.proofs.Due.{fits, byte_left, last_of}
 use Rattle.link_transfer.proofs.Steps.{waits-at, next_cut-is, size_of}
 
 -- the same in numbers
-last_is : (whole : Bool) (segment hold count size : ℕ) → 0 < segment → (whole ≡ true → count < due_of whole segment hold size)
+last_is : (whole : Bool) (segment hold count size : ℕ) → 0 < segment
+    → (whole ≡ true → count < due_of whole segment hold size)
     → is_last_of whole segment (size - count * segment) ≡ (whole && eqb (count + 1) (chunk_count segment size))
 last_is true segment hold count size some left = last_of segment count size some (left refl)
 last_is false segment hold count size some left = refl
@@ -51,7 +52,8 @@ announced-at cutter so_far at =
     rw (at.begun, at.ended, at.segment, at.hold, size_of cutter so_far at)
     (announced_is so_far.whole so_far.segment so_far.hold (length so_far.given) (length so_far.bundle))
 
-waiting_test : (cutter : Cutter) (so_far : Cutting) (waiting : Bool) → IsCutterAt cutter so_far → cut_waits cutter ≡ waiting
+waiting_test : (cutter : Cutter) (so_far : Cutting) (waiting : Bool) → IsCutterAt cutter so_far
+    → cut_waits cutter ≡ waiting
     → ltb (length so_far.given) (due so_far) ≡ waiting
 waiting_test cutter so_far waiting at is = sym (next_cut-is so_far) ∙ sym (waits-at cutter so_far at) ∙ is
 
@@ -60,20 +62,24 @@ next_cut-some : (so_far : Cutting) → ltb (length so_far.given) (due so_far) �
 unfolding next_cut
 next_cut-some so_far test = rw test refl
 
-pub next_cut-at : (cutter : Cutter) (so_far : Cutting) → IsCutterAt cutter so_far → cut_waits cutter ≡ true
+pub next_cut-at : (cutter : Cutter) (so_far : Cutting) → IsCutterAt cutter so_far
+    → cut_waits cutter ≡ true
     → Some (cut_of cutter.begun cutter.ended cutter.segment cutter.hold (length cutter.held.bytes)) ≡ next_cut so_far
 next_cut-at cutter so_far at waiting =
     ap (λ (cut : Cut). Some cut)
     (same_cut _ _ _ _ _ _ (ap not at.begun ∙ first_is (length so_far.given)) (last-at cutter so_far at) (announced-at cutter so_far at))
     ∙ sym (next_cut-some so_far (waiting_test cutter so_far true at waiting))
 
-pub next_cut-none : (cutter : Cutter) (so_far : Cutting) → IsCutterAt cutter so_far → cut_waits cutter ≡ false → None ≡ next_cut so_far
+pub next_cut-none : (cutter : Cutter) (so_far : Cutting) → IsCutterAt cutter so_far
+    → cut_waits cutter ≡ false → None ≡ next_cut so_far
 unfolding next_cut
 next_cut-none cutter so_far at quiet = rw (waiting_test cutter so_far false at quiet) refl
 
 -- a cut that was asked for where none waits
-pub IsCutterAt-forget : (old new : Cutter) (so_far : Cutting) → cut_waits old ≡ false → new.segment ≡ old.segment → new.hold ≡ old.hold
-    → new.held.given ≡ [] → new.held.bytes ≡ old.held.bytes → new.begun ≡ old.begun → new.ended ≡ old.ended
+pub IsCutterAt-forget : (old new : Cutter) (so_far : Cutting) → cut_waits old ≡ false
+    → new.segment ≡ old.segment → new.hold ≡ old.hold
+    → new.held.given ≡ [] → new.held.bytes ≡ old.held.bytes → new.begun ≡ old.begun
+    → new.ended ≡ old.ended
     → IsCutterAt old so_far → IsCutterAt new (after_cut so_far)
 unfolding after_cut due
 IsCutterAt-forget old new so_far quiet segment hold given bytes begun ended at =
@@ -93,7 +99,8 @@ IsCutterAt-forget old new so_far quiet segment hold given bytes begun ended at =
     })
 
 -- a chunk that is due has a byte
-left_some : (whole : Bool) (segment hold count size : ℕ) → 0 < segment → count < due_of whole segment hold size → count * segment < size
+left_some : (whole : Bool) (segment hold count size : ℕ) → 0 < segment
+    → count < due_of whole segment hold size → count * segment < size
 left_some true segment hold count size some few = byte_left segment count size some few
 left_some false segment hold count size some few =
     grind (arith, nat_tests, fits segment (count + 1) size some)
@@ -108,19 +115,20 @@ pub record Gives (old new : Cutter) (last : Bool) : Type 0 where
   pub ended : new.ended ≡ (old.ended && not last)
 
 -- the run given is the next chunk
-chunk_given : (old new : Cutter) (so_far : Cutting) (last : Bool) → Gives old new last → IsCutterAt old so_far
+chunk_given : (old new : Cutter) (so_far : Cutting) (last : Bool) → Gives old new last
+    → IsCutterAt old so_far
     → length so_far.given < due so_far → IsGiven (Some (next_chunk so_far)) new.held.given
 unfolding due
 chunk_given old new so_far last gives at few =
     let left = left_of so_far in
     let within = left_some so_far.whole so_far.segment so_far.hold (length so_far.given) (length so_far.bundle) at.some few in
-    let size = length-drop (length so_far.given * so_far.segment) so_far.bundle in
-    (
+    let size = length-drop (length so_far.given * so_far.segment) so_far.bundle in (
       gives.given ∙ ap₂ (λ segment bytes. take (min segment (length bytes)) bytes) at.segment at.held ∙ take_min so_far.segment left,
       omega (arith, length-take so_far.segment left, at.some),
     )
 
-rest_is : (old new : Cutter) (so_far : Cutting) (last : Bool) → Gives old new last → IsCutterAt old so_far
+rest_is : (old new : Cutter) (so_far : Cutting) (last : Bool) → Gives old new last
+    → IsCutterAt old so_far
     → new.held.bytes ≡ drop so_far.segment (left_of so_far)
 rest_is old new so_far last gives at =
     gives.bytes ∙ ap₂ (λ segment bytes. drop (min segment (length bytes)) bytes) at.segment at.held ∙ drop_min so_far.segment (left_of so_far)
@@ -129,17 +137,18 @@ rest_is old new so_far last gives at =
 whole_last : (so_far : Cutting) → is_last so_far ≡ true → so_far.whole ≡ true
 whole_last so_far is = both so_far.whole _ is
   where
-  both : (a b : Bool) → (a && b) ≡ true → a ≡ true
-  both true b is = refl
-  both false b is = is
+    both : (a b : Bool) → (a && b) ≡ true → a ≡ true
+    both true b is = refl
+    both false b is = is
 
-count_last : (so_far : Cutting) → is_last so_far ≡ true → length so_far.given + 1 ≡ chunk_count so_far.segment (length so_far.bundle)
+count_last : (so_far : Cutting) → is_last so_far ≡ true
+    → length so_far.given + 1 ≡ chunk_count so_far.segment (length so_far.bundle)
 count_last so_far is = grind (arith, nat_tests, both so_far.whole _ is)
   where
-  both : (a b : Bool) → (a && b) ≡ true → b ≡ true
-  both true b is = is
-  both false true is = refl
-  both false false is = is
+    both : (a b : Bool) → (a && b) ≡ true → b ≡ true
+    both true b is = is
+    both false true is = refl
+    both false false is = is
 
 not_last : (so_far : Cutting) → is_last so_far ≡ false → so_far.whole ≡ true
     → eqb (length so_far.given + 1) (chunk_count so_far.segment (length so_far.bundle)) ≡ false
@@ -154,7 +163,8 @@ next_left so_far is whole below =
     let count = length_push so_far.given (next_chunk so_far) in
     rw whole (grind (arith, nat_tests))
 
-with_next : (old new : Cutter) (so_far : Cutting) (last : Bool) → is_last so_far ≡ last → Gives old new last → IsCutterAt old so_far
+with_next : (old new : Cutter) (so_far : Cutting) (last : Bool) → is_last so_far ≡ last
+    → Gives old new last → IsCutterAt old so_far
     → length so_far.given < due so_far
     → IsCutterAt new (cond last (record (beginning so_far.segment so_far.hold) { chunk = Some (next_chunk so_far) })
     (record so_far { given = so_far.given ++ next_chunk so_far ∷ []; chunk = Some (next_chunk so_far) }))
@@ -179,9 +189,9 @@ with_next old new so_far true is gives at few =
       ended = gives.ended ∙ and_false old.ended;
     }
   where
-  and_false : (a : Bool) → (a && false) ≡ false
-  and_false true = refl
-  and_false false = refl
+    and_false : (a : Bool) → (a && false) ≡ false
+    and_false true = refl
+    and_false false = refl
 with_next old new so_far false is gives at few =
     let count = length_push so_far.given (next_chunk so_far) in
     let shifted : length so_far.given * so_far.segment + so_far.segment ≡ (length so_far.given + 1) * so_far.segment = omega arith in
@@ -204,11 +214,12 @@ with_next old new so_far false is gives at few =
       ended = gives.ended ∙ and_true old.ended ∙ at.ended;
     }
   where
-  and_true : (a : Bool) → (a && true) ≡ a
-  and_true true = refl
-  and_true false = refl
+    and_true : (a : Bool) → (a && true) ≡ a
+    and_true true = refl
+    and_true false = refl
 
-pub IsCutterAt-cut : (old new : Cutter) (so_far : Cutting) → cut_waits old ≡ true → Gives old new (is_last so_far) → IsCutterAt old so_far
+pub IsCutterAt-cut : (old new : Cutter) (so_far : Cutting) → cut_waits old ≡ true
+    → Gives old new (is_last so_far) → IsCutterAt old so_far
     → IsCutterAt new (after_cut so_far)
 unfolding after_cut
 IsCutterAt-cut old new so_far waiting gives at =
@@ -218,7 +229,8 @@ IsCutterAt-cut old new so_far waiting gives at =
     rw some (with_next old new so_far (is_last so_far) refl gives at few)
 
 -- with the last chunk all are given
-pub all_chunks : (cutter : Cutter) (so_far : Cutting) (last : Bool) → is_last so_far ≡ last → IsCutterAt cutter so_far
+pub all_chunks : (cutter : Cutter) (so_far : Cutting) (last : Bool) → is_last so_far ≡ last
+    → IsCutterAt cutter so_far
     → OnTrue last (so_far.given ++ next_chunk so_far ∷ [] ≡ chunks so_far.segment so_far.bundle)
 unfolding chunks
 all_chunks cutter so_far true is at =

@@ -1,5 +1,5 @@
 -- One message more in the list of those that a joiner has accepted.
-use Rattle.std.proofs.Common.{◌≡◌, ℕ, Bool, true, false, ◌||◌, cond, List, [], ◌∷◌, ◌++◌, map, reverse, Option, Some, None, refl, ap, sym, ◌∙◌}
+use Rattle.std.proofs.Common.{◌≡◌, ℕ, Bool, true, false, ◌||◌, cond, List, [], ◌∷◌, ◌++◌, reverse, Some, None, refl, ap, sym, ◌∙◌}
 use Rattle.std.proofs.lemmas.List.{map_push, reverse-append}
 use Rattle.std.proofs.lemmas.List.Folds.{list_any-append}
 use Rattle.std.specs.List.{list_any, find}
@@ -19,9 +19,9 @@ any-push test before message =
     ∙ list_any-append test (events_of before) (event_of message ∷ [])
     ∙ ap (λ b. list_any test (events_of before) || b) (or_false (test (event_of message)))
   where
-  or_false : (b : Bool) → (b || false) ≡ b
-  or_false true = refl
-  or_false false = refl
+    or_false : (b : Bool) → (b || false) ≡ b
+    or_false true = refl
+    or_false false = refl
 
 -- the last segment of one message more
 last-push : (before : List Message) (message : Message)
@@ -31,20 +31,24 @@ last-push before message =
     ap (λ events. find is_segment (reverse events)) (map_push event_of before message)
     ∙ ap (find is_segment) (reverse-append (events_of before) (event_of message ∷ []))
 
-has_sess_init-push : (before : List Message) (message : Message) → has_sess_init (before ++ message ∷ []) ≡ (has_sess_init before || is_sess_init (event_of message))
+has_sess_init-push : (before : List Message) (message : Message)
+    → has_sess_init (before ++ message ∷ []) ≡ (has_sess_init before || is_sess_init (event_of message))
 unfolding has_sess_init
 has_sess_init-push before message = any-push is_sess_init before message
 
-has_sess_term-push : (before : List Message) (message : Message) → has_sess_term (before ++ message ∷ []) ≡ (has_sess_term before || is_sess_term (event_of message))
+has_sess_term-push : (before : List Message) (message : Message)
+    → has_sess_term (before ++ message ∷ []) ≡ (has_sess_term before || is_sess_term (event_of message))
 unfolding has_sess_term
 has_sess_term-push before message = any-push is_sess_term before message
 
-open_of-push : (before : List Message) (message : Message) → open_of (before ++ message ∷ []) ≡ option_and_then open_after (cond (is_segment (event_of message)) (Some (event_of message)) (find is_segment (reverse (events_of before))))
+open_of-push : (before : List Message) (message : Message)
+    → open_of (before ++ message ∷ []) ≡ option_and_then open_after (cond (is_segment (event_of message)) (Some (event_of message)) (find is_segment (reverse (events_of before))))
 unfolding open_of
 open_of-push before message = ap (option_and_then open_after) (last-push before message)
 
 -- what each event makes of the last segment
-after-segment : (before : List Message) (message : Message) (flags id : ℕ) → event_of message ≡ Segment flags id
+after-segment : (before : List Message) (message : Message) (flags id : ℕ)
+    → event_of message ≡ Segment flags id
     → open_of (before ++ message ∷ []) ≡ open_after (Segment flags id)
 after-segment before message flags id is = rw (open_of-push before message, is) refl
 
@@ -66,7 +70,8 @@ pub IsJoinerAt-none : IsJoinerAt (record { initiated = false; terminated = false
 unfolding has_sess_init has_sess_term open_of
 IsJoinerAt-none = record { initiated = refl; terminated = refl; transfer = refl }
 
-pub IsJoinerAt-then : (joiner : Joiner) (before : List Message) (message : Message) (event : Event) → event_of message ≡ event
+pub IsJoinerAt-then : (joiner : Joiner) (before : List Message) (message : Message) (event : Event)
+    → event_of message ≡ event
     → IsJoinerAt joiner before → IsJoinerAt (joiner_after joiner event) (before ++ message ∷ [])
 IsJoinerAt-then joiner before message SessInit is at = record {
   initiated = raised _ _ _ (has_sess_init-push before message) (ap is_sess_init is);

@@ -1,5 +1,5 @@
 -- Bytes pushed at once, and one at a time.
-use Rattle.std.proofs.Common.{◌≡◌, ℕ, zero, suc, ◌+◌, ◌-◌, ◌*◌, ◌<◌, ◌≤◌, Bool, true, false, ltb, leb, eqb, cond, ◌&&◌, List, [], ◌∷◌, ◌++◌, length, take, min, max, None, is_some, refl, ap, ap₂, subst, sym, ◌∙◌, arith}
+use Rattle.std.proofs.Common.{◌≡◌, ℕ, zero, suc, ◌+◌, ◌-◌, ◌*◌, ◌<◌, ◌≤◌, Bool, true, false, ltb, leb, eqb, cond, ◌&&◌, List, [], ◌∷◌, length, take, min, max, None, is_some, refl, ap, subst, sym, ◌∙◌, arith}
 use Rattle.std.proofs.lemmas.List.{append_assoc, length_push}
 use Rattle.std.proofs.lemmas.Bool.{false≢true}
 use Rattle.std.proofs.lemmas.Bool.Decides.{nat_tests}
@@ -11,8 +11,10 @@ use Rattle.link_transfer.specs.declared.cutter.Cutter.{Cutter}
 use Rattle.link_transfer.proofs.Due.{waits_as_due, given_within, due_more, wanted_some, waits_when_wanted}
 use Rattle.link_transfer.proofs.Steps.{IsCutterAt-push, Pushes, next_cut-is, goes_on, waits-at, size_of}
 
-pub IsCutterAt-pushed : (old new : Cutter) (so_far : Cutting) (pushed : List ℕ) (last : Bool) → 0 < length pushed → AreBytes pushed
-    → cut_waits old ≡ false → Pushes old new pushed last → IsCutterAt old so_far → IsCutterAt new (with_bytes pushed last so_far)
+pub IsCutterAt-pushed : (old new : Cutter) (so_far : Cutting) (pushed : List ℕ) (last : Bool)
+    → 0 < length pushed → AreBytes pushed
+    → cut_waits old ≡ false → Pushes old new pushed last → IsCutterAt old so_far
+    → IsCutterAt new (with_bytes pushed last so_far)
 IsCutterAt-pushed old new so_far [] last some are quiet pushes at = absurd (omega arith)
 IsCutterAt-pushed old new so_far (byte ∷ bytes) last some are quiet pushes at = IsCutterAt-push old new so_far byte bytes last are quiet pushes at
 
@@ -41,7 +43,8 @@ wanted_first so_far quiet =
 abbrev after_byte : ℕ → Bool → Cutting → Cutting
 after_byte byte flag so_far = with_bytes (byte ∷ []) flag so_far
 
-held_after : (byte : ℕ) (flag : Bool) (so_far : Cutting) → Quiet so_far → held (after_byte byte flag so_far) ≡ held so_far + 1
+held_after : (byte : ℕ) (flag : Bool) (so_far : Cutting) → Quiet so_far
+    → held (after_byte byte flag so_far) ≡ held so_far + 1
 held_after byte flag so_far quiet =
     let size = length_push so_far.bundle byte in
     let within = given_within so_far.segment so_far.hold (length so_far.given) (length so_far.bundle) quiet.some quiet.few in
@@ -69,7 +72,8 @@ cut_after byte flag so_far quiet going =
     ∙ ap (λ whole. ltb (length so_far.given) (due_of whole so_far.segment so_far.hold (length (after_byte byte flag so_far).bundle))) going
     ∙ due_after byte flag so_far quiet
 
-quiet_after : (byte : ℕ) (flag : Bool) (so_far : Cutting) → Quiet so_far → flag ≡ false → leb (wanted so_far) 1 ≡ false
+quiet_after : (byte : ℕ) (flag : Bool) (so_far : Cutting) → Quiet so_far → flag ≡ false
+    → leb (wanted so_far) 1 ≡ false
     → Quiet (after_byte byte flag so_far)
 quiet_after byte flag so_far quiet going more = record {
   some = quiet.some;
@@ -78,12 +82,13 @@ quiet_after byte flag so_far quiet going more = record {
   none = due_after byte flag so_far quiet ∙ more;
 }
 
-wanted_after : (byte : ℕ) (flag : Bool) (so_far : Cutting) → Quiet so_far → wanted (after_byte byte flag so_far) ≡ wanted so_far - 1
+wanted_after : (byte : ℕ) (flag : Bool) (so_far : Cutting) → Quiet so_far
+    → wanted (after_byte byte flag so_far) ≡ wanted so_far - 1
 wanted_after byte flag so_far quiet =
     by_full (cond (ltb 0 (length so_far.given)) so_far.segment (max so_far.segment (so_far.hold + 1)))
   where
-  by_full : (full : ℕ) → full - held (after_byte byte flag so_far) ≡ (full - held so_far) - 1
-  by_full full = omega (arith, held_after byte flag so_far quiet)
+    by_full : (full : ℕ) → full - held (after_byte byte flag so_far) ≡ (full - held so_far) - 1
+    by_full full = omega (arith, held_after byte flag so_far quiet)
 
 -- byte by byte: the next one is the last that goes in, or it is not
 each_stop : (byte : ℕ) (bytes : List ℕ) (last : Bool) (so_far : Cutting)
@@ -98,13 +103,14 @@ each_go : (byte : ℕ) (bytes : List ℕ) (last : Bool) (so_far : Cutting)
 unfolding with_each
 each_go byte bytes last so_far goes = rw goes refl
 
-each_one : (byte : ℕ) (last : Bool) (so_far : Cutting) → with_each (byte ∷ []) last so_far ≡ after_byte byte (last && true) so_far
+each_one : (byte : ℕ) (last : Bool) (so_far : Cutting)
+    → with_each (byte ∷ []) last so_far ≡ after_byte byte (last && true) so_far
 unfolding with_each
 each_one byte last so_far = same (is_some (next_cut (after_byte byte (last && true) so_far))) (after_byte byte (last && true) so_far)
   where
-  same : (test : Bool) (x : Cutting) → cond test x x ≡ x
-  same true x = refl
-  same false x = refl
+    same : (test : Bool) (x : Cutting) → cond test x x ≡ x
+    same true x = refl
+    same false x = refl
 
 and_false : (last : Bool) → (last && false) ≡ false
 and_false true = refl
@@ -120,7 +126,8 @@ with_bytes-cons byte next bytes flag last so_far =
     ap (λ (bundle : List ℕ). record so_far { bundle = bundle; whole = last; chunk = None }) (append_assoc so_far.bundle (byte ∷ []) (next ∷ bytes))
 
 -- As many bytes as are wanted, or all, pushed at once, are these bytes pushed one at a time.
-pub with_each-is : (byte : ℕ) (bytes : List ℕ) (last : Bool) (so_far : Cutting) (count : ℕ) → Quiet so_far
+pub with_each-is : (byte : ℕ) (bytes : List ℕ) (last : Bool) (so_far : Cutting) (count : ℕ)
+    → Quiet so_far
     → count ≡ min (wanted so_far) (length (byte ∷ bytes))
     → with_bytes (take count (byte ∷ bytes)) (last && eqb count (length (byte ∷ bytes))) so_far ≡ with_each (byte ∷ bytes) last so_far
 with_each-is byte [] last so_far count quiet is =
@@ -141,19 +148,22 @@ with_each-is byte (next ∷ bytes) last so_far (suc (suc count)) quiet is =
     ∙ with_each-is next bytes last after (suc count) (quiet_after byte (last && false) so_far quiet (and_false last) test) left
     ∙ sym (each_go byte (next ∷ bytes) last so_far (cut_after byte (last && false) so_far quiet (and_false last) ∙ test))
 
-pub with_each-slice : (bytes : List ℕ) (last : Bool) (so_far : Cutting) (count : ℕ) → 0 < length bytes → Quiet so_far
+pub with_each-slice : (bytes : List ℕ) (last : Bool) (so_far : Cutting) (count : ℕ)
+    → 0 < length bytes → Quiet so_far
     → count ≡ min (wanted so_far) (length bytes)
     → with_bytes (take count bytes) (last && eqb count (length bytes)) so_far ≡ with_each bytes last so_far
 with_each-slice [] last so_far count some quiet is = absurd (omega arith)
 with_each-slice (byte ∷ bytes) last so_far count some quiet is = with_each-is byte bytes last so_far count quiet is
 
-pub with_each-none : (bytes : List ℕ) (last : Bool) (so_far : Cutting) → length bytes ≡ 0 → so_far ≡ with_each bytes last so_far
+pub with_each-none : (bytes : List ℕ) (last : Bool) (so_far : Cutting) → length bytes ≡ 0
+    → so_far ≡ with_each bytes last so_far
 unfolding with_each
 with_each-none [] last so_far none = refl
 with_each-none (byte ∷ bytes) last so_far none = absurd (omega arith)
 
 -- what a cutter of which no cut waits knows
-pub Quiet-at : (cutter : Cutter) (so_far : Cutting) → IsCutterAt cutter so_far → cut_waits cutter ≡ false → Quiet so_far
+pub Quiet-at : (cutter : Cutter) (so_far : Cutting) → IsCutterAt cutter so_far
+    → cut_waits cutter ≡ false → Quiet so_far
 unfolding due
 Quiet-at cutter so_far at quiet =
     let going = goes_on cutter so_far at quiet in
@@ -171,6 +181,7 @@ pub wanted-at : (cutter : Cutter) (so_far : Cutting) → IsCutterAt cutter so_fa
     → wanted_of cutter.begun cutter.segment cutter.hold (length cutter.held.bytes) ≡ wanted so_far
 wanted-at cutter so_far at = rw (at.begun, at.segment, at.hold, size_of cutter so_far at) refl
 
-pub wanted_some-at : (cutter : Cutter) (so_far : Cutting) → IsCutterAt cutter so_far → cut_waits cutter ≡ false
+pub wanted_some-at : (cutter : Cutter) (so_far : Cutting) → IsCutterAt cutter so_far
+    → cut_waits cutter ≡ false
     → 0 < wanted_of cutter.begun cutter.segment cutter.hold (length cutter.held.bytes)
 wanted_some-at cutter so_far at quiet = omega (arith, wanted_first so_far (Quiet-at cutter so_far at quiet), wanted-at cutter so_far at)

@@ -1,26 +1,26 @@
 -- A cutter and its history, one step further.
-use Rattle.std.proofs.Common.{◌≡◌, ℕ, ◌+◌, ◌-◌, ◌*◌, ◌<◌, ◌≤◌, Bool, true, false, ltb, cond, List, [], ◌∷◌, ◌++◌, length, take, drop, Option, Some, None, is_some, ◌||◌, refl, ap, ap₂, subst, sym, ◌∙◌, arith}
+use Rattle.std.proofs.Common.{◌≡◌, ℕ, ◌+◌, ◌-◌, ◌*◌, ◌<◌, ◌≤◌, Bool, true, false, ltb, cond, List, [], ◌∷◌, ◌++◌, length, Option, Some, None, is_some, ◌||◌, refl, ap, subst, sym, ◌∙◌, arith}
 use Rattle.std.proofs.lemmas.List.Elements.{All-nil, All-append}
 use Rattle.std.proofs.lemmas.Bool.{false≢true}
 use Rattle.link_wire.specs.Bytes.{IsByte, AreBytes}
 use Rattle.std.specs.Bool.{OnFalse}
 use Rattle.std.proofs.lemmas.Bool.Decides.{nat_tests}
 use Rattle.std.proofs.lemmas.List.{length-drop, length-append, drop-append-le, drop_all}
-use Rattle.link_transfer.specs.Cutting.{Cutting, beginning, due, due_of, next_cut, left_of, with_bytes, shown_by}
+use Rattle.link_transfer.specs.Cutting.{Cutting, beginning, due, due_of, next_cut, with_bytes, shown_by}
 use Rattle.link_transfer.specs.Cutter.{IsCutterAt, IsGiven, cut_waits}
-use Rattle.link_transfer.specs.Held.{waits}
 use Rattle.link_transfer.specs.declared.cutter.Cutter.{Cutter}
 use Rattle.link_transfer.proofs.Chunking.{first_chunks-zero, first_chunks-append}
 use Rattle.link_transfer.proofs.Due.{waits_as_due, given_within, due_more, chunk_left}
 
 -- a cut is there where fewer chunks are given than may be
-pub next_cut-is : (so_far : Cutting) → is_some (next_cut so_far) ≡ ltb (length so_far.given) (due so_far)
+pub next_cut-is : (so_far : Cutting)
+    → is_some (next_cut so_far) ≡ ltb (length so_far.given) (due so_far)
 unfolding next_cut
 next_cut-is so_far = by_test (ltb (length so_far.given) (due so_far)) _
   where
-  by_test : {A : Type 0} (test : Bool) (x : A) → is_some (cond test (Some x) None) ≡ test
-  by_test true x = refl
-  by_test false x = refl
+    by_test : {A : Type 0} (test : Bool) (x : A) → is_some (cond test (Some x) None) ≡ test
+    by_test true x = refl
+    by_test false x = refl
 
 -- the bytes held are the bundle's less those of the chunks given
 pub size_of : (cutter : Cutter) (so_far : Cutting) → IsCutterAt cutter so_far
@@ -35,7 +35,8 @@ waits-at cutter so_far at =
     (sym (next_cut-is so_far ∙ waits_as_due so_far.whole so_far.segment so_far.hold (length so_far.given) (length so_far.bundle) at.some at.few at.left))
 
 -- where none waits, all are given that may be
-pub all_given : (waiting : Bool) (cutter : Cutter) (so_far : Cutting) → IsCutterAt cutter so_far → waiting ≡ cut_waits cutter
+pub all_given : (waiting : Bool) (cutter : Cutter) (so_far : Cutting) → IsCutterAt cutter so_far
+    → waiting ≡ cut_waits cutter
     → OnFalse waiting (length so_far.given ≡ due so_far)
 all_given true cutter so_far at is = tt
 all_given false cutter so_far at is =
@@ -44,24 +45,28 @@ all_given false cutter so_far at is =
     grind (arith, nat_tests)
 
 -- what is shown: the chunk given last, which is not empty, or else what is held
-pub shown_left : (chunk : Option (List ℕ)) (given left : List ℕ) → IsGiven chunk given → length given ≡ 0 → left ≡ shown_by chunk left
+pub shown_left : (chunk : Option (List ℕ)) (given left : List ℕ) → IsGiven chunk given
+    → length given ≡ 0 → left ≡ shown_by chunk left
 shown_left None given left is none = refl
 shown_left (Some chunk) given left is none = absurd (omega (arith, is.1, ap length is.0))
 
-pub shown_chunk : (chunk : Option (List ℕ)) (given left : List ℕ) → IsGiven chunk given → 0 < length given → given ≡ shown_by chunk left
+pub shown_chunk : (chunk : Option (List ℕ)) (given left : List ℕ) → IsGiven chunk given
+    → 0 < length given → given ≡ shown_by chunk left
 shown_chunk None given left is some = absurd (omega (arith, ap length is))
 shown_chunk (Some chunk) given left is some = is.0
 
 -- a cutter of which no cut waits is in a bundle that goes on
-pub goes_on : (cutter : Cutter) (so_far : Cutting) → IsCutterAt cutter so_far → cut_waits cutter ≡ false → so_far.whole ≡ false
+pub goes_on : (cutter : Cutter) (so_far : Cutting) → IsCutterAt cutter so_far
+    → cut_waits cutter ≡ false → so_far.whole ≡ false
 goes_on cutter so_far at quiet = sym at.ended ∙ not_ended cutter.ended _ quiet
   where
-  not_ended : (ended other : Bool) → (ended || other) ≡ false → ended ≡ false
-  not_ended true other is = is
-  not_ended false other is = refl
+    not_ended : (ended other : Bool) → (ended || other) ≡ false → ended ≡ false
+    not_ended true other is = is
+    not_ended false other is = refl
 
 -- a cutter that holds nothing stands at the beginning
-pub IsCutterAt-new : (cutter : Cutter) (segment hold : ℕ) → 0 < segment → cutter.segment ≡ segment → cutter.hold ≡ hold
+pub IsCutterAt-new : (cutter : Cutter) (segment hold : ℕ) → 0 < segment → cutter.segment ≡ segment
+    → cutter.hold ≡ hold
     → cutter.held.given ≡ [] → cutter.held.bytes ≡ [] → cutter.begun ≡ false → cutter.ended ≡ false
     → IsCutterAt cutter (beginning segment hold)
 IsCutterAt-new cutter segment hold some same_segment same_hold given bytes begun ended = record {
@@ -87,7 +92,8 @@ pub record Pushes (old new : Cutter) (pushed : List ℕ) (last : Bool) : Type 0 
   pub begun : new.begun ≡ old.begun
   pub ended : new.ended ≡ last
 
-pub IsCutterAt-push : (old new : Cutter) (so_far : Cutting) (byte : ℕ) (bytes : List ℕ) (last : Bool) → AreBytes (byte ∷ bytes)
+pub IsCutterAt-push : (old new : Cutter) (so_far : Cutting) (byte : ℕ) (bytes : List ℕ) (last : Bool)
+    → AreBytes (byte ∷ bytes)
     → cut_waits old ≡ false → Pushes old new (byte ∷ bytes) last → IsCutterAt old so_far
     → IsCutterAt new (with_bytes (byte ∷ bytes) last so_far)
 unfolding due

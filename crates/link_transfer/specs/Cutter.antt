@@ -10,6 +10,10 @@ use Rattle.link_transfer.specs.declared.cutter.Cutter.{Cutter}
 abbrev pub cut_waits : Cutter → Bool
 cut_waits cutter = waits cutter.begun cutter.ended cutter.segment cutter.hold (length cutter.held.bytes)
 
+-- how many bytes are held that no cut has given
+abbrev pub held_size : Cutter → ℕ
+held_size cutter = length cutter.held.bytes
+
 -- the chunk given last is this, and has a byte; or there is none
 abbrev pub IsGiven : Option (List ℕ) → List ℕ → Type 0
 IsGiven None given = given ≡ []

@@ -1,5 +1,5 @@
 -- What a joiner knows of the messages that it has accepted.
-use Rattle.std.specs.Prelude.{◌≡◌, true, ℕ, List, Option, if◌then◌else◌}
+use Rattle.std.specs.Prelude.{◌≡◌, true, List}
 use Rattle.link_wire.specs.declared.message.Message.{Message}
 use Rattle.link_transfer.specs.Order.{has_sess_init, has_sess_term, open_of, open_after}
 use Rattle.link_transfer.specs.declared.event.Event.{Event}

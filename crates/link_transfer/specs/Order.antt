@@ -80,7 +80,8 @@ is_of transfer Other = false
 -- 5. After SESS_TERM no transfer begins; the open one may be finished (section 6.1).
 -- A START of another ID than the open one is no fault: the sender of a transfer that was refused leaves it without END
 -- (section 5.2.4).
-abbrev pub refusal_by : (initiated terminated : Bool) (transfer : Option ℕ) → Event → Option OrderFault
+abbrev pub refusal_by : (initiated terminated : Bool) (transfer : Option ℕ) → Event
+    → Option OrderFault
 refusal_by initiated terminated transfer event =
     if is_sess_init event && initiated then Some SecondSessInit
     else if is_segment event && not initiated then Some SegmentBeforeSessInit

@@ -1,6 +1,6 @@
 //! Bundles cut into the chunks that become the data of segments.
 
-ghost use Rattle.std.specs.Prelude.{◌≡◌, ◌+◌, ◌<◌, ◌≤◌, Bool, true, false, ◌&&◌, ◌==◌, max, List, [], ◌∷◌, ◌++◌, length, take, is_some, is_ok, IfOk, IfSome, vec_len};
+ghost use Rattle.std.specs.Prelude.{◌≡◌, ◌+◌, ◌<◌, ◌≤◌, Bool, true, false, ◌&&◌, ◌==◌, max, List, [], ◌∷◌, ◌++◌, length, take, is_some, is_ok, IfOk, IfSome, IfNone, OnSome, vec_len};
 ghost use Rattle.std.specs.Bool.{OnTrue, OnFalse};
 
 use crate::cut::Cut;
@@ -9,9 +9,9 @@ use std::alloc::{AllocError, Global};
 
 /// Cuts bundles, one after another, into the chunks that become the data of their segments (RFC 9174 section 5.2.2).
 ///
-/// A chunk has the size of a segment, but for a bundle's last. A chunk waits to be taken by `cut` as soon as it is full
-/// or the bundle ends; but while a bundle has at most `hold` bytes none does, so that the first can announce the length
-/// of the whole bundle.
+/// A chunk has the size of a segment, but for a bundle's last, which has what is left. It waits for `cut` as soon as it
+/// is full or the bundle has ended. But while a bundle goes on and has at most `hold` bytes no chunk waits, so that the
+/// first can announce the length of the whole bundle.
 #[derive(Drop)]
 pub struct Cutter {
     held: Held,
@@ -22,13 +22,15 @@ pub struct Cutter {
     /// Whether the last byte of the present bundle has been pushed.
     ended: bool,
     ghost room: { held.room ≡ max segment (hold + 1) },
+    ghost some: { 0 < segment },
+    ghost some_left: { ended ≡ true → 0 < length held.bytes },
     ghost hold_within: { hold ≤ 1048576 },
 }
 
 impl Cutter {
     ghost use Rattle.link_transfer.specs.Chunks.{chunks};
     ghost use Rattle.link_transfer.specs.Cutting.{Cutting, beginning, with_bytes, with_each, due, next_chunk, next_cut, after_cut, shown};
-    ghost use Rattle.link_transfer.specs.Cutter.{IsCutterAt, cut_waits};
+    ghost use Rattle.link_transfer.specs.Cutter.{IsCutterAt, cut_waits, held_size};
     ghost use Rattle.link_transfer.specs.Held.{wanted_of, cut_of, is_last_of, announced_by};
 
     /// A cutter for segments of at most `segment` bytes, 1 to 65,536, which announces the lengths of bundles of at most
@@ -37,7 +39,8 @@ impl Cutter {
         requires positive { 0 < segment }
         requires segment_within { segment ≤ 65536 }
         requires hold_within { hold ≤ 1048576 }
-        ensures { IfOk result (λ cutter. IsCutterAt cutter (beginning segment hold)) }
+        ensures start { IfOk result (λ cutter. IsCutterAt cutter (beginning segment hold)) }
+        ensures quiet { IfOk result (λ cutter. cut_waits cutter ≡ false) }
     {
         Cutter::over(vec![in alloc; 0; segment.max(hold + 1)], segment, hold)
     }
@@ -49,10 +52,10 @@ impl Cutter {
         hold: usize,
     ) -> Result<Cutter, AllocError>
         requires positive { 0 < segment }
-        requires segment_within { segment ≤ 65536 }
         requires hold_within { hold ≤ 1048576 }
         requires room { IfOk memory (λ buffer. vec_len buffer ≡ max segment (hold + 1)) }
         ensures start { IfOk result (λ cutter. IsCutterAt cutter (beginning segment hold)) }
+        ensures quiet { IfOk result (λ cutter. cut_waits cutter ≡ false) }
         ensures given { is_ok result ≡ is_ok memory }
     {
         Ok(Cutter {
@@ -96,7 +99,8 @@ impl Cutter {
         }
     }
 
-    /// Takes the next byte of the present bundle; `last` says that it is the bundle's last. Asked for once no cut waits.
+    /// Takes the next byte of the present bundle; `last` says that it is the bundle's last. It is called only where no
+    /// cut waits.
     #[inline]
     pub fn push(&mut self, byte: u8, last: bool)
         requires { cut_waits self.old ≡ false }
@@ -108,16 +112,19 @@ impl Cutter {
     }
 
     /// Takes the next bytes of the present bundle up to the first after which a cut waits, or all, and returns how many;
-    /// `last` says that the last byte of the slice is the bundle's last. Asked for once no cut waits. It is the same as to
-    /// push these bytes one by one.
+    /// `last` says that the last byte of the slice is the bundle's last. It is called only where no cut waits. The same
+    /// bytes pushed one at a time give the same.
     #[inline]
     pub fn push_slice(&mut self, bytes: &[u8], last: bool) -> usize
         requires { cut_waits self.old ≡ false }
         ensures within { result ≤ length bytes.now }
+        ensures some { 0 < length bytes.now → 0 < result }
         ensures pushed { (so_far : Cutting) → IsCutterAt self.old so_far →
-            IsCutterAt self.new (with_bytes (take result bytes.now) (last && result == length bytes.now) so_far) }
+            IsCutterAt self.new
+            (with_bytes (take result bytes.now) (last && result == length bytes.now) so_far) }
         ensures each { (so_far : Cutting) → IsCutterAt self.old so_far →
-            with_bytes (take result bytes.now) (last && result == length bytes.now) so_far ≡ with_each bytes.now last so_far }
+            with_bytes (take result bytes.now) (last && result == length bytes.now) so_far
+            ≡ with_each bytes.now last so_far }
     {
         if bytes.is_empty() {
             return 0;
@@ -132,7 +139,9 @@ impl Cutter {
     #[inline]
     fn wanted(&self) -> usize
         requires { cut_waits self.now ≡ false }
-        ensures value { result ≡ wanted_of self.now.begun self.now.segment self.now.hold (length self.now.held.bytes) }
+        ensures some { 0 < result }
+        ensures value { result
+            ≡ wanted_of self.now.begun self.now.segment self.now.hold (held_size self.now) }
         ensures room { length self.now.held.bytes + result ≤ self.now.held.room }
     {
         let full = if self.begun {
@@ -148,6 +157,9 @@ impl Cutter {
     pub fn cut(&mut self) -> Option<Cut>
         ensures cut { (so_far : Cutting) → IsCutterAt self.old so_far → result ≡ next_cut so_far }
         ensures after { (so_far : Cutting) → IsCutterAt self.old so_far → IsCutterAt self.new (after_cut so_far) }
+        ensures waits { is_some result ≡ cut_waits self.old }
+        ensures quiet { IfNone result (cut_waits self.new ≡ false) }
+        ensures shrinks { OnSome result (held_size self.new < held_size self.old) }
         // With the last chunk all are given.
         ensures all { (so_far : Cutting) → IsCutterAt self.old so_far → IfSome result (λ cut. OnTrue cut.last
             (so_far.given ++ next_chunk so_far ∷ [] ≡ chunks so_far.segment so_far.bundle)) }
@@ -165,7 +177,8 @@ impl Cutter {
 
     /// The cut that waits.
     fn next_cut(&self) -> Cut
-        ensures { result ≡ cut_of self.now.begun self.now.ended self.now.segment self.now.hold (length self.now.held.bytes) }
+        ensures { result
+            ≡ cut_of self.now.begun self.now.ended self.now.segment self.now.hold (held_size self.now) }
     {
         Cut {
             first: !self.begun,
@@ -176,14 +189,15 @@ impl Cutter {
 
     /// Whether the bytes held are the bundle's last chunk.
     fn is_last(&self) -> bool
-        ensures { result ≡ is_last_of self.now.ended self.now.segment (length self.now.held.bytes) }
+        ensures { result ≡ is_last_of self.now.ended self.now.segment (held_size self.now) }
     {
         self.ended && self.held.len() <= self.segment
     }
 
     /// The length to be announced with the next chunk.
     fn announcement(&self) -> Option<u64>
-        ensures { result ≡ announced_by self.now.begun self.now.ended self.now.segment self.now.hold (length self.now.held.bytes) }
+        ensures { result
+            ≡ announced_by self.now.begun self.now.ended self.now.segment self.now.hold (held_size self.now) }
     {
         let size = self.held.len();
         if self.begun || !self.ended || size <= self.segment || size > self.hold {
@@ -192,3 +206,6 @@ impl Cutter {
         Some(size as u64)
     }
 }
+
+#[cfg(test)]
+mod tests;

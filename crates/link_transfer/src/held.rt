@@ -27,9 +27,9 @@ impl Model for Held {
     ghost Value = { HeldBytes };
 
     ghost view = { λ held. record {
-        room = length held.buffer.items;
-        given = slice_range held.buffer.items held.given held.start;
-        bytes = slice_range held.buffer.items held.start held.end
+      room = length held.buffer.items;
+      given = slice_range held.buffer.items held.given held.start;
+      bytes = slice_range held.buffer.items held.start held.end;
     } };
 
     ghost invariant = { λ held.
@@ -94,7 +94,7 @@ impl Held {
     #[inline]
     pub fn push(&mut self, byte: u8)
         requires { length self.old.bytes < self.old.room }
-        ensures { self.new ≡ record { room = self.old.room; given = []; bytes = self.old.bytes ++ byte ∷ [] } }
+        ensures { self.new ≡ record self.old { given = []; bytes = self.old.bytes ++ byte ∷ [] } }
     {
         let (start, end) = with_room(&mut self.buffer, self.start, self.end, 1);
         self.buffer[end] = byte;
@@ -107,7 +107,7 @@ impl Held {
     #[inline]
     pub fn append(&mut self, bytes: &[u8])
         requires { length self.old.bytes + length bytes.now ≤ self.old.room }
-        ensures { self.new ≡ record { room = self.old.room; given = []; bytes = self.old.bytes ++ bytes.now } }
+        ensures { self.new ≡ record self.old { given = []; bytes = self.old.bytes ++ bytes.now } }
     {
         let (start, end) = with_room(&mut self.buffer, self.start, self.end, bytes.len());
         copy_at(&mut self.buffer, end, bytes);
@@ -116,11 +116,14 @@ impl Held {
         self.end = end + bytes.len();
     }
 
-    /// Gives the first bytes held, so many, as a run.
+    /// Gives the first `count` bytes held as a run.
     #[inline]
     pub fn give(&mut self, count: usize)
         requires { count ≤ length self.old.bytes }
-        ensures { self.new ≡ record { room = self.old.room; given = take count self.old.bytes; bytes = drop count self.old.bytes } }
+        ensures { self.new ≡ record self.old {
+          given = take count self.old.bytes;
+          bytes = drop count self.old.bytes;
+        } }
     {
         self.given = self.start;
         self.start += count;

@@ -6,6 +6,7 @@ ghost use Rattle.link_wire.specs.declared.message.Message.{Message};
 use crate::event::{Event, has_end_flag, has_start_flag};
 use crate::fault::OrderFault;
 use link_wire::Message;
+use std::mem;
 
 /// What an accepted message does to the transfers of its session.
 #[derive(Clone, Copy, Debug, PartialEq, Eq)]
@@ -77,7 +78,8 @@ impl Joiner {
 
     /// Why a segment without START may not come now, once a SESS_INIT has come.
     fn continuation_refusal(&self, id: u64) -> Option<OrderFault>
-        ensures { result ≡ (if option_eq ◌==◌ self.now.transfer (Some id) then None else Some OrderFault.NoSuchOpenTransfer) }
+        ensures { result ≡ (if option_eq ◌==◌ self.now.transfer (Some id) then None
+            else Some OrderFault.NoSuchOpenTransfer) }
     {
         if self.transfer == Some(id) {
             None
@@ -88,7 +90,8 @@ impl Joiner {
 
     /// Why a segment with START may not come now, once a SESS_INIT has come.
     fn start_refusal(&self, id: u64) -> Option<OrderFault>
-        ensures { result ≡ (if option_eq ◌==◌ self.now.transfer (Some id) then Some OrderFault.StartRepeatsOpenId
+        ensures { result ≡ (if option_eq ◌==◌ self.now.transfer (Some id)
+            then Some OrderFault.StartRepeatsOpenId
             else if self.now.terminated then Some OrderFault.StartAfterSessTerm else None) }
     {
         if self.transfer == Some(id) {
@@ -120,8 +123,8 @@ impl Joiner {
         ensures after { self.new ≡ joiner_after self.old (Event.Segment flags id) }
     {
         let last = has_end_flag(flags);
-        let abandoned = self.transfer;
-        self.transfer = if last { None } else { Some(id) };
+        let open = if last { None } else { Some(id) };
+        let abandoned = mem::replace(&mut self.transfer, open);
         if has_start_flag(flags) {
             Turn::Begin { abandoned, last }
         } else {
@@ -155,3 +158,6 @@ impl Joiner {
         Ok(self.accept(event))
     }
 }
+
+#[cfg(test)]
+mod tests;

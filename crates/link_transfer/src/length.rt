@@ -46,3 +46,6 @@ pub fn announced(items: &Items) -> Announced
     }
     announced
 }
+
+#[cfg(test)]
+mod tests;

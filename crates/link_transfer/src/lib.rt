@@ -1,4 +1,28 @@
-//! The transfers of a recorded TCPCLv4 session (RFC 9174 section 5.2).
+//! The transfers of a TCPCLv4 session (RFC 9174 section 5.2), in both directions: how the messages of a recorded session
+//! follow each other, and how bundles are cut into the data of segments.
+//!
+//! A [`Joiner`] judges the order of the messages that one entity sent. It keeps two flags and one transfer ID.
+//! [`announced`] is the length that a transfer's first segment announces.
+//!
+//! ```ignore
+//! let mut joiner = Joiner::new();
+//! match joiner.message(&message)? {
+//!     Turn::Begin { abandoned, last } => ..,
+//!     Turn::Continue { last } => ..,
+//!     Turn::Other => ..,
+//! }
+//! ```
+//!
+//! A [`Cutter`] holds the bytes of a bundle until they are a chunk, in a buffer that it takes once.
+//!
+//! ```ignore
+//! let mut cutter = Cutter::new(alloc, 65_536, 0)?;
+//! cutter.push(byte, is_last);
+//! while let Some(cut) = cutter.cut() {
+//!     // cut.first is START, cut.last is END
+//!     write_segment(cut, cutter.bytes())?;
+//! }
+//! ```
 #![tactic(auto)]
 
 mod announcement;

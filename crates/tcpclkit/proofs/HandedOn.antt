@@ -1,12 +1,12 @@
 -- What a run over buffered streams has handed on.
-use Rattle.std.proofs.Common.{◌≡◌, ℕ, List, [], ◌++◌, Option, Some, None, Bool, true, false, Result, Ok, Err, IfSome, if◌then◌else◌, ap, sym, subst, ◌∙◌, refl, ◌==◌}
+use Rattle.std.proofs.Common.{◌≡◌, ℕ, ◌⊎◌, inl, inr, append_assoc, List, [], ◌++◌, Option, Some, None, Bool, true, false, Result, Ok, Err, IfSome, if◌then◌else◌, ap, sym, subst, ◌∙◌, refl, ◌==◌}
 use Rattle.std.proofs.lemmas.List.{append-nil}
-use Rattle.std.specs.Io.KnownBytes.{Consumes, Appends, Keeps, append_known, prepend_known}
+use Rattle.std.specs.Io.KnownBytes.{Consumes, Appends, IsAtEnd, Keeps, append_known, prepend_known}
 use Rattle.link_wire.specs.Device.{Input, Output}
 use Rattle.link_wire.specs.declared.fault.IoFault.{IoFault}
 use Rattle.link_wire.specs.declared.fault.IoFault.TheVariants.{Write}
-use Rattle.link_tools.specs.Run.{Told, Devices, GivesAnswer, GaveAnswer}
-use Rattle.link_tools.specs.declared.run.Status.{Status}
+use Rattle.link_run.specs.Run.{Told, Tool, Devices, AllGiven, GivesAnswer, Gave, GaveAnswer}
+use Rattle.link_run.specs.declared.run.Status.{Status}
 use Rattle.tcpclkit.specs.Ending.{answer_after_flush}
 
 -- the choice that the result is not, is not taken
@@ -22,36 +22,42 @@ answered (Ok given) true status is = is
 answered (Ok given) false status is = picked (given.0 == 3) (Ok given) (Err Write) (Ok status) is (λ bad. cc)
 answered (Err fault) flushed status is = is
 
--- what was read is all of the input, as far as the tool goes
-same_told : (tool : List ℕ → Told) (old new : Option (List ℕ)) (bytes taken : List ℕ)
-    → old ≡ Some bytes → Consumes old new taken
-    → ((rest : List ℕ) → new ≡ Some rest → tool (taken ++ rest) ≡ tool taken)
-    → tool taken ≡ tool bytes
-same_told tool None new bytes taken is takes all = cc
-same_told tool (Some xs) None bytes taken is takes all = absurd takes
-same_told tool (Some xs) (Some ys) bytes taken is takes all =
-    let same : taken ++ ys ≡ bytes = cc in
-    sym (all ys refl) ∙ ap tool same
+-- what the tool tells of the bytes that were given is what it tells of all of a known input
+same_told : {R W E : Type 0} (in_look : R → Input) (out_look : W → Output) (report_look : E → Output) (tool : Tool) (now : Devices R W E) (old new : Option (List ℕ)) (bytes given unread : List ℕ)
+    → old ≡ Some bytes → (in_look now.reader).left ≡ new → Consumes old new (given ++ unread)
+    → AllGiven in_look out_look report_look now unread ⊎ ((more : List ℕ) → tool.whole (given ++ more) ≡ tool.whole given)
+    → tool.whole given ≡ tool.whole bytes
+same_told in_look out_look report_look tool now None new bytes given unread is left takes settled = absurd (cc)
+same_told in_look out_look report_look tool now (Some xs) None bytes given unread is left takes settled = absurd takes
+same_told in_look out_look report_look tool now (Some xs) (Some ys) bytes given unread is left takes (inl all) =
+    let P : Option (List ℕ) → Type 0 = IsAtEnd in
+    let none : ys ≡ [] = subst P left all.1 in
+    let first : xs ≡ bytes = cc in
+    let parts : xs ≡ given = takes ∙ ap (λ ts. ts ++ ys) (ap (λ us. given ++ us) all.0 ∙ append-nil given) ∙ ap (λ r. given ++ r) none ∙ append-nil given in
+    ap tool.whole (sym parts ∙ first)
+same_told in_look out_look report_look tool now (Some xs) (Some ys) bytes given unread is left takes (inr lasts) =
+    let first : xs ≡ bytes = cc in
+    sym (lasts (unread ++ ys)) ∙ ap tool.whole (sym (append_assoc given unread ys) ∙ sym takes ∙ first)
 
 module _ {R W E : Type 0} (in_look : R → Input) (out_look : W → Output) (report_look : E → Output) where
   -- from start to now both texts were written, and the status is theirs
   pub record HasRun (told : Told) (start now : Devices R W E) (status : Status) : Type 0 where
-    pub writes : Appends (out_look start.output).written (out_look now.output).written told.output
-    pub reports : Appends (report_look start.report).written (report_look now.report).written told.report
+    pub writes : Appends (out_look start.output).written (out_look now.output).written told.texts.output
+    pub reports : Appends (report_look start.report).written (report_look now.report).written told.texts.report
     pub ends : status.0 ≡ told.status
 
   -- a run over a known input has written the texts of that input
-  pub has_run : (tool : List ℕ → Told) (start now : Devices R W E) (answer : Result Status IoFault)
+  pub has_run : (tool : Tool) (start now : Devices R W E) (answer : Result Status IoFault)
       (status : Status) (bytes : List ℕ)
       → GivesAnswer in_look out_look report_look tool start now answer → answer ≡ Ok status
-      → (in_look start.reader).left ≡ Some bytes → HasRun (tool bytes) start now status
+      → (in_look start.reader).left ≡ Some bytes → HasRun (tool.whole bytes) start now status
   has_run tool start now answer status bytes gives is known =
-      let Gives : Result Status IoFault → Type 0 = GivesAnswer in_look out_look report_look tool start now in
-      let gave : GaveAnswer in_look out_look report_look tool start now status = subst Gives is gives in
-      let same = same_told tool _ _ bytes gave.taken known gave.told.takes gave.all in
-      let of_taken : HasRun (tool gave.taken) start now status =
+      let P : Result Status IoFault → Type 0 = Gave in_look out_look report_look tool start now gives.given in
+      let gave : GaveAnswer in_look out_look report_look tool start now gives.given status = subst P is gives.gave in
+      let same = same_told in_look out_look report_look tool now _ _ bytes gives.given gave.unread known refl gave.told.takes gave.settled in
+      let of_given : HasRun (tool.whole gives.given) start now status =
       record { writes = gave.told.writes; reports = gave.told.reports; ends = gave.ends } in
-      subst (λ told. HasRun told start now status) same of_taken
+      subst (λ told. HasRun told start now status) same of_given
 
 -- what was written into an empty buffer, and handed on
 handed : (old before after new : Option (List ℕ)) (text : List ℕ)

@@ -3,7 +3,7 @@ use Rattle.std.specs.Prelude.{ℕ, Bool, true, false, ◌==◌, if◌then◌else
 use Rattle.link_wire.specs.declared.fault.IoFault.{IoFault}
 use Rattle.link_wire.specs.declared.fault.IoFault.TheVariants as io
 use Rattle.link_tools.specs.Exit.{status_of, exit_text}
-use Rattle.link_tools.specs.declared.run.Status.{Status}
+use Rattle.link_run.specs.declared.run.Status.{Status}
 use Rattle.tcpclkit.specs.declared.ending.Ending.{Ending}
 use Rattle.tcpclkit.specs.declared.ending.Ending.TheVariants.{Usage, Answer}
 

@@ -4,8 +4,8 @@ ghost use Rattle.std.specs.Prelude.{◌≡◌, ℕ, List, IfOk, IfErr, IfSome, O
 ghost use Rattle.std.specs.Io.Buffered.{writer_contents};
 ghost use Rattle.std.specs.Io.KnownBytes.{Keeps};
 ghost use Rattle.std.specs.IoError.{error_kind};
-ghost use Rattle.link_tools.specs.Listing.{listing};
-ghost use Rattle.link_tools.specs.declared.run.Status.{Status};
+ghost use Rattle.link_list.specs.Listing.{listing};
+ghost use Rattle.link_run.specs.declared.run.Status.{Status};
 ghost use Rattle.tcpclkit.specs.Listed.{HasWritten, IsFlushed};
 
 use crate::ending::after_flush;
@@ -15,7 +15,7 @@ use std::alloc::Global;
 use std::io;
 use std::io::{BufReader, BufWriter, ErrorKind, Read, Write};
 
-/// How many bytes of the input are read at once.
+/// How many bytes of the input are read at once, below the window of its source.
 const INPUT_BUFFER: usize = 64 << 10;
 
 /// How many bytes of a text are written at once.

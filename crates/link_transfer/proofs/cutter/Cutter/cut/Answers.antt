@@ -1,5 +1,4 @@
 use Rattle.std.proofs.Common.{Some, ◌&&◌, not, min, take, drop, ap, refl, sym, ◌∙◌}
-use Rattle.link_transfer.specs.Cutting.{is_last}
 use Rattle.link_transfer.specs.Held.{HeldBytes}
 use Rattle.link_transfer.specs.declared.cut.Cut.{Cut}
 use Rattle.link_transfer.proofs.Giving.{next_cut-at, next_cut-none, last-at, all_chunks, IsCutterAt-forget, IsCutterAt-cut}

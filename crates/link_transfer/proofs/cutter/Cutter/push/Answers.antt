@@ -2,7 +2,7 @@ use Rattle.std.proofs.Common.{[], ap, refl, arith}
 use Rattle.std.proofs.lemmas.List.Elements.{All-nil, All-push}
 use Rattle.link_wire.specs.Bytes.{IsByte}
 use Rattle.link_transfer.specs.Held.{HeldBytes}
-use Rattle.link_transfer.proofs.Steps.{IsCutterAt-push, Pushes}
+use Rattle.link_transfer.proofs.Steps.{IsCutterAt-push}
 use Rattle.link_transfer.proofs.cutter.Cutter.push.Goals as goal
 
 pub returns : goal.returns

@@ -1,5 +1,4 @@
 use Rattle.std.proofs.Common.{◌≤◌, ◌+◌, length, take, drop, ap, ◌∙◌, arith}
-use Rattle.std.proofs.lemmas.List.{length-take-le}
 use Rattle.link_transfer.specs.Held.{HeldBytes}
 use Rattle.link_transfer.proofs.Holding.{same_held, range_front, range_rest, length_range}
 use Rattle.link_transfer.proofs.held.Held.give.Goals as goal

@@ -1,0 +1,30 @@
+#!/usr/bin/env python3
+"""Measures a cutter: `bench/cut.py [PROGRAM [ROUNDS]]`.
+
+64 MiB go in pieces of 4,096 bytes through Cutter::push_slice, with segments of 65,536 bytes, and are copied in the same
+pieces into a buffer of that size, both sixteen times over; what is printed is the ratio of the times. PROGRAM is by
+default the one that `rt run -- cut` left in crates/cut_bench/out.
+"""
+
+import os
+import sys
+from pathlib import Path
+
+from measure import seconds
+
+
+def main():
+    built = Path(__file__).resolve().parent.parent / "crates/cut_bench/out/cut_bench"
+    program = sys.argv[1] if len(sys.argv) > 1 else str(built)
+    rounds = int(sys.argv[2]) if len(sys.argv) > 2 else 5
+    if not os.access(program, os.X_OK):
+        sys.exit(f"{program} is no program: build it first, by 'rt run -- cut' in crates/cut_bench")
+    cut = copy = 0.0
+    for _ in range(rounds):
+        cut += seconds([program, "cut"])
+        copy += seconds([program, "copy"])
+    print(f"64 MiB in pieces of 4,096 bytes: {cut / copy:.2f} times copying them, at most 2 wanted")
+
+
+if __name__ == "__main__":
+    main()

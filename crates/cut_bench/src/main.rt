@@ -1,0 +1,81 @@
+//! 64 MiB in pieces of 4,096 bytes, sixteen times over: `cut` pushes them into a cutter with segments of 65,536 bytes and
+//! takes the chunks, `copy` copies them into a buffer of that size. Compare the user times of the two.
+#![tactic(auto)]
+
+ghost use Rattle.std.specs.Prelude.{◌≡◌, length};
+
+use link_transfer::Cutter;
+use std::alloc::{AllocError, Global};
+use std::{env, io};
+
+/// How many bytes a piece has.
+const PIECE: usize = 4096;
+
+/// How many pieces a segment has.
+const PIECES: usize = 16;
+
+/// How many segments there are: those of 64 MiB, sixteen times.
+const SEGMENTS: u32 = 16_384;
+
+/// The first byte of a chunk and how many it has.
+fn told(chunk: &[u8]) -> u64 {
+    let first = chunk.first().copied().unwrap_or(0);
+    (chunk.len() as u64).wrapping_add(u64::from(first))
+}
+
+/// The next piece: no two in a row are equal, so that each has to be copied.
+fn next(piece: &mut [u8; PIECE]) {
+    piece[0] = piece[0].wrapping_add(1);
+}
+
+fn cut(alloc: Global) -> Result<u64, AllocError> {
+    let mut piece = [0xa5; PIECE];
+    let mut answer = 0u64;
+    let mut cutter = Cutter::new(alloc, PIECE * PIECES, 0)?;
+    for _segment in 0..SEGMENTS {
+        for _piece in 0..PIECES {
+            next(&mut piece);
+            cutter.push_slice(&piece, false);
+            while let Some(_cut) = cutter.cut() {
+                answer = answer.wrapping_add(told(cutter.bytes()));
+            }
+        }
+    }
+    Ok(answer)
+}
+
+fn copy(alloc: Global) -> Result<u64, AllocError> {
+    let mut piece = [0xa5; PIECE];
+    let mut answer = 0u64;
+    let mut buffer = vec![in alloc; 0u8; PIECE * PIECES]?;
+    for _segment in 0..SEGMENTS {
+        fill(&mut buffer, &mut piece);
+        answer = answer.wrapping_add(told(&buffer));
+    }
+    Ok(answer)
+}
+
+/// Copies pieces into a segment.
+fn fill(segment: &mut [u8], piece: &mut [u8; PIECE])
+    requires { length segment.old ≡ 65536 }
+{
+    for index in 0..PIECES {
+        next(piece);
+        let at = index * PIECE;
+        segment[at..at + PIECE].copy_from_slice(piece);
+    }
+}
+
+fn main(rt: HostRuntime) -> io::Result<()> {
+    let mut answer = 0;
+    for word in env::args(&rt)? {
+        if word.as_str() == "cut" {
+            answer = cut(rt.alloc())?;
+        }
+        if word.as_str() == "copy" {
+            answer = copy(rt.alloc())?;
+        }
+    }
+    println!(rt; "{answer}")?;
+    Ok(())
+}

@@ -1,0 +1,153 @@
+ghost use Rattle.std.specs.Prelude.{◌≡◌, ◌≤◌, false, length, OnOk};
+ghost use Rattle.link_transfer.specs.Cutter.{cut_waits};
+
+use super::*;
+use std::process::Abort;
+use std::test::Fail;
+
+/// A bundle's bytes: they need not be one.
+const BUNDLE: &[u8] = b"abcdefghijklm";
+
+/// The size of a segment.
+const SEGMENT: usize = 4;
+
+/// A chunk that was given: what its cut says, and its bytes.
+#[derive(Debug, PartialEq, Drop)]
+struct Given {
+    cut: Cut,
+    bytes: Vec<u8>,
+}
+
+/// What a cutter has to give for a bundle: std's chunks of it, the first and the last marked, and the length announced
+/// where the bundle is longer than a segment and not longer than what may be held.
+fn wanted(alloc: Global, bundle: &[u8], hold: usize) -> Result<Vec<Given>, AllocError> {
+    let mut wanted = Vec::new(alloc);
+    let is_announced = SEGMENT < bundle.len() && bundle.len() <= hold;
+    let count = bundle.len().div_ceil(SEGMENT);
+    for (index, chunk) in bundle.chunks(SEGMENT).enumerate() {
+        let cut = Cut {
+            first: index == 0,
+            last: count - index == 1,
+            announce: (is_announced && index == 0).then_some(bundle.len() as u64),
+        };
+        wanted.push(Given {
+            cut,
+            bytes: Vec::from_slice(alloc, chunk)?,
+        })?;
+    }
+    Ok(wanted)
+}
+
+/// Takes the chunks that wait.
+fn take_all(alloc: Global, cutter: &mut Cutter, given: &mut Vec<Given>) -> Result<(), AllocError>
+    ensures { OnOk result (cut_waits cutter.new ≡ false) }
+{
+    while let Some(cut) = cutter.cut() {
+        given.push(Given {
+            cut,
+            bytes: Vec::from_slice(alloc, cutter.bytes())?,
+        })?;
+    }
+    Ok(())
+}
+
+/// Pushes a piece of a bundle, and takes each chunk as soon as it waits.
+fn push_piece(
+    alloc: Global,
+    cutter: &mut Cutter,
+    piece: &[u8],
+    last: bool,
+    given: &mut Vec<Given>,
+) -> Result<(), AllocError>
+    requires { cut_waits cutter.old ≡ false }
+    ensures { OnOk result (cut_waits cutter.new ≡ false) }
+{
+    let mut at = 0;
+    while at < piece.len() {
+        at += cutter.push_slice(&piece[at..], last);
+        take_all(alloc, cutter, given)?;
+    }
+    Ok(())
+}
+
+/// The chunks of the bundle, and of the same bundle after it, where it is pushed in two pieces.
+fn in_two(alloc: Global, hold: usize, bundle: &[u8], at: usize) -> Result<Vec<Given>, AllocError>
+    requires hold { hold ≤ 1048576 }
+    requires at { at ≤ length bundle.now }
+{
+    let mut cutter = Cutter::new(alloc, SEGMENT, hold)?;
+    let mut given = Vec::new(alloc);
+    for _ in 0..2 {
+        push_piece(alloc, &mut cutter, &bundle[..at], false, &mut given)?;
+        push_piece(alloc, &mut cutter, &bundle[at..], true, &mut given)?;
+    }
+    Ok(given)
+}
+
+/// The same byte by byte. As long as the bundle goes on, each full chunk has been given once more than `hold` bytes have
+/// come, and none before; the others are shown.
+fn in_bytes(rt: &(impl Abort + AllocGlobal), hold: usize, bundle: &[u8]) -> Result<Vec<Given>, Fail>
+    requires { hold ≤ 1048576 }
+{
+    let mut cutter = Cutter::new(rt.alloc(), SEGMENT, hold)?;
+    let mut given = Vec::new(rt.alloc());
+    for turn in 0..2 {
+        let before = given.len();
+        for (index, &byte) in bundle.iter().enumerate() {
+            let last = bundle.len() - index == 1;
+            cutter.push(byte, last);
+            take_all(rt.alloc(), &mut cutter, &mut given)?;
+            let come = index + 1;
+            let full = if come > hold { come / SEGMENT } else { 0 };
+            let left = if last {
+                &[]
+            } else {
+                &bundle[full * SEGMENT..come]
+            };
+            assert!(rt;
+                last || given.len() == before + full,
+                "{come} bytes, turn {turn}"
+            );
+            assert_eq!(rt; cutter.bytes(), left, "{come} bytes, turn {turn}");
+        }
+    }
+    Ok(given)
+}
+
+/// Bundles of lengths around each multiple of a segment, with holds around the segment and the length, pushed byte by
+/// byte, whole, and in two pieces cut at every place.
+#[test]
+fn gives_the_chunks(rt: HostRuntime) -> Result<(), Fail> {
+    for length in [1, 3, 4, 5, 7, 8, 9, 12, 13] {
+        let bundle = &BUNDLE[..length];
+        for hold in [0, 1, 3, 4, 5, 7, 8, 9, 11, 12, 13, 14, 1_048_576] {
+            let mut want = wanted(rt.alloc(), bundle, hold)?;
+            want.extend(wanted(rt.alloc(), bundle, hold)?)?;
+            let bytewise = in_bytes(&rt, hold, bundle)?;
+            assert_eq!(rt;
+                bytewise.as_slice(),
+                want.as_slice(),
+                "{length} bytes, hold {hold}"
+            );
+            for at in 0..length {
+                let pieces = in_two(rt.alloc(), hold, bundle, at)?;
+                assert_eq!(rt;
+                    pieces.as_slice(),
+                    want.as_slice(),
+                    "{length} bytes at {at}, hold {hold}"
+                );
+            }
+        }
+    }
+    Ok(())
+}
+
+/// Where no memory is given there is no cutter, and where it is there is one.
+#[test]
+fn reports_want_of_memory(rt: HostRuntime) -> Result<(), Fail> {
+    assert!(rt; Cutter::over(Err(AllocError), SEGMENT, 0).is_err());
+    let memory = vec![in rt.alloc(); 0; SEGMENT]?;
+    assert_eq!(rt; memory.len(), SEGMENT);
+    assert!(rt; Cutter::over(Ok(memory), SEGMENT, 0).is_ok());
+    Ok(())
+}

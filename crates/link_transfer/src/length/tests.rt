@@ -1,0 +1,60 @@
+ghost use Rattle.std.specs.Prelude.{◌≡◌, IsSome};
+ghost use Rattle.link_transfer.specs.Announced.{HasTotals};
+
+use super::*;
+use std::process::Abort;
+
+/// The list of items of these types and lengths. A Transfer Length item has the total 35.
+fn items_of(kinds: &[(u16, u16)]) -> Items
+    ensures { HasTotals result.items }
+{
+    let mut items = Items::new();
+    for &(kind, length) in kinds {
+        if !items.is_full() {
+            items.push(item_of(kind, length));
+        }
+    }
+    items
+}
+
+fn item_of(kind: u16, length: u16) -> Item
+    ensures { result.kind ≡ 1 → result.length ≡ 8 → IsSome result.total }
+{
+    let total = if kind == TRANSFER_LENGTH && length == TOTAL_LENGTH {
+        Some(35)
+    } else {
+        None
+    };
+    Item {
+        flags: 0,
+        kind,
+        length,
+        total,
+    }
+}
+
+#[test]
+fn announces_one_length(rt: HostRuntime) {
+    for (kinds, want) in [
+        ([].as_slice(), Announced::Absent),
+        (&[(0x0002, 8)], Announced::Absent),
+        (&[(0x0100, 8), (0xffff, 0)], Announced::Absent),
+        (&[(0x0001, 8)], Announced::Total(35)),
+        (
+            &[(0x0002, 8), (0x0001, 8), (0x0000, 0)],
+            Announced::Total(35),
+        ),
+        (&[(0x0001, 8), (0x0001, 8)], Announced::Malformed),
+        (
+            &[(0x0001, 8), (0x0002, 0), (0x0001, 8), (0x0001, 8)],
+            Announced::Malformed,
+        ),
+        (&[(0x0001, 0)], Announced::Malformed),
+        (&[(0x0001, 7)], Announced::Malformed),
+        (&[(0x0001, 264)], Announced::Malformed),
+        (&[(0x0001, 4), (0x0001, 8)], Announced::Malformed),
+        (&[(0x0001, 8), (0x0001, 4)], Announced::Malformed),
+    ] {
+        assert_eq!(rt; announced(&items_of(kinds)), want, "{kinds:?}");
+    }
+}
