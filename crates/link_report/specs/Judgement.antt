@@ -1,6 +1,10 @@
 -- What the line of a transfer says of its data.
-use Rattle.std.specs.Prelude.{ℕ, List, ◌++◌, codes}
+use Rattle.std.specs.Prelude.{ℕ, Bool, ◌==◌, if◌then◌else◌, Result, Ok, Err, List, ◌++◌, codes}
 use Rattle.link_bundle_types.specs.BundleView.{viewed_info}
+use Rattle.link_bundle_types.specs.declared.fault.BundleFault.{BundleFault}
+use Rattle.link_bundle_types.specs.declared.info.BundleInfo.{BundleInfo}
+use Rattle.link_transfer.specs.declared.announcement.Announced.{Announced}
+use Rattle.link_transfer.specs.declared.announcement.Announced.TheVariants.{Absent, Total, Malformed}
 use Rattle.link_report.specs.declared.judgement.Judgement.{Judgement}
 use Rattle.link_report.specs.declared.judgement.Judgement.TheVariants.{Abandoned, BadLengthItem, LengthDiffers, Bad, Good}
 use Rattle.link_report.specs.declared.judgement.JudgementView.{JudgementView}
@@ -8,6 +12,22 @@ use Rattle.link_report.specs.declared.judgement.JudgementView.TheVariants as vie
 use Rattle.link_report.specs.BundleFault.{code_text}
 use Rattle.link_report.specs.Identity.{identity_text, HasShortNames}
 use Rattle.link_report.specs.Text.{number_text}
+
+-- the verdict on a transfer's data
+abbrev pub judged_data : Result BundleInfo (BundleFault × ℕ) → Judgement
+judged_data (Ok info) = Good info
+judged_data (Err (fault, offset)) = Bad fault offset
+
+-- what the transfer's extension items announce, against the length of its data; and then the verdict (RFC 9174 section
+-- 5.2.5.1)
+abbrev pub judged_length : Announced → ℕ → Result BundleInfo (BundleFault × ℕ) → Judgement
+judged_length Absent size verdict = judged_data verdict
+judged_length (Total total) size verdict = if total == size then judged_data verdict else LengthDiffers total
+judged_length Malformed size verdict = BadLengthItem
+
+-- the first that holds: another transfer began, the length item is bad, another length is announced, no bundle, a bundle
+abbrev pub judged : Bool → Announced → ℕ → Result BundleInfo (BundleFault × ℕ) → Judgement
+judged abandoned announced size verdict = if abandoned then Abandoned else judged_length announced size verdict
 
 unfoldable pub judgement_text : Judgement → List ℕ
 judgement_text Abandoned = codes "abandoned"

@@ -2,10 +2,11 @@
 
 use crate::{
     Fault, Judgement, JudgementView, Line, PackedEntry, PackedView, TransferEntry, TransferView,
-    fault_line, packed_line, packed_view_line, transfer_line, transfer_view_line,
+    fault_line, judge, packed_line, packed_view_line, transfer_line, transfer_view_line,
 };
 use arrayvec::ArrayVec;
 use link_bundle_types::{BundleFault, BundleInfo, BundleView, Eid, EidView};
+use link_transfer::Announced;
 use std::test::Fail;
 
 /// A bundle with a payload of five bytes.
@@ -240,6 +241,69 @@ fn lines_by_reference(rt: HostRuntime) {
     let want =
         "bundle 7 segments=3 length=40 source=ipn:0.2.1 time=1 sequence=2 destination=dtn://node/a payload=5\n";
     assert_eq!(rt; line.as_slice(), want.as_bytes());
+}
+
+/// Whatever else holds, another transfer's beginning is reported first, then the items, then the length, then the fault.
+#[test]
+fn first_judgement_that_holds(rt: HostRuntime) {
+    let info = whole();
+    let good = Ok(info.view());
+    let bad = Err((BundleFault::Cut, 10));
+    let rows = [
+        (
+            true,
+            Announced::Malformed,
+            10,
+            bad,
+            JudgementView::Abandoned,
+        ),
+        (true, Announced::Absent, 34, good, JudgementView::Abandoned),
+        (
+            false,
+            Announced::Malformed,
+            10,
+            bad,
+            JudgementView::BadLengthItem,
+        ),
+        (
+            false,
+            Announced::Total(35),
+            10,
+            bad,
+            JudgementView::LengthDiffers(35),
+        ),
+        (
+            false,
+            Announced::Total(9),
+            10,
+            good,
+            JudgementView::LengthDiffers(9),
+        ),
+        (
+            false,
+            Announced::Total(10),
+            10,
+            bad,
+            JudgementView::Bad(BundleFault::Cut, 10),
+        ),
+        (
+            false,
+            Announced::Absent,
+            10,
+            bad,
+            JudgementView::Bad(BundleFault::Cut, 10),
+        ),
+        (
+            false,
+            Announced::Total(34),
+            34,
+            good,
+            JudgementView::Good(info.view()),
+        ),
+    ];
+    for (abandoned, announced, length, verdict, want) in rows {
+        assert!(rt; judge(abandoned, announced, length, verdict) == want);
+    }
 }
 
 /// Each number with 20 digits, and names of 1,024 bytes that are all escaped.

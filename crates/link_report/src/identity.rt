@@ -78,7 +78,8 @@ fn put_fragment(line: &mut Line, fragment: Option<(u64, u64)>)
 fn put_origin(line: &mut Line, source: &EidView<'_>, time: u64, sequence: u64)
     requires short { IsShort (viewed_eid source.now) }
     requires room { array_vec_len line.old + 4163 ≤ LINE_MAX }
-    ensures items { line.new.items ≡ line.old.items ++ origin_text (viewed_eid source.now) time sequence }
+    ensures items { line.new.items
+        ≡ line.old.items ++ origin_text (viewed_eid source.now) time sequence }
     ensures len { array_vec_len line.new ≤ array_vec_len line.old + 4163 }
 {
     put_text(line, "source=");

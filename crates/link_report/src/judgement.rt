@@ -1,13 +1,16 @@
 //! What the line of a transfer says of its data.
 
-ghost use Rattle.std.specs.Prelude.{◌≡◌, ◌+◌, ◌≤◌, ◌<◌, ◌++◌};
+ghost use Rattle.std.specs.Prelude.{IfOk, ◌≡◌, ◌+◌, ◌≤◌, ◌<◌, ◌++◌};
 ghost use Rattle.arrayvec.specs.ArrayVec.{array_vec_len};
-ghost use Rattle.link_report.specs.Judgement.{judgement_text, viewed_judgement, IsShortJudgement};
+ghost use Rattle.link_bundle_types.specs.BundleView.{viewed_info, viewed_verdict};
+ghost use Rattle.link_report.specs.Identity.{HasShortNames};
+ghost use Rattle.link_report.specs.Judgement.{judged, judgement_text, viewed_judgement, IsShortJudgement};
 
 use crate::bundle_fault::code_of;
 use crate::identity::{put_identity, view_of_info};
 use crate::put::{LINE_MAX, Line, put_number, put_text};
 use link_bundle_types::{BundleFault, BundleInfo, BundleView};
+use link_transfer::Announced;
 
 /// What the data of a transfer are.
 #[derive(Debug, PartialEq, Eq, Drop)]
@@ -55,12 +58,40 @@ impl Judgement {
     }
 }
 
+/// Judges a transfer: whether another began before its end, what its extension items announce, how many bytes of data it
+/// had, and the verdict on these.
+pub fn judge<'a>(
+    abandoned: bool,
+    announced: Announced,
+    length: u64,
+    verdict: Result<BundleView<'a>, (BundleFault, u64)>,
+) -> JudgementView<'a>
+    ensures judged { viewed_judgement result
+        ≡ judged abandoned announced length (viewed_verdict verdict.entry) }
+    ensures short { IfOk verdict.entry (λ view. HasShortNames (viewed_info view)) →
+        IsShortJudgement (viewed_judgement result) }
+{
+    if abandoned {
+        return JudgementView::Abandoned;
+    }
+    match announced {
+        Announced::Malformed => return JudgementView::BadLengthItem,
+        Announced::Total(total) if total != length => return JudgementView::LengthDiffers(total),
+        _ => {}
+    }
+    match verdict {
+        Ok(info) => JudgementView::Good(info),
+        Err((fault, offset)) => JudgementView::Bad(fault, offset),
+    }
+}
+
 /// Appends a judgement: 5 bytes and what is said of a bundle at most.
 #[tactic(auto, unfolding(crate::specs::Judgement::judgement_text))]
 pub(crate) fn put_judgement(line: &mut Line, judgement: &JudgementView<'_>)
     requires short { IsShortJudgement (viewed_judgement judgement.now) }
     requires room { array_vec_len line.old + 8361 ≤ LINE_MAX }
-    ensures items { line.new.items ≡ line.old.items ++ judgement_text (viewed_judgement judgement.now) }
+    ensures items { line.new.items
+        ≡ line.old.items ++ judgement_text (viewed_judgement judgement.now) }
     ensures len { array_vec_len line.new ≤ array_vec_len line.old + 8361 }
 {
     match judgement {

@@ -1,5 +1,19 @@
-//! The report lines of a recorded TCPCLv4 session: one for its contact header, one for each message
-//! and one for a fault.
+//! The report lines of a recorded TCPCLv4 session: one for its contact header, for each message, for each transfer, for
+//! each packed bundle and for a fault.
+//!
+//! A [`Line`] is made from empty by one call, and has room for every line. Clear it before the next:
+//!
+//! ```text
+//! let mut line = Line::new();
+//! contact_line(&mut line, &Contact { flags: 0 });
+//! // line: "0 contact version=4 flags=00\n"
+//! line.clear();
+//! fault_line(&mut line, &Fault::Wire(6, WireFault::Truncated));
+//! // line: "tcpclkit: byte 6: truncated\n"
+//! ```
+//!
+//! [`buffer_line`], [`transfer_view_line`] and [`packed_view_line`] make a line from references; [`message_line`],
+//! [`transfer_line`] and [`packed_line`] make the same line from values.
 #![tactic(auto)]
 
 mod bundle_fault;
@@ -17,7 +31,7 @@ mod tests;
 mod transfer;
 
 pub use fault::{Fault, fault_line};
-pub use judgement::{Judgement, JudgementView};
+pub use judgement::{Judgement, JudgementView, judge};
 pub use message::{buffer_line, contact_line, message_line};
 pub use packed::{PackedEntry, PackedView, packed_line, packed_view_line};
 pub use put::{LINE_MAX, Line, put_decimal, put_escaped, put_hex2, put_hex4, put_text};

@@ -41,7 +41,7 @@ pub struct TransferView<'a> {
 /// Appends a transfer's ID, and where its bytes are: 33 bytes and four numbers.
 #[tactic(auto, unfolding(crate::specs::Transfer::extent_text))]
 fn put_extent(line: &mut Line, id: u64, start: u64, written: u64, size: u64)
-    requires { array_vec_len line.old ≤ 0 }
+    requires { line.old.items ≡ [] }
     ensures items { line.new.items ≡ line.old.items ++ extent_text id start written size }
     ensures len { array_vec_len line.new ≤ 113 }
 {
