@@ -16,7 +16,7 @@ pub struct TestReader<'a> {
 }
 
 impl<'a> TestReader<'a> {
-    /// A reader that gives these bytes, at most so many a call.
+    /// A reader that gives these bytes, at most that many a call.
     pub fn new(bytes: &'a [u8], per_call: usize, failing: Failing) -> TestReader<'a>
         requires { 0 < per_call }
         ensures state { ⟦<TestReader<'a> as InDevice>⟧.state result ≡ record { left = Some bytes.now; failed = false } }
@@ -67,7 +67,7 @@ pub struct TestWriter {
 }
 
 impl TestWriter {
-    /// A writer that takes at most so many bytes a call.
+    /// A writer that takes at most that many bytes a call.
     pub fn new(alloc: Global, per_call: usize, failing: Failing) -> TestWriter
         requires { 0 < per_call }
         ensures state { ⟦<TestWriter as OutDevice>⟧.state result ≡ record { written = Some []; failed = false } }

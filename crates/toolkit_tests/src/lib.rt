@@ -6,6 +6,8 @@ mod device;
 #[cfg(test)]
 mod failures;
 #[cfg(test)]
+mod listing;
+#[cfg(test)]
 mod listings;
 mod pace;
 #[cfg(test)]
@@ -16,6 +18,8 @@ mod sessions;
 mod std_devices;
 #[cfg(test)]
 mod stream;
+#[cfg(test)]
+mod windows;
 
 pub use device::{TestReader, TestWriter};
 pub use pace::Failing;

@@ -2,53 +2,17 @@
 
 ghost use Rattle.std.specs.Prelude.{◌<◌};
 
-use crate::rows::{FAULTS, MESSAGE_LINES, MESSAGES, Row, SESSIONS, TRANSFERS};
+use crate::listing::{Listing, gives, gives_at_each_pace, listed};
+use crate::rows::{FAULTS, MESSAGE_LINES, MESSAGES, Row, SESSIONS, TRANSFER, TRANSFERS};
 use crate::stream::{
     CONTACT, CONTACT_LINE, NO_ITEMS, NODE, PARAMETERS, SESSION_LINE, SESSION_WORDS, WHOLE_TRANSFER,
-    joined, text,
+    joined,
 };
-use crate::{Failing, TestReader, TestWriter};
-use link_tools::{list, run_exit};
+use std::alloc::Global;
 use std::process::Abort;
 use std::test::Fail;
 
-/// What listing a stream must give.
-#[derive(Drop)]
-struct Listing<'a> {
-    output: &'a [u8],
-    report: &'a [u8],
-    status: u8,
-}
-
-/// Lists the stream over devices that move at most so many bytes a call.
-fn gives(
-    rt: &(impl Abort + AllocGlobal),
-    name: &str,
-    stream: &[u8],
-    per_call: usize,
-    want: &Listing<'_>,
-) -> Result<(), Fail>
-    requires { 0 < per_call }
-{
-    let reader = TestReader::new(stream, per_call, Failing::Never);
-    let output = TestWriter::new(rt.alloc(), per_call, Failing::Never);
-    let report = TestWriter::new(rt.alloc(), per_call, Failing::Never);
-    let end = list(reader, output, report);
-    assert_eq!(rt;
-        text(end.output.written())?,
-        text(want.output)?,
-        "output: {name}"
-    );
-    assert_eq!(rt;
-        text(end.report.written())?,
-        text(want.report)?,
-        "report: {name}"
-    );
-    assert_eq!(rt; run_exit(&end.answer), (want.status, ""), "status: {name}");
-    Ok(())
-}
-
-/// Lists each row's stream, with its bytes moved all at once and one by one.
+/// Lists each row's stream.
 fn all_given(rt: &(impl Abort + AllocGlobal), rows: &[Row]) -> Result<(), Fail> {
     for row in rows {
         let stream = joined(rt.alloc(), row.stream)?;
@@ -58,8 +22,7 @@ fn all_given(rt: &(impl Abort + AllocGlobal), rows: &[Row]) -> Result<(), Fail> 
             report: row.report,
             status: row.status,
         };
-        gives(rt, row.name, &stream, usize::MAX, &want)?;
-        gives(rt, row.name, &stream, 1, &want)?;
+        gives_at_each_pace(rt, row.name, &stream, &want)?;
     }
     Ok(())
 }
@@ -98,12 +61,12 @@ fn longest_node(rt: HostRuntime) -> Result<(), Fail> {
         report: b"",
         status: 0,
     };
-    gives(&rt, "the longest node ID", &stream, usize::MAX, &want)
+    gives_at_each_pace(&rt, "the longest node ID", &stream, &want)
 }
 
-/// An item that fills the longest extension list.
+/// An item that fills an extension list of 4,096 bytes.
 #[test]
-fn longest_item(rt: HostRuntime) -> Result<(), Fail> {
+fn long_item(rt: HostRuntime) -> Result<(), Fail> {
     let list = b"\x00\x00\x10\x00\x00\xab\xcd\x0f\xfb";
     let stream = joined(rt.alloc(), &[CONTACT, PARAMETERS, NODE, list, &[0; 4091]])?;
     let line = b" node=ipn:1.0 items=1 item=00:abcd:4091\n";
@@ -113,10 +76,50 @@ fn longest_item(rt: HostRuntime) -> Result<(), Fail> {
         report: b"",
         status: 0,
     };
-    gives(&rt, "the longest item", &stream, usize::MAX, &want)
+    gives_at_each_pace(&rt, "a long item", &stream, &want)
 }
 
-/// A segment with more data than a run holds at once, and a message behind it.
+/// Where the fault stands that a prefix of the longest list's stream ends with: none where it ends after the
+/// contact header.
+fn cut_at(size: usize) -> Option<usize> {
+    match size {
+        0..6 => Some(0),
+        6 => None,
+        _ => Some(6),
+    }
+}
+
+/// An item that fills the longest extension list, and prefixes of its stream: the first 101 and the last.
+#[test]
+fn longest_list(rt: HostRuntime) -> Result<(), Fail> {
+    let list = b"\x00\x01\x00\x00\x00\xab\xcd\xff\xfb";
+    let mut stream = joined(rt.alloc(), &[CONTACT, PARAMETERS, NODE, list])?;
+    stream.resize(65_574, 0)?;
+    let line = b" node=ipn:1.0 items=1 item=00:abcd:65531\n";
+    let output = joined(rt.alloc(), &[CONTACT_LINE, SESSION_WORDS, line])?;
+    let want = Listing {
+        output: &output,
+        report: b"",
+        status: 0,
+    };
+    gives_at_each_pace(&rt, "the longest list", &stream, &want)?;
+    for size in (0..=100).chain([65_573]) {
+        let prefix = stream.get(..size).ok_or("more than the stream")?;
+        let report = match cut_at(size) {
+            Some(offset) => format!(in rt.alloc(); "tcpclkit: byte {offset}: truncated\n")?,
+            None => String::new(rt.alloc()),
+        };
+        let want = Listing {
+            output: if size < 6 { b"" } else { CONTACT_LINE },
+            report: report.as_bytes(),
+            status: if report.is_empty() { 0 } else { 3 },
+        };
+        gives_at_each_pace(&rt, "a prefix of the longest list", prefix, &want)?;
+    }
+    Ok(())
+}
+
+/// A segment with more data than a run holds at once, and a message after it.
 #[test]
 fn long_segment(rt: HostRuntime) -> Result<(), Fail> {
     let length_9000 = b"\x00\x00\x00\x00\x00\x00\x23\x28";
@@ -134,8 +137,7 @@ fn long_segment(rt: HostRuntime) -> Result<(), Fail> {
         report: b"",
         status: 0,
     };
-    gives(&rt, "a long segment", &stream, usize::MAX, &want)?;
-    gives(&rt, "a long segment", &stream, 1, &want)
+    gives_at_each_pace(&rt, "a long segment", &stream, &want)
 }
 
 /// Where the contact header and each of the messages ends.
@@ -143,7 +145,7 @@ const ENDS: [usize; 8] = [6, 38, 56, 66, 67, 70, 73, 76];
 
 /// The lines of the messages that are whole, and a fault line where a message is cut.
 #[test]
-fn every_front(rt: HostRuntime) -> Result<(), Fail> {
+fn every_prefix(rt: HostRuntime) -> Result<(), Fail> {
     let stream = joined(rt.alloc(), MESSAGES)?;
     assert_eq!(rt; stream.len(), 76);
     for size in 0..=76 {
@@ -162,7 +164,29 @@ fn every_front(rt: HostRuntime) -> Result<(), Fail> {
             report: if is_whole { b"" } else { fault.as_bytes() },
             status: if is_whole { 0 } else { 3 },
         };
-        gives(&rt, "a front of every message", &stream[..size], 1, &want)?;
+        gives(&rt, "a prefix of every message", &stream[..size], 1, &want)?;
+    }
+    Ok(())
+}
+
+/// How often the reader is read, over devices that move at most that many bytes a call, and how many bytes it gives.
+fn reads(alloc: Global, stream: &[u8], per_call: usize) -> (usize, usize)
+    requires { 0 < per_call }
+{
+    let end = listed(alloc, stream, per_call);
+    (end.reader.calls(), end.reader.given())
+}
+
+/// Each read asks for a whole window of 8,192 bytes, and the reader is read once more at the end.
+#[test]
+fn counted_reads(rt: HostRuntime) -> Result<(), Fail> {
+    let mut stream = joined(rt.alloc(), TRANSFER)?;
+    assert_eq!(rt; reads(rt.alloc(), &stream, usize::MAX), (2, 94));
+    assert_eq!(rt; reads(rt.alloc(), &stream, 1), (95, 94));
+    for (size, calls) in [(8191, 2), (8192, 2), (8193, 3), (16_384, 3), (16_385, 4)] {
+        // keepalives
+        stream.resize(size, 4)?;
+        assert_eq!(rt; reads(rt.alloc(), &stream, usize::MAX), (calls, size));
     }
     Ok(())
 }

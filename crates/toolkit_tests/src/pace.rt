@@ -1,4 +1,4 @@
-//! How a test device moves its bytes: at most so many a call, up to a call that fails.
+//! How a test device moves its bytes: at most that many a call, up to a call that fails.
 
 ghost use Rattle.std.specs.Prelude.{◌<◌};
 

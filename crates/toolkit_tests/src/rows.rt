@@ -2,7 +2,7 @@
 
 use crate::stream::{
     BACK, CONTACT, CONTACT_LINE, FIRST_SEGMENT, FRONT, LAST_SEGMENT, LENGTH_17, LENGTH_34,
-    NO_ITEMS, NODE, PARAMETERS, SESSION_LINE, WHOLE_TRANSFER,
+    NO_ITEMS, NODE, PARAMETERS, SESSION_LINE, SESSION_WORDS, WHOLE_TRANSFER,
 };
 
 /// A recorded stream and its listing.
@@ -14,13 +14,22 @@ pub struct Row {
     pub status: u8,
 }
 
-/// 17 extension items without a value.
-const ITEMS_17: &[u8] =
+/// An extension item without a value, and 16 of them.
+const ITEM: &[u8] = b"\x00\xab\xcd\x00\x00";
+
+const ITEMS_16: &[u8] =
     b"\x00\xab\xcd\x00\x00\x00\xab\xcd\x00\x00\x00\xab\xcd\x00\x00\x00\xab\xcd\x00\x00\
     \x00\xab\xcd\x00\x00\x00\xab\xcd\x00\x00\x00\xab\xcd\x00\x00\x00\xab\xcd\x00\x00\
     \x00\xab\xcd\x00\x00\x00\xab\xcd\x00\x00\x00\xab\xcd\x00\x00\x00\xab\xcd\x00\x00\
-    \x00\xab\xcd\x00\x00\x00\xab\xcd\x00\x00\x00\xab\xcd\x00\x00\x00\xab\xcd\x00\x00\
-    \x00\xab\xcd\x00\x00";
+    \x00\xab\xcd\x00\x00\x00\xab\xcd\x00\x00\x00\xab\xcd\x00\x00\x00\xab\xcd\x00\x00";
+
+/// How a line shows them.
+const ITEM_WORDS: &[u8] = b" item=00:abcd:0";
+
+const WORDS_16: &[u8] = b" item=00:abcd:0 item=00:abcd:0 item=00:abcd:0 item=00:abcd:0\
+    \x20item=00:abcd:0 item=00:abcd:0 item=00:abcd:0 item=00:abcd:0\
+    \x20item=00:abcd:0 item=00:abcd:0 item=00:abcd:0 item=00:abcd:0\
+    \x20item=00:abcd:0 item=00:abcd:0 item=00:abcd:0 item=00:abcd:0";
 
 /// A stream of every kind of message but segments, without extension items.
 pub const MESSAGES: &[&[u8]] = &[
@@ -67,7 +76,7 @@ pub const TRANSFER_LINES: &[&[u8]] = &[
 ];
 
 /// Streams without segments.
-pub const SESSIONS: [Row; 6] = [
+pub const SESSIONS: [Row; 8] = [
     Row {
         name: "every message but segments",
         stream: MESSAGES,
@@ -93,6 +102,52 @@ pub const SESSIONS: [Row; 6] = [
         output: &[
             CONTACT_LINE,
             b"6 sess-init keepalive=60 segment-mru=65536 transfer-mru=1048576 node=ipn:1.0 items=2 item=01:1234:1 item=00:abcd:0\n",
+        ],
+        report: b"",
+        status: 0,
+    },
+    Row {
+        name: "17 items",
+        stream: &[
+            CONTACT,
+            PARAMETERS,
+            NODE,
+            b"\x00\x00\x00\x55",
+            ITEMS_16,
+            ITEM,
+        ],
+        output: &[
+            CONTACT_LINE,
+            SESSION_WORDS,
+            b" node=ipn:1.0 items=17",
+            WORDS_16,
+            ITEM_WORDS,
+            b"\n",
+        ],
+        report: b"",
+        status: 0,
+    },
+    Row {
+        name: "64 items",
+        stream: &[
+            CONTACT,
+            PARAMETERS,
+            NODE,
+            b"\x00\x00\x01\x40",
+            ITEMS_16,
+            ITEMS_16,
+            ITEMS_16,
+            ITEMS_16,
+        ],
+        output: &[
+            CONTACT_LINE,
+            SESSION_WORDS,
+            b" node=ipn:1.0 items=64",
+            WORDS_16,
+            WORDS_16,
+            WORDS_16,
+            WORDS_16,
+            b"\n",
         ],
         report: b"",
         status: 0,
@@ -256,7 +311,7 @@ pub const TRANSFERS: [Row; 5] = [
 ];
 
 /// Streams with a fault.
-pub const FAULTS: [Row; 15] = [
+pub const FAULTS: [Row; 16] = [
     Row {
         name: "nothing",
         stream: &[],
@@ -320,10 +375,17 @@ pub const FAULTS: [Row; 15] = [
         status: 3,
     },
     Row {
-        name: "a list over its limit, and nothing behind it",
+        name: "a list over its limit, and nothing after it",
+        stream: &[CONTACT, PARAMETERS, NODE, b"\x00\x01\x00\x01"],
+        output: &[CONTACT_LINE],
+        report: b"tcpclkit: byte 6: extension list too long: 65537\n",
+        status: 3,
+    },
+    Row {
+        name: "a list of 4,097 bytes, and nothing after it",
         stream: &[CONTACT, PARAMETERS, NODE, b"\x00\x00\x10\x01"],
         output: &[CONTACT_LINE],
-        report: b"tcpclkit: byte 6: extension list too long: 4097\n",
+        report: b"tcpclkit: byte 6: truncated\n",
         status: 3,
     },
     Row {
@@ -354,14 +416,24 @@ pub const FAULTS: [Row; 15] = [
         status: 3,
     },
     Row {
-        name: "17 items",
-        stream: &[CONTACT, PARAMETERS, NODE, b"\x00\x00\x00U", ITEMS_17],
+        name: "65 items",
+        stream: &[
+            CONTACT,
+            PARAMETERS,
+            NODE,
+            b"\x00\x00\x01\x45",
+            ITEMS_16,
+            ITEMS_16,
+            ITEMS_16,
+            ITEMS_16,
+            ITEM,
+        ],
         output: &[CONTACT_LINE],
         report: b"tcpclkit: byte 6: too many extension items\n",
         status: 3,
     },
     Row {
-        name: "an item a byte longer, and nothing behind it",
+        name: "an item a byte longer, and nothing after it",
         stream: &[
             CONTACT,
             PARAMETERS,
@@ -374,7 +446,7 @@ pub const FAULTS: [Row; 15] = [
         status: 3,
     },
     Row {
-        name: "a node ID over its limit, and nothing behind it",
+        name: "a node ID over its limit, and nothing after it",
         stream: &[CONTACT, PARAMETERS, b"\x04\x01"],
         output: &[CONTACT_LINE],
         report: b"tcpclkit: byte 6: node id too long: 1025\n",

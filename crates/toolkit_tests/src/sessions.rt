@@ -1,9 +1,11 @@
 //! A session read message by message.
 
+ghost use Rattle.std.specs.Prelude.{◌<◌};
+
 use crate::rows::TRANSFER;
 use crate::stream::{BACK, FRONT, joined};
 use crate::{Failing, TestReader};
-use link_wire::{Contact, Message, Session, Source};
+use link_wire::{Contact, Message, Session, Source, Stop, WireFault};
 use std::test::Fail;
 
 #[test]
@@ -30,6 +32,7 @@ fn message_by_message(rt: HostRuntime) -> Result<(), Fail> {
         }
         _ => assert!(rt; false),
     }
+    assert_eq!(rt; session.left(), 0);
     match session.next() {
         Ok(Some((38, Message::Segment(head)))) => {
             assert_eq!(rt; (head.flags, head.id, head.length), (3, 0, 34));
@@ -41,7 +44,51 @@ fn message_by_message(rt: HostRuntime) -> Result<(), Fail> {
     assert_eq!(rt; session.data(&mut data), Ok(34));
     let bundle = joined(rt.alloc(), &[FRONT, BACK])?;
     assert_eq!(rt; data.as_slice(), bundle.as_slice());
+    assert_eq!(rt; session.left(), 0);
     assert_eq!(rt; session.next(), Ok(None));
-    assert_eq!(rt; session.into_source().taken(), 94);
+    let source = session.into_source();
+    assert_eq!(rt; (source.given(), source.taken()), (94, 94));
+    Ok(())
+}
+
+/// How many bytes are given and taken, after the contact header was read from a reader of that many bytes a call.
+fn opened(stream: &[u8], per_call: usize) -> (u64, u64)
+    requires { 0 < per_call }
+{
+    let reader = TestReader::new(stream, per_call, Failing::Never);
+    let mut session = Session::new(Source::new(reader));
+    let _ = session.open();
+    let source = session.into_source();
+    (source.given(), source.taken())
+}
+
+/// What was read ahead is taken and not given.
+#[test]
+fn reads_ahead(rt: HostRuntime) -> Result<(), Fail> {
+    let stream = joined(rt.alloc(), TRANSFER)?;
+    assert_eq!(rt; opened(&stream, 7), (6, 7));
+    assert_eq!(rt; opened(&stream, usize::MAX), (6, 94));
+    Ok(())
+}
+
+/// A segment whose data is cut: what is there comes, then the fault at the segment, and again on a second call.
+#[test]
+fn cut_data(rt: HostRuntime) -> Result<(), Fail> {
+    let stream = joined(rt.alloc(), TRANSFER)?;
+    let prefix = stream.get(..63).ok_or("more than the stream")?;
+    let reader = TestReader::new(prefix, usize::MAX, Failing::Never);
+    let mut session = Session::new(Source::new(reader));
+    assert_eq!(rt; session.open(), Ok(Contact { flags: 0 }));
+    assert!(rt; session.next().is_ok());
+    assert_eq!(rt; session.left(), 0);
+    assert!(rt; session.next().is_ok());
+    let mut data = [0; 34];
+    assert_eq!(rt; session.data(&mut data), Ok(3));
+    assert_eq!(rt; &data[..3], &FRONT[..3]);
+    assert_eq!(rt; session.left(), 31);
+    for _ in 0..2 {
+        let cut = Err(Stop::Wire(38, WireFault::Truncated));
+        assert_eq!(rt; session.data(&mut data), cut);
+    }
     Ok(())
 }

@@ -1,53 +1,79 @@
-//! Devices made of readers and writers of std.
+//! Devices made of readers and writers of std: each of their errors is a failure, `Interrupted` too, and so is a
+//! write of no byte. A device that goes on after it is not asked again.
 
 ghost use Rattle.std.specs.Prelude.{◌≡◌, false};
 
+use crate::listing::stepped;
 use crate::rows::{TRANSFER, TRANSFER_LINES};
 use crate::stream::{CONTACT_LINE, joined, text};
-use link_tools::{list, run_exit};
-use link_wire::{OutDevice, Reader, Writer};
+use link_tools::{ListRun, Run, list, run_exit};
+use link_wire::{
+    Contact, Filled, InDevice, IoFault, OutDevice, Reader, Session, Source, Stop, Writer,
+    write_whole,
+};
 use std::alloc::Global;
 use std::io::{self, ErrorKind, Read, Write};
+use std::process::Abort;
 use std::test::Fail;
 
-/// Gives a byte a call, and answers at its end that it was interrupted, or that nothing is left.
+/// Gives a byte a call, but is interrupted at one call, counted from 1, and then goes on.
 #[derive(Drop)]
 struct Slow<'a> {
     left: &'a [u8],
-    is_interrupted: bool,
+    calls: usize,
+    interrupted_at: usize,
 }
 
 impl Read for Slow<'_> {
     fn read(&mut self, buffer: &mut [u8]) -> io::Result<usize> {
+        self.calls = self.calls.saturating_add(1);
+        if self.calls == self.interrupted_at {
+            return Err(io::Error::from(ErrorKind::Interrupted));
+        }
         match (self.left, buffer) {
             ([first, rest @ ..], [place, ..]) => {
                 *place = *first;
                 self.left = rest;
                 Ok(1)
             }
-            ([], _) if self.is_interrupted => Err(io::Error::from(ErrorKind::Interrupted)),
             _ => Ok(0),
         }
     }
 }
 
-/// Takes a byte a call as long as it has room, and then none.
+/// What a writer does at one call in place of writing a byte.
+#[derive(Clone, Copy, Debug, PartialEq, Eq)]
+enum Hitch {
+    Interrupted,
+    TakesNone,
+}
+
+/// Takes a byte a call, but has a hitch at one call, counted from 1, and then goes on.
 #[derive(Drop)]
 struct Narrow {
     written: Vec<u8>,
-    room: usize,
+    calls: usize,
+    hitch: Hitch,
+    hitch_at: usize,
 }
 
 impl Write for Narrow {
     fn write(&mut self, bytes: &[u8]) -> io::Result<usize> {
+        self.calls = self.calls.saturating_add(1);
+        if self.calls == self.hitch_at {
+            return match self.hitch {
+                Hitch::Interrupted => Err(io::Error::from(ErrorKind::Interrupted)),
+                Hitch::TakesNone => Ok(0),
+            };
+        }
         match bytes.first() {
-            Some(byte) if self.written.len() < self.room => {
+            Some(byte) => {
                 if self.written.push(*byte).is_err() {
                     return Err(io::Error::from(ErrorKind::OutOfMemory));
                 }
                 Ok(1)
             }
-            _ => Ok(0),
+            None => Ok(0),
         }
     }
 
@@ -56,40 +82,16 @@ impl Write for Narrow {
     }
 }
 
-/// A listing of a front of one transfer's stream, over devices of a byte a call.
-struct Case {
-    size: usize,
-    is_interrupted: bool,
-    room: usize,
-    output: &'static [u8],
-    exit: (u8, &'static str),
+/// A device of this reader.
+fn reader<'a>(left: &'a [u8], interrupted_at: usize) -> Reader<Slow<'a>>
+    ensures { (⟦<Reader<Slow<'a>> as InDevice>⟧.state result).failed ≡ false }
+{
+    Reader::new(Slow {
+        left,
+        calls: 0,
+        interrupted_at,
+    })
 }
-
-const CASES: [Case; 3] = [
-    // the reader is interrupted behind the contact header
-    Case {
-        size: 6,
-        is_interrupted: true,
-        room: usize::MAX,
-        output: CONTACT_LINE,
-        exit: (4, "tcpclkit: read failed"),
-    },
-    // the writer takes no byte of a line that is not empty
-    Case {
-        size: 94,
-        is_interrupted: false,
-        room: 9,
-        output: b"0 contact",
-        exit: (4, "tcpclkit: write failed"),
-    },
-    Case {
-        size: 6,
-        is_interrupted: false,
-        room: usize::MAX,
-        output: CONTACT_LINE,
-        exit: (0, ""),
-    },
-];
 
 /// A device of this writer.
 fn device<W: Write>(writer: W) -> Writer<W>
@@ -98,11 +100,15 @@ fn device<W: Write>(writer: W) -> Writer<W>
     Writer::new(writer)
 }
 
-fn with_room(alloc: Global, room: usize) -> Writer<Narrow>
+fn writer(alloc: Global, hitch: Hitch, hitch_at: usize) -> Writer<Narrow>
     ensures { (⟦<Writer<Narrow> as OutDevice>⟧.state result).failed ≡ false }
 {
-    let written = Vec::new(alloc);
-    device(Narrow { written, room })
+    device(Narrow {
+        written: Vec::new(alloc),
+        calls: 0,
+        hitch,
+        hitch_at,
+    })
 }
 
 fn with_memory(alloc: Global) -> Writer<Vec<u8>>
@@ -111,51 +117,169 @@ fn with_memory(alloc: Global) -> Writer<Vec<u8>>
     device(Vec::new(alloc))
 }
 
-#[test]
-fn slow_and_failing(rt: HostRuntime) -> Result<(), Fail> {
-    let stream = joined(rt.alloc(), TRANSFER)?;
-    for case in &CASES {
-        let left = stream.get(..case.size).ok_or("more than the stream")?;
-        let is_interrupted = case.is_interrupted;
-        let reader = Reader::new(Slow {
-            left,
-            is_interrupted,
-        });
-        let end = list(
-            reader,
-            with_room(rt.alloc(), case.room),
-            with_room(rt.alloc(), usize::MAX),
-        );
-        assert_eq!(rt; run_exit(&end.answer), case.exit);
-        let output = end.output.into_inner();
-        assert_eq!(rt; text(&output.written)?, text(case.output)?);
-        assert!(rt; end.report.into_inner().written.is_empty());
+/// Where the device of a call number that is never reached has its hitch.
+const NEVER: usize = usize::MAX;
+
+/// Steps to the end and three times more: each of these returns the same.
+fn ends<R: InDevice, W: OutDevice, E: OutDevice>(
+    rt: &impl Abort,
+    run: &mut ListRun<R, W, E>,
+    exit: (u8, &'static str),
+) -> Result<(), Fail> {
+    for steps in [100, 1, 1, 1] {
+        let answer = stepped(run, steps).ok_or("no end")?;
+        assert_eq!(rt; run_exit(&answer), exit);
     }
     Ok(())
 }
 
-/// Slices and vectors, which tell their bytes, and devices of a byte a call give the same texts.
+/// Where the lines end that the first bytes of the transfer's stream determine.
+fn lines_after(size: usize) -> usize {
+    match size {
+        0..6 => 0,
+        6..38 => 1,
+        38..94 => 2,
+        _ => 3,
+    }
+}
+
+/// The reader is interrupted at each of its calls in turn, that after the last byte too.
+#[test]
+fn interrupted_reader(rt: HostRuntime) -> Result<(), Fail> {
+    let stream = joined(rt.alloc(), TRANSFER)?;
+    for given in 0..=94 {
+        let mut run = ListRun::new(
+            reader(&stream, given + 1),
+            with_memory(rt.alloc()),
+            with_memory(rt.alloc()),
+        );
+        ends(&rt, &mut run, (4, "tcpclkit: read failed"))?;
+        let (reader, output, report) = run.into_parts();
+        assert_eq!(rt; reader.into_inner().calls, given + 1);
+        let lines = TRANSFER_LINES
+            .get(..lines_after(given))
+            .ok_or("more than the lines")?;
+        let want = joined(rt.alloc(), lines)?;
+        let output = output.into_inner();
+        assert_eq!(rt; text(&output)?, text(&want)?);
+        assert!(rt; report.into_inner().is_empty());
+    }
+    Ok(())
+}
+
+/// The output has a hitch at each of its calls in turn.
+#[test]
+fn hitching_output(rt: HostRuntime) -> Result<(), Fail> {
+    let stream = joined(rt.alloc(), TRANSFER)?;
+    let lines = joined(rt.alloc(), TRANSFER_LINES)?;
+    for hitch in [Hitch::Interrupted, Hitch::TakesNone] {
+        for count in 0..lines.len() {
+            let mut run = ListRun::new(
+                reader(&stream, NEVER),
+                writer(rt.alloc(), hitch, count + 1),
+                with_memory(rt.alloc()),
+            );
+            ends(&rt, &mut run, (4, "tcpclkit: write failed"))?;
+            let (_, output, report) = run.into_parts();
+            let output = output.into_inner();
+            assert_eq!(rt; output.calls, count + 1);
+            assert_eq!(rt; text(&output.written)?, text(&lines[..count])?);
+            assert!(rt; report.into_inner().is_empty());
+        }
+    }
+    Ok(())
+}
+
+/// The report has a hitch at each of its calls in turn.
+#[test]
+fn hitching_report(rt: HostRuntime) -> Result<(), Fail> {
+    let line = b"tcpclkit: byte 6: truncated\n";
+    let stream = joined(rt.alloc(), TRANSFER)?;
+    let prefix = stream.get(..7).ok_or("more than the stream")?;
+    for hitch in [Hitch::Interrupted, Hitch::TakesNone] {
+        for count in 0..line.len() {
+            let mut run = ListRun::new(
+                reader(prefix, NEVER),
+                with_memory(rt.alloc()),
+                writer(rt.alloc(), hitch, count + 1),
+            );
+            ends(&rt, &mut run, (4, "tcpclkit: write failed"))?;
+            let (_, output, report) = run.into_parts();
+            let report = report.into_inner();
+            assert_eq!(rt; report.calls, count + 1);
+            assert_eq!(rt; text(&report.written)?, text(&line[..count])?);
+            let output = output.into_inner();
+            assert_eq!(rt; text(&output)?, text(CONTACT_LINE)?);
+        }
+    }
+    Ok(())
+}
+
+/// Inside a `fill`: what came before stands at the slice's start, and a second call does not read.
+#[test]
+fn interrupted_fill(rt: HostRuntime) -> Result<(), Fail> {
+    let mut source = Source::new(reader(b"tcpclkit", 4));
+    let mut buffer = [0; 6];
+    assert_eq!(rt; source.fill(&mut buffer[..1]), Ok(Filled::Whole));
+    assert_eq!(rt; source.fill(&mut buffer), Err(IoFault::Read));
+    assert_eq!(rt; &buffer[..2], b"cp".as_slice());
+    for _ in 0..2 {
+        assert_eq!(rt; source.fill(&mut buffer), Err(IoFault::Read));
+        assert_eq!(rt; source.some(&mut buffer), Err(IoFault::Read));
+    }
+    assert_eq!(rt; (source.given(), source.taken()), (3, 3));
+    assert_eq!(rt; source.into_reader().into_inner().calls, 4);
+    Ok(())
+}
+
+/// Inside a `write_whole`: a prefix was written, and nothing after it.
+#[test]
+fn hitching_write(rt: HostRuntime) -> Result<(), Fail> {
+    for hitch in [Hitch::Interrupted, Hitch::TakesNone] {
+        let mut out = writer(rt.alloc(), hitch, 4);
+        assert_eq!(rt; write_whole(&mut out, b"tcpclkit"), Err(IoFault::Write));
+        assert!(rt; out.failed());
+        let out = out.into_inner();
+        assert_eq!(rt; (text(&out.written)?, out.calls), ("tcp", 4));
+    }
+    Ok(())
+}
+
+/// A session that is interrupted stops, and does not read on.
+#[test]
+fn interrupted_session(rt: HostRuntime) -> Result<(), Fail> {
+    let stream = joined(rt.alloc(), TRANSFER)?;
+    let mut session = Session::new(Source::new(reader(&stream, 8)));
+    assert_eq!(rt; session.open(), Ok(Contact { flags: 0 }));
+    assert_eq!(rt; session.next(), Err(Stop::Io(IoFault::Read)));
+    for _ in 0..2 {
+        assert_eq!(rt; session.data(&mut [0; 4]), Err(Stop::Io(IoFault::Read)));
+    }
+    assert_eq!(rt; session.into_source().into_reader().into_inner().calls, 8);
+    Ok(())
+}
+
+/// Slices and vectors, and devices of a byte a call, give the same texts.
 #[test]
 fn whole_transfer(rt: HostRuntime) -> Result<(), Fail> {
     let stream = joined(rt.alloc(), TRANSFER)?;
     let want = joined(rt.alloc(), TRANSFER_LINES)?;
-    let reader = Reader::new(stream.as_slice());
-    let end = list(reader, with_memory(rt.alloc()), with_memory(rt.alloc()));
+    let end = list(
+        Reader::new(stream.as_slice()),
+        with_memory(rt.alloc()),
+        with_memory(rt.alloc()),
+    );
     assert_eq!(rt; run_exit(&end.answer), (0, ""));
     let output = end.output.into_inner();
     assert_eq!(rt; text(&output)?, text(&want)?);
-    let left = stream.as_slice();
-    let reader = Reader::new(Slow {
-        left,
-        is_interrupted: false,
-    });
     let end = list(
-        reader,
-        with_room(rt.alloc(), usize::MAX),
-        with_room(rt.alloc(), usize::MAX),
+        reader(&stream, NEVER),
+        writer(rt.alloc(), Hitch::Interrupted, NEVER),
+        writer(rt.alloc(), Hitch::TakesNone, NEVER),
     );
     assert_eq!(rt; run_exit(&end.answer), (0, ""));
     let output = end.output.into_inner();
     assert_eq!(rt; text(&output.written)?, text(&want)?);
+    assert_eq!(rt; end.report.into_inner().calls, 0);
     Ok(())
 }

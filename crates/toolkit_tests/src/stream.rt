@@ -44,7 +44,7 @@ pub const SESSION_WORDS: &[u8] = b"6 sess-init keepalive=60 segment-mru=65536 tr
 pub const SESSION_LINE: &[u8] =
     b"6 sess-init keepalive=60 segment-mru=65536 transfer-mru=1048576 node=ipn:1.0 items=0\n";
 
-/// The pieces, one behind another.
+/// The pieces, one after another.
 pub fn joined(alloc: Global, pieces: &[&[u8]]) -> Result<Vec<u8>, Fail> {
     let mut bytes = Vec::new(alloc);
     for piece in pieces {

@@ -1,0 +1,151 @@
+//! A source reads 8,192 bytes at a time. Wherever a read ends, a stream is listed alike.
+
+use crate::listing::{Listing, gives, gives_at_each_pace};
+use crate::stream::{
+    BACK, CONTACT, CONTACT_LINE, FIRST_SEGMENT, FRONT, LAST_SEGMENT, LENGTH_17, NODE, PARAMETERS,
+    WHOLE_TRANSFER, joined,
+};
+use std::alloc::Global;
+use std::process::Abort;
+use std::test::Fail;
+
+/// A message, and its line after the offset.
+struct Part {
+    bytes: &'static [&'static [u8]],
+    words: &'static [u8],
+}
+
+/// Every kind of message, with extension items and data: 168 bytes.
+const PARTS: [Part; 9] = [
+    Part {
+        bytes: &[
+            PARAMETERS,
+            NODE,
+            b"\x00\x00\x00\x0b\x01\x12\x34\x00\x01\xaa\x00\xab\xcd\x00\x00",
+        ],
+        words: b" sess-init keepalive=60 segment-mru=65536 transfer-mru=1048576 node=ipn:1.0 items=2 item=01:1234:1 item=00:abcd:0\n",
+    },
+    Part {
+        bytes: &[
+            FIRST_SEGMENT,
+            b"\x00\x00\x00\x0d\x00\x00\x01\x00\x08\x00\x00\x00\x00\x00\x00\x00\x22",
+            LENGTH_17,
+            FRONT,
+        ],
+        words: b" xfer-segment flags=02 id=0 items=1 item=00:0001:8 length=17\n",
+    },
+    Part {
+        bytes: &[LAST_SEGMENT, LENGTH_17, BACK],
+        words: b" xfer-segment flags=01 id=0 length=17\n",
+    },
+    Part {
+        bytes: &[b"\x02\x01\x00\x00\x00\x00\x00\x00\x00\x00\x00\x00\x00\x00\x00\x00\x00\x22"],
+        words: b" xfer-ack flags=01 id=0 length=34\n",
+    },
+    Part {
+        bytes: &[b"\x03\x02\x00\x00\x00\x00\x00\x00\x00\x00"],
+        words: b" xfer-refuse reason=02/no-resources id=0\n",
+    },
+    Part {
+        bytes: &[b"\x04"],
+        words: b" keepalive\n",
+    },
+    Part {
+        bytes: &[b"\x05\x01\x03"],
+        words: b" sess-term flags=01 reason=03/busy\n",
+    },
+    Part {
+        bytes: &[b"\x06\x01\x16"],
+        words: b" msg-reject reason=01/message-type-unknown header=16\n",
+    },
+    Part {
+        bytes: &[b"\x05\x00\x7f"],
+        words: b" sess-term flags=00 reason=7f/?\n",
+    },
+];
+
+/// How many bytes the parts have.
+const PARTS_SIZE: usize = 168;
+
+/// The end of the first read.
+const EDGE: usize = 8192;
+
+/// A stream and its lines.
+#[derive(Drop)]
+struct Listed {
+    stream: Vec<u8>,
+    lines: Vec<u8>,
+}
+
+impl Listed {
+    /// Both with every part after them.
+    fn with_parts(&self, alloc: Global) -> Result<Listed, Fail> {
+        let mut stream = joined(alloc, &[&self.stream])?;
+        let mut lines = joined(alloc, &[&self.lines])?;
+        for part in &PARTS {
+            let offset = format!(in alloc; "{}", stream.len())?;
+            lines.extend_from_slice(offset.as_bytes())?;
+            lines.extend_from_slice(part.words)?;
+            for piece in part.bytes {
+                stream.extend_from_slice(piece)?;
+            }
+        }
+        Ok(Listed { stream, lines })
+    }
+
+    fn listing(&self) -> Listing<'_> {
+        Listing {
+            output: &self.lines,
+            report: b"",
+            status: 0,
+        }
+    }
+}
+
+/// A contact header and a segment with that much data.
+fn segment_of(alloc: Global, size: u64) -> Result<Listed, Fail> {
+    let mut stream = joined(alloc, &[CONTACT, WHOLE_TRANSFER, &size.to_be_bytes()])?;
+    for _ in 0..size {
+        stream.push(0xa5)?;
+    }
+    let line = format!(in alloc; "6 xfer-segment flags=03 id=0 items=0 length={size}\n")?;
+    let lines = joined(alloc, &[CONTACT_LINE, line.as_bytes()])?;
+    Ok(Listed { stream, lines })
+}
+
+/// A long segment stands before the parts: the first read ends at each place of them in turn.
+#[test]
+fn after_data(rt: HostRuntime) -> Result<(), Fail> {
+    for size in 7996..=8164 {
+        let whole = segment_of(rt.alloc(), size)?.with_parts(rt.alloc())?;
+        let want = whole.listing();
+        gives_at_each_pace(&rt, "parts after data", &whole.stream, &want)?;
+    }
+    Ok(())
+}
+
+/// Keepalives stand before the parts: the first read ends at each place of them in turn.
+#[test]
+fn after_keepalives(rt: HostRuntime) -> Result<(), Fail> {
+    let stream = joined(rt.alloc(), &[CONTACT])?;
+    let lines = joined(rt.alloc(), &[CONTACT_LINE])?;
+    let mut before = Listed { stream, lines };
+    for offset in 6..=EDGE {
+        if offset >= EDGE - PARTS_SIZE {
+            let whole = before.with_parts(rt.alloc())?;
+            assert_eq!(rt; whole.stream.len(), offset + PARTS_SIZE);
+            let want = whole.listing();
+            gives(
+                &rt,
+                "parts after keepalives",
+                &whole.stream,
+                usize::MAX,
+                &want,
+            )?;
+        }
+        let line = format!(in rt.alloc(); "{offset} keepalive\n")?;
+        before.stream.push(4)?;
+        before.lines.extend_from_slice(line.as_bytes())?;
+    }
+    Ok(())
+}
