@@ -31,7 +31,7 @@ use Rattle.link_bundle.proofs.Heads.{no_content, ends_of-stopped}
 use Rattle.link_bundle.proofs.Runs.{with_run, bytes_at-run, run_within}
 use Rattle.link_bundle.proofs.Steps.{Enters, entered, regrown, all_grown, one_byte, next_run}
 
--- the bundle, by what stands behind its present block's data
+-- the bundle, by what comes after its present block's data
 abbrev by_field : Draft → List ℕ → Reading Bool → Result Bundle Stop
 by_field draft bytes field = ends_of bytes (with_note draft.payload (after_field draft bytes field))
 
@@ -258,7 +258,7 @@ other_stored field left stored expected kind old new draft seen byte come small 
       stands = tt;
     }
 
--- bytes behind the bundle
+-- bytes after the bundle
 ends-trailing : (payload : Option (ℕ × ℕ)) (info : BundleInfo) (place : ℕ) (bytes : List ℕ) → is_some payload ≡ true → place < length bytes
     → ends bytes (record { info = info; length = place; payload = span_of payload }) ≡ with_note payload (Err (stopped Trailing place))
 ends-trailing None info place bytes told short = cc

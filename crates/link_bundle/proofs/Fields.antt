@@ -27,7 +27,7 @@ same_check (Is (Some Crc16)) Crc32 told = cc
 same_check (Is (Some Crc32)) Crc16 told = cc
 same_check (Is (Some Crc32)) Crc32 told = refl
 
--- behind the field's head the content is read, and compared with the check
+-- after the field's head the content is read, and compared with the check
 pub field_at-told : (kind : CheckKind) (bytes : List ℕ) (start place next width : ℕ) (head : Head) (count : ℕ)
     → head_at bytes place ≡ Ok (head, next) → check_field kind head ≡ Ok count → width ≡ check_width kind
     → field_at (Some kind) start bytes place ≡ stored_left width 0 (zeroed_check kind start next (next + width - next) bytes) place bytes next
@@ -36,7 +36,7 @@ field_at-told kind bytes start place next width head count told judged is_width 
     let all : next + width - next ≡ check_width kind = omega (arith, is_width) in
     rw (row_at-told (check_field kind) bytes place next head count told judged, all, is_width) refl
 
--- what a content is compared with, behind a byte
+-- what a content is compared with, after a byte
 compared : ℕ → ℕ → ℕ → Reading (List ℕ) → Reading Bool
 compared stored expected field reading =
     reading >>= λ (rest, next). if number_from stored rest == expected then Ok (true, next) else Err (stopped CheckDiffers field)

@@ -1,4 +1,4 @@
--- a head that is told, judged by its row; what stands behind a block
+-- a head that is told, judged by its row; what comes after a block
 
 use Rattle.std.proofs.Common.{◌≡◌, ℕ, ◌-◌, ◌≤◌, Bool, true, false, List, length, Option, None, Some, Result, Ok, Err, refl, is_some}
 use Rattle.std.specs.Prelude.{is_none, if◌then◌else◌}

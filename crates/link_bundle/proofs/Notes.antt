@@ -120,7 +120,7 @@ unfolding opening_at Plain
 plain-opening [] = refl
 plain-opening (first ∷ rest) = plain-if (first == 0x9f) (Ok (true, 1)) (Err _) tt refl
 
--- what is noted of some bytes is noted of those bytes with more behind them
+-- what is noted of some bytes is noted of those bytes with more after them
 NoteStays : Result Bundle Stop → Result Bundle Stop → Type 0
 NoteStays now later = (payload : ℕ × ℕ) → noted now ≡ Some payload → noted later ≡ Some payload
 
@@ -183,7 +183,7 @@ bundle_at-note bytes more =
     (plain-field primary.1 start bytes place) (field_at-stays primary.1 start bytes more place)
     (λ (_, place). blocks_at-note 64 [] primary.0 bytes more place)))
 
--- bytes behind a bundle leave its note
+-- bytes after a bundle leave its note
 noted-chosen : (test : Bool) (bundle : Bundle) (stop : Stop) → stop.payload ≡ Some bundle.payload
     → noted (if test then Ok bundle else Err stop) ≡ Some bundle.payload
 noted-chosen true bundle stop is = refl

@@ -26,7 +26,7 @@ abbrev pub EndsCut : {A : Type 0} → Result A Stop → Type 0
 EndsCut (Ok value) = ⊥
 EndsCut (Err stop) = stop.fault ≡ Cut
 
--- what is read of some bytes, and of those bytes with more behind them
+-- what is read of some bytes, and of those bytes with more after them
 pub data Stays {A : Type 0} : Result A Stop → Result A Stop → Type 0 where
   cuts : {now later : Result A Stop} → EndsCut now → Stays now later
   same : {now later : Result A Stop} → later ≡ now → Stays now later
