@@ -275,7 +275,7 @@ fn long_list_by_sevens(rt: HostRuntime) -> Result<(), Fail> {
 
 #[test]
 fn long_list_byte_by_byte(rt: HostRuntime) -> Result<(), Fail> {
-    each_fails(&rt, &long_list(rt.alloc())?, 1, 251)
+    each_fails(&rt, &long_list(rt.alloc())?, 1, 31)
 }
 
 /// The first line is written before any byte after it is taken.
