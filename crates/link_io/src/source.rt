@@ -231,7 +231,7 @@ impl<R: InDevice> Source<R> {
     }
 
     /// Fills the slice with the next bytes, or as much of it as the input still has. It may read several times. After a
-    /// fault it returns that fault again, and after the end it gives nothing; neither reads.
+    /// fault it returns that fault again, and after the end it gives nothing, and does not read.
     #[inline(always)]
     pub fn fill(&mut self, buffer: &mut [u8]) -> Result<Filled, IoFault>
         ensures gives { IsLive R.state self.old → GivesFill R.state self.old self.new buffer.new result }

@@ -1,5 +1,7 @@
 mod FieldReads
 mod Gettings
+mod Plains
+mod Appends
 mod Skips
 mod Items
 mod Shrinks
@@ -13,3 +15,4 @@ pub mod Wholes
 mod Sound
 mod Complete
 mod OneReading
+pub mod Spellings

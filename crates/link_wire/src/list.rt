@@ -12,7 +12,7 @@ use crate::message::{Item, Items, ListOf, MAX_LIST_LENGTH};
 use crate::parts::{bytes, number8, number16, number32, number64};
 use link_io::{InDevice, Source};
 
-/// Values that nobody asks for are passed over in pieces of this many bytes.
+/// Values that are not kept are passed over in pieces of this many bytes.
 const PIECE: usize = 256;
 
 /// What stands before an extension item's value.

@@ -3,10 +3,11 @@
 use crate::fault::{Stop, WireFault};
 use crate::halt::Halt;
 use crate::head::{contact, fields, kind};
-use crate::message::{Contact, Message, MessageBuffer};
+use crate::message::{Contact, Fields, Message, MessageBuffer};
+use crate::plain::plain;
 use link_io::{InDevice, Source};
 
-/// What a session may be asked for.
+/// What may be read next.
 #[derive(Clone, Copy, Debug, PartialEq, Eq)]
 enum Phase {
     /// The contact header.
@@ -31,9 +32,10 @@ pub struct Session<R> {
 impl<R: InDevice> Session<R> {
     ghost use Rattle.std.specs.Prelude.{◌≡◌, true, false, [], ℕ, List, IfErr, Some, None, Ok, Err, IsTrue};
     ghost use Rattle.link_wire.specs.Halt.{stop_at};
-    ghost use Rattle.link_io.specs.Source.{is_fresh};
+    ghost use Rattle.link_io.specs.Source.{is_fresh, window_of};
+    ghost use Rattle.link_wire.specs.Plain.{IsHead};
     ghost use Rattle.link_wire.specs.MessageBuffer.{message_of};
-    ghost use Rattle.link_wire.specs.Session.{may_open, may_read, IsSessionAt, HasEndedBetween, HasStopped, left_of, with_message_read, GivesContact, GivesNext};
+    ghost use Rattle.link_wire.specs.Session.{may_open, may_read, IsSessionAt, HasEndedBetween, HasStopped, left_of, with_message_read, GivesContact, GaveMessage, GivesNext};
     ghost use Rattle.link_wire.specs.declared.session.Phase.TheVariants as phase;
 
     /// A session over a source that has taken nothing.
@@ -105,8 +107,8 @@ impl<R: InDevice> Session<R> {
         }
     }
 
-    /// As `next`, into a place of the caller's, so that no message is moved: returns the offset of
-    /// its type byte. Where none is returned, what stands in `message` means nothing.
+    /// As `next`, into a buffer of the caller's, so that no message is moved: returns the offset of
+    /// the type byte. Where none is returned, `message` holds nothing of use.
     #[inline(always)]
     pub fn read_next(&mut self, message: &mut MessageBuffer) -> Result<Option<u64>, Stop>
         requires { IsTrue (may_read self.old) }
@@ -118,6 +120,38 @@ impl<R: InDevice> Session<R> {
         if let Phase::Stopped(stop) = self.phase {
             return Err(stop);
         }
+        match plain(self.source.window()) {
+            Some((fields, size)) => Ok(Some(self.give_head(fields, size, message))),
+            None => self.read_fields(message),
+        }
+    }
+
+    /// Gives the head that lies in the window and has these numbers, and returns its offset.
+    #[inline(always)]
+    fn give_head(&mut self, fields: Fields, size: usize, message: &mut MessageBuffer) -> u64
+        requires may_read { IsTrue (may_read self.old) }
+        requires head { IsHead (window_of self.old.source) fields size }
+        ensures { (history : List ℕ) → IsSessionAt R.state self.old history
+            → GaveMessage R.state self.old self.new history result (message_of message.new) }
+    {
+        let offset = self.source.given();
+        self.source.give(size);
+        message.set(fields);
+        self.offset = offset;
+        self.left = message.data_length();
+        offset
+    }
+
+    /// `read_next` field by field.
+    #[cold]
+    #[inline(never)]
+    fn read_fields(&mut self, message: &mut MessageBuffer) -> Result<Option<u64>, Stop>
+        requires may_read { IsTrue (may_read self.old) }
+        requires going { (stop : _) → HasStopped self.old stop → ⊥ }
+        ensures settles { IfErr result (HasStopped self.new) }
+        ensures again { HasEndedBetween self.old → (self.new ≡ self.old) × (result ≡ Ok None) }
+        ensures gives { (history : List ℕ) → IsSessionAt R.state self.old history → GivesNext R.state self.old self.new history (with_message_read (message_of message.new) result) }
+    {
         let offset = self.source.given();
         let kind = match kind(&mut self.source) {
             Ok(Some(kind)) => kind,
