@@ -7,7 +7,6 @@ mod Items
 mod Shrinks
 mod Within
 pub mod Contacts
-mod MessageKinds
 mod Streams
 mod Rests
 mod Sessions

@@ -22,7 +22,8 @@ pure_is : {A : Type 0} (value : A) → IsPart (λ bytes. Ok (value, bytes)) [] v
 pure_is value = record { is_part = λ more. refl; needs = λ count fewer. absurd (omega arith) }
 
 -- a field is a number
-field_is : (k : ℕ) (field : List ℕ) → length field ≡ k → IsPart (number_at k) field (big_number k field)
+field_is : (k : ℕ) (field : List ℕ) → length field ≡ k
+    → IsPart (number_at k) field (big_number k field)
 unfolding number_at
 field_is k field size =
     let next : List ℕ × List ℕ → Part ℕ = λ v. Ok (big_number k v.0, v.1) in
@@ -32,7 +33,8 @@ field_is k field size =
     }
 
 -- a byte of a window, as a number
-byte_of : (window : List ℕ) (at : ℕ) → at < length window → big_number 1 (take 1 (drop at window)) ≡ slice_index window at
+byte_of : (window : List ℕ) (at : ℕ) → at < length window
+    → big_number 1 (take 1 (drop at window)) ≡ slice_index window at
 byte_of [] at within = absurd (omega arith)
 byte_of (b ∷ window) zero within = let one : b * 1 + 0 ≡ b = omega arith in one
 byte_of (b ∷ window) (suc at) within = byte_of window at (omega arith)
@@ -61,7 +63,9 @@ module _ {B : Type 0} (window : List ℕ) (at k m : ℕ) where
 
 -- the type byte, and what follows it
 module _ (window : List ℕ) (kind m : ℕ) (message : Message) where
-  typed : 0 < length window → slice_index window 0 ≡ kind → IsPart (fields_at kind) (take m (drop 1 window)) message → IsPart message_at (take (1 + m) window) message
+  typed : 0 < length window → slice_index window 0 ≡ kind
+      → IsPart (fields_at kind) (take m (drop 1 window)) message
+      → IsPart message_at (take (1 + m) window) message
   unfolding message_at
   typed some is rest =
       let P : ℕ → Type 0 = λ n. IsPart (fields_at n) (take m (drop 1 window)) message in
@@ -75,7 +79,8 @@ module _ (window : List ℕ) (some : 0 < length window) where
   keepalive_head is = typed window 4 0 Keepalive some is (pure_is Keepalive)
 
 module _ (window : List ℕ) (enough : 3 ≤ length window) where
-  pub sess_term_head : slice_index window 0 ≡ 5 → IsPart message_at (take 3 window) (SessTerm (slice_index window 1) (slice_index window 2))
+  pub sess_term_head : slice_index window 0 ≡ 5
+      → IsPart message_at (take 3 window) (SessTerm (slice_index window 1) (slice_index window 2))
   unfolding fields_at sess_term_at
   sess_term_head is =
       let first = byte_of window 1 (omega arith) in
@@ -87,7 +92,8 @@ module _ (window : List ℕ) (enough : 3 ≤ length window) where
       (field_then window 1 1 1 _ _ (omega arith) (field_then window 2 1 0 _ _ (omega arith) (pure_is message))) in
       subst Q second (subst P first whole)
 
-  pub msg_reject_head : slice_index window 0 ≡ 6 → IsPart message_at (take 3 window) (MsgReject (slice_index window 1) (slice_index window 2))
+  pub msg_reject_head : slice_index window 0 ≡ 6
+      → IsPart message_at (take 3 window) (MsgReject (slice_index window 1) (slice_index window 2))
   unfolding fields_at msg_reject_at
   msg_reject_head is =
       let first = byte_of window 1 (omega arith) in
@@ -145,7 +151,8 @@ no_items : (bytes : List ℕ) → items_of Transfer 0 bytes ≡ Ok (none, bytes)
 unfolding items_of items_at
 no_items bytes = refl
 
-empty_list : (field : List ℕ) → length field ≡ 4 → big_number 4 field ≡ 0 → IsPart (list_at Transfer) field none
+empty_list : (field : List ℕ) → length field ≡ 4 → big_number 4 field ≡ 0
+    → IsPart (list_at Transfer) field none
 unfolding list_at
 empty_list field size is =
     let P : ℕ → Type 0 = λ n. IsPart (λ bytes. if nat_lt 65536 n then Err (ListTooLong n) else items_of Transfer n bytes) [] none in
@@ -153,7 +160,8 @@ empty_list field size is =
     let rest : P 0 = record { is_part = no_items; needs = λ count fewer. absurd (omega arith) } in
     subst Q (append-nil field) (IsPart-then (number_at 4) _ (big_number 4 field) field [] (field_is 4 field size) none (subst P (sym is) rest))
 
-with_empty_list : (flags : ℕ) (field : List ℕ) → is_start flags ≡ true → length field ≡ 4 → big_number 4 field ≡ 0 → IsPart (segment_items_at flags) field none
+with_empty_list : (flags : ℕ) (field : List ℕ) → is_start flags ≡ true → length field ≡ 4
+    → big_number 4 field ≡ 0 → IsPart (segment_items_at flags) field none
 unfolding segment_items_at
 with_empty_list flags field start size is =
     let P : Bool → Type 0 = λ start. IsPart (λ bytes. if start then list_at Transfer bytes else Ok (none, bytes)) field none in
@@ -180,7 +188,8 @@ module _ (window : List ℕ) (k at : ℕ) (enough : at + 8 ≤ length window) (p
       (field_then window (10 + k) 8 0 _ _ (omega arith) (pure_is (L (10 + k))))))) in
       subst P first (subst Q parts whole)
 
-pub later_head : (window : List ℕ) → 18 ≤ length window → slice_index window 0 ≡ 1 → is_start (slice_index window 1) ≡ false
+pub later_head : (window : List ℕ) → 18 ≤ length window → slice_index window 0 ≡ 1
+    → is_start (slice_index window 1) ≡ false
     → IsPart message_at (take 18 window)
     (Segment (record { flags = slice_index window 1; id = big_number 8 (slice_range window 2 10); items = segment_items (slice_index window 1) none; length = big_number 8 (slice_range window 10 18) }))
 later_head window enough is start =
@@ -189,7 +198,8 @@ later_head window enough is start =
     let P : ArrayVec Item → Type 0 = λ items. IsPart message_at (take 18 window) (M items) in
     subst P (sym same) (segment_head window 0 10 (omega arith) refl is (without_items _ start))
 
-pub first_head : (window : List ℕ) → 22 ≤ length window → slice_index window 0 ≡ 1 → is_start (slice_index window 1) ≡ true → big_number 4 (slice_range window 10 14) ≡ 0
+pub first_head : (window : List ℕ) → 22 ≤ length window → slice_index window 0 ≡ 1
+    → is_start (slice_index window 1) ≡ true → big_number 4 (slice_range window 10 14) ≡ 0
     → IsPart message_at (take 22 window)
     (Segment (record { flags = slice_index window 1; id = big_number 8 (slice_range window 2 10); items = segment_items (slice_index window 1) none; length = big_number 8 (slice_range window 14 22) }))
 first_head window enough is start empty =

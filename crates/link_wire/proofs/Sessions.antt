@@ -218,13 +218,6 @@ module _ {R : Type 0} {look : R → Input} where
           let named : result ≡ stop_at (length history) why = is ∙ ap (λ n. stop_at n why) here in
           rw named (next_refused new why (subst P (sym same) met) (stopped ∙ ap phase.Stopped named))
 
-    -- a failure before the type byte
-    pub kind_stopped : (new : Session R) (fault : IoFault) → StopsAfter look old.source new.source [] fault → HasStopped new (stop.Io fault) → GaveStop look old new history fault
-    unfolding message_at number_at bytes_at
-    kind_stopped new fault stops stopped =
-        let here = cut_here [] refl in
-        record { given = []; stops = stops; size = omega arith; same = here.0; undecided = here.1; stopped = stopped }
-
   -- data of the open segment came
   module _ (old new : Session R) (history bytes : List ℕ) (at : IsSessionAt look old history) (takes : Takes look old.source new.source bytes)
       (live : IsLive look new.source) (going : new.phase ≡ phase.Reading) (offset : new.offset ≡ old.offset) (left : old.left ≡ length bytes + new.left) where

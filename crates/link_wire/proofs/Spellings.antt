@@ -25,7 +25,8 @@ AreBytes-be zero n = All-nil IsByte
 AreBytes-be (suc k) n = All-cons IsByte (byte_at k n) (be k n) (is_byte_at k n) (AreBytes-be k n)
 
 -- a contact header
-pub contact_spelled : (flags : ℕ) → flags < 2 ^ 8 → ContactSpelled (record { flags = flags }) (contact_bytes flags)
+pub contact_spelled : (flags : ℕ) → flags < 2 ^ 8
+    → ContactSpelled (record { flags = flags }) (contact_bytes flags)
 unfolding contact_bytes
 contact_spelled flags fits = (fits, refl)
 
@@ -54,7 +55,8 @@ sess_init_spelled interval segment_mru transfer_mru node fits segment_fits trans
     (both (size ++ node) (be 4 0) (short, both size node (omega arith, refl) (are, refl)) (none_spelled Session)))))
 
 -- a Transfer Length item
-total_spelled : (total : ℕ) → total < 2 ^ 64 → ItemSpelled Transfer (record { flags = 0; kind = 1; length = 8; total = Some total }) (total_bytes total)
+total_spelled : (total : ℕ) → total < 2 ^ 64
+    → ItemSpelled Transfer (record { flags = 0; kind = 1; length = 8; total = Some total }) (total_bytes total)
 unfolding total_bytes
 total_spelled total fits =
     let read = big_number-reads_back 8 total [] fits in
@@ -74,13 +76,15 @@ unfolding total_bytes
 length-total total = refl
 
 -- the one item of a list that announces
-one_item : (total : ℕ) → total < 2 ^ 64 → ItemsSpelled Transfer (record { flags = 0; kind = 1; length = 8; total = Some total } ∷ []) (total_bytes total)
+one_item : (total : ℕ) → total < 2 ^ 64
+    → ItemsSpelled Transfer (record { flags = 0; kind = 1; length = 8; total = Some total } ∷ []) (total_bytes total)
 one_item total fits =
     let P : List ℕ → Type 0 = ItemsSpelled Transfer (record { flags = 0; kind = 1; length = 8; total = Some total } ∷ []) in
     subst P (append-nil (total_bytes total)) (both (total_bytes total) [] (total_spelled total fits) refl)
 
 -- a list that announces, or is empty
-announce_spelled : (announce : Option ℕ) → IfSome announce (λ total. total < 2 ^ 64) → ListSpelled Transfer (record { items = announced announce }) (announce_bytes announce)
+announce_spelled : (announce : Option ℕ) → IfSome announce (λ total. total < 2 ^ 64)
+    → ListSpelled Transfer (record { items = announced announce }) (announce_bytes announce)
 unfolding announce_bytes
 announce_spelled None fits = none_spelled Transfer
 announce_spelled (Some total) fits =
@@ -96,12 +100,14 @@ announce_spelled (Some total) fits =
     }
 
 -- where nothing is announced, what is announced fits
-pub none_fits : (announce : Option ℕ) → (IsSome announce → ⊥) → IfSome announce (λ total. total < 2 ^ 64)
+pub none_fits : (announce : Option ℕ) → (IsSome announce → ⊥)
+    → IfSome announce (λ total. total < 2 ^ 64)
 none_fits None none = tt
 none_fits (Some total) none = absurd (none refl)
 
 -- the list of a segment
-items_spelled : (start : Bool) (announce : Option ℕ) → IfSome announce (λ total. total < 2 ^ 64) → (IsSome announce → IsTrue start)
+items_spelled : (start : Bool) (announce : Option ℕ) → IfSome announce (λ total. total < 2 ^ 64)
+    → (IsSome announce → IsTrue start)
     → SegmentItemsSpelled start (record { items = announced announce }) (list_bytes start announce)
 items_spelled true announce fits may = announce_spelled announce fits
 items_spelled false None fits may = (refl, refl)
@@ -120,7 +126,8 @@ segment_spelled flags id size announce fits id_fits size_fits total_fits may =
     (both list (be 8 size) (items_spelled (is_start flags) announce total_fits may) (size_fits, refl))))
 
 -- a SESS_TERM
-pub sess_term_spelled : (flags reason : ℕ) → flags < 2 ^ 8 → reason < 2 ^ 8 → HeadSpelled (SessTerm flags reason) (sess_term_bytes flags reason)
+pub sess_term_spelled : (flags reason : ℕ) → flags < 2 ^ 8 → reason < 2 ^ 8
+    → HeadSpelled (SessTerm flags reason) (sess_term_bytes flags reason)
 unfolding sess_term_bytes
 sess_term_spelled flags reason fits reason_fits =
     both (be 1 5) (be 1 flags ++ be 1 reason) (omega arith, refl) (both (be 1 flags) (be 1 reason) (fits, refl) (reason_fits, refl))

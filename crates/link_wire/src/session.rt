@@ -97,8 +97,10 @@ impl<R: InDevice> Session<R> {
         requires { IsTrue (may_read self.old) }
         ensures settles { IfErr result (HasStopped self.new) }
         ensures again { HasEndedBetween self.old → (self.new ≡ self.old) × (result ≡ Ok None) }
-        ensures gives { (history : List ℕ) → IsSessionAt R.state self.old history → GivesNext R.state self.old self.new history result }
-        ensures stopped { (stop : _) → HasStopped self.old stop → (self.new ≡ self.old) × (result ≡ Err stop) }
+        ensures gives { (history : List ℕ) → IsSessionAt R.state self.old history
+            → GivesNext R.state self.old self.new history result }
+        ensures stopped { (stop : _) → HasStopped self.old stop
+            → (self.new ≡ self.old) × (result ≡ Err stop) }
     {
         let mut message = MessageBuffer::new();
         match self.read_next(&mut message)? {
@@ -114,8 +116,11 @@ impl<R: InDevice> Session<R> {
         requires { IsTrue (may_read self.old) }
         ensures settles { IfErr result (HasStopped self.new) }
         ensures again { HasEndedBetween self.old → (self.new ≡ self.old) × (result ≡ Ok None) }
-        ensures gives { (history : List ℕ) → IsSessionAt R.state self.old history → GivesNext R.state self.old self.new history (with_message_read (message_of message.new) result) }
-        ensures stopped { (stop : _) → HasStopped self.old stop → (self.new ≡ self.old) × (result ≡ Err stop) }
+        ensures gives { (history : List ℕ) → IsSessionAt R.state self.old history
+            → GivesNext R.state self.old self.new history
+            (with_message_read (message_of message.new) result) }
+        ensures stopped { (stop : _) → HasStopped self.old stop
+            → (self.new ≡ self.old) × (result ≡ Err stop) }
     {
         if let Phase::Stopped(stop) = self.phase {
             return Err(stop);
@@ -150,7 +155,9 @@ impl<R: InDevice> Session<R> {
         requires going { (stop : _) → HasStopped self.old stop → ⊥ }
         ensures settles { IfErr result (HasStopped self.new) }
         ensures again { HasEndedBetween self.old → (self.new ≡ self.old) × (result ≡ Ok None) }
-        ensures gives { (history : List ℕ) → IsSessionAt R.state self.old history → GivesNext R.state self.old self.new history (with_message_read (message_of message.new) result) }
+        ensures gives { (history : List ℕ) → IsSessionAt R.state self.old history
+            → GivesNext R.state self.old self.new history
+            (with_message_read (message_of message.new) result) }
     {
         let offset = self.source.given();
         let kind = match kind(&mut self.source) {
@@ -193,9 +200,12 @@ impl<R: InDevice> Session<R> {
     pub fn data(&mut self, buffer: &mut [u8]) -> Result<usize, Stop>
         ensures bound { IfOk result (λ n. n ≤ length buffer.new) }
         ensures settles { IfErr result (HasStopped self.new) }
-        ensures gives { (history : List ℕ) → IsSessionAt R.state self.old history → GivesData R.state self.old self.new history buffer.new result }
-        ensures none { left_of self.old ≡ 0 → ((stop : _) → HasStopped self.old stop → ⊥) → (self.new ≡ self.old) × (result ≡ Ok 0) }
-        ensures stopped { (stop : _) → HasStopped self.old stop → (self.new ≡ self.old) × (result ≡ Err stop) }
+        ensures gives { (history : List ℕ) → IsSessionAt R.state self.old history
+            → GivesData R.state self.old self.new history buffer.new result }
+        ensures none { left_of self.old ≡ 0 → ((stop : _) → HasStopped self.old stop → ⊥)
+            → (self.new ≡ self.old) × (result ≡ Ok 0) }
+        ensures stopped { (stop : _) → HasStopped self.old stop
+            → (self.new ≡ self.old) × (result ≡ Err stop) }
     {
         let ready = self.load()?;
         if ready == 0 || buffer.is_empty() {
@@ -209,7 +219,8 @@ impl<R: InDevice> Session<R> {
     /// Fills the slice with the next data that lies in the window.
     fn copy(&mut self, part: &mut [u8])
         requires { length part.old ≤ length (data_in self.old) }
-        ensures { (history : List ℕ) → IsSessionAt R.state self.old history → GaveBytes R.state self.old self.new history part.new }
+        ensures { (history : List ℕ) → IsSessionAt R.state self.old history
+            → GaveBytes R.state self.old self.new history part.new }
     {
         let count = part.len();
         part.copy_from_slice(&self.loaded()[..count]);
@@ -223,9 +234,12 @@ impl<R: InDevice> Session<R> {
     pub fn load(&mut self) -> Result<usize, Stop>
         ensures size { IfOk result (λ n. n ≡ length (data_in self.new)) }
         ensures settles { IfErr result (HasStopped self.new) }
-        ensures gives { (history : List ℕ) → IsSessionAt R.state self.old history → GivesLoad R.state self.old self.new history result }
-        ensures none { left_of self.old ≡ 0 → ((stop : _) → HasStopped self.old stop → ⊥) → (self.new ≡ self.old) × (result ≡ Ok 0) }
-        ensures stopped { (stop : _) → HasStopped self.old stop → (self.new ≡ self.old) × (result ≡ Err stop) }
+        ensures gives { (history : List ℕ) → IsSessionAt R.state self.old history
+            → GivesLoad R.state self.old self.new history result }
+        ensures none { left_of self.old ≡ 0 → ((stop : _) → HasStopped self.old stop → ⊥)
+            → (self.new ≡ self.old) × (result ≡ Ok 0) }
+        ensures stopped { (stop : _) → HasStopped self.old stop
+            → (self.new ≡ self.old) × (result ≡ Err stop) }
     {
         if let Phase::Stopped(stop) = self.phase {
             return Err(stop);
@@ -254,7 +268,8 @@ impl<R: InDevice> Session<R> {
     #[inline(always)]
     pub fn pass(&mut self, count: usize)
         requires { count ≤ length (data_in self.old) }
-        ensures { (history : List ℕ) → IsSessionAt R.state self.old history → GaveBytes R.state self.old self.new history (take count (data_in self.old)) }
+        ensures { (history : List ℕ) → IsSessionAt R.state self.old history
+            → GaveBytes R.state self.old self.new history (take count (data_in self.old)) }
     {
         self.source.give(count);
         self.left -= count as u64;

@@ -121,7 +121,8 @@ pub fn put_sess_init(
     requires { array_vec_len buffer.old + 25 + array_vec_len node.now ≤ HEAD_MAX }
     ensures items { buffer.new.items ≡ buffer.old.items
         ++ sess_init_bytes keepalive segment_mru transfer_mru node.now.items }
-    ensures len { array_vec_len buffer.new ≡ array_vec_len buffer.old + 25 + array_vec_len node.now }
+    ensures len { array_vec_len buffer.new
+        ≡ array_vec_len buffer.old + 25 + array_vec_len node.now }
     ensures spelled { HeadSpelled (sess_init_with keepalive segment_mru transfer_mru node.now.items)
         (sess_init_bytes keepalive segment_mru transfer_mru node.now.items) }
 {
@@ -165,7 +166,8 @@ fn put_announce(buffer: &mut HeadBuf, announce: Option<u64>)
 /// Appends the numbers of a segment before its list.
 fn put_segment(buffer: &mut HeadBuf, flags: u8, id: u64)
     requires { array_vec_len buffer.old + 10 ≤ HEAD_MAX }
-    ensures items { buffer.new.items ≡ buffer.old.items ++ (be 1 XFER_SEGMENT ++ be 1 flags ++ be 8 id) }
+    ensures items { buffer.new.items ≡ buffer.old.items ++ (be 1 XFER_SEGMENT ++ be 1 flags
+        ++ be 8 id) }
     ensures len { array_vec_len buffer.new ≡ array_vec_len buffer.old + 10 }
 {
     put_u8(buffer, XFER_SEGMENT);
