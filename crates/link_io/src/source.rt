@@ -131,9 +131,11 @@ impl<R: InDevice> Source<R> {
     pub fn ready(&mut self) -> Result<usize, IoFault>
         ensures size { IfOk result (λ n. n ≡ length (window_of self.new)) }
         ensures gives { IsLive R.state self.old → GivesReady R.state self.old self.new result }
-        ensures kept { 0 < length (window_of self.old) → (self.new ≡ self.old) × (result ≡ Ok (length (window_of self.old))) }
+        ensures kept { 0 < length (window_of self.old)
+            → (self.new ≡ self.old) × (result ≡ Ok (length (window_of self.old))) }
         ensures ended { HasEnded self.old → (self.new ≡ self.old) × (result ≡ Ok 0) }
-        ensures failed { (fault : _) → HasFailed self.old fault → (self.new ≡ self.old) × (result ≡ Err fault) }
+        ensures failed { (fault : _) → HasFailed self.old fault
+            → (self.new ≡ self.old) × (result ≡ Err fault) }
     {
         if self.start < self.end {
             return Ok(self.end - self.start);
@@ -149,7 +151,8 @@ impl<R: InDevice> Source<R> {
         ensures size { IfOk result (λ n. n ≡ length (window_of self.new)) }
         ensures gives { IsLive R.state self.old → GivesReady R.state self.old self.new result }
         ensures ended { HasEnded self.old → (self.new ≡ self.old) × (result ≡ Ok 0) }
-        ensures failed { (fault : _) → HasFailed self.old fault → (self.new ≡ self.old) × (result ≡ Err fault) }
+        ensures failed { (fault : _) → HasFailed self.old fault
+            → (self.new ≡ self.old) × (result ≡ Err fault) }
     {
         match self.flow {
             Flow::Open => self.read(),
@@ -198,9 +201,11 @@ impl<R: InDevice> Source<R> {
     #[inline]
     pub fn some(&mut self, buffer: &mut [u8]) -> Result<usize, IoFault>
         ensures bound { IfOk result (λ n. n ≤ length buffer.new) }
-        ensures gives { IsLive R.state self.old → GivesSome R.state self.old self.new buffer.new result }
+        ensures gives { IsLive R.state self.old
+            → GivesSome R.state self.old self.new buffer.new result }
         ensures ended { HasEnded self.old → (self.new ≡ self.old) × (result ≡ Ok 0) }
-        ensures failed { (fault : _) → HasFailed self.old fault → (self.new ≡ self.old) × (result ≡ Err fault) }
+        ensures failed { (fault : _) → HasFailed self.old fault
+            → (self.new ≡ self.old) × (result ≡ Err fault) }
     {
         if let Flow::Failed(fault) = self.flow {
             return Err(fault);
@@ -231,12 +236,15 @@ impl<R: InDevice> Source<R> {
     }
 
     /// Fills the slice with the next bytes, or as much of it as the input still has. It may read several times. After a
-    /// fault it returns that fault again, and after the end it gives nothing; neither reads.
+    /// fault it returns that fault again, and after the end it gives nothing, and does not read.
     #[inline(always)]
     pub fn fill(&mut self, buffer: &mut [u8]) -> Result<Filled, IoFault>
-        ensures gives { IsLive R.state self.old → GivesFill R.state self.old self.new buffer.new result }
-        ensures ended { HasEnded self.old → (self.new ≡ self.old) × (result ≡ Ok (filled_at_end buffer.old)) }
-        ensures failed { (fault : _) → HasFailed self.old fault → (self.new ≡ self.old) × (result ≡ Err fault) }
+        ensures gives { IsLive R.state self.old
+            → GivesFill R.state self.old self.new buffer.new result }
+        ensures ended { HasEnded self.old
+            → (self.new ≡ self.old) × (result ≡ Ok (filled_at_end buffer.old)) }
+        ensures failed { (fault : _) → HasFailed self.old fault
+            → (self.new ≡ self.old) × (result ≡ Err fault) }
     {
         if buffer.len() <= self.end - self.start && !buffer.is_empty() {
             self.copy(buffer);
@@ -248,9 +256,12 @@ impl<R: InDevice> Source<R> {
     /// `fill` past the window's end.
     #[inline(never)]
     fn fill_on(&mut self, buffer: &mut [u8]) -> Result<Filled, IoFault>
-        ensures gives { IsLive R.state self.old → GivesFill R.state self.old self.new buffer.new result }
-        ensures ended { HasEnded self.old → (self.new ≡ self.old) × (result ≡ Ok (filled_at_end buffer.old)) }
-        ensures failed { (fault : _) → HasFailed self.old fault → (self.new ≡ self.old) × (result ≡ Err fault) }
+        ensures gives { IsLive R.state self.old
+            → GivesFill R.state self.old self.new buffer.new result }
+        ensures ended { HasEnded self.old
+            → (self.new ≡ self.old) × (result ≡ Ok (filled_at_end buffer.old)) }
+        ensures failed { (fault : _) → HasFailed self.old fault
+            → (self.new ≡ self.old) × (result ≡ Err fault) }
     {
         if let Flow::Failed(fault) = self.flow {
             return Err(fault);
@@ -272,9 +283,11 @@ impl<R: InDevice> Source<R> {
         requires { at < length buffer.old }
         ensures before { take at buffer.new ≡ take at buffer.old }
         ensures bound { IfOk result (λ n. at + n ≤ length buffer.new) }
-        ensures gives { IsLive R.state self.old → GivesSome R.state self.old self.new (drop at buffer.new) result }
+        ensures gives { IsLive R.state self.old
+            → GivesSome R.state self.old self.new (drop at buffer.new) result }
         ensures ended { HasEnded self.old → (self.new ≡ self.old) × (result ≡ Ok 0) }
-        ensures failed { (fault : _) → HasFailed self.old fault → (self.new ≡ self.old) × (result ≡ Err fault) }
+        ensures failed { (fault : _) → HasFailed self.old fault
+            → (self.new ≡ self.old) × (result ≡ Err fault) }
     {
         self.some(&mut buffer[at..])
     }

@@ -36,7 +36,7 @@ AreBytes-index : (xs : List ℕ) → AreBytes xs → (k : ℕ) → slice_index x
 AreBytes-index xs are k =
     ⊎_elim (λ within. All-get_or IsByte xs k 0 within are) (λ past. rw (get_or_past xs k 0 past) (omega arith)) (cases_lt k (length xs))
 
--- a byte of a number, by its place
+-- a byte of a number, by its index
 byte_at-pow : (k top low : ℕ) → low < 256 ^ k → byte_at k (top * 256 ^ k + low) ≡ top % 256
 byte_at-pow zero top low fits = let none : top * 1 + low ≡ top = omega arith in rw none refl
 byte_at-pow (suc k) top low fits = ap (λ (n : ℕ). n % 256) (div-mul-add top (256 ^ suc k) low fits)
@@ -76,8 +76,8 @@ pub found_err : {A : Type 0} (fault : WireFault) {spelled : A → Spelling} → 
 found_err fault = record { by = λ bytes other rest are read. absurd (cc) }
 
 -- what is found after a before
-in_front : (spelled : Spelling) (rest bytes before after : List ℕ) → bytes ≡ before ++ after → FollowedBy (λ more. spelled (before ++ more)) (λ more. more ≡ rest) after → FollowedBy spelled (λ more. more ≡ rest) bytes
-in_front spelled rest bytes before after whole is = record {
+after_prefix : (spelled : Spelling) (rest bytes before after : List ℕ) → bytes ≡ before ++ after → FollowedBy (λ more. spelled (before ++ more)) (λ more. more ≡ rest) after → FollowedBy spelled (λ more. more ≡ rest) bytes
+after_prefix spelled rest bytes before after whole is = record {
   before = before ++ is.before;
   after = is.after;
   is_first = is.is_first;
@@ -93,7 +93,7 @@ module _ {A B : Type 0} (part : List ℕ → Part A) (next : A × List ℕ → P
         let one = found.by bytes read.0.0 read.0.1 are read.1 in
         let whole : bytes ≡ one.before ++ read.0.1 = one.parts ∙ ap (λ all. one.before ++ all) one.is_second in
         let after : AreBytes read.0.1 = AreBytes-after one.before read.0.1 (subst AreBytes whole are) in
-        in_front (spelled given) rest bytes one.before read.0.1 whole ((more read.0.0 one.before one.is_first).by read.0.1 given rest after read.2);
+        after_prefix (spelled given) rest bytes one.before read.0.1 whole ((more read.0.0 one.before one.is_first).by read.0.1 given rest after read.2);
   }
 
 module _ {A : Type 0} (part other : List ℕ → Part A) {spelled : A → Spelling} where
@@ -112,11 +112,11 @@ found_bytes n = record {
       (λ enough.
       let same = same_part (sym (bytes_at-enough n bytes enough) ∙ is) in
       let whole : bytes ≡ take n bytes ++ drop n bytes = sym (take-append-drop n bytes) in
-      let are_front : AreBytes (take n bytes) = All-take IsByte n bytes are in
+      let are_first : AreBytes (take n bytes) = All-take IsByte n bytes are in
       record {
         before = take n bytes;
         after = drop n bytes;
-        is_first = (subst AreBytes same.0 are_front, same.0, ap length (sym same.0) ∙ length-take-le n bytes enough);
+        is_first = (subst AreBytes same.0 are_first, same.0, ap length (sym same.0) ∙ length-take-le n bytes enough);
         is_second = same.1;
         parts = whole;
       })
@@ -198,18 +198,18 @@ found_number_of n =
     found_pure (big_number n content) (subst AreBytes (sym same) is.0, ap length same ∙ is.2, ap (big_number n) (sym same)))
 
 module _ (of : ListOf) (kind size : ℕ) where
-  told_by : (test : Bool) (value : List ℕ) → gives_total of kind size ≡ test → (if test then Some (big_number 8 value) else None) ≡ total_of of kind size value
-  told_by test value told = ap (λ test. if test then Some (big_number 8 value) else None) (sym told)
+  known_by : (test : Bool) (value : List ℕ) → gives_total of kind size ≡ test → (if test then Some (big_number 8 value) else None) ≡ total_of of kind size value
+  known_by test value known = ap (λ test. if test then Some (big_number 8 value) else None) (sym known)
 
   found_value : Found (total_at of kind size) (ValueSpelled of kind size)
   unfolding total_at
   found_value =
       found_if _ _ (gives_total of kind size)
-      (λ told. found_then _ _ (found_number_of 8) (λ n before is.
+      (λ known. found_then _ _ (found_number_of 8) (λ n before is.
       found_pure (Some n) (last (ValueSpelled of kind size (Some n)) before
-      (is.0, is.1 ∙ sym (has_total_size of kind size told), ap Some is.2 ∙ told_by true before told))))
-      (λ told. found_then _ _ (found_skipped size) (λ nothing before is.
-      found_pure None (last (ValueSpelled of kind size None) before (is.0, is.1, told_by false before told))))
+      (is.0, is.1 ∙ sym (has_total_size of kind size known), ap Some is.2 ∙ known_by true before known))))
+      (λ known. found_then _ _ (found_skipped size) (λ nothing before is.
+      found_pure None (last (ValueSpelled of kind size None) before (is.0, is.1, known_by false before known))))
 
 -- the items of a list, no more of them than there is room
 abbrev ItemsWithin : ListOf → ℕ → ℕ → List Item → Spelling
@@ -270,8 +270,8 @@ found_segment_items : (flags : ℕ) → Found (segment_items_at flags) (SegmentI
 unfolding segment_items_at
 found_segment_items flags =
     found_if _ _ (is_start flags)
-    (λ told. let P : Bool → Type 0 = λ start. Found (list_at Transfer) (SegmentItemsSpelled start) in subst P (sym told) (found_list Transfer))
-    (λ told. found_pure (record { items = [] }) (let P : Bool → Type 0 = λ start. SegmentItemsSpelled start (record { items = [] }) [] in subst P (sym told) (refl, refl)))
+    (λ known. let P : Bool → Type 0 = λ start. Found (list_at Transfer) (SegmentItemsSpelled start) in subst P (sym known) (found_list Transfer))
+    (λ known. found_pure (record { items = [] }) (let P : Bool → Type 0 = λ start. SegmentItemsSpelled start (record { items = [] }) [] in subst P (sym known) (refl, refl)))
 
 -- what follows the type byte of a message, in before of which that byte stands
 module _ (before : List ℕ) where
@@ -327,18 +327,18 @@ module _ (before : List ℕ) where
 
   -- the type byte is this number
   is_kind : (kind n : ℕ) → eqb kind n ≡ true → U8 kind before → U8 n before
-  is_kind kind n told is = let same : kind ≡ n = eqb-true kind n told in let P : ℕ → Type 0 = λ k. U8 k before in subst P same is
+  is_kind kind n known is = let same : kind ≡ n = eqb-true kind n known in let P : ℕ → Type 0 = λ k. U8 k before in subst P same is
 
   found_fields : (kind : ℕ) → U8 kind before → Found (fields_at kind) (λ message after. HeadSpelled message (before ++ after))
   unfolding fields_at
   found_fields kind is =
-      found_if _ _ (eqb kind 1) (λ told. found_segment (is_kind kind 1 told is)) (λ _.
-      found_if _ _ (eqb kind 2) (λ told. found_ack (is_kind kind 2 told is)) (λ _.
-      found_if _ _ (eqb kind 3) (λ told. found_refuse (is_kind kind 3 told is)) (λ _.
-      found_if _ _ (eqb kind 4) (λ told. found_pure Keepalive (last (U8 4) before (is_kind kind 4 told is))) (λ _.
-      found_if _ _ (eqb kind 5) (λ told. found_sess_term (is_kind kind 5 told is)) (λ _.
-      found_if _ _ (eqb kind 6) (λ told. found_msg_reject (is_kind kind 6 told is)) (λ _.
-      found_if _ _ (eqb kind 7) (λ told. found_sess_init (is_kind kind 7 told is)) (λ _.
+      found_if _ _ (eqb kind 1) (λ known. found_segment (is_kind kind 1 known is)) (λ _.
+      found_if _ _ (eqb kind 2) (λ known. found_ack (is_kind kind 2 known is)) (λ _.
+      found_if _ _ (eqb kind 3) (λ known. found_refuse (is_kind kind 3 known is)) (λ _.
+      found_if _ _ (eqb kind 4) (λ known. found_pure Keepalive (last (U8 4) before (is_kind kind 4 known is))) (λ _.
+      found_if _ _ (eqb kind 5) (λ known. found_sess_term (is_kind kind 5 known is)) (λ _.
+      found_if _ _ (eqb kind 6) (λ known. found_msg_reject (is_kind kind 6 known is)) (λ _.
+      found_if _ _ (eqb kind 7) (λ known. found_sess_init (is_kind kind 7 known is)) (λ _.
       found_err (UnknownType kind))))))))
 
 -- the head of a message that is read was spelled in before of what is after it

@@ -27,8 +27,8 @@ contact_size bytes contact rest is =
     (λ enough.
     let found = sym (bytes_at-enough 6 bytes enough) ∙ read.1 in
     let pair = passed (eqb (big_number 4 header.0) 0x64746e21) (eqb (slice_index header.0 4) 4) _ (contact, rest) _ _ read.2 in
-    let behind : header.1 ≡ rest = ap (λ (p : Contact × List ℕ). p.1) pair in
-    omega (arith, ap length behind, ap length (same_part found).1, length-drop 6 bytes))
+    let later : header.1 ≡ rest = ap (λ (p : Contact × List ℕ). p.1) pair in
+    omega (arith, ap length later, ap length (same_part found).1, length-drop 6 bytes))
     (cases_lt (length bytes) 6)
 
 module _ (taken : List ℕ) (contact : Contact) (is : (more : List ℕ) → contact_at (taken ++ more) ≡ Ok (contact, more)) where

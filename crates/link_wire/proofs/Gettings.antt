@@ -90,8 +90,8 @@ module _ {R A B : Type 0} {look : R → Input} {part : List ℕ → Part A} (nex
   }
 
   -- a part that was read, and what goes on from it
-  pub after : {old mid new : Source R} {value : A} {answer : Result B Halt} → Gets look part old mid (Ok value) → Gets look (λ bytes. next (value, bytes)) mid new answer → Gets look (λ bytes. part bytes >>= next) old new answer
-  after {old} {mid} {new} {value} {answer = Ok result} got more = record {
+  pub after : {old mid new : Source R} {value : A} {outcome : Result B Halt} → Gets look part old mid (Ok value) → Gets look (λ bytes. next (value, bytes)) mid new outcome → Gets look (λ bytes. part bytes >>= next) old new outcome
+  after {old} {mid} {new} {value} {outcome = Ok result} got more = record {
     by = record {
       given = got.by.given ++ more.by.given;
       takes = Takes-then look old mid new got.by.given more.by.given got.by.takes more.by.takes;
@@ -99,7 +99,7 @@ module _ {R A B : Type 0} {look : R → Input} {part : List ℕ → Part A} (nex
       is = IsPart-then part next value got.by.given more.by.given got.by.is result more.by.is;
     };
   }
-  after {old} {mid} {new} {value} {answer = Err (halt.Wire fault)} got more = record {
+  after {old} {mid} {new} {value} {outcome = Err (halt.Wire fault)} got more = record {
     by = record {
       given = got.by.given ++ more.by.given;
       takes = Takes-then look old mid new got.by.given more.by.given got.by.takes more.by.takes;
@@ -107,7 +107,7 @@ module _ {R A B : Type 0} {look : R → Input} {part : List ℕ → Part A} (nex
       over = more.by.over;
     };
   }
-  after {old} {mid} {new} {value} {answer = Err (halt.Io fault)} got more = record {
+  after {old} {mid} {new} {value} {outcome = Err (halt.Io fault)} got more = record {
     by = record {
       given = got.by.given ++ more.by.given;
       stops = StopsAfter-then look old mid new got.by.given more.by.given fault got.by.takes more.by.stops;
@@ -121,18 +121,18 @@ module _ {R A : Type 0} {look : R → Input} where
   is_live got = got.by.live
 
   -- the same part, in other words
-  pub same_part : {part other : List ℕ → Part A} {old new : Source R} {answer : Result A Halt} → ((bytes : List ℕ) → part bytes ≡ other bytes) → Gets look part old new answer → Gets look other old new answer
-  same_part {old} {new} {answer} same got =
-      let P : (List ℕ → Part A) → Type 0 = λ p. Gets look p old new answer in
+  pub same_part : {part other : List ℕ → Part A} {old new : Source R} {outcome : Result A Halt} → ((bytes : List ℕ) → part bytes ≡ other bytes) → Gets look part old new outcome → Gets look other old new outcome
+  same_part {old} {new} {outcome} same got =
+      let P : (List ℕ → Part A) → Type 0 = λ p. Gets look p old new outcome in
       subst P (fun_ext same) got
 
   -- the exit of a `?`
-  pub exiting : {part : List ℕ → Part A} {old new : Source R} {stop : Halt} (answer : Result A Halt) → IsErrAnd answer (λ e. e ≡ stop) → Gets look part old new (Err stop) → Gets look part old new answer
+  pub exiting : {part : List ℕ → Part A} {old new : Source R} {stop : Halt} (outcome : Result A Halt) → IsErrAnd outcome (λ e. e ≡ stop) → Gets look part old new (Err stop) → Gets look part old new outcome
   exiting (Ok value) is met = absurd is
   exiting (Err e) is met = rw is met
 
   -- the same in a function that leaves what it reads with its caller
-  pub leaving : {part : List ℕ → Part A} {old new : Source R} {stop : Halt} (value : A) (answer : Result (Unit {0}) Halt) → IsErrAnd answer (λ e. e ≡ stop) → Gets look part old new (Err stop) → Gets look part old new (with_value value answer)
+  pub leaving : {part : List ℕ → Part A} {old new : Source R} {stop : Halt} (value : A) (outcome : Result (Unit {0}) Halt) → IsErrAnd outcome (λ e. e ≡ stop) → Gets look part old new (Err stop) → Gets look part old new (with_value value outcome)
   leaving value (Ok done) is met = absurd is
   leaving value (Err e) is met = rw is met
 
@@ -143,7 +143,7 @@ module _ {R A : Type 0} {look : R → Input} where
   }
 
   -- a value that what was read before refuses
-  pub refuse : {source : Source R} {fault : WireFault} → fault ≢ Truncated → Gets look (λ bytes. let answer : Part A = Err fault in answer) source source (Err (halt.Wire fault))
+  pub refuse : {source : Source R} {fault : WireFault} → fault ≢ Truncated → Gets look (λ bytes. let outcome : Part A = Err fault in outcome) source source (Err (halt.Wire fault))
   refuse {source} not = record {
     by = record {
       given = [];
@@ -154,15 +154,15 @@ module _ {R A : Type 0} {look : R → Input} where
   }
 
   -- the part is chosen by what was read before
-  module _ (part other : List ℕ → Part A) {old new : Source R} {test : Bool} {answer : Result A Halt} where
-    pub if_true : test ≡ true → Gets look part old new answer → Gets look (λ bytes. if test then part bytes else other bytes) old new answer
+  module _ (part other : List ℕ → Part A) {old new : Source R} {test : Bool} {outcome : Result A Halt} where
+    pub if_true : test ≡ true → Gets look part old new outcome → Gets look (λ bytes. if test then part bytes else other bytes) old new outcome
     if_true is h =
-        let P : Bool → Type 0 = λ b. Gets look (λ bytes. if b then part bytes else other bytes) old new answer in
+        let P : Bool → Type 0 = λ b. Gets look (λ bytes. if b then part bytes else other bytes) old new outcome in
         subst P (sym is) h
 
-    pub if_false : test ≡ false → Gets look other old new answer → Gets look (λ bytes. if test then part bytes else other bytes) old new answer
+    pub if_false : test ≡ false → Gets look other old new outcome → Gets look (λ bytes. if test then part bytes else other bytes) old new outcome
     if_false is h =
-        let P : Bool → Type 0 = λ b. Gets look (λ bytes. if b then part bytes else other bytes) old new answer in
+        let P : Bool → Type 0 = λ b. Gets look (λ bytes. if b then part bytes else other bytes) old new outcome in
         subst P (sym is) h
 
 module _ {R : Type 0} {look : R → Input} {old new : Source R} where

@@ -19,7 +19,7 @@ abbrev pub with_before : List Item → Result (List Item) Halt → Result (List 
 with_before before (Ok items) = Ok (before ++ items)
 with_before before (Err stop) = Err stop
 
-pub with_before-append : (xs ys : List Item) (answer : Result (List Item) Halt) → with_before xs (with_before ys answer) ≡ with_before (xs ++ ys) answer
+pub with_before-append : (xs ys : List Item) (outcome : Result (List Item) Halt) → with_before xs (with_before ys outcome) ≡ with_before (xs ++ ys) outcome
 with_before-append xs ys (Ok items) = ap Ok (sym (append_assoc xs ys items))
 with_before-append xs ys (Err stop) = refl
 
@@ -63,11 +63,11 @@ module _ {R : Type 0} {look : R → Input} (of : ListOf) where
       pub items_exit_total : (room less : ℕ) {new : Source R} {stop : Halt} → room ≡ suc less → Gets look (total_at of head.kind head.length) mid new (Err stop) → Gets look (items_at of room left) old new (Err stop)
       items_exit_total room less is met = rw is (value_unread less met)
 
-      others_read : (room : ℕ) {next new : Source R} (total : Option ℕ) (answer : Result (List Item) Halt) → Gets look (total_at of head.kind head.length) mid next (Ok total) → Gets look (items_at of room (left - (5 + head.length))) next new answer → Gets look (items_at of (suc room) left) old new (with_before (item_of head total ∷ []) answer)
+      others_read : (room : ℕ) {next new : Source R} (total : Option ℕ) (outcome : Result (List Item) Halt) → Gets look (total_at of head.kind head.length) mid next (Ok total) → Gets look (items_at of room (left - (5 + head.length))) next new outcome → Gets look (items_at of (suc room) left) old new (with_before (item_of head total ∷ []) outcome)
       unfolding items_at
-      others_read room total (Ok items) told others = if_false _ _ (some_left left some) (after _ got (after _ told (after _ others (pure (is_live others)))))
-      others_read room total (Err stop) told met = if_false _ _ (some_left left some) (after _ got (after _ told (exit _ met)))
+      others_read room total (Ok items) known others = if_false _ _ (some_left left some) (after _ got (after _ known (after _ others (pure (is_live others)))))
+      others_read room total (Err stop) known met = if_false _ _ (some_left left some) (after _ got (after _ known (exit _ met)))
 
-      -- the next item, and those behind it
-      pub items_more : (room less : ℕ) {next new : Source R} (total : Option ℕ) (answer : Result (List Item) Halt) → room ≡ suc less → Gets look (total_at of head.kind head.length) mid next (Ok total) → Gets look (items_at of less (left - (5 + head.length))) next new answer → Gets look (items_at of room left) old new (with_before (item_of head total ∷ []) answer)
-      items_more room less total answer is told others = rw is (others_read less total answer told others)
+      -- the next item, and those after it
+      pub items_more : (room less : ℕ) {next new : Source R} (total : Option ℕ) (outcome : Result (List Item) Halt) → room ≡ suc less → Gets look (total_at of head.kind head.length) mid next (Ok total) → Gets look (items_at of less (left - (5 + head.length))) next new outcome → Gets look (items_at of room left) old new (with_before (item_of head total ∷ []) outcome)
+      items_more room less total outcome is known others = rw is (others_read less total outcome known others)

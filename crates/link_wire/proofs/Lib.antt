@@ -1,11 +1,12 @@
 mod FieldReads
 mod Gettings
+mod Plains
+mod Appends
 mod Skips
 mod Items
 mod Shrinks
 mod Within
 pub mod Contacts
-mod MessageKinds
 mod Streams
 mod Rests
 mod Sessions
@@ -13,3 +14,4 @@ pub mod Wholes
 mod Sound
 mod Complete
 mod OneReading
+pub mod Spellings

@@ -30,20 +30,20 @@ only_stream : (entries : List Entry) (end : End) (offset : ℕ) (bytes : List �
 only_stream [] Clean offset bytes is = ap (stream_at offset) is ∙ stream_at-nil offset
 only_stream [] (Cut at message content) offset bytes is =
     let head = is.2.before in
-    let told = (only_message message).by head is.2.is_first in
+    let known = (only_message message).by head is.2.is_first in
     let whole : bytes ≡ head ++ content = is.2.parts ∙ ap (λ all. head ++ all) is.2.is_second.1 in
     let short : nat_lt (length content) (data_length message) ≡ true = lt-ltb (length content) (data_length message) is.1 in
-    ap (stream_at offset) whole ∙ stream_at-head offset head message told content ∙ rw (short, is.0) refl
+    ap (stream_at offset) whole ∙ stream_at-head offset head message known content ∙ rw (short, is.0) refl
 only_stream [] (Fault at fault) offset [] is = absurd (is.1 refl)
 only_stream [] (Fault at fault) offset (b ∷ bytes) is = stream_at-fault offset b bytes fault is.3 ∙ ap (λ place. ended (Fault place fault)) (sym is.0)
 only_stream (entry ∷ entries) end offset bytes is =
     let head = is.is_entry.1.before in
-    let told = (only_message entry.message).by head is.is_entry.1.is_first in
+    let known = (only_message entry.message).by head is.is_entry.1.is_first in
     let before : is.before ≡ head ++ entry.content = is.is_entry.1.parts ∙ ap (λ all. head ++ all) is.is_entry.1.is_second.1 in
     let whole : bytes ≡ head ++ (entry.content ++ is.after) = is.parts ∙ ap (λ all. all ++ is.after) before ∙ append_assoc head entry.content is.after in
     let place : offset + length head + data_length entry.message ≡ offset + length is.before = omega (arith, ap length before, length-append head entry.content, is.is_entry.0) in
     ap (stream_at offset) whole
-    ∙ stream_at-head offset head entry.message told (entry.content ++ is.after)
+    ∙ stream_at-head offset head entry.message known (entry.content ++ is.after)
     ∙ with_data-whole offset entry.message entry.content is.after (λ size. stream_at (offset + length head + size)) is.is_entry.0
     ∙ ap (λ at. with_entry (record { offset = offset; message = entry.message; content = entry.content }) (stream_at at is.after)) place
     ∙ ap (with_entry (record { offset = offset; message = entry.message; content = entry.content })) (only_stream entries end (offset + length is.before) is.after is.is_rest)
@@ -52,9 +52,9 @@ only_stream (entry ∷ entries) end offset bytes is =
 only_by : (contact : Option Contact) (entries : List Entry) (end : End) (bytes : List ℕ) → IsReadingBy contact entries end bytes → reading_of bytes ≡ record { contact = contact; entries = entries; end = end }
 unfolding reading_of
 only_by (Some contact) entries end bytes is =
-    let told = (only_contact contact).by is.before is.is_first is.after in
+    let known = (only_contact contact).by is.before is.is_first is.after in
     let streams : stream_at 6 is.after ≡ record { entries = entries; end = end } = only_stream entries end 6 is.after is.is_second in
-    ap (λ all. reading_by (contact_at all)) is.parts ∙ ap reading_by told
+    ap (λ all. reading_by (contact_at all)) is.parts ∙ ap reading_by known
     ∙ ap (λ (rest : Stream). record { contact = Some contact; entries = rest.entries; end = rest.end }) streams
 only_by None entries end bytes is =
     ap reading_by is.2.2 ∙ rw (is.0, is.2.1) refl
@@ -117,12 +117,12 @@ module _ (offset : ℕ) (bytes : List ℕ) where
       let found = found_message.by bytes message rest are is in
       let whole : bytes ≡ found.before ++ rest = found.parts ∙ ap (λ all. found.before ++ all) found.is_second in
       let after : AreBytes rest = AreBytes-after found.before rest (subst AreBytes whole are) in
-      let told = (only_message message).by found.before found.is_first in
+      let known = (only_message message).by found.before found.is_first in
       let size = data_length message in
       let last : AreBytes (drop size rest) = AreBytes-after (take size rest) (drop size rest) (subst AreBytes (sym (take-append-drop size rest)) after) in
       let P : List ℕ → Type 0 = λ all. StandsIn offset all (stream_at offset all) in
       let Q : Stream → Type 0 = λ stream. StandsIn offset (found.before ++ rest) stream in
-      subst P (sym whole) (subst Q (sym (stream_at-head offset found.before message told rest))
+      subst P (sym whole) (subst Q (sym (stream_at-head offset found.before message known rest))
       (with_data-stands offset message found.before rest found.is_first after stream_at (λ at. next at (drop size rest) (omega (arith, length-drop size rest)) last)))
 
 -- the reading of bytes, of which there are `count` at most, stands in them

@@ -8,7 +8,7 @@ use Rattle.link_wire.proofs.Streams.{stream_at-nil}
 use Rattle.link_wire.specs.Session.{joined, data_after, rest_after, IsLeft}
 use Rattle.link_wire.specs.declared.message.Message.{Message}
 
--- one stream behind another
+-- one stream after another
 abbrev pub appended : Stream → Stream → Stream
 appended first second = record { entries = first.entries ++ second.entries; end = second.end }
 
@@ -61,7 +61,7 @@ rest_none place offset left (Cut from message content) is =
     rw (some, append-nil) refl
 rest_none place offset left (Fault from fault) is = absurd is
 
--- what is read behind a history that has gone on by a part of what is left
+-- what is read after a history that has gone on by a part of what is left
 module _ (reading : Reading) (history : List ℕ) (part : Stream) (offset left place : ℕ) (is : IsLeft offset left part.end)
     (reads : (more : List ℕ) → reading_of (history ++ more) ≡ joined reading (appended part (rest_after place left part.end more))) where
   pub settled : reading_of history ≡ joined reading part

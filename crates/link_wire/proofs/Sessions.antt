@@ -32,7 +32,7 @@ use Rattle.link_wire.specs.declared.session.Session.{Session}
 use Rattle.link_io.specs.declared.source.Source.{Source}
 
 module _ {R : Type 0} (look : R → Input) (s : Session R) (fresh : may_open s ≡ true) where
-  -- what a session knows that may be opened
+  -- the facts of a session that may be opened
   parts : (is_unopened s.phase ≡ true) × (left_of s ≡ 0) × (is_fresh s.source ≡ true)
   parts =
       let first = and_true (is_unopened s.phase) _ fresh in
@@ -48,7 +48,7 @@ module _ {R : Type 0} (look : R → Input) (s : Session R) (fresh : may_open s �
   pub opens_left : left_of s ≡ 0
   opens_left = parts.1
 
--- where the next message may be asked for and the session has not stopped, no data is to come
+-- where the next message may be read and the session has not stopped, no data is to come
 pub none_left : {R : Type 0} (s : Session R) → s.phase ≡ phase.Reading → may_read s ≡ true → left_of s ≡ 0
 none_left s reading may = eqb-true s.left 0 (ap (λ p. reads_next p s.left) (sym reading) ∙ may)
 
@@ -130,7 +130,7 @@ module _ {R : Type 0} {look : R → Input} where
     from_here bytes = at.goes_on bytes ∙ ap (λ end. joined (reading_of history) (rest_after (length history) old.left end bytes)) clean
 
     -- the head of a message was read
-    came : (new : Session R) (message : Message) → GotPart look message_at old.source new.source message → new.offset ≡ length history → new.left ≡ data_length message → new.phase ≡ phase.Reading → GaveMessage look old new history (length history) message
+    pub came : (new : Session R) (message : Message) → GotPart look message_at old.source new.source message → new.offset ≡ length history → new.left ≡ data_length message → new.phase ≡ phase.Reading → GaveMessage look old new history (length history) message
     came new message got offset left going =
         let given = got.given in
         let here = length history in
@@ -217,13 +217,6 @@ module _ {R : Type 0} {look : R → Input} where
           let P : Source R → Type 0 = λ s. Gets look (fields_at kind) mid s (Err why) in
           let named : result ≡ stop_at (length history) why = is ∙ ap (λ n. stop_at n why) here in
           rw named (next_refused new why (subst P (sym same) met) (stopped ∙ ap phase.Stopped named))
-
-    -- a failure before the type byte
-    pub kind_stopped : (new : Session R) (fault : IoFault) → StopsAfter look old.source new.source [] fault → HasStopped new (stop.Io fault) → GaveStop look old new history fault
-    unfolding message_at number_at bytes_at
-    kind_stopped new fault stops stopped =
-        let here = cut_here [] refl in
-        record { given = []; stops = stops; size = omega arith; same = here.0; undecided = here.1; stopped = stopped }
 
   -- data of the open segment came
   module _ (old new : Session R) (history bytes : List ℕ) (at : IsSessionAt look old history) (takes : Takes look old.source new.source bytes)

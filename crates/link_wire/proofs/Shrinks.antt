@@ -1,4 +1,4 @@
--- What is behind a part is no longer than what the part stands in front of.
+-- What follows a part is shorter than the bytes that begin with the part, or as long.
 use Rattle.std.proofs.Common.{◌≡◌, ℕ, zero, suc, ◌+◌, ◌-◌, ◌≤◌, Bool, true, false, eqb, List, length, drop, Result, Ok, Err, nat_lt, if◌then◌else◌, arith, refl, ap, sym, ◌∙◌, length-drop, ⊎_elim}
 use Rattle.std.proofs.lemmas.Bool.{cases_lt}
 use Rattle.link_wire.specs.Part.{Part, ◌>>=◌, bytes_at, number_at}
@@ -15,7 +15,7 @@ pub both_read : {A B : Type 0} (read : Result A WireFault) (next : A → Result 
 both_read (Ok first) next value is = (first, refl, is)
 both_read (Err fault) next value is = absurd (cc)
 
--- of what stands behind the part there is no more than `less` bytes fewer than before
+-- what follows the part has at least `less` bytes fewer
 pub record Shrinks {A : Type 0} (less : ℕ) (part : List ℕ → Part A) : Type 0 where
   pub by : (bytes : List ℕ) (value : A) (rest : List ℕ) → part bytes ≡ Ok (value, rest) → length rest + less ≤ length bytes
 
@@ -31,7 +31,7 @@ module _ {A B : Type 0} where
     by = λ bytes value rest is.
         let read = both_read (part bytes) next (value, rest) is in
         let before = first.by bytes read.0.0 read.0.1 read.1 in
-        let behind = (second read.0.0).by read.0.1 value rest read.2 in
+        let later = (second read.0.0).by read.0.1 value rest read.2 in
         omega arith;
   }
 

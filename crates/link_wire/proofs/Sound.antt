@@ -21,8 +21,8 @@ use Rattle.link_wire.specs.declared.message.Message.{Message}
 use Rattle.link_wire.specs.declared.message.Message.TheVariants.{SessInit, Segment, Ack, Refuse, Keepalive, SessTerm, MsgReject}
 
 -- how long a spelling is
-pub length_front : {first second : Spelling} (bytes : List ℕ) (is : (first ⨾ second) bytes) → length bytes ≡ length is.before + length is.after
-length_front bytes is = ap length is.parts ∙ length-append is.before is.after
+pub length_parts : {first second : Spelling} (bytes : List ℕ) (is : (first ⨾ second) bytes) → length bytes ≡ length is.before + length is.after
+length_parts bytes is = ap length is.parts ∙ length-append is.before is.after
 
 module _ {first second : Spelling} where
   -- two spellings, one after the other
@@ -146,13 +146,13 @@ only_field_of value n size = only_last _ _ (only_bytes value n size) (λ more. r
 module _ (of : ListOf) (kind size : ℕ) (total : Option ℕ) where
   value_by : (test : Bool) → gives_total of kind size ≡ test → Only (total_at of kind size) total (ValueSpelled of kind size total)
   unfolding total_at
-  value_by true told = only_such (λ value is.
-      let number : total ≡ Some (big_number 8 value) = is.2 ∙ ap (λ test. if test then Some (big_number 8 value) else None) told in
-      only_if _ _ (gives_total of kind size) told
-      (only_last _ _ (only_field_of value 8 (is.1 ∙ has_total_size of kind size told)) (λ rest. ap (λ t. Ok (t, rest)) (sym number))))
-  value_by false told = only_such (λ value is.
-      let number : total ≡ None = is.2 ∙ ap (λ test. if test then Some (big_number 8 value) else None) told in
-      only_else _ _ (gives_total of kind size) told
+  value_by true known = only_such (λ value is.
+      let number : total ≡ Some (big_number 8 value) = is.2 ∙ ap (λ test. if test then Some (big_number 8 value) else None) known in
+      only_if _ _ (gives_total of kind size) known
+      (only_last _ _ (only_field_of value 8 (is.1 ∙ has_total_size of kind size known)) (λ rest. ap (λ t. Ok (t, rest)) (sym number))))
+  value_by false known = only_such (λ value is.
+      let number : total ≡ None = is.2 ∙ ap (λ test. if test then Some (big_number 8 value) else None) known in
+      only_else _ _ (gives_total of kind size) known
       (only_last _ _ (only_skipped value size is.1) (λ rest. ap (λ t. Ok (t, rest)) (sym number))))
 
   pub only_value : Only (total_at of kind size) total (ValueSpelled of kind size total)
@@ -161,8 +161,8 @@ module _ (of : ListOf) (kind size : ℕ) (total : Option ℕ) where
 -- an item is five bytes and its value
 pub length_item_head : (flags kind size : ℕ) (bytes : List ℕ) → ItemHeadSpelled flags kind size bytes → length bytes ≡ 5
 length_item_head flags kind size bytes is =
-    let whole = length_front bytes is in
-    let after = length_front is.after is.is_second in
+    let whole = length_parts bytes is in
+    let after = length_parts is.after is.is_second in
     let one : length is.before ≡ 1 = ap length is.is_first.1 in
     let two : length is.is_second.before ≡ 2 = ap length is.is_second.is_first.1 in
     let three : length is.is_second.after ≡ 2 = ap length is.is_second.is_second.1 in
@@ -180,8 +180,8 @@ module _ (of : ListOf) where
   only_items (item ∷ items) zero left few = absurd (omega arith)
   only_items (item ∷ items) (suc room) left few = record {
     by = λ bytes is more.
-        let all = length_front bytes is.0 in
-        let one = length_front is.0.before is.0.is_first in
+        let all = length_parts bytes is.0 in
+        let one = length_parts is.0.before is.0.is_first in
         let head = length_item_head item.flags item.kind item.length is.0.is_first.before is.0.is_first.is_first in
         let value : length is.0.is_first.after ≡ item.length = is.0.is_first.is_second.1 in
         let size : length is.0.after ≡ left - (5 + item.length) = omega arith in
@@ -212,8 +212,8 @@ module _ (of : ListOf) where
 
 only_segment_items : (flags : ℕ) (items : ArrayVec Item) (start : Bool) → is_start flags ≡ start → Only (segment_items_at flags) items (SegmentItemsSpelled start items)
 unfolding segment_items_at
-only_segment_items flags items true told = only_if _ _ (is_start flags) told (only_list Transfer items)
-only_segment_items flags items false told = only_else _ _ (is_start flags) told (record {
+only_segment_items flags items true known = only_if _ _ (is_start flags) known (only_list Transfer items)
+only_segment_items flags items false known = only_else _ _ (is_start flags) known (record {
   by = λ bytes is more.
       let none : items ≡ record { items = [] } = array_vec_of items [] is.0 in rw (is.1, none) refl;
 })

@@ -6,7 +6,7 @@ use Rattle.link_wire.specs.Stream.{Clean, Fault, Stream, ended, with_data_of, st
 use Rattle.link_wire.specs.declared.fault.WireFault.{WireFault}
 use Rattle.link_wire.specs.declared.message.Message.{Message}
 
--- two readers of what is behind that agree there
+-- two readers of what follows that agree there
 stream_by-same : (f g : ℕ → List ℕ → Stream) (offset size : ℕ) (read : Result (Message × List ℕ) WireFault)
     → ((message : Message) (rest : List ℕ) → read ≡ Ok (message, rest) → (at : ℕ) → f at (drop (data_length message) rest) ≡ g at (drop (data_length message) rest))
     → stream_by f offset size read ≡ stream_by g offset size read
@@ -26,14 +26,14 @@ enough_turns (suc count) (suc other) offset [] p q = refl
 enough_turns (suc count) (suc other) offset (b ∷ bytes) p q =
     stream_by-same (messages_at count) (messages_at other) offset (length (b ∷ bytes)) (message_at (b ∷ bytes)) (λ message rest is at.
     let fewer = shrinks_message.by (b ∷ bytes) message rest is in
-    let behind = length-drop (data_length message) rest in
+    let later = length-drop (data_length message) rest in
     enough_turns count other at (drop (data_length message) rest) (omega arith) (omega arith))
 
 pub stream_at-nil : (offset : ℕ) → stream_at offset [] ≡ ended Clean
 unfolding stream_at messages_at
 stream_at-nil offset = refl
 
--- a message, its data, and what is behind it
+-- a message, its data, and what follows
 pub stream_at-message : (offset : ℕ) (bytes : List ℕ) (message : Message) (rest : List ℕ) → message_at bytes ≡ Ok (message, rest)
     → stream_at offset bytes ≡ with_data_of offset message rest (stream_at (offset + (length bytes - length rest) + data_length message) (drop (data_length message) rest))
 unfolding stream_at messages_at
@@ -41,7 +41,7 @@ stream_at-message offset [] message rest is =
     let fewer = shrinks_message.by [] message rest is in absurd (omega arith)
 stream_at-message offset (b ∷ bytes) message rest is =
     let fewer = shrinks_message.by (b ∷ bytes) message rest is in
-    let behind = length-drop (data_length message) rest in
+    let later = length-drop (data_length message) rest in
     ap (stream_by (messages_at (length bytes)) offset (length (b ∷ bytes))) is
     ∙ ap (with_data_of offset message rest) (enough_turns (length bytes) (length (drop (data_length message) rest)) _ (drop (data_length message) rest) (omega arith) (omega arith))
 
@@ -49,7 +49,7 @@ pub stream_at-fault : (offset : ℕ) (b : ℕ) (bytes : List ℕ) (fault : WireF
 unfolding stream_at messages_at
 stream_at-fault offset b bytes fault is = ap (stream_by (messages_at (length bytes)) offset (length (b ∷ bytes))) is
 
--- the same of bytes whose head is told whatever follows
+-- the same of bytes that begin with a head, whatever follows
 pub stream_at-head : (offset : ℕ) (head : List ℕ) (message : Message) → ((more : List ℕ) → message_at (head ++ more) ≡ Ok (message, more)) → (more : List ℕ)
     → stream_at offset (head ++ more) ≡ with_data_of offset message more (stream_at (offset + length head + data_length message) (drop (data_length message) more))
 stream_at-head offset head message is more =

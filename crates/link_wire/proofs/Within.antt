@@ -81,10 +81,6 @@ within_bytes n = record {
       (cases_lt (length bytes) n);
 }
 
--- one step that needs no more bytes after it
-within_last : {A B : Type 0} (most : ℕ) (part : List ℕ → Part A) (value : A → B) → Within most part → Within most (λ bytes. part bytes >>= λ v. Ok (value v.0, v.1))
-within_last most part value one = loosely (most + 0) most _ (omega arith) (within_then most 0 part _ one (λ v. within_pure (value v)))
-
 within_number : (n : ℕ) → Within n (number_at n)
 unfolding number_at
 within_number n = loosely (n + 0) n _ (omega arith) (within_then n 0 _ _ (within_bytes n) (λ field. within_pure _))

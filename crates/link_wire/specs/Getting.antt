@@ -56,15 +56,15 @@ module _ {R A : Type 0} where
   AnswersPart look part old new (Err (halt.Io fault)) = MetStop look part old new fault
 
   -- what a function that reads the part returns
-  pub record Gets (look : R → Input) (part : List ℕ → Part A) (old new : Source R) (answer : Result A Halt) : Type 0 where
-    pub by : AnswersPart look part old new answer
+  pub record Gets (look : R → Input) (part : List ℕ → Part A) (old new : Source R) (outcome : Result A Halt) : Type 0 where
+    pub by : AnswersPart look part old new outcome
 
--- the answer of a function that leaves what it read with its caller, and that value
+-- the result of a function that leaves what it read with its caller, and that value
 abbrev pub with_value : {A : Type 0} → A → Result (Unit {0}) Halt → Result A Halt
 with_value value (Ok done) = Ok value
 with_value value (Err stop) = Err stop
 
--- What the type byte that is asked for gives: nothing where the input has ended, or the byte.
+-- What reading the type byte gives: nothing where the input has ended, or the byte.
 module _ {R : Type 0} where
   pub record GotNone (look : R → Input) (old new : Source R) : Type 0 where
     pub takes : Takes look old new []

@@ -13,3 +13,5 @@ pub mod Stream
 pub mod Session
 pub mod Spelled
 pub mod SpelledStream
+pub mod Spelling
+pub mod Plain

@@ -1,4 +1,4 @@
--- The message that stands in a buffer.
+-- The message that a buffer holds.
 use Rattle.std.specs.Prelude.{ℕ, [], if◌then◌else◌}
 use Rattle.arrayvec.specs.ArrayVec.{ArrayVec}
 use Rattle.link_wire.specs.Codes.{is_start}

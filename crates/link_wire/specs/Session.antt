@@ -82,7 +82,7 @@ past_opening phase.Unopened = false
 past_opening phase.Reading = true
 past_opening (phase.Stopped why) = true
 
--- in this phase, with that many bytes of data to come, the next message may be asked for
+-- in this phase, with that many bytes of data to come, the next message may be read
 abbrev pub reads_next : Phase → ℕ → Bool
 reads_next phase.Unopened left = false
 reads_next phase.Reading left = left == 0
@@ -97,11 +97,11 @@ module _ {R : Type 0} where
   abbrev pub left_of : Session R → ℕ
   left_of s = s.left
 
-  -- The contact header may be asked for: once, first.
+  -- The contact header may be read: once, first.
   abbrev pub may_open : Session R → Bool
   may_open s = is_unopened s.phase && (s.left == 0 && is_fresh s.source)
 
-  -- The next message may be asked for: after the contact header, where no data is to come; and after a stop, which is
+  -- The next message may be read: after the contact header, where no data is to come; and after a stop, which is
   -- then returned again.
   abbrev pub may_read : Session R → Bool
   may_read s = reads_next s.phase s.left

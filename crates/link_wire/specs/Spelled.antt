@@ -63,7 +63,7 @@ NodeSpelled node bytes = (length node.items ≤ longest_node) × (U16 (length no
 abbrev pub ItemHeadSpelled : (flags kind size : ℕ) → Spelling
 ItemHeadSpelled flags kind size = U8 flags ⨾ U16 kind ⨾ U16 size
 
--- the number that a value tells: that of a Transfer Length item (section 5.2.5.1), and of no other
+-- the number in a value: that of a Transfer Length item (section 5.2.5.1), and of no other
 abbrev pub total_of : (of : ListOf) (kind size : ℕ) → List ℕ → Option ℕ
 total_of of kind size value = if gives_total of kind size then Some (big_number total_size value) else None
 

@@ -3,7 +3,7 @@
 use crate::fault::{Stop, WireFault};
 use link_io::IoFault;
 
-/// A `Stop` that does not know the offset of its message yet.
+/// A `Stop` without the offset of its message.
 #[derive(Clone, Copy, Debug, PartialEq, Eq)]
 pub enum Halt {
     Io(IoFault),

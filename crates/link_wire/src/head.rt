@@ -35,7 +35,8 @@ pub fn contact<R: InDevice>(source: &mut Source<R>) -> Result<Contact, Halt>
 
 /// A node ID: its length, and its bytes, which are left with the caller.
 fn node<R: InDevice>(source: &mut Source<R>, node: &mut NodeId) -> Result<(), Halt>
-    ensures { IsLive R.state source.old → Gets R.state node_at source.old source.new (with_value node.new result) }
+    ensures { IsLive R.state source.old
+        → Gets R.state node_at source.old source.new (with_value node.new result) }
 {
     let length = number16(source)?;
     if usize::from(length) > MAX_NODE_ID {
@@ -51,7 +52,8 @@ fn node_bytes<R: InDevice>(
     node: &mut NodeId,
 ) -> Result<(), Halt>
     requires { length ≤ MAX_NODE_ID }
-    ensures { IsLive R.state source.old → Gets R.state (node_bytes_at length) source.old source.new (with_value node.new result) }
+    ensures { IsLive R.state source.old
+        → Gets R.state (node_bytes_at length) source.old source.new (with_value node.new result) }
 {
     *node = NodeId::from([0; MAX_NODE_ID]);
     node.truncate(usize::from(length));
@@ -66,7 +68,9 @@ fn segment_items<R: InDevice>(
     flags: u8,
     items: &mut Items,
 ) -> Result<(), Halt>
-    ensures { IsLive R.state source.old → Gets R.state (segment_items_at flags) source.old source.new (with_value (segment_items flags items.new) result) }
+    ensures { IsLive R.state source.old
+        → Gets R.state (segment_items_at flags) source.old source.new
+        (with_value (segment_items flags items.new) result) }
 {
     if flags & START == START {
         list(source, ListOf::Transfer, items)
@@ -78,7 +82,9 @@ fn segment_items<R: InDevice>(
 /// XFER_SEGMENT, less its data.
 #[inline]
 fn segment<R: InDevice>(source: &mut Source<R>, message: &mut MessageBuffer) -> Result<(), Halt>
-    ensures { IsLive R.state source.old → Gets R.state segment_at source.old source.new (with_value (message_of message.new) result) }
+    ensures { IsLive R.state source.old
+        → Gets R.state segment_at source.old source.new
+        (with_value (message_of message.new) result) }
 {
     let flags = number8(source)?;
     let id = number64(source)?;
@@ -90,7 +96,8 @@ fn segment<R: InDevice>(source: &mut Source<R>, message: &mut MessageBuffer) -> 
 
 /// XFER_ACK.
 fn ack<R: InDevice>(source: &mut Source<R>, message: &mut MessageBuffer) -> Result<(), Halt>
-    ensures { IsLive R.state source.old → Gets R.state ack_at source.old source.new (with_value (message_of message.new) result) }
+    ensures { IsLive R.state source.old
+        → Gets R.state ack_at source.old source.new (with_value (message_of message.new) result) }
 {
     let flags = number8(source)?;
     let id = number64(source)?;
@@ -101,7 +108,9 @@ fn ack<R: InDevice>(source: &mut Source<R>, message: &mut MessageBuffer) -> Resu
 
 /// XFER_REFUSE.
 fn refuse<R: InDevice>(source: &mut Source<R>, message: &mut MessageBuffer) -> Result<(), Halt>
-    ensures { IsLive R.state source.old → Gets R.state refuse_at source.old source.new (with_value (message_of message.new) result) }
+    ensures { IsLive R.state source.old
+        → Gets R.state refuse_at source.old source.new
+        (with_value (message_of message.new) result) }
 {
     let reason = number8(source)?;
     let id = number64(source)?;
@@ -111,7 +120,9 @@ fn refuse<R: InDevice>(source: &mut Source<R>, message: &mut MessageBuffer) -> R
 
 /// SESS_TERM.
 fn sess_term<R: InDevice>(source: &mut Source<R>, message: &mut MessageBuffer) -> Result<(), Halt>
-    ensures { IsLive R.state source.old → Gets R.state sess_term_at source.old source.new (with_value (message_of message.new) result) }
+    ensures { IsLive R.state source.old
+        → Gets R.state sess_term_at source.old source.new
+        (with_value (message_of message.new) result) }
 {
     let flags = number8(source)?;
     let reason = number8(source)?;
@@ -121,7 +132,9 @@ fn sess_term<R: InDevice>(source: &mut Source<R>, message: &mut MessageBuffer) -
 
 /// MSG_REJECT.
 fn msg_reject<R: InDevice>(source: &mut Source<R>, message: &mut MessageBuffer) -> Result<(), Halt>
-    ensures { IsLive R.state source.old → Gets R.state msg_reject_at source.old source.new (with_value (message_of message.new) result) }
+    ensures { IsLive R.state source.old
+        → Gets R.state msg_reject_at source.old source.new
+        (with_value (message_of message.new) result) }
 {
     let reason = number8(source)?;
     let header = number8(source)?;
@@ -131,7 +144,9 @@ fn msg_reject<R: InDevice>(source: &mut Source<R>, message: &mut MessageBuffer) 
 
 /// SESS_INIT.
 fn sess_init<R: InDevice>(source: &mut Source<R>, message: &mut MessageBuffer) -> Result<(), Halt>
-    ensures { IsLive R.state source.old → Gets R.state sess_init_at source.old source.new (with_value (message_of message.new) result) }
+    ensures { IsLive R.state source.old
+        → Gets R.state sess_init_at source.old source.new
+        (with_value (message_of message.new) result) }
 {
     let keepalive = number16(source)?;
     let segment_mru = number64(source)?;
@@ -153,7 +168,9 @@ pub fn fields<R: InDevice>(
     kind: u8,
     message: &mut MessageBuffer,
 ) -> Result<(), Halt>
-    ensures { IsLive R.state source.old → Gets R.state (fields_at kind) source.old source.new (with_value (message_of message.new) result) }
+    ensures { IsLive R.state source.old
+        → Gets R.state (fields_at kind) source.old source.new
+        (with_value (message_of message.new) result) }
 {
     match kind {
         XFER_SEGMENT => segment(source, message),

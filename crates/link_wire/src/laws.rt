@@ -13,11 +13,13 @@ use crate::message::Message;
 /// message `m` with the data `d`, and `a` followed by `x` spells `n` with `e`, both are one, and `x`
 /// is empty.
 pub fn one_reading(a: &[u8], x: &[u8], m: &Message, d: &[u8], n: &Message, e: &[u8])
-    ensures { Spelled m.now d.now a.now → Spelled n.now e.now (a.now ++ x.now) → (x.now ≡ []) × (m.now ≡ n.now) × (d.now ≡ e.now) }
+    ensures { Spelled m.now d.now a.now → Spelled n.now e.now (a.now ++ x.now)
+        → (x.now ≡ []) × (m.now ≡ n.now) × (d.now ≡ e.now) }
 {}
 
 /// Every list of bytes has exactly one reading.
 pub fn exactly_one_reading()
     ensures some { (bytes : List ℕ) → AreBytes bytes → IsReading bytes (reading_of bytes) }
-    ensures only { (bytes : List ℕ) (reading : Reading) → IsReading bytes reading → reading ≡ reading_of bytes }
+    ensures only { (bytes : List ℕ) (reading : Reading) → IsReading bytes reading
+        → reading ≡ reading_of bytes }
 {}

@@ -1,4 +1,18 @@
-//! The wire of a recorded TCPCLv4 session (RFC 9174, without TLS): the messages of one entity's byte stream.
+//! The wire of a recorded TCPCLv4 session (RFC 9174, without TLS): the messages of one entity's byte
+//! stream, read one after another, and the spellings of those that are written.
+//!
+//! ```
+//! let mut session = Session::new(Source::new(Reader::new(stdin)));
+//! let contact = session.open()?;
+//! while let Some((offset, message)) = session.next()? {
+//!     // the data of a segment comes before the next message
+//!     while session.load()? > 0 {
+//!         let data = session.loaded();
+//!         // .. all of it, or a prefix
+//!         session.pass(data.len());
+//!     }
+//! }
+//! ```
 #![tactic(auto)]
 
 mod codes;
@@ -9,7 +23,11 @@ pub mod laws;
 mod list;
 mod message;
 mod parts;
+mod plain;
 mod session;
+mod spelling;
+#[cfg(test)]
+mod tests;
 
 pub use codes::{END, START};
 pub use fault::{Stop, WireFault};
@@ -22,3 +40,6 @@ pub use message::{
     MessageBuffer, NodeId, SegmentHead,
 };
 pub use session::Session;
+pub use spelling::{
+    HEAD_MAX, HeadBuf, put_contact, put_segment_head, put_sess_init, put_sess_term,
+};

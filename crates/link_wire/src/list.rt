@@ -12,7 +12,7 @@ use crate::message::{Item, Items, ListOf, MAX_LIST_LENGTH};
 use crate::parts::{bytes, number8, number16, number32, number64};
 use link_io::{InDevice, Source};
 
-/// Values that nobody asks for are passed over in pieces of this many bytes.
+/// Values that are not kept are passed over in pieces of this many bytes.
 const PIECE: usize = 256;
 
 /// What stands before an extension item's value.
@@ -37,7 +37,8 @@ impl ItemHead {
 
 /// Passes over the next bytes.
 fn skip<R: InDevice>(source: &mut Source<R>, count: u16) -> Result<(), Halt>
-    ensures { IsLive R.state source.old → Gets R.state (skipped_at count) source.old source.new result }
+    ensures { IsLive R.state source.old
+        → Gets R.state (skipped_at count) source.old source.new result }
 {
     let mut piece = [0; PIECE];
     let mut left = usize::from(count);
@@ -56,7 +57,8 @@ fn total<R: InDevice>(
     of: ListOf,
     head: &ItemHead,
 ) -> Result<Option<u64>, Halt>
-    ensures { IsLive R.state source.old → Gets R.state (total_at of head.now.kind head.now.length) source.old source.new result }
+    ensures { IsLive R.state source.old
+        → Gets R.state (total_at of head.now.kind head.now.length) source.old source.new result }
 {
     if head.has_total(of) {
         Ok(Some(number64(source)?))
@@ -68,7 +70,8 @@ fn total<R: InDevice>(
 
 /// The head of the next item, where that many bytes of the list are left.
 fn item_head<R: InDevice>(source: &mut Source<R>, left: u32) -> Result<ItemHead, Halt>
-    ensures gets { IsLive R.state source.old → Gets R.state (item_head_at left) source.old source.new result }
+    ensures gets { IsLive R.state source.old
+        → Gets R.state (item_head_at left) source.old source.new result }
     ensures within { IfOk result (λ head. 5 + head.length ≤ left) }
 {
     if left < ITEM_HEAD {
@@ -94,7 +97,8 @@ fn items_of<R: InDevice>(
     length: u32,
     items: &mut Items,
 ) -> Result<(), Halt>
-    ensures { IsLive R.state source.old → Gets R.state (items_by of length) source.old source.new (with_value items.new result) }
+    ensures { IsLive R.state source.old
+        → Gets R.state (items_by of length) source.old source.new (with_value items.new result) }
 {
     items.clear();
     let mut left = length;
@@ -117,7 +121,8 @@ fn items_of<R: InDevice>(
 
 /// An extension list: its length, and its items, which are left with the caller.
 pub fn list<R: InDevice>(source: &mut Source<R>, of: ListOf, items: &mut Items) -> Result<(), Halt>
-    ensures { IsLive R.state source.old → Gets R.state (list_at of) source.old source.new (with_value items.new result) }
+    ensures { IsLive R.state source.old
+        → Gets R.state (list_at of) source.old source.new (with_value items.new result) }
 {
     let length = number32(source)?;
     if length > MAX_LIST_LENGTH {

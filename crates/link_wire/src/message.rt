@@ -155,8 +155,9 @@ pub enum Fields {
     },
 }
 
-/// A place for one message after another, so that none is moved: a message's numbers, and beside them the node ID and the
-/// items. Of a message that has no node ID or no items, what stands there means nothing.
+/// A buffer for one message after another, so that none is moved: a message's numbers, and beside
+/// them its node ID and its items. Where a message has no node ID or no items, those fields hold
+/// nothing of use.
 #[derive(Debug, Drop)]
 pub struct MessageBuffer {
     pub fields: Fields,
@@ -165,11 +166,11 @@ pub struct MessageBuffer {
 }
 
 impl MessageBuffer {
-    ghost use Rattle.std.specs.Prelude.{◌≡◌};
+    ghost use Rattle.std.specs.Prelude.{◌≡◌, []};
     ghost use Rattle.link_wire.specs.Message.{data_length};
-    ghost use Rattle.link_wire.specs.MessageBuffer.{message_of};
+    ghost use Rattle.link_wire.specs.MessageBuffer.{message_of, message_with};
 
-    /// A place in which a KEEPALIVE stands.
+    /// A buffer that holds a KEEPALIVE.
     pub fn new() -> MessageBuffer
         ensures { message_of result ≡ Message.Keepalive }
     {
@@ -178,6 +179,15 @@ impl MessageBuffer {
             node: NodeId::new(),
             items: Items::new(),
         }
+    }
+
+    /// Sets the numbers of a message without items; the node ID stays as it was.
+    #[inline(always)]
+    pub(crate) fn set(&mut self, fields: Fields)
+        ensures { message_of self.new ≡ message_with fields self.old.node (record { items = [] }) }
+    {
+        self.fields = fields;
+        self.items.clear();
     }
 
     /// How many bytes of data follow the message's head: none but in a segment.
@@ -191,7 +201,7 @@ impl MessageBuffer {
         }
     }
 
-    /// The message that stands there.
+    /// The message that it holds.
     pub fn into_message(self) -> Message
         ensures { result ≡ message_of self }
     {

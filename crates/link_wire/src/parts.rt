@@ -13,7 +13,9 @@ use link_io::{Filled, InDevice, Source};
 /// The next bytes, as many as the slice has room for.
 #[inline]
 pub fn bytes<R: InDevice>(source: &mut Source<R>, field: &mut [u8]) -> Result<(), Halt>
-    ensures { IsLive R.state source.old → Gets R.state (bytes_at (length field.new)) source.old source.new (with_value field.new result) }
+    ensures { IsLive R.state source.old
+        → Gets R.state (bytes_at (length field.new)) source.old source.new
+        (with_value field.new result) }
 {
     match source.fill(field) {
         Ok(Filled::Whole) => Ok(()),

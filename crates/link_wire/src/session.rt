@@ -3,10 +3,11 @@
 use crate::fault::{Stop, WireFault};
 use crate::halt::Halt;
 use crate::head::{contact, fields, kind};
-use crate::message::{Contact, Message, MessageBuffer};
+use crate::message::{Contact, Fields, Message, MessageBuffer};
+use crate::plain::plain;
 use link_io::{InDevice, Source};
 
-/// What a session may be asked for.
+/// What may be read next.
 #[derive(Clone, Copy, Debug, PartialEq, Eq)]
 enum Phase {
     /// The contact header.
@@ -31,9 +32,10 @@ pub struct Session<R> {
 impl<R: InDevice> Session<R> {
     ghost use Rattle.std.specs.Prelude.{◌≡◌, true, false, [], ℕ, List, IfErr, Some, None, Ok, Err, IsTrue};
     ghost use Rattle.link_wire.specs.Halt.{stop_at};
-    ghost use Rattle.link_io.specs.Source.{is_fresh};
+    ghost use Rattle.link_io.specs.Source.{is_fresh, window_of};
+    ghost use Rattle.link_wire.specs.Plain.{IsHead};
     ghost use Rattle.link_wire.specs.MessageBuffer.{message_of};
-    ghost use Rattle.link_wire.specs.Session.{source_of, may_open, may_read, is_opened, IsSessionAt, HasEndedBetween, HasStopped, left_of, with_message_read, GivesContact, GivesNext};
+    ghost use Rattle.link_wire.specs.Session.{source_of, may_open, may_read, is_opened, IsSessionAt, HasEndedBetween, HasStopped, left_of, with_message_read, GivesContact, GaveMessage, GivesNext};
     ghost use Rattle.link_wire.specs.declared.session.Phase.TheVariants as phase;
 
     /// A session over a source that has taken nothing.
@@ -98,9 +100,11 @@ impl<R: InDevice> Session<R> {
         requires { IsTrue (may_read self.old) }
         ensures settles { IfErr result (HasStopped self.new) }
         ensures again { HasEndedBetween self.old → (self.new ≡ self.old) × (result ≡ Ok None) }
+        ensures gives { (history : List ℕ) → IsSessionAt R.state self.old history
+            → GivesNext R.state self.old self.new history result }
         ensures opened { IsTrue (is_opened self.new) }
-        ensures gives { (history : List ℕ) → IsSessionAt R.state self.old history → GivesNext R.state self.old self.new history result }
-        ensures stopped { (stop : _) → HasStopped self.old stop → (self.new ≡ self.old) × (result ≡ Err stop) }
+        ensures stopped { (stop : _) → HasStopped self.old stop
+            → (self.new ≡ self.old) × (result ≡ Err stop) }
     {
         let mut message = MessageBuffer::new();
         match self.read_next(&mut message)? {
@@ -109,20 +113,59 @@ impl<R: InDevice> Session<R> {
         }
     }
 
-    /// As `next`, into a place of the caller's, so that no message is moved: returns the offset of
-    /// its type byte. Where none is returned, what stands in `message` means nothing.
+    /// As `next`, into a buffer of the caller's, so that no message is moved: returns the offset of
+    /// the type byte. Where none is returned, `message` holds nothing of use.
     #[inline(always)]
     pub fn read_next(&mut self, message: &mut MessageBuffer) -> Result<Option<u64>, Stop>
         requires { IsTrue (may_read self.old) }
         ensures settles { IfErr result (HasStopped self.new) }
         ensures again { HasEndedBetween self.old → (self.new ≡ self.old) × (result ≡ Ok None) }
+        ensures gives { (history : List ℕ) → IsSessionAt R.state self.old history
+            → GivesNext R.state self.old self.new history
+            (with_message_read (message_of message.new) result) }
         ensures opened { IsTrue (is_opened self.new) }
-        ensures gives { (history : List ℕ) → IsSessionAt R.state self.old history → GivesNext R.state self.old self.new history (with_message_read (message_of message.new) result) }
-        ensures stopped { (stop : _) → HasStopped self.old stop → (self.new ≡ self.old) × (result ≡ Err stop) }
+        ensures stopped { (stop : _) → HasStopped self.old stop
+            → (self.new ≡ self.old) × (result ≡ Err stop) }
     {
         if let Phase::Stopped(stop) = self.phase {
             return Err(stop);
         }
+        match plain(self.source.window()) {
+            Some((fields, size)) => Ok(Some(self.give_head(fields, size, message))),
+            None => self.read_fields(message),
+        }
+    }
+
+    /// Gives the head that lies in the window and has these numbers, and returns its offset.
+    #[inline(always)]
+    fn give_head(&mut self, fields: Fields, size: usize, message: &mut MessageBuffer) -> u64
+        requires may_read { IsTrue (may_read self.old) }
+        requires head { IsHead (window_of self.old.source) fields size }
+        ensures opened { IsTrue (is_opened self.new) }
+        ensures gives { (history : List ℕ) → IsSessionAt R.state self.old history
+            → GaveMessage R.state self.old self.new history result (message_of message.new) }
+    {
+        let offset = self.source.given();
+        self.source.give(size);
+        message.set(fields);
+        self.offset = offset;
+        self.left = message.data_length();
+        offset
+    }
+
+    /// `read_next` field by field.
+    #[cold]
+    #[inline(never)]
+    fn read_fields(&mut self, message: &mut MessageBuffer) -> Result<Option<u64>, Stop>
+        requires may_read { IsTrue (may_read self.old) }
+        requires going { (stop : _) → HasStopped self.old stop → ⊥ }
+        ensures settles { IfErr result (HasStopped self.new) }
+        ensures again { HasEndedBetween self.old → (self.new ≡ self.old) × (result ≡ Ok None) }
+        ensures opened { IsTrue (is_opened self.new) }
+        ensures gives { (history : List ℕ) → IsSessionAt R.state self.old history
+            → GivesNext R.state self.old self.new history
+            (with_message_read (message_of message.new) result) }
+    {
         let offset = self.source.given();
         let kind = match kind(&mut self.source) {
             Ok(Some(kind)) => kind,
@@ -164,10 +207,13 @@ impl<R: InDevice> Session<R> {
     pub fn data(&mut self, buffer: &mut [u8]) -> Result<usize, Stop>
         ensures bound { IfOk result (λ n. n ≤ length buffer.new) }
         ensures settles { IfErr result (HasStopped self.new) }
-        ensures gives { (history : List ℕ) → IsSessionAt R.state self.old history → GivesData R.state self.old self.new history buffer.new result }
+        ensures gives { (history : List ℕ) → IsSessionAt R.state self.old history
+            → GivesData R.state self.old self.new history buffer.new result }
         ensures opened { IsTrue (is_opened self.old) → IsTrue (is_opened self.new) }
-        ensures none { left_of self.old ≡ 0 → ((stop : _) → HasStopped self.old stop → ⊥) → (self.new ≡ self.old) × (result ≡ Ok 0) }
-        ensures stopped { (stop : _) → HasStopped self.old stop → (self.new ≡ self.old) × (result ≡ Err stop) }
+        ensures none { left_of self.old ≡ 0 → ((stop : _) → HasStopped self.old stop → ⊥)
+            → (self.new ≡ self.old) × (result ≡ Ok 0) }
+        ensures stopped { (stop : _) → HasStopped self.old stop
+            → (self.new ≡ self.old) × (result ≡ Err stop) }
     {
         let ready = self.load()?;
         if ready == 0 || buffer.is_empty() {
@@ -182,7 +228,8 @@ impl<R: InDevice> Session<R> {
     fn copy(&mut self, part: &mut [u8])
         requires { length part.old ≤ length (data_in self.old) }
         ensures opened { is_opened self.new ≡ is_opened self.old }
-        ensures gives { (history : List ℕ) → IsSessionAt R.state self.old history → GaveBytes R.state self.old self.new history part.new }
+        ensures gives { (history : List ℕ) → IsSessionAt R.state self.old history
+            → GaveBytes R.state self.old self.new history part.new }
     {
         let count = part.len();
         part.copy_from_slice(&self.loaded()[..count]);
@@ -196,10 +243,13 @@ impl<R: InDevice> Session<R> {
     pub fn load(&mut self) -> Result<usize, Stop>
         ensures size { IfOk result (λ n. n ≡ length (data_in self.new)) }
         ensures settles { IfErr result (HasStopped self.new) }
-        ensures gives { (history : List ℕ) → IsSessionAt R.state self.old history → GivesLoad R.state self.old self.new history result }
+        ensures gives { (history : List ℕ) → IsSessionAt R.state self.old history
+            → GivesLoad R.state self.old self.new history result }
         ensures opened { IsTrue (is_opened self.old) → IsTrue (is_opened self.new) }
-        ensures none { left_of self.old ≡ 0 → ((stop : _) → HasStopped self.old stop → ⊥) → (self.new ≡ self.old) × (result ≡ Ok 0) }
-        ensures stopped { (stop : _) → HasStopped self.old stop → (self.new ≡ self.old) × (result ≡ Err stop) }
+        ensures none { left_of self.old ≡ 0 → ((stop : _) → HasStopped self.old stop → ⊥)
+            → (self.new ≡ self.old) × (result ≡ Ok 0) }
+        ensures stopped { (stop : _) → HasStopped self.old stop
+            → (self.new ≡ self.old) × (result ≡ Err stop) }
     {
         if let Phase::Stopped(stop) = self.phase {
             return Err(stop);
@@ -229,7 +279,8 @@ impl<R: InDevice> Session<R> {
     pub fn pass(&mut self, count: usize)
         requires { count ≤ length (data_in self.old) }
         ensures opened { is_opened self.new ≡ is_opened self.old }
-        ensures gives { (history : List ℕ) → IsSessionAt R.state self.old history → GaveBytes R.state self.old self.new history (take count (data_in self.old)) }
+        ensures gives { (history : List ℕ) → IsSessionAt R.state self.old history
+            → GaveBytes R.state self.old self.new history (take count (data_in self.old)) }
     {
         self.source.give(count);
         self.left -= count as u64;

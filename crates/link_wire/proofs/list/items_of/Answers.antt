@@ -40,10 +40,10 @@ loop-left-preserved g c =
     record {
       few = omega arith;
       live = λ live. is_live (c.in_ok-total.ensures (is_live (c.in_ok-head.ensures.gets (kept.live live))));
-      rest = λ live new answer others.
+      rest = λ live new outcome others.
           let head = c.in_ok-head.ensures.gets (kept.live live) in
           let total = c.in_ok-total.ensures (is_live head) in
-          let joined = kept.rest live new _ (items_more _ _ c.loop-left-test.true head _ _ c.in_ok-total.total answer (room_for_one _ below) total (rw (grown, c.from.ensures) at others)) in
+          let joined = kept.rest live new _ (items_more _ _ c.loop-left-test.true head _ _ c.in_ok-total.total outcome (room_for_one _ below) total (rw (grown, c.from.ensures) at others)) in
           rw (with_before-append, ← c.push.ensures.items) at joined;
     }
 

@@ -16,9 +16,9 @@ invariant-loop-left g l =
     record {
       few : length l.items.items ≤ MAX_ITEMS;
       live : IsLive look l.fn.source → IsLive look l.source;
-      rest : IsLive look l.fn.source → (new : Source g.row.R.Denot) (answer : Result (List Item) Halt)
-          → Gets look (items_at l.of (MAX_ITEMS - length l.items.items) l.left) l.source new answer
-          → Gets look (items_at l.of MAX_ITEMS l.length) l.fn.source new (with_before l.items.items answer);
+      rest : IsLive look l.fn.source → (new : Source g.row.R.Denot) (outcome : Result (List Item) Halt)
+          → Gets look (items_at l.of (MAX_ITEMS - length l.items.items) l.left) l.source new outcome
+          → Gets look (items_at l.of MAX_ITEMS l.length) l.fn.source new (with_before l.items.items outcome);
     }
 
 abbrev pub decreases-loop-left : goal.decreases-loop-left

@@ -1,0 +1,18 @@
+use Rattle.std.proofs.Common.{◌≡◌, length, refl, ◌∙◌, ap}
+use Rattle.link_wire.proofs.Sessions.{none_left, message_came, message_refused}
+use Rattle.link_wire.proofs.session.Session.read_fields.Goals as goal
+
+pub returns-in-Ok-clause-gives : goal.returns-in-Ok-clause-gives
+returns-in-Ok-clause-gives g c = λ history at.
+    let old = c.args.self.now in
+    let first = rw c.in-Ok-Some.field-0-is at (c.in-Ok-Some.ensures.gives at.live) in
+    let here : c.given-offset.result ≡ length history = c.given-offset.ensures ∙ at.at.given in
+    rw here (message_came old history at (none_left old at.going c.requires.may_read) first _ _ (c.in-Ok.ensures first.live) refl c.data_length-self.ensures at.going)
+
+pub returns-in-Err-fields-clause-gives : goal.returns-in-Err-fields-clause-gives
+returns-in-Err-fields-clause-gives g c = λ history at.
+    let old = c.args.self.now in
+    let first = rw c.in-Ok-Some.field-0-is at (c.in-Ok-Some.ensures.gives at.live) in
+    let here : c.given-offset.result ≡ length history = c.given-offset.ensures ∙ at.at.given in
+    let state = c.stop_at-in-Err-fields.ensures.state in
+    message_refused old history at (none_left old at.going c.requires.may_read) first c.stop_at-in-Err-fields.new.self _ c.in-Err-fields.halt _ _ (c.in-Err-fields.ensures first.live) (ap (λ s. s.source) state) (ap (λ s. s.phase) state) c.stop_at-in-Err-fields.ensures.stop here

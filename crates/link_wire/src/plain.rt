@@ -1,0 +1,116 @@
+//! Frequent heads of messages, read where they lie in a window (RFC 9174 sections 5.1 to 6.1). What
+//! they leave, lists and faults and the window's edge, is read field by field.
+
+ghost use Rattle.std.specs.Prelude.{◌≡◌, ◌<◌, length, slice_index, IfSome};
+ghost use Rattle.link_wire.specs.Plain.{IsHead};
+
+use crate::codes::{KEEPALIVE, MSG_REJECT, SESS_TERM, START, XFER_ACK, XFER_REFUSE, XFER_SEGMENT};
+use crate::message::Fields;
+use byteorder::{BigEndian, ByteOrder};
+
+/// XFER_SEGMENT: type, flags and ID, then the data's length; with START a list of no bytes before it.
+#[inline(always)]
+fn segment(window: &[u8]) -> Option<(Fields, usize)>
+    requires some { 0 < length window.now }
+    requires kind { slice_index window.now 0 ≡ XFER_SEGMENT }
+    ensures { IfSome result (λ head. IsHead window.now head.0 head.1) }
+{
+    if window.len() < 18 {
+        return None;
+    }
+    let flags = window[1];
+    let id = BigEndian::read_u64(&window[2..10]);
+    if flags & START != START {
+        let length = BigEndian::read_u64(&window[10..18]);
+        return Some((Fields::Segment { flags, id, length }, 18));
+    }
+    if window.len() < 22 {
+        return None;
+    }
+    if BigEndian::read_u32(&window[10..14]) != 0 {
+        return None;
+    }
+    let length = BigEndian::read_u64(&window[14..22]);
+    Some((Fields::Segment { flags, id, length }, 22))
+}
+
+/// XFER_ACK: type, flags, ID and length.
+#[inline(always)]
+fn ack(window: &[u8]) -> Option<(Fields, usize)>
+    requires some { 0 < length window.now }
+    requires kind { slice_index window.now 0 ≡ XFER_ACK }
+    ensures { IfSome result (λ head. IsHead window.now head.0 head.1) }
+{
+    if window.len() < 18 {
+        return None;
+    }
+    let flags = window[1];
+    let id = BigEndian::read_u64(&window[2..10]);
+    let length = BigEndian::read_u64(&window[10..18]);
+    Some((Fields::Ack { flags, id, length }, 18))
+}
+
+/// XFER_REFUSE: type, reason and ID.
+#[inline(always)]
+fn refuse(window: &[u8]) -> Option<(Fields, usize)>
+    requires some { 0 < length window.now }
+    requires kind { slice_index window.now 0 ≡ XFER_REFUSE }
+    ensures { IfSome result (λ head. IsHead window.now head.0 head.1) }
+{
+    if window.len() < 10 {
+        return None;
+    }
+    let reason = window[1];
+    let id = BigEndian::read_u64(&window[2..10]);
+    Some((Fields::Refuse { reason, id }, 10))
+}
+
+/// SESS_TERM: type, flags and reason.
+#[inline(always)]
+fn sess_term(window: &[u8]) -> Option<(Fields, usize)>
+    requires some { 0 < length window.now }
+    requires kind { slice_index window.now 0 ≡ SESS_TERM }
+    ensures { IfSome result (λ head. IsHead window.now head.0 head.1) }
+{
+    if window.len() < 3 {
+        return None;
+    }
+    let flags = window[1];
+    let reason = window[2];
+    Some((Fields::SessTerm { flags, reason }, 3))
+}
+
+/// MSG_REJECT: type, reason, and the type byte that was rejected.
+#[inline(always)]
+fn msg_reject(window: &[u8]) -> Option<(Fields, usize)>
+    requires some { 0 < length window.now }
+    requires kind { slice_index window.now 0 ≡ MSG_REJECT }
+    ensures { IfSome result (λ head. IsHead window.now head.0 head.1) }
+{
+    if window.len() < 3 {
+        return None;
+    }
+    let reason = window[1];
+    let header = window[2];
+    Some((Fields::MsgReject { reason, header }, 3))
+}
+
+/// The numbers of the message whose head begins the window, and the bytes of that head: where it is
+/// whole there, has no node ID and no item, and shows no fault.
+#[inline(always)]
+pub fn plain(window: &[u8]) -> Option<(Fields, usize)>
+    ensures { IfSome result (λ head. IsHead window.now head.0 head.1) }
+{
+    if window.is_empty() {
+        return None;
+    }
+    match window[0] {
+        XFER_SEGMENT => segment(window),
+        XFER_ACK => ack(window),
+        XFER_REFUSE => refuse(window),
+        KEEPALIVE => Some((Fields::Keepalive, 1)),
+        SESS_TERM => sess_term(window),
+        MSG_REJECT => msg_reject(window),
+        _ => None,
+    }
+}

@@ -1,0 +1,159 @@
+//! What the `put_` calls append: its bytes, and what a session reads of it.
+
+ghost use Rattle.std.specs.Prelude.{◌≡◌};
+ghost use Rattle.arrayvec.specs.ArrayVec.{array_vec_len};
+
+use crate::{
+    Contact, END, HeadBuf, Item, Items, Message, NodeId, Reader, START, SegmentHead, Session,
+    Source, Stop, put_contact, put_segment_head, put_sess_init, put_sess_term,
+};
+use std::test::Fail;
+
+/// The first message of a session, of which these bytes are all.
+fn read_again(bytes: &[u8]) -> Result<Option<(u64, Message)>, Stop> {
+    let mut session = Session::new(Source::new(Reader::new(bytes)));
+    session.open()?;
+    session.next()
+}
+
+/// A contact header without flags.
+fn opened() -> HeadBuf
+    ensures { array_vec_len result ≡ 6 }
+{
+    let mut buffer = HeadBuf::new();
+    put_contact(&mut buffer, 0);
+    buffer
+}
+
+/// Whether the head of a segment with these items, none or one that announces, is read as it was put.
+fn put_and_read(flags: u8, id: u64, length: u64, items: &[Item]) -> Result<bool, Fail> {
+    let mut buffer = opened();
+    let announce = match items {
+        [item] if flags & START == START => item.total,
+        _ => None,
+    };
+    put_segment_head(&mut buffer, flags, id, length, announce);
+    let head = SegmentHead {
+        flags,
+        id,
+        items: Items::try_from(items)?,
+        length,
+    };
+    Ok(read_again(buffer.as_slice())? == Some((6, Message::Segment(head))))
+}
+
+/// The item that announces a total length.
+fn announced(total: u64) -> Item {
+    Item {
+        flags: 0,
+        kind: 1,
+        length: 8,
+        total: Some(total),
+    }
+}
+
+#[test]
+fn contact_headers(rt: HostRuntime) -> Result<(), Fail> {
+    for flags in [0, 1, 255] {
+        let mut buffer = HeadBuf::new();
+        put_contact(&mut buffer, flags);
+        let mut session = Session::new(Source::new(Reader::new(buffer.as_slice())));
+        assert_eq!(rt; session.open()?, Contact { flags });
+    }
+    assert_eq!(rt; opened().as_slice(), b"dtn!\x04\x00".as_slice());
+    Ok(())
+}
+
+#[test]
+fn sessions(rt: HostRuntime) -> Result<(), Fail> {
+    let mut example = HeadBuf::new();
+    put_sess_init(
+        &mut example,
+        60,
+        65_536,
+        1_048_576,
+        &NodeId::try_from(b"ipn:1.0".as_slice())?,
+    );
+    assert_eq!(rt;
+        example.as_slice(),
+        b"\x07\x00\x3c\x00\x00\x00\x00\x00\x01\x00\x00\x00\x00\x00\x00\x00\x10\x00\x00\x00\x07ipn:1.0\x00\x00\x00\x00".as_slice()
+    );
+    let node = [0x64; 1024];
+    for (keepalive, segment_mru, transfer_mru, size) in [
+        (0, 0, 1, 0),
+        (1, 1, u64::MAX, 1),
+        (u16::MAX, u64::MAX, 0, 1024),
+    ] {
+        let mut buffer = opened();
+        let put = NodeId::try_from(&node[..size])?;
+        put_sess_init(&mut buffer, keepalive, segment_mru, transfer_mru, &put);
+        let expected = Message::SessInit {
+            keepalive,
+            segment_mru,
+            transfer_mru,
+            node: put,
+            items: Items::new(),
+        };
+        assert_eq!(rt; read_again(buffer.as_slice())?, Some((6, expected)));
+    }
+    Ok(())
+}
+
+#[test]
+fn segments(rt: HostRuntime) -> Result<(), Fail> {
+    let mut example = HeadBuf::new();
+    put_segment_head(&mut example, START | END, 0, 34, None);
+    assert_eq!(rt;
+        example.as_slice(),
+        b"\x01\x03\x00\x00\x00\x00\x00\x00\x00\x00\x00\x00\x00\x00\x00\x00\x00\x00\x00\x00\x00\x22".as_slice()
+    );
+    for number in [0, 1, u64::MAX] {
+        assert!(rt; put_and_read(0, number, 1, &[])?);
+        assert!(rt; put_and_read(END, 0, number, &[])?);
+        assert!(rt; put_and_read(START, number, 0, &[])?);
+        assert!(rt; put_and_read(255, 1, number, &[])?);
+        assert!(rt; put_and_read(START, 1, 2, &[announced(number)])?);
+    }
+    Ok(())
+}
+
+#[test]
+fn announced_total(rt: HostRuntime) {
+    let mut buffer = HeadBuf::new();
+    put_segment_head(&mut buffer, START, 0, 17, Some(34));
+    assert_eq!(rt;
+        buffer.as_slice(),
+        b"\x01\x02\x00\x00\x00\x00\x00\x00\x00\x00\x00\x00\x00\x0d\x00\x00\x01\x00\x08\x00\x00\x00\x00\x00\x00\x00\x22\x00\x00\x00\x00\x00\x00\x00\x11".as_slice()
+    );
+}
+
+#[test]
+fn terminations(rt: HostRuntime) -> Result<(), Fail> {
+    for number in [0, 1, 255] {
+        let mut buffer = opened();
+        put_sess_term(&mut buffer, number, 3);
+        assert_eq!(rt;
+            read_again(buffer.as_slice())?,
+            Some((
+                6,
+                Message::SessTerm {
+                    flags: number,
+                    reason: 3
+                }
+            ))
+        );
+        let mut other = opened();
+        put_sess_term(&mut other, 1, number);
+        assert_eq!(rt;
+            read_again(other.as_slice())?,
+            Some((
+                6,
+                Message::SessTerm {
+                    flags: 1,
+                    reason: number
+                }
+            ))
+        );
+    }
+    Ok(())
+}
