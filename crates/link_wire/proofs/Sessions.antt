@@ -3,12 +3,12 @@ use Rattle.std.proofs.Common.{◌≡◌, ℕ, ◌+◌, true, eqb, eqb-true, List
 use Rattle.std.specs.Prelude.{IsErrAnd}
 use Rattle.std.proofs.lemmas.List.{nil_from_length}
 use Rattle.link_io.specs.Device.{Input}
-use Rattle.link_wire.specs.Part.{bytes_at, number_at}
+use Rattle.link_wire.specs.Part.{number_at}
 use Rattle.link_wire.specs.Message.{contact_at, message_at, fields_at, data_length}
-use Rattle.link_io.specs.Source.{is_fresh, IsSourceAt, IsLive, Takes, StopsAfter}
+use Rattle.link_io.specs.Source.{is_fresh, IsSourceAt, IsLive, Takes}
 use Rattle.link_wire.specs.Getting.{Needs, IsFault, GotPart, Gets, GotKind}
 use Rattle.link_wire.specs.Stream.{End, Clean, Cut, Fault, Stream, ended, stream_at, Reading, reading_of}
-use Rattle.link_wire.specs.Session.{joined, data_after, with_data, rest_after, IsLeft, IsUndecided, SameMessages, ShownLast, is_unopened, reads_next, may_open, may_read, left_of, HasStopped, IsSessionAt, GaveContact, GivesContact, GaveMessage, GivesNext, GaveStop, GaveBytes, GivesLoad, GivesData}
+use Rattle.link_wire.specs.Session.{joined, data_after, with_data, rest_after, IsLeft, IsUndecided, SameMessages, ShownLast, is_unopened, reads_next, may_open, may_read, left_of, HasStopped, IsSessionAt, GaveContact, GivesContact, GaveMessage, GivesNext, GaveBytes, GivesLoad, GivesData}
 use Rattle.link_io.proofs.Sources.{and_true, fresh_at, fresh_live, IsSourceAt-then, Takes-then, StopsAfter-then}
 use Rattle.link_wire.proofs.Gettings.{after, IsFault-then, cut_then}
 use Rattle.link_wire.proofs.FieldReads.{IsPart-byte}
@@ -18,7 +18,6 @@ use Rattle.link_wire.proofs.Streams.{stream_at-head, stream_at-fault}
 use Rattle.link_wire.proofs.Contacts.{contact_taken, reading-contact, reading-refused}
 use Rattle.link_wire.proofs.Rests.{appended, begun, begun_by, begun_left, data_by, data_left, clean_end, settled, goes_on_from}
 use Rattle.link_wire.specs.Halt.{stop_at}
-use Rattle.link_io.specs.declared.fault.IoFault.{IoFault}
 use Rattle.link_wire.specs.declared.fault.Stop.{Stop}
 use Rattle.link_wire.specs.declared.fault.Stop.TheVariants as stop
 use Rattle.link_wire.specs.declared.fault.WireFault.{WireFault}

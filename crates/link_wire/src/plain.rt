@@ -1,5 +1,5 @@
-//! Frequent heads of messages, read where they lie in a window (RFC 9174 sections 5.1 to 6.1). What
-//! they leave, lists and faults and the window's edge, is read field by field.
+//! Frequent heads of messages, read where they lie in a window (RFC 9174 sections 5.1 to 6.1). All
+//! else is read field by field: lists with items, SESS_INIT, faults, and heads at the window's edge.
 
 ghost use Rattle.std.specs.Prelude.{◌≡◌, ◌<◌, length, slice_index, IfSome};
 ghost use Rattle.link_wire.specs.Plain.{IsHead};

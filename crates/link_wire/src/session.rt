@@ -136,7 +136,8 @@ impl<R: InDevice> Session<R> {
         }
     }
 
-    /// Gives the head that lies in the window and has these numbers, and returns its offset.
+    /// Gives a head that lies whole in the window, of a message with these numbers, and returns its
+    /// offset.
     #[inline(always)]
     fn give_head(&mut self, fields: Fields, size: usize, message: &mut MessageBuffer) -> u64
         requires may_read { IsTrue (may_read self.old) }
@@ -153,7 +154,7 @@ impl<R: InDevice> Session<R> {
         offset
     }
 
-    /// `read_next` field by field.
+    /// `read_next` for a head that is read field by field.
     #[cold]
     #[inline(never)]
     fn read_fields(&mut self, message: &mut MessageBuffer) -> Result<Option<u64>, Stop>
