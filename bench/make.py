@@ -2,7 +2,7 @@
 """Makes the recordings that run.sh measures: `python3 make.py FOLDER`. Each has some 128 MiB.
 
 long.tcpcl: one transfer in segments of 64 KiB.
-bundles.tcpcl: a small bundle a transfer, with an acknowledgement and a KEEPALIVE after each.
+bundles.tcpcl: a bundle of 200 bytes a transfer, with an acknowledgement and a KEEPALIVE after each.
 short.tcpcl: one transfer in segments of 1 to 16 bytes.
 answers.tcpcl: acknowledgements, refusals and KEEPALIVEs alone.
 
@@ -28,8 +28,8 @@ KEEPALIVE = b"\x04"
 END = 0x01
 START = 0x02
 
-# a bundle of 34 bytes (RFC 9171 section 4): from ipn:1.1 to ipn:2.1, with the payload `hello`
-BUNDLE = bytes.fromhex("9f880700008202820201820282010182010082000000850101000045") + b"hello\xff"
+# a bundle of 200 bytes (RFC 9171 section 4): from ipn:1.1 to ipn:2.1, with 170 bytes of payload
+BUNDLE = bytes.fromhex("9f880700008202820201820282010182010082000000850101000058aa") + bytes(170) + b"\xff"
 
 
 def segment(flags, number, data):
