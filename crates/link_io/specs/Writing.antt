@@ -1,5 +1,5 @@
 -- What a whole write leaves on a device.
-use Rattle.std.specs.Prelude.{◌≡◌, ℕ, ◌≤◌, true, List, length, take}
+use Rattle.std.specs.Prelude.{◌≡◌, ℕ, ◌<◌, true, List, length, take}
 use Rattle.std.specs.Io.KnownBytes.{Appends}
 use Rattle.link_io.specs.Device.{Output}
 use Rattle.link_io.specs.declared.fault.IoFault.{IoFault}
@@ -15,6 +15,6 @@ module _ {W : Type 0} where
   pub record WroteFront (look : W → Output) (old new : W) (bytes : List ℕ) (fault : IoFault) : Type 0 where
     pub kind : fault ≡ io.Write
     pub count : ℕ
-    pub front : count ≤ length bytes
+    pub front : count < length bytes
     pub written : Appends (look old).written (look new).written (take count bytes)
     pub device : (look new).failed ≡ true

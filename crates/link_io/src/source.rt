@@ -118,6 +118,7 @@ impl<R: InDevice> Source<R> {
         ensures live { IsLive R.state self.old → IsLive R.state self.new }
         ensures rest { window_of self.new ≡ drop count (window_of self.old) }
         ensures reader { reader_of self.new ≡ reader_of self.old }
+        ensures none { count ≡ 0 → self.new ≡ self.old }
     {
         // What is given is bytes, since the window's are.
         let _window = self.window();
@@ -206,6 +207,8 @@ impl<R: InDevice> Source<R> {
         ensures ended { HasEnded self.old → (self.new ≡ self.old) × (result ≡ Ok 0) }
         ensures failed { (fault : _) → HasFailed self.old fault
             → (self.new ≡ self.old) × (result ≡ Err fault) }
+        ensures nothing { length buffer.old ≡ 0 → self.new ≡ self.old }
+        ensures rest { IfOk result (λ n. drop n buffer.new ≡ drop n buffer.old) }
     {
         if let Flow::Failed(fault) = self.flow {
             return Err(fault);

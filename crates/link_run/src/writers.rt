@@ -22,6 +22,7 @@ impl<W: OutDevice, E: OutDevice> Writers<W, E> {
     pub fn new(output: W, report: E) -> Writers<W, E>
         ensures output { result.output ≡ output }
         ensures report { result.report ≡ report }
+        ensures line { result.line.items ≡ [] }
     {
         Writers {
             output,
@@ -32,7 +33,9 @@ impl<W: OutDevice, E: OutDevice> Writers<W, E> {
 
     /// Writes the line to the output.
     pub fn write_line(&mut self) -> Result<(), IoFault>
-        ensures { GivesTexts W.state E.state self.old self.new (on_output self.old.line.items) result }
+        ensures gives { GivesTexts W.state E.state self.old self.new (on_output self.old.line.items) result }
+        ensures report { self.new.report ≡ self.old.report }
+        ensures line { self.new.line ≡ self.old.line }
     {
         write_whole(&mut self.output, self.line.as_slice())
     }
@@ -40,7 +43,8 @@ impl<W: OutDevice, E: OutDevice> Writers<W, E> {
     /// Writes the line of a fault to the report, and returns the status with which the run ends.
     #[cold]
     pub fn report_fault(&mut self, fault: &Fault) -> Result<Status, IoFault>
-        ensures { GivesReport W.state E.state self.old self.new (fault_text fault.now) result }
+        ensures gives { GivesReport W.state E.state self.old self.new (fault_text fault.now) result }
+        ensures output { self.new.output ≡ self.old.output }
     {
         self.line.clear();
         fault_line(&mut self.line, fault);

@@ -198,7 +198,7 @@ impl<R: InDevice> Session<R> {
 
 /// The data of segments.
 impl<R: InDevice> Session<R> {
-    ghost use Rattle.std.specs.Prelude.{◌≡◌, ◌≤◌, ℕ, List, length, take, IfOk, IfErr, Ok, Err, IsTrue};
+    ghost use Rattle.std.specs.Prelude.{◌≡◌, ◌≤◌, ℕ, List, length, take, drop, IfOk, IfErr, Ok, Err, IsTrue};
     ghost use Rattle.link_wire.specs.Session.{is_opened, IsSessionAt, HasStopped, left_of, data_in, GaveBytes, GivesData, GivesLoad};
     ghost use Rattle.link_wire.specs.declared.session.Phase.TheVariants as phase;
 
@@ -215,14 +215,32 @@ impl<R: InDevice> Session<R> {
             → (self.new ≡ self.old) × (result ≡ Ok 0) }
         ensures stopped { (stop : _) → HasStopped self.old stop
             → (self.new ≡ self.old) × (result ≡ Err stop) }
+        ensures nothing { length buffer.old ≡ 0 → self.new ≡ self.old }
+        ensures rest { IfOk result (λ n. drop n buffer.new ≡ drop n buffer.old) }
     {
+        if buffer.is_empty() {
+            return self.no_data();
+        }
         let ready = self.load()?;
-        if ready == 0 || buffer.is_empty() {
+        if ready == 0 {
             return Ok(0);
         }
         let count = ready.min(buffer.len());
         self.copy(&mut buffer[..count]);
         Ok(count)
+    }
+
+    /// `data` for an empty slice.
+    fn no_data(&self) -> Result<usize, Stop>
+        ensures size { IfOk result (λ n. n ≡ 0) }
+        ensures stops { IfErr result (HasStopped self.now) }
+        ensures stopped { (stop : _) → HasStopped self.now stop → result ≡ Err stop }
+        ensures going { ((stop : _) → HasStopped self.now stop → ⊥) → result ≡ Ok 0 }
+    {
+        match self.phase {
+            Phase::Stopped(stop) => Err(stop),
+            _ => Ok(0),
+        }
     }
 
     /// Fills the slice with the next data that lies in the window.
@@ -282,6 +300,8 @@ impl<R: InDevice> Session<R> {
         ensures opened { is_opened self.new ≡ is_opened self.old }
         ensures gives { (history : List ℕ) → IsSessionAt R.state self.old history
             → GaveBytes R.state self.old self.new history (take count (data_in self.old)) }
+        ensures none { count ≡ 0 → self.new ≡ self.old }
+        ensures stopped { (stop : _) → HasStopped self.old stop → HasStopped self.new stop }
     {
         self.source.give(count);
         self.left -= count as u64;
