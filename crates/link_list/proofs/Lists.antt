@@ -1,12 +1,12 @@
 -- What each call of a session lets a step of `list` give.
-use Rattle.std.proofs.Common.{◌≡◌, ℕ, ◌+◌, ◌<◌, ◌≤◌, ◌⊎◌, inl, inr, Bool, true, false, List, [], ◌∷◌, ◌++◌, length, take, Option, Some, None, Result, Ok, Err, nat_lt, if◌then◌else◌, ⊎_elim, refl, ap, sym, ◌∙◌, subst, append-nil, append_assoc, arith, length-take, length-append}
+use Rattle.std.proofs.Common.{◌≡◌, ℕ, ◌+◌, ◌<◌, ◌≤◌, ◌⊎◌, inl, inr, Bool, true, false, List, [], ◌∷◌, ◌++◌, length, Result, Ok, Err, nat_lt, if◌then◌else◌, ⊎_elim, refl, ap, sym, ◌∙◌, subst, append-nil, append_assoc, arith}
 use Rattle.std.proofs.lemmas.Bool.{lt-ltb, le-ltb}
 use Rattle.std.proofs.lemmas.Grind.{flat_map-append}
 use Rattle.link_wire.specs.Device.{Input, Output}
 use Rattle.link_wire.specs.Message.{data_length}
-use Rattle.link_wire.specs.Source.{Takes, StopsAfter, IsOver, window_of}
+use Rattle.link_wire.specs.Source.{Takes, IsOver}
 use Rattle.link_wire.specs.Stream.{Entry, End, Clean, Cut, Fault, Stream, ended, with_entry, Reading, reading_of}
-use Rattle.link_wire.specs.Session.{source_of, left_of, joined, data_after, with_data, IsSessionAt, IsLeft, IsRead, IsUndecided, SameMessages, GaveContact, GivesContact, GaveMessage, GaveEnd, GivesNext, GaveBytes, GivesLoad}
+use Rattle.link_wire.specs.Session.{source_of, left_of, joined, data_after, IsSessionAt, IsLeft, IsRead, IsUndecided, SameMessages, GaveContact, GivesContact, GaveMessage, GaveEnd, GivesNext, GaveBytes, GivesLoad}
 use Rattle.link_wire.proofs.Contacts.{reading-none}
 use Rattle.link_io.proofs.Sources.{Takes-then}
 use Rattle.link_wire.specs.declared.IoFault.{IoFault}
@@ -17,20 +17,21 @@ use Rattle.link_wire.specs.declared.fault.WireFault.TheVariants as wire
 use Rattle.link_wire.specs.declared.message.Contact.{Contact}
 use Rattle.link_wire.specs.declared.message.Message.{Message}
 use Rattle.link_wire.specs.declared.session.Session.{Session}
-use Rattle.link_wire.specs.declared.Source.{Source}
 use Rattle.link_report.specs.Message.{contact_text, message_text}
 use Rattle.link_report.specs.Fault.{fault_text}
 use Rattle.link_report.specs.declared.fault.Fault.TheVariants.{Wire}
-use Rattle.link_run.specs.Run.{Texts, Told, Devices, devices_at, NoneFailed, HasTold, AllGiven, Ended, WentOn, AreDue, Gave, GivesStep}
-use Rattle.link_run.specs.Writers.{on_output, on_report, Writes, WritesPart, Reports, GivesReport}
-use Rattle.link_list.specs.Listing.{contact_lines, message_lines, lines_of, end_lines, end_status, lasting_line, lasting_lines, listing, listing_by, listing_sofar, listing_sofar_by, list_tool}
-use Rattle.link_list.specs.ListRun.{most_given, IsWaiting, place_of, progress_of, Begins, Lists, IsListing, GivesStage, GivesLine, GoesOn, GivesEnd}
+use Rattle.link_run.specs.Ends.{end_lines, end_status, lasting_lines}
+use Rattle.link_run.specs.Run.{Texts, Outcome, Devices, devices_at, NoneFailed, HasWritten, Ended, WentOn, GivesStep}
+use Rattle.link_run.specs.Writers.{place_of, on_output, on_report, Writes, WritesPart, GivesReport}
+use Rattle.link_list.specs.Listing.{contact_lines, message_lines, lines_of, listing, listing_by, listing_sofar, listing_sofar_by, list_tool}
+use Rattle.link_list.specs.ListRun.{most_given, IsWaiting, progress_of, Begins, Lists, IsListing, GivesStage, GivesLine, GoesOn, GivesEnd}
 use Rattle.link_list.specs.declared.listing.Stage.{Stage}
 use Rattle.link_list.specs.declared.listing.Stage.TheVariants as stage
 use Rattle.link_run.specs.declared.run.Progress.{Progress}
 use Rattle.link_run.specs.declared.run.Status.{Status}
 use Rattle.link_run.specs.declared.writers.Writers.{Writers}
-use Rattle.link_run.proofs.Runs.{◌then◌, no_texts, then_none, texts_as, told_as, told_given, told_written, sound_given, sound_written, all_given, answered, writer_lost, reader_lost}
+use Rattle.link_run.proofs.Runs.{◌then◌, no_texts, texts_as, written_as, written_given, written_more, sound_given, sound_written, all_given, answered, writer_lost}
+use Rattle.link_run.proofs.Ends.{undecided_lines, standing_lines, lasts, lasting_as, reported, read_failed}
 
 -- ---- the texts that bytes determine
 
@@ -55,34 +56,14 @@ no_lines : message_lines [] ≡ []
 unfolding message_lines
 no_lines = refl
 
--- an end that more bytes may mend has no line
-undecided_lines : (end : End) → IsUndecided end → lasting_lines end ≡ []
-undecided_lines Clean is = refl
-undecided_lines (Cut offset message content) is = refl
-undecided_lines (Fault offset fault) is = ap (lasting_line offset) is
-
-standing_lines : (offset left : ℕ) (end : End) → IsLeft offset left end → lasting_lines end ≡ []
-standing_lines offset left Clean is = refl
-standing_lines offset left (Cut from message content) is = refl
-standing_lines offset left (Fault from fault) is = absurd is
-
--- a fault lasts, but for a missing field
-lasts : (offset : ℕ) (fault : WireFault) → (fault ≡ wire.Truncated) ⊎ ((fault ≡ wire.Truncated → ⊥) × (lasting_line offset fault ≡ fault_text (Wire offset fault)))
-lasts offset wire.Truncated = inl refl
-lasts offset fault = inr (λ is. cc, refl)
-
-lasting_as : (offset : ℕ) (fault : WireFault) → (fault ≡ wire.Truncated → ⊥) → lasting_line offset fault ≡ fault_text (Wire offset fault)
-lasting_as offset wire.Truncated other = absurd (other refl)
-lasting_as offset fault other = refl
-
 module _ (history given : List ℕ) where
-  -- nothing of what follows is told yet
+  -- nothing of what follows has a line yet
   sofar_same : (more : Stream) → reading_of (history ++ given) ≡ joined (reading_of history) more → more.entries ≡ [] → lasting_lines more.end ≡ [] → lasting_lines (reading_of history).end ≡ [] → listing_sofar (history ++ given) ≡ listing_sofar history
   unfolding listing_sofar
   sofar_same more is none ends before =
       ap listing_sofar_by is ∙ texts_as (lines_joined (reading_of history) more ∙ ap (λ es. lines_of (reading_of history) ++ message_lines es) none ∙ ap (λ xs. lines_of (reading_of history) ++ xs) no_lines ∙ append-nil _) (ends ∙ sym before)
 
-  -- one message is told
+  -- one message has a line
   sofar_one : (entry : Entry) (more : Stream) → reading_of (history ++ given) ≡ joined (reading_of history) more → more.entries ≡ entry ∷ [] → lasting_lines more.end ≡ [] → lasting_lines (reading_of history).end ≡ []
       → listing_sofar (history ++ given) ≡ listing_sofar history then on_output (message_text entry.offset entry.message)
   unfolding listing_sofar
@@ -105,21 +86,21 @@ module _ {R W E : Type 0} (in_look : R → Input) (out_look : W → Output) (rep
   -- the line waits, or was written
   module _ (now : Stage) (old new : Session R) (before mid after : Writers W E) (history given : List ℕ)
       (output : mid.output ≡ before.output) (report : mid.report ≡ before.report)
-      (told : HasTold in_look out_look report_look start (place_of old before) history (listing_sofar history))
-      (sound : NoneFailed in_look out_look report_look (devices_at (place_of old before)))
+      (written : HasWritten in_look out_look report_look start (place_of (source_of old) before) history (listing_sofar history))
+      (sound : NoneFailed in_look out_look report_look (devices_at (place_of (source_of old) before)))
       (takes : Takes in_look (source_of old) (source_of new) given) (some : 0 < length given) (size : length given ≤ most_given now)
       (at : IsSessionAt in_look new (history ++ given)) where
-    mid_told : HasTold in_look out_look report_look start (place_of new mid) (history ++ given) (listing_sofar history)
-    mid_told =
-        let first = told_given in_look out_look report_look start (source_of old) (source_of new) before history given (listing_sofar history) told takes in
+    mid_written : HasWritten in_look out_look report_look start (place_of (source_of new) mid) (history ++ given) (listing_sofar history)
+    mid_written =
+        let first = written_given in_look out_look report_look start (source_of old) (source_of new) before history given (listing_sofar history) written takes in
         record { takes = first.takes; count = first.count; writes = rw output first.writes; reports = rw report first.reports }
 
-    mid_sound : NoneFailed in_look out_look report_look (devices_at (place_of new mid))
+    mid_sound : NoneFailed in_look out_look report_look (devices_at (place_of (source_of new) mid))
     mid_sound = record { reader = takes.device ∙ sound.reader; output = ap (λ w. (out_look w).failed) output ∙ sound.output; report = ap (λ e. (report_look e).failed) report ∙ sound.report }
 
     -- the line waits for data
     waits : after ≡ mid → listing_sofar (history ++ given) ≡ listing_sofar history → IsWaiting stage.Data mid.line.items (reading_of (history ++ given)).end
-        → WentOn in_look out_look report_look (place_of old before) (place_of new after) (Lists in_look out_look report_look start stage.Data new after) (most_given now) history
+        → WentOn in_look out_look report_look (place_of (source_of old) before) (place_of (source_of new) after) (Lists in_look out_look report_look start stage.Data new after) (most_given now) history
     waits same texts waiting =
         let P : Writers W E → Type 0 = λ w. Lists in_look out_look report_look start stage.Data new w (history ++ given) in
         record {
@@ -127,12 +108,12 @@ module _ {R W E : Type 0} (in_look : R → Input) (out_look : W → Output) (rep
           some = some;
           size = size;
           count = takes.count;
-          at = subst P (sym same) (record { session = at; told = told_as in_look out_look report_look mid_told refl (sym texts); sound = mid_sound; waits = waiting });
+          at = subst P (sym same) (record { session = at; written = written_as in_look out_look report_look mid_written refl (sym texts); sound = mid_sound; waits = waiting });
         }
 
     -- the line was written
     wrote : Writes out_look report_look mid after (on_output mid.line.items) → listing_sofar (history ++ given) ≡ listing_sofar history then on_output mid.line.items → (reading_of (history ++ given)).end ≡ Clean
-        → WentOn in_look out_look report_look (place_of old before) (place_of new after) (Lists in_look out_look report_look start stage.Message new after) (most_given now) history
+        → WentOn in_look out_look report_look (place_of (source_of old) before) (place_of (source_of new) after) (Lists in_look out_look report_look start stage.Message new after) (most_given now) history
     wrote writes texts clean =
         let P : End → Type 0 = λ end. IsWaiting stage.Message after.line.items end in
         record {
@@ -142,7 +123,7 @@ module _ {R W E : Type 0} (in_look : R → Input) (out_look : W → Output) (rep
           count = takes.count;
           at = record {
             session = at;
-            told = told_as in_look out_look report_look (told_written in_look out_look report_look start (source_of new) mid after (history ++ given) (listing_sofar history) (on_output mid.line.items) mid_told writes) refl (sym texts);
+            written = written_as in_look out_look report_look (written_more in_look out_look report_look start (source_of new) mid after (history ++ given) (listing_sofar history) (on_output mid.line.items) mid_written writes) refl (sym texts);
             sound = sound_written in_look out_look report_look (source_of new) mid after (on_output mid.line.items) mid_sound writes;
             waits = subst P (sym clean) refl;
           };
@@ -150,11 +131,11 @@ module _ {R W E : Type 0} (in_look : R → Input) (out_look : W → Output) (rep
 
     -- the output failed in the line
     lost : (fault : IoFault) → WritesPart out_look report_look mid after (on_output mid.line.items) fault → listing_sofar (history ++ given) ≡ listing_sofar history then on_output mid.line.items
-        → Ended in_look out_look report_look list_tool start (devices_at (place_of new after)) (most_given now) history (Err fault)
+        → Ended in_look out_look report_look list_tool start (devices_at (place_of (source_of new) after)) (most_given now) history (Err fault)
     lost fault part texts = record {
       given = given;
       size = size;
-      gave = writer_lost in_look out_look report_look list_tool start (source_of new) mid after (history ++ given) (listing_sofar history) (on_output mid.line.items) (listing_sofar (history ++ given)) fault mid_told (sym texts) (inl refl) part;
+      gave = writer_lost in_look out_look report_look list_tool start (source_of new) mid after (history ++ given) (listing_sofar history) (on_output mid.line.items) (listing_sofar (history ++ given)) fault mid_written (sym texts) (inl refl) part;
     }
 
     pub goes_on : (next : Stage)
@@ -162,16 +143,16 @@ module _ {R W E : Type 0} (in_look : R → Input) (out_look : W → Output) (rep
         → (left_of new ≡ 0 → (listing_sofar (history ++ given) ≡ listing_sofar history then on_output mid.line.items) × ((reading_of (history ++ given)).end ≡ Clean))
         → GoesOn out_look report_look (left_of new) mid after next → GivesStage in_look out_look report_look start now old new before after history next
     goes_on stage.Contact more whole went = absurd went
-    goes_on stage.Message more whole went = let told = whole went.0 in wrote went.1 told.0 told.1
-    goes_on stage.Data more whole went = let told = more went.0 in waits went.1 told.0 told.1
+    goes_on stage.Message more whole went = let written = whole went.0 in wrote went.1 written.0 written.1
+    goes_on stage.Data more whole went = let written = more went.0 in waits went.1 written.0 written.1
     goes_on (stage.Ended (Ok status)) more whole went = absurd went
-    goes_on (stage.Ended (Err fault)) more whole went = let told = whole went.0 in lost fault went.1 told.0
+    goes_on (stage.Ended (Err fault)) more whole went = let written = whole went.0 in lost fault went.1 written.0
 
   -- a fault of the wire, or a failure of the reader
   module _ (now : Stage) (old new : Session R) (before after : Writers W E) (history given : List ℕ) (texts : Texts)
-      (told : HasTold in_look out_look report_look start (place_of old before) history texts)
-      (sound : NoneFailed in_look out_look report_look (devices_at (place_of old before))) where
-    -- what is told with the fault's line
+      (written : HasWritten in_look out_look report_look start (place_of (source_of old) before) history texts)
+      (sound : NoneFailed in_look out_look report_look (devices_at (place_of (source_of old) before))) where
+    -- what is written with the fault's line
     module _ (offset : ℕ) (fault : WireFault) (reading : Reading) (takes : Takes in_look (source_of old) (source_of new) given)
         (read : IsRead in_look (source_of new) (history ++ given) fault reading) (lines : texts.output ≡ lines_of reading) (none : texts.report ≡ [])
         (ends : end_lines reading.end ≡ fault_text (Wire offset fault)) (ends_with : end_status reading.end ≡ 3) (lasting : (fault ≡ wire.Truncated → ⊥) → lasting_lines reading.end ≡ fault_text (Wire offset fault)) where
@@ -184,46 +165,24 @@ module _ {R W E : Type 0} (in_look : R → Input) (out_look : W → Output) (rep
       whole_texts : texts then on_report line ≡ (listing (history ++ given)).texts
       whole_texts =
           texts_as (append-nil texts.output ∙ lines) (ap (λ xs. xs ++ line) none ∙ sym ends)
-          ∙ sym (ap (λ (t : Told). t.texts) (whole_is (history ++ given) reading here))
+          ∙ sym (ap (λ (t : Outcome). t.texts) (whole_is (history ++ given) reading here))
 
       sofar_texts : (fault ≡ wire.Truncated → ⊥) → texts then on_report line ≡ listing_sofar (history ++ given)
       sofar_texts other =
           texts_as (append-nil texts.output ∙ lines) (ap (λ xs. xs ++ line) none ∙ sym (lasting other))
           ∙ sym (sofar_is (history ++ given) reading here)
 
-      mid : HasTold in_look out_look report_look start (place_of new before) (history ++ given) texts
-      mid = told_given in_look out_look report_look start (source_of old) (source_of new) before history given texts told takes
-
-      lost_in : (failure : IoFault) → WritesPart out_look report_look before after (on_report line) failure → Gave in_look out_look report_look list_tool start (devices_at (place_of new after)) (history ++ given) (Err failure)
-      lost_in failure part =
+      shown : IsOver in_look (source_of new) ⊎ ((texts then on_report line ≡ listing_sofar (history ++ given)) × ((more : List ℕ) → listing ((history ++ given) ++ more) ≡ listing (history ++ given)))
+      shown =
           ⊎_elim
-          (λ is. writer_lost in_look out_look report_look list_tool start (source_of new) before after (history ++ given) texts (on_report line) _ failure mid refl (inr (all_given in_look out_look report_look (source_of new) after (read.over is), whole_texts)) part)
-          (λ is. writer_lost in_look out_look report_look list_tool start (source_of new) before after (history ++ given) texts (on_report line) _ failure mid refl (inl (sofar_texts is.0)) part)
+          (λ is. inl (read.over is))
+          (λ is. inr (sofar_texts is.0, λ more. whole_is ((history ++ given) ++ more) reading (read.all more (λ e. absurd (is.0 e))) ∙ sym (whole_is (history ++ given) reading here)))
           (lasts offset fault)
 
-      told_all : (status : Status) → Reports out_look report_look before after line status → Gave in_look out_look report_look list_tool start (devices_at (place_of new after)) (history ++ given) (Ok status)
-      told_all status reports =
-          answered in_look out_look report_look list_tool start (source_of new) after (history ++ given) status
-          (told_as in_look out_look report_look (told_written in_look out_look report_look start (source_of new) before after (history ++ given) texts (on_report line) mid reports.writes) refl whole_texts)
-          (sound_written in_look out_look report_look (source_of new) before after (on_report line) (sound_given in_look out_look report_look (source_of old) (source_of new) before given sound takes) reports.writes)
-          (reports.ends ∙ sym (ap (λ (t : Told). t.status) (whole_is (history ++ given) reading here) ∙ ends_with))
-          (⊎_elim
-          (λ is. inl (all_given in_look out_look report_look (source_of new) after (read.over is)))
-          (λ is. inr (λ more. whole_is ((history ++ given) ++ more) reading (read.all more (λ e. absurd (is.0 e))) ∙ sym (whole_is (history ++ given) reading here)))
-          (lasts offset fault))
-
-      pub reported : (answer : Result Status IoFault) → length given ≤ most_given now → GivesReport out_look report_look before after line answer → Ended in_look out_look report_look list_tool start (devices_at (place_of new after)) (most_given now) history answer
-      reported (Ok status) size gives = record { given = given; size = size; gave = told_all status gives }
-      reported (Err failure) size gives = record { given = given; size = size; gave = lost_in failure gives }
-
-    -- the reader failed
-    pub read_failed : (fault : IoFault) (answer : Result Status IoFault) → StopsAfter in_look (source_of old) (source_of new) given fault → length given ≤ most_given now → texts ≡ listing_sofar (history ++ given)
-        → answer ≡ Err fault → after ≡ before → Ended in_look out_look report_look list_tool start (devices_at (place_of new after)) (most_given now) history answer
-    read_failed fault answer stops size due is same =
-        let gave = reader_lost in_look out_look report_look list_tool start (source_of old) (source_of new) before history given texts fault told due stops in
-        let P : Writers W E → Type 0 = λ w. Ended in_look out_look report_look list_tool start (devices_at (place_of new w)) (most_given now) history answer in
-        let Q : Result Status IoFault → Type 0 = λ a. Ended in_look out_look report_look list_tool start (devices_at (place_of new before)) (most_given now) history a in
-        subst P (sym same) (subst Q (sym is) (record { given = given; size = size; gave = gave }))
+      pub fault_reported : (answer : Result Status IoFault) → length given ≤ most_given now → GivesReport out_look report_look before after line answer → Ended in_look out_look report_look list_tool start (devices_at (place_of (source_of new) after)) (most_given now) history answer
+      fault_reported answer size gives =
+          reported in_look out_look report_look list_tool start (most_given now) (source_of old) (source_of new) before after history given texts written sound size line takes
+          whole_texts (ap (λ (o : Outcome). o.status) (whole_is (history ++ given) reading here) ∙ ends_with) shown answer gives
 
 -- ---- the contact header
 
@@ -246,8 +205,8 @@ module _ {R W E : Type 0} (in_look : R → Input) (out_look : W → Output) (rep
       subst P (sym fresh.nothing) (by (subst Q fresh.nothing fresh))
 
   module _ (old new : Session R) (before : Writers W E) (fresh : Begins in_look out_look report_look start old before []) where
-    begun : HasTold in_look out_look report_look start (place_of old before) [] (listing_sofar [])
-    begun = told_as in_look out_look report_look fresh.told refl (sym nothing_read)
+    begun : HasWritten in_look out_look report_look start (place_of (source_of old) before) [] (listing_sofar [])
+    begun = written_as in_look out_look report_look fresh.written refl (sym nothing_read)
 
     pub contact_step : (mid after : Writers W E) (contact : Contact) (next : Stage) → mid.output ≡ before.output → mid.report ≡ before.report → mid.line.items ≡ contact_text contact
         → GaveContact in_look old new contact → GivesLine out_look report_look mid after next → GivesStage in_look out_look report_look start stage.Contact old new before after [] next
@@ -270,12 +229,12 @@ module _ {R W E : Type 0} (in_look : R → Input) (out_look : W → Output) (rep
     contact_ended after (stop.Io fault) stage.Data got gives = absurd gives
     contact_ended after (stop.Wire offset fault) (stage.Ended answer) got gives =
         let place : (let e : End = Fault 0 fault in e) ≡ Fault offset fault = ap (λ n. let e : End = Fault n fault in e) (sym got.place) in
-        reported in_look out_look report_look start stage.Contact old new before after [] got.given (listing_sofar []) begun fresh.sound offset fault _ got.takes got.is_read
+        fault_reported in_look out_look report_look start stage.Contact old new before after [] got.given (listing_sofar []) begun fresh.sound offset fault _ got.takes got.is_read
         (ap (λ (t : Texts). t.output) nothing_read ∙ sym no_lines) (ap (λ (t : Texts). t.report) nothing_read)
         (ap end_lines place) refl (λ other. ap lasting_lines place ∙ lasting_as offset fault other) answer got.size gives
     contact_ended after (stop.Io fault) (stage.Ended answer) got gives =
         let size = got.size in
-        read_failed in_look out_look report_look start stage.Contact old new before after [] got.given (listing_sofar []) begun fresh.sound fault answer got.stops (omega arith)
+        read_failed in_look out_look report_look list_tool start (most_given stage.Contact) (source_of old) (source_of new) before after [] got.given (listing_sofar []) begun fresh.sound (omega arith) fault answer got.stops
         (nothing_read ∙ sym (sofar_is got.given _ got.reading ∙ texts_as no_lines refl)) gives.0 gives.1
 
 -- ---- messages
@@ -289,7 +248,7 @@ module _ {R W E : Type 0} (in_look : R → Input) (out_look : W → Output) (rep
         → GaveMessage in_look old new history offset message → GoesOn out_look report_look (left_of new) mid after next → GivesStage in_look out_look report_look start stage.Message old new before after history next
     message_step mid after offset message next output report line got gives =
         let given = got.given in
-        goes_on in_look out_look report_look start stage.Message old new before mid after history given output report at.told at.sound got.takes got.some got.size got.at next
+        goes_on in_look out_look report_look start stage.Message old new before mid after history given output report at.written at.sound got.takes got.some got.size got.at next
         (λ more.
         let test : nat_lt 0 (data_length message) ≡ true = lt-ltb 0 (data_length message) (omega (arith, got.left)) in
         let reading = got.reading ∙ ap (λ b. joined (reading_of history) (if b then ended (Cut offset message []) else with_entry (record { offset = offset; message = message; content = [] }) (ended Clean))) test in
@@ -301,19 +260,19 @@ module _ {R W E : Type 0} (in_look : R → Input) (out_look : W → Output) (rep
         (sofar_one history given _ _ reading refl refl standing ∙ ap (λ xs. listing_sofar history then on_output xs) (sym line), ap (λ (r : Reading). r.end) reading))
         gives
 
-    pub message_end : (after : Writers W E) → after ≡ before → GaveEnd in_look old new history → Ended in_look out_look report_look list_tool start (devices_at (place_of new after)) (most_given stage.Message) history (Ok (record { 0 = 0 }))
+    pub message_end : (after : Writers W E) → after ≡ before → GaveEnd in_look old new history → Ended in_look out_look report_look list_tool start (devices_at (place_of (source_of new) after)) (most_given stage.Message) history (Ok (record { 0 = 0 }))
     message_end after same got =
-        let P : Writers W E → Type 0 = λ w. Ended in_look out_look report_look list_tool start (devices_at (place_of new w)) (most_given stage.Message) history (Ok (record { 0 = 0 })) in
+        let P : Writers W E → Type 0 = λ w. Ended in_look out_look report_look list_tool start (devices_at (place_of (source_of new) w)) (most_given stage.Message) history (Ok (record { 0 = 0 })) in
         let reading : reading_of (history ++ []) ≡ reading_of history = ap reading_of (append-nil history) in
         let texts : listing_sofar history ≡ (listing (history ++ [])).texts =
-        sofar_is history _ refl ∙ texts_as refl (ap lasting_lines got.clean ∙ sym (ap end_lines got.clean)) ∙ sym (ap (λ (t : Told). t.texts) (whole_is (history ++ []) _ reading)) in
+        sofar_is history _ refl ∙ texts_as refl (ap lasting_lines got.clean ∙ sym (ap end_lines got.clean)) ∙ sym (ap (λ (t : Outcome). t.texts) (whole_is (history ++ []) _ reading)) in
         subst P (sym same) (record {
           given = [];
           size = omega arith;
           gave = answered in_look out_look report_look list_tool start (source_of new) before (history ++ []) (record { 0 = 0 })
-              (told_as in_look out_look report_look (told_given in_look out_look report_look start (source_of old) (source_of new) before history [] (listing_sofar history) at.told got.takes) refl texts)
+              (written_as in_look out_look report_look (written_given in_look out_look report_look start (source_of old) (source_of new) before history [] (listing_sofar history) at.written got.takes) refl texts)
               (sound_given in_look out_look report_look (source_of old) (source_of new) before [] at.sound got.takes)
-              (sym (ap (λ (t : Told). t.status) (whole_is (history ++ []) _ reading) ∙ ap end_status got.clean))
+              (sym (ap (λ (t : Outcome). t.status) (whole_is (history ++ []) _ reading) ∙ ap end_status got.clean))
               (inl (all_given in_look out_look report_look (source_of new) before got.over));
         })
 
@@ -325,13 +284,13 @@ module _ {R W E : Type 0} (in_look : R → Input) (out_look : W → Output) (rep
     message_ended after (stop.Io fault) stage.Message got gives = absurd gives
     message_ended after (stop.Io fault) stage.Data got gives = absurd gives
     message_ended after (stop.Wire offset fault) (stage.Ended answer) got gives =
-        reported in_look out_look report_look start stage.Message old new before after history got.given (listing_sofar history) at.told at.sound offset fault _ got.takes got.is_read
+        fault_reported in_look out_look report_look start stage.Message old new before after history got.given (listing_sofar history) at.written at.sound offset fault _ got.takes got.is_read
         (ap (λ (t : Texts). t.output) (sofar_is history _ refl) ∙ sym (lines_joined (reading_of history) (ended (Fault offset fault)) ∙ ap (λ xs. lines_of (reading_of history) ++ xs) no_lines ∙ append-nil (lines_of (reading_of history))))
         (ap (λ (t : Texts). t.report) (sofar_is history _ refl) ∙ standing)
         refl refl (λ other. lasting_as offset fault other) answer got.size gives
     message_ended after (stop.Io fault) (stage.Ended answer) got gives =
         let size = got.size in
-        read_failed in_look out_look report_look start stage.Message old new before after history got.given (listing_sofar history) at.told at.sound fault answer got.stops (omega arith)
+        read_failed in_look out_look report_look list_tool start (most_given stage.Message) (source_of old) (source_of new) before after history got.given (listing_sofar history) at.written at.sound (omega arith) fault answer got.stops
         (sofar_undecided history got.given got.same got.undecided standing) gives.0 gives.1
 
 -- ---- data
@@ -378,7 +337,7 @@ module _ {R W E : Type 0} (in_look : R → Input) (out_look : W → Output) (rep
 
       pub data_step : (after : Writers W E) (next : Stage) → 0 < length bytes → length bytes ≤ most_given stage.Data → GoesOn out_look report_look (left_of new) before after next → GivesStage in_look out_look report_look start stage.Data old new before after history next
       data_step after next some size gives =
-          goes_on in_look out_look report_look start stage.Data old new before before after history bytes refl refl at.told at.sound (Takes-then in_look (source_of old) (source_of mid) (source_of new) [] bytes ready.takes gave.takes) some size gave.at next
+          goes_on in_look out_look report_look start stage.Data old new before before after history bytes refl refl at.written at.sound (Takes-then in_look (source_of old) (source_of mid) (source_of new) [] bytes ready.takes gave.takes) some size gave.at next
           (λ more.
           let reading = read_data true (lt-ltb 0 (left_of new) more) in
           let P : End → Type 0 = λ end. IsWaiting stage.Data before.line.items end in
@@ -397,12 +356,12 @@ module _ {R W E : Type 0} (in_look : R → Input) (out_look : W → Output) (rep
     data_ended new after (stop.Io fault) stage.Data got gives = absurd gives
     data_ended new after (stop.Wire offset fault) (stage.Ended answer) got gives =
         let cut : end_lines (reading_of history).end ≡ fault_text (Wire offset fault) = ap end_lines got.cut ∙ ap (λ f. fault_text (Wire offset f)) (sym got.kind) in
-        reported in_look out_look report_look start stage.Data old new before after history [] (listing_sofar history) at.told at.sound offset fault (reading_of history) got.takes
+        fault_reported in_look out_look report_look start stage.Data old new before after history [] (listing_sofar history) at.written at.sound offset fault (reading_of history) got.takes
         (record { over = λ is. got.over; all = λ more may. rw (may got.kind, append-nil, append-nil) refl })
         (ap (λ (t : Texts). t.output) (sofar_is history _ refl)) (ap (λ (t : Texts). t.report) (sofar_is history _ refl) ∙ standing_data)
         cut (ap end_status got.cut) (λ other. absurd (other got.kind)) answer (omega arith) gives
     data_ended new after (stop.Io fault) (stage.Ended answer) got gives =
-        read_failed in_look out_look report_look start stage.Data old new before after history [] (listing_sofar history) at.told at.sound fault answer got.stops (omega arith)
+        read_failed in_look out_look report_look list_tool start (most_given stage.Data) (source_of old) (source_of new) before after history [] (listing_sofar history) at.written at.sound (omega arith) fault answer got.stops
         (ap listing_sofar (sym (append-nil history))) gives.0 gives.1
 
 -- ---- a step
@@ -410,7 +369,7 @@ module _ {R W E : Type 0} (in_look : R → Input) (out_look : W → Output) (rep
 module _ {R W E : Type 0} (in_look : R → Input) (out_look : W → Output) (report_look : E → Output) (start : Devices R W E) where
   -- what a stage gives, in the words of every run
   stage_step : (now next : Stage) (old new : Session R) (before after : Writers W E) (history : List ℕ) → GivesStage in_look out_look report_look start now old new before after history next
-      → GivesStep in_look out_look report_look list_tool start (place_of old before) (place_of new after) (IsListing in_look out_look report_look start next new after) (most_given now) history (progress_of next)
+      → GivesStep in_look out_look report_look list_tool start (place_of (source_of old) before) (place_of (source_of new) after) (IsListing in_look out_look report_look start next new after) (most_given now) history (progress_of next)
   stage_step now stage.Contact old new before after history gives = absurd gives
   stage_step now stage.Message old new before after history gives = gives
   stage_step now stage.Data old new before after history gives = gives
@@ -418,5 +377,5 @@ module _ {R W E : Type 0} (in_look : R → Input) (out_look : W → Output) (rep
   stage_step now (stage.Ended (Err fault)) old new before after history gives = gives
 
   pub step_gives : (now next : Stage) (old new : Session R) (before after : Writers W E) (history : List ℕ) (result : Result Progress IoFault) → GivesStage in_look out_look report_look start now old new before after history next → result ≡ progress_of next
-      → GivesStep in_look out_look report_look list_tool start (place_of old before) (place_of new after) (IsListing in_look out_look report_look start next new after) (most_given now) history result
+      → GivesStep in_look out_look report_look list_tool start (place_of (source_of old) before) (place_of (source_of new) after) (IsListing in_look out_look report_look start next new after) (most_given now) history result
   step_gives now next old new before after history result gives is = rw is (stage_step now next old new before after history gives)

@@ -1,5 +1,5 @@
 -- Where a run of `list` stands.
-use Rattle.std.specs.Prelude.{◌≡◌, ℕ, ◌<◌, Bool, true, List, [], ◌++◌, length, Result, Ok, Err}
+use Rattle.std.specs.Prelude.{◌≡◌, ℕ, ◌<◌, Bool, true, List, [], Result, Ok, Err}
 use Rattle.link_wire.specs.Device.{Input, Output}
 use Rattle.link_wire.specs.Limits.{longest_head}
 use Rattle.link_wire.specs.Stream.{End, Clean, Cut, Fault, reading_of}
@@ -11,14 +11,13 @@ use Rattle.link_wire.specs.declared.session.Session.{Session}
 use Rattle.link_report.specs.Fault.{fault_text}
 use Rattle.link_report.specs.declared.fault.Fault.TheVariants.{Wire}
 use Rattle.link_report.specs.Message.{message_text}
-use Rattle.link_run.specs.Run.{Texts, Tool, Devices, Place, devices_at, NoneFailed, HasTold, WentOn, Ended}
+use Rattle.link_run.specs.Run.{Devices, devices_at, NoneFailed, HasWritten, WentOn, Ended, answer_of}
 use Rattle.link_list.specs.Listing.{list_tool, listing_sofar}
-use Rattle.link_run.specs.Writers.{on_output, Writes, WritesPart, GivesReport}
+use Rattle.link_run.specs.Writers.{place_of, on_output, Writes, WritesPart, GivesReport}
 use Rattle.link_list.specs.declared.listing.Stage.{Stage}
 use Rattle.link_list.specs.declared.listing.Stage.TheVariants as stage
-use Rattle.link_run.specs.declared.run.Status.{Status}
 use Rattle.link_run.specs.declared.run.Progress.{Progress}
-use Rattle.link_run.specs.declared.run.Progress.TheVariants.{More, Done}
+use Rattle.link_run.specs.declared.run.Progress.TheVariants.{More}
 use Rattle.link_run.specs.declared.writers.Writers.{Writers}
 
 -- the most bytes that a step is given: a contact header, the head of a message, or a piece of data
@@ -42,11 +41,7 @@ IsWaiting now line Clean = (now ≡ stage.Message)
 IsWaiting now line (Cut offset message content) = (now ≡ stage.Data) × (line ≡ message_text offset message)
 IsWaiting now line (Fault offset fault) = ⊥
 
--- the answer of a step that leaves this stage
-abbrev pub answer_of : Result Status IoFault → Result Progress IoFault
-answer_of (Ok status) = Ok (Done status)
-answer_of (Err fault) = Err fault
-
+-- what the step returns that leaves this stage
 abbrev pub progress_of : Stage → Result Progress IoFault
 progress_of stage.Contact = Ok More
 progress_of stage.Message = Ok More
@@ -54,22 +49,19 @@ progress_of stage.Data = Ok More
 progress_of (stage.Ended answer) = answer_of answer
 
 module _ {R W E : Type 0} where
-  abbrev pub place_of : Session R → Writers W E → Place R W E
-  place_of session writers = record { source = source_of session; output = writers.output; report = writers.report }
-
   module _ (in_look : R → Input) (out_look : W → Output) (report_look : E → Output) (start : Devices R W E) where
     -- a run that begins: nothing was given and nothing written
     pub record Begins (s : Session R) (w : Writers W E) (history : List ℕ) : Type 0 where
       pub nothing : history ≡ []
       pub opens : may_open s ≡ true
-      pub told : HasTold in_look out_look report_look start (place_of s w) [] (record { output = []; report = [] })
-      pub sound : NoneFailed in_look out_look report_look (devices_at (place_of s w))
+      pub written : HasWritten in_look out_look report_look start (place_of (source_of s) w) [] (record { output = []; report = [] })
+      pub sound : NoneFailed in_look out_look report_look (devices_at (place_of (source_of s) w))
 
-    -- a run that was given exactly these bytes, and has told exactly what they determine
+    -- a run that was given exactly these bytes, and has written exactly what they determine
     pub record Lists (now : Stage) (s : Session R) (w : Writers W E) (history : List ℕ) : Type 0 where
       pub session : IsSessionAt in_look s history
-      pub told : HasTold in_look out_look report_look start (place_of s w) history (listing_sofar history)
-      pub sound : NoneFailed in_look out_look report_look (devices_at (place_of s w))
+      pub written : HasWritten in_look out_look report_look start (place_of (source_of s) w) history (listing_sofar history)
+      pub sound : NoneFailed in_look out_look report_look (devices_at (place_of (source_of s) w))
       pub waits : IsWaiting now w.line.items (reading_of history).end
 
     abbrev pub IsListing : Stage → Session R → Writers W E → List ℕ → Type 0
@@ -80,10 +72,10 @@ module _ {R W E : Type 0} where
 
     -- what a step at the stage `now` gives, that leaves the stage `next`
     abbrev pub GivesStage : (now : Stage) → (old new : Session R) → (before after : Writers W E) → (history : List ℕ) → (next : Stage) → Type 0
-    GivesStage now old new before after history (stage.Ended answer) = Ended in_look out_look report_look list_tool start (devices_at (place_of new after)) (most_given now) history answer
+    GivesStage now old new before after history (stage.Ended answer) = Ended in_look out_look report_look list_tool start (devices_at (place_of (source_of new) after)) (most_given now) history answer
     GivesStage now old new before after history stage.Contact = ⊥
-    GivesStage now old new before after history stage.Message = WentOn in_look out_look report_look (place_of old before) (place_of new after) (Lists stage.Message new after) (most_given now) history
-    GivesStage now old new before after history stage.Data = WentOn in_look out_look report_look (place_of old before) (place_of new after) (Lists stage.Data new after) (most_given now) history
+    GivesStage now old new before after history stage.Message = WentOn in_look out_look report_look (place_of (source_of old) before) (place_of (source_of new) after) (Lists stage.Message new after) (most_given now) history
+    GivesStage now old new before after history stage.Data = WentOn in_look out_look report_look (place_of (source_of old) before) (place_of (source_of new) after) (Lists stage.Data new after) (most_given now) history
 
 -- what the parts of a step do
 module _ {W E : Type 0} (out_look : W → Output) (report_look : E → Output) where

@@ -3,7 +3,9 @@ use Rattle.std.specs.Prelude.{◌≡◌, ℕ, List, Result}
 use Rattle.link_wire.specs.Device.{Input, Output}
 use Rattle.link_wire.specs.declared.IoFault.{IoFault}
 use Rattle.link_run.specs.Run.{Devices, Place}
-use Rattle.link_list.specs.ListRun.{most_given, place_of, progress_of, IsListing}
+use Rattle.link_wire.specs.Session.{source_of}
+use Rattle.link_run.specs.Writers.{place_of}
+use Rattle.link_list.specs.ListRun.{most_given, progress_of, IsListing}
 use Rattle.link_list.specs.declared.listing.ListRun.{ListRun}
 use Rattle.link_list.specs.declared.listing.Stage.TheVariants as stage
 use Rattle.link_run.specs.declared.run.Progress.{Progress}
@@ -11,7 +13,7 @@ use Rattle.link_run.specs.declared.run.Status.{Status}
 
 module _ {R W E : Type 0} where
   abbrev pub place_of_list : ListRun R W E → Place R W E
-  place_of_list run = place_of run.session run.writers
+  place_of_list run = place_of (source_of run.session) run.writers
 
   abbrev pub list_most : ListRun R W E → ℕ
   list_most run = most_given run.stage

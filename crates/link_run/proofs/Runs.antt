@@ -1,16 +1,16 @@
 -- What a run tells in turn it tells in one, and how a run ends.
-use Rattle.std.proofs.Common.{◌≡◌, ℕ, ◌+◌, ◌-◌, ◌<◌, ◌≤◌, ◌⊎◌, inl, inr, true, false, List, [], ◌++◌, length, take, drop, Option, Some, None, Result, Ok, Err, refl, ap, sym, ◌∙◌, subst, add_assoc, length-append, append-nil, append_assoc, arith, length-take}
+use Rattle.std.proofs.Common.{◌≡◌, ℕ, ◌+◌, ◌-◌, ◌≤◌, ◌⊎◌, List, [], ◌++◌, length, take, drop, Option, Some, None, Result, Err, refl, ap, sym, ◌∙◌, subst, length-append, append-nil, append_assoc, arith, length-take}
 use Rattle.std.proofs.Math.Seq.{take-append-add}
-use Rattle.std.specs.Io.KnownBytes.{Consumes, Appends, IsAtEnd, prepend_known}
+use Rattle.std.specs.Io.KnownBytes.{Consumes, prepend_known}
 use Rattle.std.proofs.KnownBytes.{Consumes-nil, Consumes-trans, Appends-nil, Appends-trans}
 use Rattle.link_wire.specs.Device.{Input, Output}
-use Rattle.link_wire.specs.Limits.{window_size, longest_input}
-use Rattle.link_wire.specs.Source.{reader_of, given_by, window_of, ahead, Takes, StopsAfter, IsOver}
+use Rattle.link_wire.specs.Limits.{window_size}
+use Rattle.link_wire.specs.Source.{reader_of, window_of, ahead, Takes, StopsAfter, IsOver}
 use Rattle.link_wire.specs.declared.IoFault.{IoFault}
 use Rattle.link_wire.specs.declared.IoFault.TheVariants as io
 use Rattle.link_wire.specs.declared.Source.{Source}
-use Rattle.link_run.specs.Run.{Texts, Told, Tool, Devices, Place, devices_at, NoneFailed, Moves, HasTold, HasLeft, AllGiven, GaveAnswer, AreDue, Gave, GivesAnswer}
-use Rattle.link_run.specs.Writers.{Writes, WritesPart}
+use Rattle.link_run.specs.Run.{Texts, Tool, Devices, Place, devices_at, NoneFailed, Moves, HasWritten, HandedBack, AllGiven, GaveAnswer, AreDue, Gave, GivesAnswer}
+use Rattle.link_run.specs.Writers.{place_of, Writes, WritesPart}
 use Rattle.link_run.specs.declared.run.Status.{Status}
 use Rattle.link_run.specs.declared.writers.Writers.{Writers}
 
@@ -57,8 +57,8 @@ module _ {R W E : Type 0} (in_look : R → Input) (out_look : W → Output) (rep
         reports = Appends-trans (report_look old.report).written (report_look mid.report).written (report_look new.report).written p.report q.report first.reports second.reports;
       }
 
-  pub told_then : (start : Devices R W E) (mid new : Place R W E) (xs ys : List ℕ) (p q : Texts) → HasTold in_look out_look report_look start mid xs p → Moves in_look out_look report_look mid new ys q → HasTold in_look out_look report_look start new (xs ++ ys) (p then q)
-  told_then start mid new xs ys p q first second =
+  pub written_then : (start : Devices R W E) (mid new : Place R W E) (xs ys : List ℕ) (p q : Texts) → HasWritten in_look out_look report_look start mid xs p → Moves in_look out_look report_look mid new ys q → HasWritten in_look out_look report_look start new (xs ++ ys) (p then q)
+  written_then start mid new xs ys p q first second =
       let one = first.count in
       let two = second.count in
       record {
@@ -69,11 +69,11 @@ module _ {R W E : Type 0} (in_look : R → Input) (out_look : W → Output) (rep
       }
 
   -- the devices as they are handed back, with what was read and not given
-  pub told_left : (start : Devices R W E) (now : Place R W E) (bytes : List ℕ) (texts : Texts) → HasTold in_look out_look report_look start now bytes texts → HasLeft in_look out_look report_look start (devices_at now) (bytes ++ window_of now.source) texts
-  told_left start now bytes texts told = record {
-    takes = Consumes-trans (in_look start.reader).left (ahead in_look now.source) (in_look (reader_of now.source)).left bytes (window_of now.source) told.takes (Consumes-ahead (window_of now.source) (in_look (reader_of now.source)).left);
-    writes = told.writes;
-    reports = told.reports;
+  pub written_left : (start : Devices R W E) (now : Place R W E) (bytes : List ℕ) (texts : Texts) → HasWritten in_look out_look report_look start now bytes texts → HandedBack in_look out_look report_look start (devices_at now) (bytes ++ window_of now.source) texts
+  written_left start now bytes texts written = record {
+    takes = Consumes-trans (in_look start.reader).left (ahead in_look now.source) (in_look (reader_of now.source)).left bytes (window_of now.source) written.takes (Consumes-ahead (window_of now.source) (in_look (reader_of now.source)).left);
+    writes = written.writes;
+    reports = written.reports;
   }
 
   -- the answer with the devices that were handed back
@@ -96,12 +96,9 @@ none_between window start end same =
     let none : end - start ≡ 0 = omega arith in
     rw none refl
 
-abbrev pub place_at : {R W E : Type 0} → Source R → Writers W E → Place R W E
-place_at source writers = record { source = source; output = writers.output; report = writers.report }
-
 module _ {R W E : Type 0} (in_look : R → Input) (out_look : W → Output) (report_look : E → Output) where
   -- bytes were given, and nothing was written
-  pub takes_moves : (old new : Source R) (w : Writers W E) (bytes : List ℕ) → Takes in_look old new bytes → Moves in_look out_look report_look (place_at old w) (place_at new w) bytes no_texts
+  pub takes_moves : (old new : Source R) (w : Writers W E) (bytes : List ℕ) → Takes in_look old new bytes → Moves in_look out_look report_look (place_of old w) (place_of new w) bytes no_texts
   takes_moves old new w bytes takes = record {
     takes = takes.next;
     count = takes.count;
@@ -110,7 +107,7 @@ module _ {R W E : Type 0} (in_look : R → Input) (out_look : W → Output) (rep
   }
 
   -- texts were written, and nothing was given
-  pub writes_moves : (s : Source R) (old new : Writers W E) (texts : Texts) → Writes out_look report_look old new texts → Moves in_look out_look report_look (place_at s old) (place_at s new) [] texts
+  pub writes_moves : (s : Source R) (old new : Writers W E) (texts : Texts) → Writes out_look report_look old new texts → Moves in_look out_look report_look (place_of s old) (place_of s new) [] texts
   writes_moves s old new texts writes = record {
     takes = Consumes-nil (ahead in_look s);
     count = omega arith;
@@ -118,40 +115,40 @@ module _ {R W E : Type 0} (in_look : R → Input) (out_look : W → Output) (rep
     reports = writes.report;
   }
 
-  pub told_as : {start : Devices R W E} {now : Place R W E} {xs ys : List ℕ} {p q : Texts} → HasTold in_look out_look report_look start now xs p → xs ≡ ys → p ≡ q → HasTold in_look out_look report_look start now ys q
-  told_as {start} {now} {xs} {ys} {p} {q} told bytes texts =
-      let P : List ℕ → Type 0 = λ b. HasTold in_look out_look report_look start now b q in
-      let Q : Texts → Type 0 = λ t. HasTold in_look out_look report_look start now xs t in
-      subst P bytes (subst Q texts told)
+  pub written_as : {start : Devices R W E} {now : Place R W E} {xs ys : List ℕ} {p q : Texts} → HasWritten in_look out_look report_look start now xs p → xs ≡ ys → p ≡ q → HasWritten in_look out_look report_look start now ys q
+  written_as {start} {now} {xs} {ys} {p} {q} written bytes texts =
+      let P : List ℕ → Type 0 = λ b. HasWritten in_look out_look report_look start now b q in
+      let Q : Texts → Type 0 = λ t. HasWritten in_look out_look report_look start now xs t in
+      subst P bytes (subst Q texts written)
 
-  -- given bytes and written texts, after what was told before
-  pub told_given : (start : Devices R W E) (old new : Source R) (w : Writers W E) (history bytes : List ℕ) (texts : Texts) → HasTold in_look out_look report_look start (place_at old w) history texts → Takes in_look old new bytes → HasTold in_look out_look report_look start (place_at new w) (history ++ bytes) texts
-  told_given start old new w history bytes texts told takes =
-      told_as (told_then in_look out_look report_look start (place_at old w) (place_at new w) history bytes texts no_texts told (takes_moves old new w bytes takes)) refl (then_none texts)
+  -- given bytes and written texts, after what was written before
+  pub written_given : (start : Devices R W E) (old new : Source R) (w : Writers W E) (history bytes : List ℕ) (texts : Texts) → HasWritten in_look out_look report_look start (place_of old w) history texts → Takes in_look old new bytes → HasWritten in_look out_look report_look start (place_of new w) (history ++ bytes) texts
+  written_given start old new w history bytes texts written takes =
+      written_as (written_then in_look out_look report_look start (place_of old w) (place_of new w) history bytes texts no_texts written (takes_moves old new w bytes takes)) refl (then_none texts)
 
-  pub told_written : (start : Devices R W E) (s : Source R) (old new : Writers W E) (history : List ℕ) (before texts : Texts) → HasTold in_look out_look report_look start (place_at s old) history before → Writes out_look report_look old new texts → HasTold in_look out_look report_look start (place_at s new) history (before then texts)
-  told_written start s old new history before texts told writes =
-      told_as (told_then in_look out_look report_look start (place_at s old) (place_at s new) history [] before texts told (writes_moves s old new texts writes)) (append-nil history) refl
+  pub written_more : (start : Devices R W E) (s : Source R) (old new : Writers W E) (history : List ℕ) (before texts : Texts) → HasWritten in_look out_look report_look start (place_of s old) history before → Writes out_look report_look old new texts → HasWritten in_look out_look report_look start (place_of s new) history (before then texts)
+  written_more start s old new history before texts written writes =
+      written_as (written_then in_look out_look report_look start (place_of s old) (place_of s new) history [] before texts written (writes_moves s old new texts writes)) (append-nil history) refl
 
-  pub sound_given : (old new : Source R) (w : Writers W E) (bytes : List ℕ) → NoneFailed in_look out_look report_look (devices_at (place_at old w)) → Takes in_look old new bytes → NoneFailed in_look out_look report_look (devices_at (place_at new w))
+  pub sound_given : (old new : Source R) (w : Writers W E) (bytes : List ℕ) → NoneFailed in_look out_look report_look (devices_at (place_of old w)) → Takes in_look old new bytes → NoneFailed in_look out_look report_look (devices_at (place_of new w))
   sound_given old new w bytes sound takes = record { reader = takes.device ∙ sound.reader; output = sound.output; report = sound.report }
 
-  pub sound_written : (s : Source R) (old new : Writers W E) (texts : Texts) → NoneFailed in_look out_look report_look (devices_at (place_at s old)) → Writes out_look report_look old new texts → NoneFailed in_look out_look report_look (devices_at (place_at s new))
+  pub sound_written : (s : Source R) (old new : Writers W E) (texts : Texts) → NoneFailed in_look out_look report_look (devices_at (place_of s old)) → Writes out_look report_look old new texts → NoneFailed in_look out_look report_look (devices_at (place_of s new))
   sound_written s old new texts sound writes = record { reader = sound.reader; output = writes.output_sound ∙ sound.output; report = writes.report_sound ∙ sound.report }
 
   -- ---- how a run ends
 
   -- all of the input was given
-  pub all_given : (s : Source R) (w : Writers W E) → IsOver in_look s → AllGiven in_look out_look report_look (devices_at (place_at s w)) (window_of s)
+  pub all_given : (s : Source R) (w : Writers W E) → IsOver in_look s → AllGiven in_look out_look report_look (devices_at (place_of s w)) (window_of s)
   all_given s w over = (none_between s.window s.start s.end over.ended.1, over.empty)
 
-  -- the run has told all that there is
-  pub answered : (tool : Tool) (start : Devices R W E) (s : Source R) (w : Writers W E) (given : List ℕ) (status : Status) → HasTold in_look out_look report_look start (place_at s w) given (tool.whole given).texts → NoneFailed in_look out_look report_look (devices_at (place_at s w)) → status.0 ≡ (tool.whole given).status
-      → AllGiven in_look out_look report_look (devices_at (place_at s w)) (window_of s) ⊎ ((more : List ℕ) → tool.whole (given ++ more) ≡ tool.whole given) → GaveAnswer in_look out_look report_look tool start (devices_at (place_at s w)) given status
-  answered tool start s w given status told sound ends settled = record {
+  -- the run has written all that there is
+  pub answered : (tool : Tool) (start : Devices R W E) (s : Source R) (w : Writers W E) (given : List ℕ) (status : Status) → HasWritten in_look out_look report_look start (place_of s w) given (tool.whole given).texts → NoneFailed in_look out_look report_look (devices_at (place_of s w)) → status.0 ≡ (tool.whole given).status
+      → AllGiven in_look out_look report_look (devices_at (place_of s w)) (window_of s) ⊎ ((more : List ℕ) → tool.whole (given ++ more) ≡ tool.whole given) → GaveAnswer in_look out_look report_look tool start (devices_at (place_of s w)) given status
+  answered tool start s w given status written sound ends settled = record {
     unread = window_of s;
     few = window_few s;
-    told = told_left in_look out_look report_look start (place_at s w) given (tool.whole given).texts told;
+    written = written_left in_look out_look report_look start (place_of s w) given (tool.whole given).texts written;
     sound = sound;
     ends = ends;
     settled = settled;
@@ -159,11 +156,11 @@ module _ {R W E : Type 0} (in_look : R → Input) (out_look : W → Output) (rep
 
   -- a writer failed in texts that are due
   pub writer_lost : (tool : Tool) (start : Devices R W E) (s : Source R) (old new : Writers W E) (given : List ℕ) (before texts due : Texts) (fault : IoFault)
-      → HasTold in_look out_look report_look start (place_at s old) given before → before then texts ≡ due
-      → AreDue in_look out_look report_look tool (devices_at (place_at s new)) given (window_of s) due
-      → WritesPart out_look report_look old new texts fault → Gave in_look out_look report_look tool start (devices_at (place_at s new)) given (Err fault)
-  writer_lost tool start s old new given before texts due fault told same are_due part =
-      let last : Moves in_look out_look report_look (place_at s old) (place_at s new) [] (record { output = take part.output_count texts.output; report = take part.report_count texts.report }) = record {
+      → HasWritten in_look out_look report_look start (place_of s old) given before → before then texts ≡ due
+      → AreDue in_look out_look report_look tool (devices_at (place_of s new)) given (window_of s) due
+      → WritesPart out_look report_look old new texts fault → Gave in_look out_look report_look tool start (devices_at (place_of s new)) given (Err fault)
+  writer_lost tool start s old new given before texts due fault written same are_due part =
+      let last : Moves in_look out_look report_look (place_of s old) (place_of s new) [] (record { output = take part.output_count texts.output; report = take part.report_count texts.report }) = record {
         takes = Consumes-nil (ahead in_look s);
         count = omega arith;
         writes = part.output;
@@ -175,7 +172,7 @@ module _ {R W E : Type 0} (in_look : R → Input) (out_look : W → Output) (rep
       texts_as
       (sym (ap (λ (t : Texts). take output t.output) (sym same) ∙ take-append-add before.output texts.output part.output_count))
       (sym (ap (λ (t : Texts). take report t.report) (sym same) ∙ take-append-add before.report texts.report part.report_count)) in
-      let written = told_as (told_then in_look out_look report_look start (place_at s old) (place_at s new) given [] before _ told last) (append-nil given) cut in
+      let cut_off = written_as (written_then in_look out_look report_look start (place_of s old) (place_of s new) given [] before _ written last) (append-nil given) cut in
       rw part.kind (record {
         unread = window_of s;
         few = window_few s;
@@ -183,37 +180,37 @@ module _ {R W E : Type 0} (in_look : R → Input) (out_look : W → Output) (rep
         are_due = are_due;
         output = output;
         report = report;
-        told = told_left in_look out_look report_look start (place_at s new) given _ written;
+        written = written_left in_look out_look report_look start (place_of s new) given _ cut_off;
         failed = part.failed;
       })
 
   -- the source stopped after some bytes, and what is due was written
   pub reader_lost : (tool : Tool) (start : Devices R W E) (old new : Source R) (w : Writers W E) (history given : List ℕ) (texts : Texts) (fault : IoFault)
-      → HasTold in_look out_look report_look start (place_at old w) history texts → texts ≡ tool.sofar (history ++ given)
-      → StopsAfter in_look old new given fault → Gave in_look out_look report_look tool start (devices_at (place_at new w)) (history ++ given) (Err fault)
-  reader_lost tool start old new w history given texts io.Read told due stops =
+      → HasWritten in_look out_look report_look start (place_of old w) history texts → texts ≡ tool.sofar (history ++ given)
+      → StopsAfter in_look old new given fault → Gave in_look out_look report_look tool start (devices_at (place_of new w)) (history ++ given) (Err fault)
+  reader_lost tool start old new w history given texts io.Read written due stops =
       let none : given ++ stops.past ≡ given = rw stops.cause.0 (append-nil given) in
       record {
-        told = record {
-          takes = rw none at (Consumes-trans (in_look start.reader).left (ahead in_look old) (in_look new.reader).left history (given ++ stops.past) told.takes stops.next);
-          writes = rw due at told.writes;
-          reports = rw due at told.reports;
+        written = record {
+          takes = rw none at (Consumes-trans (in_look start.reader).left (ahead in_look old) (in_look new.reader).left history (given ++ stops.past) written.takes stops.next);
+          writes = rw due at written.writes;
+          reports = rw due at written.reports;
         };
         failed = stops.cause.1;
       }
-  reader_lost tool start old new w history given texts io.InputTooLong told due stops =
-      let before = told.count in
+  reader_lost tool start old new w history given texts io.InputTooLong written due stops =
+      let before = written.count in
       let count = stops.count in
       let limit = stops.cause.1 in
       record {
         past = stops.past;
         few = stops.cause.0;
         limit = omega (arith, length-append history given);
-        told = record {
-          takes = rw (← append_assoc history given stops.past) at (Consumes-trans (in_look start.reader).left (ahead in_look old) (in_look new.reader).left history (given ++ stops.past) told.takes stops.next);
-          writes = rw due at told.writes;
-          reports = rw due at told.reports;
+        written = record {
+          takes = rw (← append_assoc history given stops.past) at (Consumes-trans (in_look start.reader).left (ahead in_look old) (in_look new.reader).left history (given ++ stops.past) written.takes stops.next);
+          writes = rw due at written.writes;
+          reports = rw due at written.reports;
         };
       }
-  reader_lost tool start old new w history given texts io.Write told due stops = absurd stops.cause
-  reader_lost tool start old new w history given texts io.Memory told due stops = absurd stops.cause
+  reader_lost tool start old new w history given texts io.Write written due stops = absurd stops.cause
+  reader_lost tool start old new w history given texts io.Memory written due stops = absurd stops.cause

@@ -1,5 +1,5 @@
 -- What a run of a tool has written, and how it ends.
-use Rattle.std.specs.Prelude.{◌≡◌, ℕ, ◌+◌, ◌^◌, ◌<◌, ◌≤◌, ◌⊎◌, true, false, List, [], ◌++◌, length, take, Result, Ok, Err}
+use Rattle.std.specs.Prelude.{◌≡◌, ℕ, ◌+◌, ◌<◌, ◌≤◌, ◌⊎◌, true, false, List, [], ◌++◌, length, take, Result, Ok, Err}
 use Rattle.std.specs.Io.KnownBytes.{Consumes, Appends, IsAtEnd}
 use Rattle.link_wire.specs.Device.{Input, Output}
 use Rattle.link_wire.specs.Limits.{longest_input, window_size}
@@ -16,15 +16,15 @@ pub record Texts : Type 0 where
   pub output : List ℕ
   pub report : List ℕ
 
--- what is told of a whole input
-pub record Told : Type 0 where
+-- what comes of a whole input
+pub record Outcome : Type 0 where
   pub texts : Texts
   pub status : ℕ
 
--- A tool: what it tells of an input that is exactly these bytes, and the texts that these bytes determine already, however
+-- A tool: what comes of an input that is exactly these bytes, and the texts that these bytes determine already, however
 -- they go on.
 pub record Tool : Type 0 where
-  pub whole : List ℕ → Told
+  pub whole : List ℕ → Outcome
   pub sofar : List ℕ → Texts
 
 -- the devices of a run
@@ -42,6 +42,11 @@ pub record Place (R W E : Type 0) : Type 0 where
 abbrev pub devices_at : {R W E : Type 0} → Place R W E → Devices R W E
 devices_at place = record { reader = reader_of place.source; output = place.output; report = place.report }
 
+-- the answer of a run, as its last step returns it
+abbrev pub answer_of : Result Status IoFault → Result Progress IoFault
+answer_of (Ok status) = Ok (Done status)
+answer_of (Err fault) = Err fault
+
 module _ {R W E : Type 0} (in_look : R → Input) (out_look : W → Output) (report_look : E → Output) where
   -- no device has failed
   pub record NoneFailed (devices : Devices R W E) : Type 0 where
@@ -57,14 +62,14 @@ module _ {R W E : Type 0} (in_look : R → Input) (out_look : W → Output) (rep
     pub reports : Appends (report_look old.report).written (report_look new.report).written texts.report
 
   -- since the devices stood so, these bytes were given, and these texts were written
-  pub record HasTold (start : Devices R W E) (now : Place R W E) (bytes : List ℕ) (texts : Texts) : Type 0 where
+  pub record HasWritten (start : Devices R W E) (now : Place R W E) (bytes : List ℕ) (texts : Texts) : Type 0 where
     pub takes : Consumes (in_look start.reader).left (ahead in_look now.source) bytes
     pub count : given_by now.source ≡ length bytes
     pub writes : Appends (out_look start.output).written (out_look now.output).written texts.output
     pub reports : Appends (report_look start.report).written (report_look now.report).written texts.report
 
   -- the same of devices that were handed back: these bytes were taken
-  pub record HasLeft (start now : Devices R W E) (bytes : List ℕ) (texts : Texts) : Type 0 where
+  pub record HandedBack (start now : Devices R W E) (bytes : List ℕ) (texts : Texts) : Type 0 where
     pub takes : Consumes (in_look start.reader).left (in_look now.reader).left bytes
     pub writes : Appends (out_look start.output).written (out_look now.output).written texts.output
     pub reports : Appends (report_look start.report).written (report_look now.report).written texts.report
@@ -73,19 +78,19 @@ module _ {R W E : Type 0} (in_look : R → Input) (out_look : W → Output) (rep
   abbrev pub AllGiven : Devices R W E → (unread : List ℕ) → Type 0
   AllGiven now unread = (unread ≡ []) × IsAtEnd (in_look now.reader).left
 
-  -- The run has told what the tool tells of the bytes that it was given. They are all of the input, or bytes that no others
+  -- The run has written what comes of the bytes that it was given. They are all of the input, or bytes that no others
   -- after them change. At most a window of bytes was read and not given.
   pub record GaveAnswer (tool : Tool) (start now : Devices R W E) (given : List ℕ) (status : Status) : Type 0 where
     pub unread : List ℕ
     pub few : length unread ≤ window_size
-    pub told : HasLeft start now (given ++ unread) (tool.whole given).texts
+    pub written : HandedBack start now (given ++ unread) (tool.whole given).texts
     pub sound : NoneFailed now
     pub ends : status.0 ≡ (tool.whole given).status
     pub settled : AllGiven now unread ⊎ ((more : List ℕ) → tool.whole (given ++ more) ≡ tool.whole given)
 
   -- The reader failed: all that it gave was given, and the texts are those that these bytes determine.
   pub record LostReader (tool : Tool) (start now : Devices R W E) (given : List ℕ) : Type 0 where
-    pub told : HasLeft start now given (tool.sofar given)
+    pub written : HandedBack start now given (tool.sofar given)
     pub failed : (in_look now.reader).failed ≡ true
 
   -- The reader gave a byte past the limit: the last bytes that it gave were not given, and the texts are those that the
@@ -94,7 +99,7 @@ module _ {R W E : Type 0} (in_look : R → Input) (out_look : W → Output) (rep
     pub past : List ℕ
     pub few : length past ≤ window_size
     pub limit : longest_input < length given + length past
-    pub told : HasLeft start now (given ++ past) (tool.sofar given)
+    pub written : HandedBack start now (given ++ past) (tool.sofar given)
 
   -- the texts that the bytes given determine; where they are all of the input, those of the whole input
   abbrev pub AreDue : Tool → Devices R W E → (given unread : List ℕ) → Texts → Type 0
@@ -108,7 +113,7 @@ module _ {R W E : Type 0} (in_look : R → Input) (out_look : W → Output) (rep
     pub are_due : AreDue tool now given unread due
     pub output : ℕ
     pub report : ℕ
-    pub told : HasLeft start now (given ++ unread) (record { output = take output due.output; report = take report due.report })
+    pub written : HandedBack start now (given ++ unread) (record { output = take output due.output; report = take report due.report })
     pub failed : ((out_look now.output).failed ≡ true) ⊎ ((report_look now.report).failed ≡ true)
 
   abbrev pub GaveFailure : Tool → Devices R W E → Devices R W E → List ℕ → IoFault → Type 0

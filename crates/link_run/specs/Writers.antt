@@ -4,7 +4,8 @@ use Rattle.std.specs.Io.KnownBytes.{Appends}
 use Rattle.link_wire.specs.Device.{Output}
 use Rattle.link_wire.specs.declared.IoFault.{IoFault}
 use Rattle.link_wire.specs.declared.IoFault.TheVariants as io
-use Rattle.link_run.specs.Run.{Texts}
+use Rattle.link_wire.specs.declared.Source.{Source}
+use Rattle.link_run.specs.Run.{Texts, Place}
 use Rattle.link_run.specs.declared.run.Status.{Status}
 use Rattle.link_run.specs.declared.writers.Writers.{Writers}
 
@@ -13,6 +14,10 @@ on_output text = record { output = text; report = [] }
 
 abbrev pub on_report : List ℕ → Texts
 on_report text = record { output = []; report = text }
+
+-- where a run stands, by its source and its writers
+abbrev pub place_of : {R W E : Type 0} → Source R → Writers W E → Place R W E
+place_of source writers = record { source = source; output = writers.output; report = writers.report }
 
 module _ {W E : Type 0} (out_look : W → Output) (report_look : E → Output) where
   -- these texts were written, and no writer has failed that had not

@@ -14,6 +14,8 @@ pub struct Status(pub u8);
 impl Status {
     /// The input was read to its end, and nothing was wrong.
     pub const CLEAN: Status = Status(0);
+    /// The input was read to its end, and not all that it has is good.
+    pub const NOT_GOOD: Status = Status(1);
     /// A fault stopped the run; the report's last line is that of the fault.
     pub const FAULT: Status = Status(3);
 }
@@ -48,7 +50,7 @@ pub trait Run<R: InDevice, W: OutDevice, E: OutDevice>: Sized {
     // what it reads, and what it writes to
     ghost place: { Self → Place R W E };
 
-    // it was given exactly these bytes since its devices stood so, and has told exactly what they determine
+    // it was given exactly these bytes since its devices stood so, and has written exactly what they determine
     ghost stands: { Self → Devices R W E → List ℕ → Type 0 };
 
     // the most bytes that its next step is given

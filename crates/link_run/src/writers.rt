@@ -40,6 +40,22 @@ impl<W: OutDevice, E: OutDevice> Writers<W, E> {
         write_whole(&mut self.output, self.line.as_slice())
     }
 
+    /// Writes bytes to the output.
+    pub fn write_output(&mut self, bytes: &[u8]) -> Result<(), IoFault>
+        ensures gives { GivesTexts W.state E.state self.old self.new (on_output bytes.now) result }
+        ensures report { self.new.report ≡ self.old.report }
+    {
+        write_whole(&mut self.output, bytes)
+    }
+
+    /// Writes the line to the report.
+    pub fn report_line(&mut self) -> Result<(), IoFault>
+        ensures gives { GivesTexts W.state E.state self.old self.new (on_report self.old.line.items) result }
+        ensures output { self.new.output ≡ self.old.output }
+    {
+        write_whole(&mut self.report, self.line.as_slice())
+    }
+
     /// Writes the line of a fault to the report, and returns the status with which the run ends.
     #[cold]
     pub fn report_fault(&mut self, fault: &Fault) -> Result<Status, IoFault>
@@ -48,7 +64,7 @@ impl<W: OutDevice, E: OutDevice> Writers<W, E> {
     {
         self.line.clear();
         fault_line(&mut self.line, fault);
-        write_whole(&mut self.report, self.line.as_slice())?;
+        self.report_line()?;
         Ok(Status::FAULT)
     }
 }

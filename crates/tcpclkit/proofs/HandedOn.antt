@@ -5,7 +5,7 @@ use Rattle.std.specs.Io.KnownBytes.{Consumes, Appends, IsAtEnd, Keeps, append_kn
 use Rattle.link_wire.specs.Device.{Input, Output}
 use Rattle.link_wire.specs.declared.IoFault.{IoFault}
 use Rattle.link_wire.specs.declared.IoFault.TheVariants.{Write}
-use Rattle.link_run.specs.Run.{Told, Tool, Devices, AllGiven, GivesAnswer, Gave, GaveAnswer}
+use Rattle.link_run.specs.Run.{Outcome, Tool, Devices, AllGiven, GivesAnswer, Gave, GaveAnswer}
 use Rattle.link_run.specs.declared.run.Status.{Status}
 use Rattle.tcpclkit.specs.Ending.{answer_after_flush}
 
@@ -22,29 +22,29 @@ answered (Ok given) true status is = is
 answered (Ok given) false status is = picked (given.0 == 3) (Ok given) (Err Write) (Ok status) is (λ bad. cc)
 answered (Err fault) flushed status is = is
 
--- what the tool tells of the bytes that were given is what it tells of all of a known input
-same_told : {R W E : Type 0} (in_look : R → Input) (out_look : W → Output) (report_look : E → Output) (tool : Tool) (now : Devices R W E) (old new : Option (List ℕ)) (bytes given unread : List ℕ)
+-- what comes of the bytes that were given is what comes of all of a known input
+same_written : {R W E : Type 0} (in_look : R → Input) (out_look : W → Output) (report_look : E → Output) (tool : Tool) (now : Devices R W E) (old new : Option (List ℕ)) (bytes given unread : List ℕ)
     → old ≡ Some bytes → (in_look now.reader).left ≡ new → Consumes old new (given ++ unread)
     → AllGiven in_look out_look report_look now unread ⊎ ((more : List ℕ) → tool.whole (given ++ more) ≡ tool.whole given)
     → tool.whole given ≡ tool.whole bytes
-same_told in_look out_look report_look tool now None new bytes given unread is left takes settled = absurd (cc)
-same_told in_look out_look report_look tool now (Some xs) None bytes given unread is left takes settled = absurd takes
-same_told in_look out_look report_look tool now (Some xs) (Some ys) bytes given unread is left takes (inl all) =
+same_written in_look out_look report_look tool now None new bytes given unread is left takes settled = absurd (cc)
+same_written in_look out_look report_look tool now (Some xs) None bytes given unread is left takes settled = absurd takes
+same_written in_look out_look report_look tool now (Some xs) (Some ys) bytes given unread is left takes (inl all) =
     let P : Option (List ℕ) → Type 0 = IsAtEnd in
     let none : ys ≡ [] = subst P left all.1 in
     let first : xs ≡ bytes = cc in
     let parts : xs ≡ given = takes ∙ ap (λ ts. ts ++ ys) (ap (λ us. given ++ us) all.0 ∙ append-nil given) ∙ ap (λ r. given ++ r) none ∙ append-nil given in
     ap tool.whole (sym parts ∙ first)
-same_told in_look out_look report_look tool now (Some xs) (Some ys) bytes given unread is left takes (inr lasts) =
+same_written in_look out_look report_look tool now (Some xs) (Some ys) bytes given unread is left takes (inr lasts) =
     let first : xs ≡ bytes = cc in
     sym (lasts (unread ++ ys)) ∙ ap tool.whole (sym (append_assoc given unread ys) ∙ sym takes ∙ first)
 
 module _ {R W E : Type 0} (in_look : R → Input) (out_look : W → Output) (report_look : E → Output) where
   -- from start to now both texts were written, and the status is theirs
-  pub record HasRun (told : Told) (start now : Devices R W E) (status : Status) : Type 0 where
-    pub writes : Appends (out_look start.output).written (out_look now.output).written told.texts.output
-    pub reports : Appends (report_look start.report).written (report_look now.report).written told.texts.report
-    pub ends : status.0 ≡ told.status
+  pub record HasRun (outcome : Outcome) (start now : Devices R W E) (status : Status) : Type 0 where
+    pub writes : Appends (out_look start.output).written (out_look now.output).written outcome.texts.output
+    pub reports : Appends (report_look start.report).written (report_look now.report).written outcome.texts.report
+    pub ends : status.0 ≡ outcome.status
 
   -- a run over a known input has written the texts of that input
   pub has_run : (tool : Tool) (start now : Devices R W E) (answer : Result Status IoFault)
@@ -54,10 +54,10 @@ module _ {R W E : Type 0} (in_look : R → Input) (out_look : W → Output) (rep
   has_run tool start now answer status bytes gives is known =
       let P : Result Status IoFault → Type 0 = Gave in_look out_look report_look tool start now gives.given in
       let gave : GaveAnswer in_look out_look report_look tool start now gives.given status = subst P is gives.gave in
-      let same = same_told in_look out_look report_look tool now _ _ bytes gives.given gave.unread known refl gave.told.takes gave.settled in
+      let same = same_written in_look out_look report_look tool now _ _ bytes gives.given gave.unread known refl gave.written.takes gave.settled in
       let of_given : HasRun (tool.whole gives.given) start now status =
-      record { writes = gave.told.writes; reports = gave.told.reports; ends = gave.ends } in
-      subst (λ told. HasRun told start now status) same of_given
+      record { writes = gave.written.writes; reports = gave.written.reports; ends = gave.ends } in
+      subst (λ outcome. HasRun outcome start now status) same of_given
 
 -- what was written into an empty buffer, and handed on
 handed : (old before after new : Option (List ℕ)) (text : List ℕ)

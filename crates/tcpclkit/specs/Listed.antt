@@ -1,16 +1,16 @@
 -- What a run over buffered streams has written.
 use Rattle.std.specs.Prelude.{◌≡◌, ◌⊎◌, ℕ, List, Option, IfSome, IsSome}
 use Rattle.std.specs.Io.KnownBytes.{Appends}
-use Rattle.link_run.specs.Run.{Told}
+use Rattle.link_run.specs.Run.{Outcome}
 use Rattle.link_run.specs.declared.run.Status.{Status}
 use Rattle.tcpclkit.specs.declared.streams.Listed.{Listed}
 
 module _ {W E : Type 0} (written : W → Option (List ℕ)) (reported : E → Option (List ℕ)) where
   -- Each writer that was handed all of its text has gained it, and the status is that of the texts.
-  pub record HasWritten (told : Told) (output : W) (report : E) (listed : Listed W E) (status : Status) : Type 0 where
-    pub writes : IfSome listed.output (λ new. Appends (written output) (written new) told.texts.output)
-    pub reports : IfSome listed.report (λ new. Appends (reported report) (reported new) told.texts.report)
-    pub ends : status.0 ≡ told.status
+  pub record HasWritten (outcome : Outcome) (output : W) (report : E) (listed : Listed W E) (status : Status) : Type 0 where
+    pub writes : IfSome listed.output (λ new. Appends (written output) (written new) outcome.texts.output)
+    pub reports : IfSome listed.report (λ new. Appends (reported report) (reported new) outcome.texts.report)
+    pub ends : status.0 ≡ outcome.status
 
 -- where no fault of the input stopped the run, both texts were handed on whole
 abbrev pub IsFlushed : {W E : Type 0} → Listed W E → Status → Type 0

@@ -1,4 +1,4 @@
-use Rattle.std.proofs.Common.{◌≡◌, ◌<◌, ◌≤◌, [], length, take, arith, length-take, append-nil}
+use Rattle.std.proofs.Common.{◌≡◌, length, take, arith, length-take, append-nil}
 use Rattle.link_wire.specs.Session.{data_in}
 use Rattle.link_list.proofs.Lists.{inside, data_step, data_ended}
 use Rattle.link_list.proofs.listing.take_data.Goals as goal

@@ -1,4 +1,4 @@
-use Rattle.std.proofs.Common.{◌≡◌, ◌++◌, [], Ok, Err, refl, ap, ◌∙◌, arith}
+use Rattle.std.proofs.Common.{◌++◌, [], Ok, Err, refl, ◌∙◌, arith}
 use Rattle.link_run.proofs.Runs.{handed_back}
 use Rattle.link_run.proofs.run.Run.run.Goals as goal
 

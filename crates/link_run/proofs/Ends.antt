@@ -1,0 +1,85 @@
+-- How a run ends that reports a fault, and one whose reader fails.
+use Rattle.std.proofs.Common.{◌≡◌, ℕ, ◌≤◌, ◌⊎◌, inl, inr, List, [], ◌++◌, length, Result, Ok, Err, ⊎_elim, refl, ap, sym, ◌∙◌, subst}
+use Rattle.link_wire.specs.Device.{Input, Output}
+use Rattle.link_wire.specs.Source.{Takes, StopsAfter, IsOver}
+use Rattle.link_wire.specs.Stream.{End, Clean, Cut, Fault}
+use Rattle.link_wire.specs.Session.{IsLeft, IsUndecided}
+use Rattle.link_wire.specs.declared.IoFault.{IoFault}
+use Rattle.link_wire.specs.declared.Source.{Source}
+use Rattle.link_wire.specs.declared.fault.WireFault.{WireFault}
+use Rattle.link_wire.specs.declared.fault.WireFault.TheVariants as wire
+use Rattle.link_report.specs.Fault.{fault_text}
+use Rattle.link_report.specs.declared.fault.Fault.TheVariants.{Wire}
+use Rattle.link_run.specs.Ends.{lasting_line, lasting_lines}
+use Rattle.link_run.specs.Run.{Texts, Tool, Devices, devices_at, NoneFailed, HasWritten, Ended, Gave}
+use Rattle.link_run.specs.Writers.{place_of, on_report, WritesPart, Reports, GivesReport}
+use Rattle.link_run.specs.declared.run.Status.{Status}
+use Rattle.link_run.specs.declared.writers.Writers.{Writers}
+use Rattle.link_run.proofs.Runs.{◌then◌, written_as, written_given, written_more, sound_given, sound_written, all_given, answered, writer_lost, reader_lost}
+
+-- ---- the line of the fault that ends a stream
+
+-- an end that more bytes may mend has no line
+pub undecided_lines : (end : End) → IsUndecided end → lasting_lines end ≡ []
+undecided_lines Clean is = refl
+undecided_lines (Cut offset message content) is = refl
+undecided_lines (Fault offset fault) is = ap (lasting_line offset) is
+
+pub standing_lines : (offset left : ℕ) (end : End) → IsLeft offset left end → lasting_lines end ≡ []
+standing_lines offset left Clean is = refl
+standing_lines offset left (Cut from message content) is = refl
+standing_lines offset left (Fault from fault) is = absurd is
+
+-- a fault lasts, but for a missing field
+pub lasts : (offset : ℕ) (fault : WireFault) → (fault ≡ wire.Truncated) ⊎ ((fault ≡ wire.Truncated → ⊥) × (lasting_line offset fault ≡ fault_text (Wire offset fault)))
+lasts offset wire.Truncated = inl refl
+lasts offset fault = inr (λ is. cc, refl)
+
+pub lasting_as : (offset : ℕ) (fault : WireFault) → (fault ≡ wire.Truncated → ⊥) → lasting_line offset fault ≡ fault_text (Wire offset fault)
+lasting_as offset wire.Truncated other = absurd (other refl)
+lasting_as offset fault other = refl
+
+-- ---- the end of a run
+
+module _ {R W E : Type 0} (in_look : R → Input) (out_look : W → Output) (report_look : E → Output) (tool : Tool) (start : Devices R W E)
+    (most : ℕ) (old new : Source R) (before after : Writers W E) (history given : List ℕ) (texts : Texts)
+    (written : HasWritten in_look out_look report_look start (place_of old before) history texts)
+    (sound : NoneFailed in_look out_look report_look (devices_at (place_of old before)))
+    (size : length given ≤ most) where
+  -- the line of a fault was written to the report
+  module _ (line : List ℕ) (takes : Takes in_look old new given)
+      (whole : texts then on_report line ≡ (tool.whole (history ++ given)).texts) (ends : (tool.whole (history ++ given)).status ≡ 3)
+      (shown : IsOver in_look new ⊎ ((texts then on_report line ≡ tool.sofar (history ++ given)) × ((more : List ℕ) → tool.whole ((history ++ given) ++ more) ≡ tool.whole (history ++ given)))) where
+    mid : HasWritten in_look out_look report_look start (place_of new before) (history ++ given) texts
+    mid = written_given in_look out_look report_look start old new before history given texts written takes
+
+    lost : (failure : IoFault) → WritesPart out_look report_look before after (on_report line) failure → Gave in_look out_look report_look tool start (devices_at (place_of new after)) (history ++ given) (Err failure)
+    lost failure part =
+        ⊎_elim
+        (λ over. writer_lost in_look out_look report_look tool start new before after (history ++ given) texts (on_report line) _ failure mid refl (inr (all_given in_look out_look report_look new after over, whole)) part)
+        (λ shows. writer_lost in_look out_look report_look tool start new before after (history ++ given) texts (on_report line) _ failure mid refl (inl shows.0) part)
+        shown
+
+    done : (status : Status) → Reports out_look report_look before after line status → Gave in_look out_look report_look tool start (devices_at (place_of new after)) (history ++ given) (Ok status)
+    done status reports =
+        answered in_look out_look report_look tool start new after (history ++ given) status
+        (written_as in_look out_look report_look (written_more in_look out_look report_look start new before after (history ++ given) texts (on_report line) mid reports.writes) refl whole)
+        (sound_written in_look out_look report_look new before after (on_report line) (sound_given in_look out_look report_look old new before given sound takes) reports.writes)
+        (reports.ends ∙ sym ends)
+        (⊎_elim
+        (λ over. inl (all_given in_look out_look report_look new after over))
+        (λ shows. inr shows.1)
+        shown)
+
+    pub reported : (answer : Result Status IoFault) → GivesReport out_look report_look before after line answer → Ended in_look out_look report_look tool start (devices_at (place_of new after)) most history answer
+    reported (Ok status) gives = record { given = given; size = size; gave = done status gives }
+    reported (Err failure) gives = record { given = given; size = size; gave = lost failure gives }
+
+  -- the reader failed
+  pub read_failed : (fault : IoFault) (answer : Result Status IoFault) → StopsAfter in_look old new given fault → texts ≡ tool.sofar (history ++ given)
+      → answer ≡ Err fault → after ≡ before → Ended in_look out_look report_look tool start (devices_at (place_of new after)) most history answer
+  read_failed fault answer stops due is same =
+      let gave = reader_lost in_look out_look report_look tool start old new before history given texts fault written due stops in
+      let P : Writers W E → Type 0 = λ w. Ended in_look out_look report_look tool start (devices_at (place_of new w)) most history answer in
+      let Q : Result Status IoFault → Type 0 = λ a. Ended in_look out_look report_look tool start (devices_at (place_of new before)) most history a in
+      subst P (sym same) (subst Q (sym is) (record { given = given; size = size; gave = gave }))
