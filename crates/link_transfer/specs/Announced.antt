@@ -1,5 +1,5 @@
 -- The length of a transfer that its extension items announce (RFC 9174 section 5.2.5.1).
-use Rattle.std.specs.Prelude.{◌≡◌, ℕ, Bool, ◌==◌, List, [], ◌∷◌, filter, Option, Some, None, IsSome, All, if◌then◌else◌}
+use Rattle.std.specs.Prelude.{ℕ, Bool, ◌==◌, List, [], ◌∷◌, filter, Option, Some, None, if◌then◌else◌}
 use Rattle.link_wire.specs.declared.message.Item.{Item}
 use Rattle.link_transfer.specs.declared.announcement.Announced.{Announced}
 use Rattle.link_transfer.specs.declared.announcement.Announced.TheVariants.{Absent, Total, Malformed}
@@ -34,7 +34,3 @@ announced_after Malformed item = Malformed
 
 abbrev pub announced_with : Announced → Item → Announced
 announced_with announced item = if is_transfer_length item then announced_after announced item else announced
-
--- each Transfer Length item of 8 bytes has the number that they spell
-abbrev pub HasTotals : List Item → Type 0
-HasTotals items = All (λ item. item.kind ≡ 1 → item.length ≡ 8 → IsSome item.total) items

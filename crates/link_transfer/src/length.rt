@@ -1,7 +1,8 @@
 //! The length of a transfer that its extension items announce.
 
 ghost use Rattle.std.specs.Prelude.{◌≡◌};
-ghost use Rattle.link_transfer.specs.Announced.{announced_by, announced_with, announced_of, HasTotals};
+ghost use Rattle.link_transfer.specs.Announced.{announced_by, announced_with, announced_of};
+ghost use Rattle.link_wire.specs.Message.{HasTotals};
 
 use crate::announcement::Announced;
 use link_wire::{Item, Items};

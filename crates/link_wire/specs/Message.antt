@@ -1,6 +1,6 @@
 -- The messages of TCPCLv4 (RFC 9174), read from a list of bytes field by field, in written order: the first field that
 -- is missing or breaks its rule gives the fault.
-use Rattle.std.specs.Prelude.{ℕ, zero, suc, ◌+◌, ◌-◌, Bool, false, ◌&&◌, List, [], ◌∷◌, slice_index, Option, Some, None, Ok, Err, nat_lt, ◌==◌, if◌then◌else◌}
+use Rattle.std.specs.Prelude.{◌≡◌, ℕ, zero, suc, ◌+◌, ◌-◌, Bool, false, ◌&&◌, List, [], ◌∷◌, All, slice_index, Option, Some, None, IsSome, Ok, Err, nat_lt, ◌==◌, if◌then◌else◌}
 use Rattle.arrayvec.specs.ArrayVec.{ArrayVec}
 use Rattle.byteorder.specs.Endian.{big_number}
 use Rattle.link_wire.specs.Codes.{magic, version, xfer_segment, xfer_ack, xfer_refuse, keepalive, sess_term, msg_reject, sess_init, is_start, item_head, transfer_length, total_size}
@@ -58,6 +58,14 @@ total_at of kind size bytes =
     else (do
       (value, bytes) ← skipped_at size bytes
       Ok (None, bytes))
+
+-- a Transfer Length item of 8 bytes has its total
+abbrev pub HasTotal : Item → Type 0
+HasTotal item = item.kind ≡ transfer_length → item.length ≡ total_size → IsSome item.total
+
+-- each item of a list has the total that belongs to it
+abbrev pub HasTotals : List Item → Type 0
+HasTotals items = All HasTotal items
 
 -- The head of the next extension item (section 4.8), where `left` bytes of its list are not covered yet: its flags,
 -- type and length. The item has to end within the list.
@@ -176,3 +184,8 @@ message_at bytes = do
 abbrev pub data_length : Message → ℕ
 data_length (Segment head) = head.length
 data_length message = 0
+
+-- the items of a segment have their totals
+abbrev pub MessageHasTotals : Message → Type 0
+MessageHasTotals (Segment head) = HasTotals head.items.items
+MessageHasTotals message = Unit {0}

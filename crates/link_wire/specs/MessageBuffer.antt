@@ -2,6 +2,7 @@
 use Rattle.std.specs.Prelude.{ℕ, [], if◌then◌else◌}
 use Rattle.arrayvec.specs.ArrayVec.{ArrayVec}
 use Rattle.link_wire.specs.Codes.{is_start}
+use Rattle.link_wire.specs.Message.{HasTotals}
 use Rattle.link_wire.specs.declared.message.Item.{Item}
 use Rattle.link_wire.specs.declared.message.Fields.{Fields}
 use Rattle.link_wire.specs.declared.message.Fields.TheVariants as fields
@@ -25,3 +26,11 @@ message_with (fields.MsgReject reason header) node items = MsgReject reason head
 
 abbrev pub message_of : MessageBuffer → Message
 message_of buffer = message_with buffer.fields buffer.node buffer.items
+
+-- The items of a segment have their totals as they stand in the buffer, also without START, where the segment shows none.
+abbrev pub SegmentHasTotalsWith : Fields → ArrayVec Item → Type 0
+SegmentHasTotalsWith (fields.Segment flags id size) items = HasTotals items.items
+SegmentHasTotalsWith others items = Unit {0}
+
+abbrev pub SegmentHasTotals : MessageBuffer → Type 0
+SegmentHasTotals buffer = SegmentHasTotalsWith buffer.fields buffer.items

@@ -1,11 +1,11 @@
 //! The contact header and the heads of messages, field by field (RFC 9174 sections 4.2 to 6.1).
 
-ghost use Rattle.std.specs.Prelude.{◌≡◌, ◌≤◌, Ok, None};
+ghost use Rattle.std.specs.Prelude.{◌≡◌, ◌≤◌, Ok, None, OnOk};
 ghost use Rattle.link_io.specs.Source.{HasEnded, IsLive};
-ghost use Rattle.link_wire.specs.Message.{contact_at, node_at, node_bytes_at, segment_items_at, segment_at, ack_at, refuse_at, sess_term_at, msg_reject_at, sess_init_at, fields_at};
+ghost use Rattle.link_wire.specs.Message.{contact_at, node_at, node_bytes_at, segment_items_at, segment_at, ack_at, refuse_at, sess_term_at, msg_reject_at, sess_init_at, fields_at, HasTotals};
 ghost use Rattle.link_wire.specs.Getting.{Gets, with_value};
 ghost use Rattle.link_wire.specs.Getting.{GetsKind};
-ghost use Rattle.link_wire.specs.MessageBuffer.{message_of, segment_items};
+ghost use Rattle.link_wire.specs.MessageBuffer.{message_of, segment_items, SegmentHasTotals};
 
 use crate::codes::{
     KEEPALIVE, MAGIC, MSG_REJECT, SESS_INIT, SESS_TERM, START, VERSION, XFER_ACK, XFER_REFUSE,
@@ -61,20 +61,23 @@ fn node_bytes<R: InDevice>(
     Ok(())
 }
 
-/// The extension list of a segment, which stands there only with START.
+/// The items of a segment: those of its extension list, which stands there only with START.
 #[inline]
 fn segment_items<R: InDevice>(
     source: &mut Source<R>,
     flags: u8,
     items: &mut Items,
 ) -> Result<(), Halt>
-    ensures { IsLive R.state source.old
+    ensures gets { IsLive R.state source.old
         → Gets R.state (segment_items_at flags) source.old source.new
         (with_value (segment_items flags items.new) result) }
+    ensures totals { OnOk result (HasTotals items.new.items) }
 {
     if flags & START == START {
         list(source, ListOf::Transfer, items)
     } else {
+        // Those of the message before may lack their totals.
+        items.clear();
         Ok(())
     }
 }
@@ -82,9 +85,10 @@ fn segment_items<R: InDevice>(
 /// XFER_SEGMENT, less its data.
 #[inline]
 fn segment<R: InDevice>(source: &mut Source<R>, message: &mut MessageBuffer) -> Result<(), Halt>
-    ensures { IsLive R.state source.old
+    ensures gets { IsLive R.state source.old
         → Gets R.state segment_at source.old source.new
         (with_value (message_of message.new) result) }
+    ensures totals { OnOk result (SegmentHasTotals message.new) }
 {
     let flags = number8(source)?;
     let id = number64(source)?;
@@ -96,8 +100,9 @@ fn segment<R: InDevice>(source: &mut Source<R>, message: &mut MessageBuffer) -> 
 
 /// XFER_ACK.
 fn ack<R: InDevice>(source: &mut Source<R>, message: &mut MessageBuffer) -> Result<(), Halt>
-    ensures { IsLive R.state source.old
+    ensures gets { IsLive R.state source.old
         → Gets R.state ack_at source.old source.new (with_value (message_of message.new) result) }
+    ensures totals { OnOk result (SegmentHasTotals message.new) }
 {
     let flags = number8(source)?;
     let id = number64(source)?;
@@ -108,9 +113,10 @@ fn ack<R: InDevice>(source: &mut Source<R>, message: &mut MessageBuffer) -> Resu
 
 /// XFER_REFUSE.
 fn refuse<R: InDevice>(source: &mut Source<R>, message: &mut MessageBuffer) -> Result<(), Halt>
-    ensures { IsLive R.state source.old
+    ensures gets { IsLive R.state source.old
         → Gets R.state refuse_at source.old source.new
         (with_value (message_of message.new) result) }
+    ensures totals { OnOk result (SegmentHasTotals message.new) }
 {
     let reason = number8(source)?;
     let id = number64(source)?;
@@ -120,9 +126,10 @@ fn refuse<R: InDevice>(source: &mut Source<R>, message: &mut MessageBuffer) -> R
 
 /// SESS_TERM.
 fn sess_term<R: InDevice>(source: &mut Source<R>, message: &mut MessageBuffer) -> Result<(), Halt>
-    ensures { IsLive R.state source.old
+    ensures gets { IsLive R.state source.old
         → Gets R.state sess_term_at source.old source.new
         (with_value (message_of message.new) result) }
+    ensures totals { OnOk result (SegmentHasTotals message.new) }
 {
     let flags = number8(source)?;
     let reason = number8(source)?;
@@ -132,9 +139,10 @@ fn sess_term<R: InDevice>(source: &mut Source<R>, message: &mut MessageBuffer) -
 
 /// MSG_REJECT.
 fn msg_reject<R: InDevice>(source: &mut Source<R>, message: &mut MessageBuffer) -> Result<(), Halt>
-    ensures { IsLive R.state source.old
+    ensures gets { IsLive R.state source.old
         → Gets R.state msg_reject_at source.old source.new
         (with_value (message_of message.new) result) }
+    ensures totals { OnOk result (SegmentHasTotals message.new) }
 {
     let reason = number8(source)?;
     let header = number8(source)?;
@@ -144,9 +152,10 @@ fn msg_reject<R: InDevice>(source: &mut Source<R>, message: &mut MessageBuffer) 
 
 /// SESS_INIT.
 fn sess_init<R: InDevice>(source: &mut Source<R>, message: &mut MessageBuffer) -> Result<(), Halt>
-    ensures { IsLive R.state source.old
+    ensures gets { IsLive R.state source.old
         → Gets R.state sess_init_at source.old source.new
         (with_value (message_of message.new) result) }
+    ensures totals { OnOk result (SegmentHasTotals message.new) }
 {
     let keepalive = number16(source)?;
     let segment_mru = number64(source)?;
@@ -168,9 +177,10 @@ pub fn fields<R: InDevice>(
     kind: u8,
     message: &mut MessageBuffer,
 ) -> Result<(), Halt>
-    ensures { IsLive R.state source.old
+    ensures gets { IsLive R.state source.old
         → Gets R.state (fields_at kind) source.old source.new
         (with_value (message_of message.new) result) }
+    ensures totals { OnOk result (SegmentHasTotals message.new) }
 {
     match kind {
         XFER_SEGMENT => segment(source, message),

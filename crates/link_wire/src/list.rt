@@ -1,8 +1,8 @@
 //! Extension lists (RFC 9174 sections 4.8 and 5.2.5), item by item.
 
-ghost use Rattle.std.specs.Prelude.{◌≡◌, ◌≤◌, ◌<◌, ◌+◌, length, IfOk};
+ghost use Rattle.std.specs.Prelude.{◌≡◌, ◌≤◌, ◌<◌, ◌+◌, length, IsSome, IsTrue, IfOk, OnOk};
 ghost use Rattle.link_io.specs.Source.{IsLive};
-ghost use Rattle.link_wire.specs.Message.{gives_total, skipped_at, total_at, item_head_at, items_of as items_by, list_at};
+ghost use Rattle.link_wire.specs.Message.{gives_total, HasTotals, skipped_at, total_at, item_head_at, items_of as items_by, list_at};
 ghost use Rattle.link_wire.specs.Getting.{Gets, with_value};
 
 use crate::codes::{ITEM_HEAD, TOTAL_SIZE, TRANSFER_LENGTH};
@@ -57,8 +57,9 @@ fn total<R: InDevice>(
     of: ListOf,
     head: &ItemHead,
 ) -> Result<Option<u64>, Halt>
-    ensures { IsLive R.state source.old
+    ensures gets { IsLive R.state source.old
         → Gets R.state (total_at of head.now.kind head.now.length) source.old source.new result }
+    ensures some { IsTrue (gives_total of head.now.kind head.now.length) → IfOk result IsSome }
 {
     if head.has_total(of) {
         Ok(Some(number64(source)?))
@@ -97,8 +98,9 @@ fn items_of<R: InDevice>(
     length: u32,
     items: &mut Items,
 ) -> Result<(), Halt>
-    ensures { IsLive R.state source.old
+    ensures gets { IsLive R.state source.old
         → Gets R.state (items_by of length) source.old source.new (with_value items.new result) }
+    ensures totals { of ≡ ListOf.Transfer → HasTotals items.new.items }
 {
     items.clear();
     let mut left = length;
@@ -121,8 +123,9 @@ fn items_of<R: InDevice>(
 
 /// An extension list: its length, and its items, which are left with the caller.
 pub fn list<R: InDevice>(source: &mut Source<R>, of: ListOf, items: &mut Items) -> Result<(), Halt>
-    ensures { IsLive R.state source.old
+    ensures gets { IsLive R.state source.old
         → Gets R.state (list_at of) source.old source.new (with_value items.new result) }
+    ensures totals { of ≡ ListOf.Transfer → OnOk result (HasTotals items.new.items) }
 {
     let length = number32(source)?;
     if length > MAX_LIST_LENGTH {

@@ -168,7 +168,7 @@ pub struct MessageBuffer {
 impl MessageBuffer {
     ghost use Rattle.std.specs.Prelude.{◌≡◌, []};
     ghost use Rattle.link_wire.specs.Message.{data_length};
-    ghost use Rattle.link_wire.specs.MessageBuffer.{message_of, message_with};
+    ghost use Rattle.link_wire.specs.MessageBuffer.{message_of, message_with, SegmentHasTotals};
 
     /// A buffer that holds a KEEPALIVE.
     pub fn new() -> MessageBuffer
@@ -184,7 +184,8 @@ impl MessageBuffer {
     /// Sets the numbers of a message without items; the node ID stays as it was.
     #[inline(always)]
     pub(crate) fn set(&mut self, fields: Fields)
-        ensures { message_of self.new ≡ message_with fields self.old.node (record { items = [] }) }
+        ensures message { message_of self.new ≡ message_with fields self.old.node (record { items = [] }) }
+        ensures totals { SegmentHasTotals self.new }
     {
         self.fields = fields;
         self.items.clear();

@@ -30,11 +30,12 @@ pub struct Session<R> {
 }
 
 impl<R: InDevice> Session<R> {
-    ghost use Rattle.std.specs.Prelude.{◌≡◌, true, false, [], ℕ, List, IfErr, Some, None, Ok, Err, IsTrue};
+    ghost use Rattle.std.specs.Prelude.{◌≡◌, true, false, [], ℕ, List, IfOk, IfErr, IfSome, Some, None, Ok, Err, IsTrue};
     ghost use Rattle.link_wire.specs.Halt.{stop_at};
     ghost use Rattle.link_io.specs.Source.{is_fresh, window_of};
     ghost use Rattle.link_wire.specs.Plain.{IsHead};
-    ghost use Rattle.link_wire.specs.MessageBuffer.{message_of};
+    ghost use Rattle.link_wire.specs.Message.{MessageHasTotals};
+    ghost use Rattle.link_wire.specs.MessageBuffer.{message_of, SegmentHasTotals};
     ghost use Rattle.link_wire.specs.Session.{source_of, may_open, may_read, is_opened, IsSessionAt, HasEndedBetween, HasStopped, left_of, with_message_read, GivesContact, GaveMessage, GivesNext};
     ghost use Rattle.link_wire.specs.declared.session.Phase.TheVariants as phase;
 
@@ -102,6 +103,8 @@ impl<R: InDevice> Session<R> {
         ensures again { HasEndedBetween self.old → (self.new ≡ self.old) × (result ≡ Ok None) }
         ensures gives { (history : List ℕ) → IsSessionAt R.state self.old history
             → GivesNext R.state self.old self.new history result }
+        // What a segment announces may be asked for.
+        ensures totals { IfOk result (λ got. IfSome got (λ next. MessageHasTotals next.1)) }
         ensures opened { IsTrue (is_opened self.new) }
         ensures stopped { (stop : _) → HasStopped self.old stop
             → (self.new ≡ self.old) × (result ≡ Err stop) }
@@ -123,6 +126,8 @@ impl<R: InDevice> Session<R> {
         ensures gives { (history : List ℕ) → IsSessionAt R.state self.old history
             → GivesNext R.state self.old self.new history
             (with_message_read (message_of message.new) result) }
+        // What a segment announces may be asked for.
+        ensures totals { IfOk result (λ got. IfSome got (λ offset. SegmentHasTotals message.new)) }
         ensures opened { IsTrue (is_opened self.new) }
         ensures stopped { (stop : _) → HasStopped self.old stop
             → (self.new ≡ self.old) × (result ≡ Err stop) }
@@ -145,6 +150,7 @@ impl<R: InDevice> Session<R> {
         ensures opened { IsTrue (is_opened self.new) }
         ensures gives { (history : List ℕ) → IsSessionAt R.state self.old history
             → GaveMessage R.state self.old self.new history result (message_of message.new) }
+        ensures totals { SegmentHasTotals message.new }
     {
         let offset = self.source.given();
         self.source.give(size);
@@ -166,6 +172,7 @@ impl<R: InDevice> Session<R> {
         ensures gives { (history : List ℕ) → IsSessionAt R.state self.old history
             → GivesNext R.state self.old self.new history
             (with_message_read (message_of message.new) result) }
+        ensures totals { IfOk result (λ got. IfSome got (λ offset. SegmentHasTotals message.new)) }
     {
         let offset = self.source.given();
         let kind = match kind(&mut self.source) {

@@ -1,5 +1,4 @@
-ghost use Rattle.std.specs.Prelude.{◌≡◌, IsSome};
-ghost use Rattle.link_transfer.specs.Announced.{HasTotals};
+ghost use Rattle.link_wire.specs.Message.{HasTotal, HasTotals};
 
 use super::*;
 use std::process::Abort;
@@ -18,7 +17,7 @@ fn items_of(kinds: &[(u16, u16)]) -> Items
 }
 
 fn item_of(kind: u16, length: u16) -> Item
-    ensures { result.kind ≡ 1 → result.length ≡ 8 → IsSome result.total }
+    ensures { HasTotal result }
 {
     let total = if kind == TRANSFER_LENGTH && length == TOTAL_LENGTH {
         Some(35)

@@ -4,37 +4,37 @@ use Rattle.link_wire.proofs.Gettings.{pure, refuse, if_false}
 use Rattle.link_wire.specs.Message.{fields_at}
 use Rattle.link_wire.proofs.head.fields.Goals as goal
 
-pub returns-in-1 : goal.returns-in-1
+pub returns-in-1-clause-gets : goal.returns-in-1-clause-gets
 unfolding fields_at
-returns-in-1 g c = λ live. rw c.in-1.is (c.segment.ensures live)
+returns-in-1-clause-gets g c = λ live. rw c.in-1.is (c.segment.ensures.gets live)
 
-pub returns-in-2 : goal.returns-in-2
+pub returns-in-2-clause-gets : goal.returns-in-2-clause-gets
 unfolding fields_at
-returns-in-2 g c = λ live. rw c.in-2.is (c.ack.ensures live)
+returns-in-2-clause-gets g c = λ live. rw c.in-2.is (c.ack.ensures.gets live)
 
-pub returns-in-3 : goal.returns-in-3
+pub returns-in-3-clause-gets : goal.returns-in-3-clause-gets
 unfolding fields_at
-returns-in-3 g c = λ live. rw c.in-3.is (c.refuse.ensures live)
+returns-in-3-clause-gets g c = λ live. rw c.in-3.is (c.refuse.ensures.gets live)
 
-pub returns-in-4 : goal.returns-in-4
+pub returns-in-4-clause-gets : goal.returns-in-4-clause-gets
 unfolding fields_at
-returns-in-4 g c = λ live. rw c.in-4.is (pure live)
+returns-in-4-clause-gets g c = λ live. rw c.in-4.is (pure live)
 
-pub returns-in-5 : goal.returns-in-5
+pub returns-in-5-clause-gets : goal.returns-in-5-clause-gets
 unfolding fields_at
-returns-in-5 g c = λ live. rw c.in-5.is (c.sess_term.ensures live)
+returns-in-5-clause-gets g c = λ live. rw c.in-5.is (c.sess_term.ensures.gets live)
 
-pub returns-in-6 : goal.returns-in-6
+pub returns-in-6-clause-gets : goal.returns-in-6-clause-gets
 unfolding fields_at
-returns-in-6 g c = λ live. rw c.in-6.is (c.msg_reject.ensures live)
+returns-in-6-clause-gets g c = λ live. rw c.in-6.is (c.msg_reject.ensures.gets live)
 
-pub returns-in-7 : goal.returns-in-7
+pub returns-in-7-clause-gets : goal.returns-in-7-clause-gets
 unfolding fields_at
-returns-in-7 g c = λ live. rw c.in-7.is (c.sess_init.ensures live)
+returns-in-7-clause-gets g c = λ live. rw c.in-7.is (c.sess_init.ensures.gets live)
 
-pub returns-in_default : goal.returns-in_default
+pub returns-in_default-clause-gets : goal.returns-in_default-clause-gets
 unfolding fields_at
-returns-in_default g c = λ live.
+returns-in_default-clause-gets g c = λ live.
     if_false _ _ (ne_eqb c.args.kind 1 (λ e. omega (arith, e, c.in_default)))
     (if_false _ _ (ne_eqb c.args.kind 2 (λ e. omega (arith, e, c.in_default)))
     (if_false _ _ (ne_eqb c.args.kind 3 (λ e. omega (arith, e, c.in_default)))

@@ -2,20 +2,20 @@ use Rattle.link_wire.proofs.Gettings.{exit, leaving, after, pure, is_live}
 use Rattle.link_wire.specs.Message.{msg_reject_at}
 use Rattle.link_wire.proofs.head.msg_reject.Goals as goal
 
-pub returns-in_err-reason : goal.returns-in_err-reason
+pub returns-in_err-reason-clause-gets : goal.returns-in_err-reason-clause-gets
 unfolding msg_reject_at
-returns-in_err-reason g c = λ live.
+returns-in_err-reason-clause-gets g c = λ live.
     leaving _ _ c.from_residual.ensures.1 (exit _ (c.in_err-reason.ensures live))
 
-pub returns-in_err-header : goal.returns-in_err-header
+pub returns-in_err-header-clause-gets : goal.returns-in_err-header-clause-gets
 unfolding msg_reject_at
-returns-in_err-header g c = λ live.
+returns-in_err-header-clause-gets g c = λ live.
     let reason = c.in_ok-reason.ensures live in
     leaving _ _ c.from_residual-in_err-header.ensures.1 (after _ reason (exit _ (c.in_err-header.ensures (is_live reason))))
 
-pub returns : goal.returns
+pub returns-clause-gets : goal.returns-clause-gets
 unfolding msg_reject_at
-returns g c = λ live.
+returns-clause-gets g c = λ live.
     let reason = c.in_ok-reason.ensures live in
     let header = c.in_ok-header.ensures (is_live reason) in
     after _ reason (after _ header (pure (is_live header)))

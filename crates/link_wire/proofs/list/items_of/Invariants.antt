@@ -1,15 +1,17 @@
-use Rattle.std.proofs.Common.{◌-◌, ◌≤◌, length, Result, List}
+use Rattle.std.proofs.Common.{◌≡◌, ◌-◌, ◌≤◌, length, Result, List}
 use Rattle.link_io.specs.Source.{IsLive}
-use Rattle.link_wire.specs.Message.{items_at}
+use Rattle.link_wire.specs.Message.{HasTotals, items_at}
 use Rattle.link_wire.specs.Getting.{Gets}
 use Rattle.link_wire.proofs.Items.{with_before}
 use Rattle.link_wire.specs.declared.message.TheConstants.{MAX_ITEMS}
 use Rattle.link_wire.specs.declared.halt.Halt.{Halt}
 use Rattle.link_wire.specs.declared.message.Item.{Item}
+use Rattle.link_wire.specs.declared.message.ListOf.TheVariants.{Transfer}
 use Rattle.link_io.specs.declared.source.Source.{Source}
 use Rattle.link_wire.proofs.list.items_of.Given as goal
 
--- whatever the bytes left give, all of the list's give the items so far and that
+-- whatever the bytes left give, all of the list's give the items so far and that; in a transfer's list the items so far
+-- have their totals
 abbrev pub invariant-loop-left : goal.invariant-loop-left
 invariant-loop-left g l =
     let look = g.R.InDevice.state in
@@ -19,6 +21,7 @@ invariant-loop-left g l =
       rest : IsLive look l.fn.source → (new : Source g.row.R.Denot) (outcome : Result (List Item) Halt)
           → Gets look (items_at l.of (MAX_ITEMS - length l.items.items) l.left) l.source new outcome
           → Gets look (items_at l.of MAX_ITEMS l.length) l.fn.source new (with_before l.items.items outcome);
+      totals : l.of ≡ Transfer → HasTotals l.items.items;
     }
 
 abbrev pub decreases-loop-left : goal.decreases-loop-left

@@ -1,4 +1,4 @@
-use Rattle.link_transfer.specs.Announced.{HasTotals}
+use Rattle.link_wire.specs.Message.{HasTotals}
 use Rattle.link_transfer.proofs.length.tests.items_of.Given as goal
 
 abbrev pub invariant-loop-kind : goal.invariant-loop-kind

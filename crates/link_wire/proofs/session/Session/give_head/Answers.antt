@@ -17,6 +17,6 @@ returns-clause-gives g c = λ history at.
       given = given;
       takes = c.give.ensures.takes;
       live = c.give.ensures.live at.live;
-      is = subst P (sym c.set.ensures) (c.requires.head.is c.args.message.now.node);
+      is = subst P (sym c.set.ensures.message) (c.requires.head.is c.args.message.now.node);
     } in
     rw here (came old history at (none_left old at.going c.requires.may_read) _ _ got refl c.data_length-self.ensures at.going)
