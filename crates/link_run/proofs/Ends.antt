@@ -22,7 +22,7 @@ use Rattle.link_run.proofs.Runs.{◌then◌, written_as, written_given, written_
 -- an end that more bytes may mend has no line
 pub undecided_lines : (end : End) → IsUndecided end → lasting_lines end ≡ []
 undecided_lines Clean is = refl
-undecided_lines (Cut offset message content) is = refl
+undecided_lines (Cut offset message content) is = absurd is
 undecided_lines (Fault offset fault) is = ap (lasting_line offset) is
 
 pub standing_lines : (offset left : ℕ) (end : End) → IsLeft offset left end → lasting_lines end ≡ []

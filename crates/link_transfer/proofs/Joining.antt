@@ -47,12 +47,12 @@ unfolding open_of
 open_of-push before message = ap (option_and_then open_after) (last-push before message)
 
 -- what each event makes of the last segment
-after-segment : (before : List Message) (message : Message) (flags id : ℕ)
+pub after-segment : (before : List Message) (message : Message) (flags id : ℕ)
     → event_of message ≡ Segment flags id
     → open_of (before ++ message ∷ []) ≡ open_after (Segment flags id)
 after-segment before message flags id is = rw (open_of-push before message, is) refl
 
-after-other : (before : List Message) (message : Message) → is_segment (event_of message) ≡ false
+pub after-other : (before : List Message) (message : Message) → is_segment (event_of message) ≡ false
     → open_of (before ++ message ∷ []) ≡ open_of before
 unfolding open_of
 after-other before message is = rw (open_of-push before message, is) refl

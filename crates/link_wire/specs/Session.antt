@@ -56,10 +56,10 @@ IsLeft offset left Clean = left ≡ 0
 IsLeft offset left (Cut from message content) = (0 < left) × (from ≡ offset) × (data_length message ≡ length content + left)
 IsLeft offset left (Fault from fault) = ⊥
 
--- the stream may be whole, or a field of it is missing: more bytes may mend it
+-- between two messages, or within the head of one, of which a field is missing: more bytes may mend it
 abbrev pub IsUndecided : End → Type 0
 IsUndecided Clean = Unit {0}
-IsUndecided (Cut offset message content) = Unit {0}
+IsUndecided (Cut offset message content) = ⊥
 IsUndecided (Fault offset fault) = fault ≡ wire.Truncated
 
 -- the readings of both have the same messages
