@@ -106,8 +106,8 @@ abbrev pub IsCut : {A : Type 0} → List ℕ → Result A Stop → Type 0
 IsCut bytes (Ok value) = ⊥
 IsCut bytes (Err stop) = stop ≡ stopped Cut (length bytes)
 
--- what is read at an offset of some bytes, and of those bytes with more after them: either the bytes end inside it, and
--- with more of them it does not end before them, or it is the same
+-- what is read at an offset of some bytes, and of those bytes with more after them: either the first bytes end inside it,
+-- and then it ends where they do or later, or it is the same
 pub data Reads {A : Type 0} : List ℕ → ℕ → Reading A → Reading A → Type 0 where
   short : {bytes : List ℕ} {place : ℕ} {now later : Reading A}
       → IsCut bytes now → Onward place later → Past (length bytes) later → Reads bytes place now later
