@@ -20,7 +20,8 @@ use Rattle.link_bundle.specs.CheckField.{field_at}
 use Rattle.link_bundle.specs.Primary.{Primary, primary_at}
 use Rattle.link_bundle.specs.Canonical.{content_at}
 use Rattle.link_bundle.specs.Bundle.{Bundle, noting, info_of, payload_at, blocks_at, opening_at, bundle_at, ends, judged, told, verdict}
-use Rattle.link_bundle.proofs.Steady.{Stays, cuts, same, bundle_at-stays}
+use Rattle.link_bundle.proofs.Steady.{Stays, cuts, same}
+use Rattle.link_bundle.proofs.Notes.{bundle_at-stays}
 
 -- a whole head has no more bytes than there are
 HeadWithin : List ℕ → HeadFront → Type 0

@@ -8,8 +8,10 @@ pub mod Steps
 pub mod Contents
 pub mod Opening
 pub mod Verdicts
+pub mod HeadEnds
 pub mod Steady
-pub mod Lengths
 pub mod Notes
+pub mod Lengths
+pub mod Payloads
 pub mod Feeding
 pub mod FirstHead

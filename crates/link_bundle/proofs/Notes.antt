@@ -1,200 +1,220 @@
--- where the payload's bytes begin, and how many its head says, stays known however the bytes go on
+-- what is read of a bundle, of some bytes and of those bytes with more after them: where the payload's bytes are noted
 
-use Rattle.std.proofs.Common.{◌≡◌, ℕ, zero, suc, ◌+◌, Bool, true, false, List, [], ◌∷◌, ◌++◌, length, Option, None, Some, Result, Ok, Err, refl, sym, ◌∙◌, ltb}
+use Rattle.std.proofs.Common.{◌≡◌, ℕ, zero, suc, ◌+◌, ◌<◌, ◌≤◌, Bool, true, false, List, [], ◌∷◌, ◌++◌, length, Option, None, Some, Result, Ok, Err, refl, sym, ap, ◌∙◌, ⊎_elim, arith, ltb}
 use Rattle.std.specs.Prelude.{◌==◌, if◌then◌else◌}
+use Rattle.std.proofs.lemmas.Bool.{cases_lt, lt-ltb}
 use Rattle.link_cbor.specs.declared.check.CheckKind.{CheckKind}
 use Rattle.link_cbor.specs.declared.head.Head.{Head}
-use Rattle.link_cbor.specs.Head.{HeadFront, Cut as CutHead, IllFormed, Whole}
 use Rattle.link_bundle_types.specs.declared.fault.BundleFault.{BundleFault}
-use Rattle.link_bundle_rows.specs.declared.endpoint.Scheme.{Scheme}
-use Rattle.link_bundle_rows.specs.declared.endpoint.Scheme.TheVariants.{Dtn, Ipn}
-use Rattle.link_bundle.specs.Laws.{PayloadLasts}
-use Rattle.link_bundle_rows.specs.Rows.{◌>>=◌, unsigned, byte_string, pair, scheme, dtn_part, ipn_part, version, is_fragment, primary_block, primary_check_type, block, block_too_many, block_number, block_check_type, check_width, check_field, closing}
-use Rattle.link_bundle.specs.Reading.{Stop, Reading, cut_short, placed, judged_at, head_at, row_at, bytes_at}
-use Rattle.link_bundle.specs.EndpointId.{dtn_at, ipn_at, specific_at, eid_at}
-use Rattle.link_bundle.specs.CheckField.{number_from, check_of, field_at}
-use Rattle.link_bundle.specs.Primary.{Primary, fragment_at, primary_at}
+use Rattle.link_bundle_types.specs.declared.fault.BundleFault.TheVariants.{Cut}
+use Rattle.link_bundle_rows.specs.Rows.{◌>>=◌, unsigned, byte_string, block, block_too_many, block_number, block_check_type, closing}
+use Rattle.link_bundle.specs.Reading.{Stop, Reading, stopped, cut_short, row_at, bytes_at}
+use Rattle.link_bundle.specs.CheckField.{field_at}
+use Rattle.link_bundle.specs.Primary.{Primary, primary_at}
 use Rattle.link_bundle.specs.Canonical.{content_at}
-use Rattle.link_bundle.specs.Bundle.{Bundle, noting, payload_at, blocks_at, opening_at, bundle_at, ends, judged, noted}
-use Rattle.link_bundle.proofs.Steady.{Stays, cuts, same, row_at-stays, field_at-stays, content_at-stays, primary_at-stays, opening_at-stays}
+use Rattle.link_bundle.specs.Bundle.{Bundle, noting, payload_at, blocks_at, opening_at, bundle_at, noted}
+use Rattle.link_bundle.proofs.Steady.{EndsCut, Stays, cuts, same, stays-then, IsCut, Reads, short, whole, stays_of, row_at-reads, field_at-reads, content_at-reads, primary_at-reads, opening_at-reads}
 
--- a stop before the payload's data head has no note
-Plain : {A : Type 0} → Result A Stop → Type 0
-Plain (Ok value) = Unit {0}
-Plain (Err stop) = stop.payload ≡ None
+-- the payload that is noted begins at this offset or after it
+abbrev pub NotedFrom : ℕ → Result Bundle Stop → Type 0
+NotedFrom place reading = (payload : ℕ × ℕ) → noted reading ≡ Some payload → place ≤ payload.0
 
-plain-then : {A B : Type 0} (now : Result A Stop) (next : A → Result B Stop) → Plain now → ((value : A) → Plain (next value)) → Plain (now >>= next)
-unfolding Plain
-plain-then (Ok value) next plain each = each value
-plain-then (Err stop) next plain each = plain
+-- all of its bytes are there
+abbrev pub NotedWithin : List ℕ → Result Bundle Stop → Type 0
+NotedWithin bytes reading = (payload : ℕ × ℕ) → noted reading ≡ Some payload → payload.0 + payload.1 ≤ length bytes
 
-plain-if : {A : Type 0} (test : Bool) (one other : Result A Stop) → Plain one → Plain other → Plain (if test then one else other)
-plain-if true one other taken passed = taken
-plain-if false one other taken passed = passed
+-- what is read of a bundle from an offset, of some bytes and of those bytes with more after them: the bytes end before
+-- the payload is noted, or after that, or they do not end inside the bundle
+pub data Keeps : List ℕ → ℕ → Result Bundle Stop → Result Bundle Stop → Type 0 where
+  before : {bytes : List ℕ} {place : ℕ} {now later : Result Bundle Stop}
+      → IsCut bytes now → NotedFrom place later → NotedFrom (length bytes) later → Keeps bytes place now later
+  inside : {bytes : List ℕ} {place : ℕ} {now later : Result Bundle Stop}
+      → EndsCut now → noted later ≡ noted now → NotedFrom place now → Keeps bytes place now later
+  after : {bytes : List ℕ} {place : ℕ} {now later : Result Bundle Stop}
+      → later ≡ now → NotedFrom place now → NotedWithin bytes now → Keeps bytes place now later
 
-plain-placed : (bytes : List ℕ) (place : ℕ) (front : HeadFront) → Plain (placed bytes place front)
-unfolding Plain
-plain-placed bytes place CutHead = refl
-plain-placed bytes place IllFormed = refl
-plain-placed bytes place (Whole head size) = tt
+pub not_noted : (stop : Stop) (payload : ℕ × ℕ) → stop.payload ≡ None → stop.payload ≡ Some payload → ⊥
+not_noted stop payload plain told = let no : Some payload ≡ None = sym told ∙ plain in cc
 
-plain-judged : {A : Type 0} (place next : ℕ) (told : Result A BundleFault) → Plain (judged_at place next told)
-unfolding Plain
-plain-judged place next (Ok value) = tt
-plain-judged place next (Err fault) = refl
+nowhere : (place : ℕ) (stop : Stop) → stop.payload ≡ None → NotedFrom place (Err stop)
+nowhere place stop plain = λ payload told. absurd (not_noted stop payload plain told)
 
-plain-row : {A : Type 0} (row : Head → Result A BundleFault) (bytes : List ℕ) (place : ℕ) → Plain (row_at row bytes place)
-unfolding row_at head_at
-plain-row row bytes place =
-    plain-then (placed bytes place _) _ (plain-placed bytes place _) (λ (head, next). plain-judged place next (row head))
+sooner : (place start : ℕ) (reading : Result Bundle Stop) → place ≤ start → NotedFrom start reading
+    → NotedFrom place reading
+sooner place start reading lower from = λ payload told. let on = from payload told in omega arith
 
-plain-bytes : (count : ℕ) (bytes : List ℕ) (place : ℕ) → Plain (bytes_at count bytes place)
-unfolding bytes_at Plain
-plain-bytes count bytes place = plain-if (ltb (length bytes) (place + count)) (cut_short bytes) (Ok _) refl tt
+noted_later : (bytes : List ℕ) (place : ℕ) (now later : Result Bundle Stop) → Keeps bytes place now later
+    → NotedFrom place later
+noted_later bytes place now later (before cut from past) = from
+noted_later bytes place now later (inside cut is from) = λ payload told. from payload (sym is ∙ told)
+noted_later bytes place now later (after is from within) = λ payload told. from payload (ap noted (sym is) ∙ told)
 
-plain-dtn : (part : Option ℕ) (bytes : List ℕ) (place : ℕ) → Plain (dtn_at part bytes place)
-unfolding dtn_at Plain
-plain-dtn None bytes place = tt
-plain-dtn (Some count) bytes place = plain-then (bytes_at count bytes place) _ (plain-bytes count bytes place) (λ name. tt)
+keeps-sooner : (bytes : List ℕ) (place start : ℕ) (now later : Result Bundle Stop) → place ≤ start
+    → Keeps bytes start now later → Keeps bytes place now later
+keeps-sooner bytes place start now later lower (before cut from past) =
+    before cut (sooner place start later lower from) past
+keeps-sooner bytes place start now later lower (inside cut is from) = inside cut is (sooner place start now lower from)
+keeps-sooner bytes place start now later lower (after is from within) =
+    after is (sooner place start now lower from) within
 
-plain-ipn : (allocated : Bool) (bytes : List ℕ) (place : ℕ) → Plain (ipn_at allocated bytes place)
-unfolding ipn_at Plain
-plain-ipn false bytes place =
-    plain-then (row_at unsigned bytes place) _ (plain-row unsigned bytes place)
-    (λ (node, place). plain-then (row_at unsigned bytes place) _ (plain-row unsigned bytes place) (λ service. tt))
-plain-ipn true bytes place =
-    plain-then (row_at unsigned bytes place) _ (plain-row unsigned bytes place)
-    (λ (allocator, place). plain-then (row_at unsigned bytes place) _ (plain-row unsigned bytes place)
-    (λ (node, place). plain-then (row_at unsigned bytes place) _ (plain-row unsigned bytes place) (λ service. tt)))
+keeps-then : {A : Type 0} (bytes : List ℕ) (place : ℕ) (now later : Reading A)
+    (next next_later : A × ℕ → Result Bundle Stop) → Reads bytes place now later
+    → ((value : A × ℕ) → Keeps bytes value.1 (next value) (next_later value))
+    → Keeps bytes place (now >>= next) (later >>= next_later)
+keeps-then bytes place (Ok value) later next next_later (short cut onward past) each = absurd cut
+keeps-then bytes place (Err stop) (Err other) next next_later (short cut onward past) each =
+    before cut (nowhere place other onward) (nowhere (length bytes) other onward)
+keeps-then bytes place (Err stop) (Ok (value, end)) next next_later (short cut onward past) each =
+    let rest = next_later (value, end) in
+    let from = noted_later bytes end (next (value, end)) rest (each (value, end)) in
+    before cut (sooner place end rest onward from) (sooner (length bytes) end rest past from)
+keeps-then bytes place (Ok (value, end)) later next next_later (whole is onward) each =
+    rw is (keeps-sooner bytes place end (next (value, end)) (next_later (value, end)) onward (each (value, end)))
+keeps-then bytes place (Err stop) later next next_later (whole is onward) each =
+    after (rw is refl) (nowhere place stop onward) (λ payload told. absurd (not_noted stop payload onward told))
 
-plain-specific : (which : Scheme) (bytes : List ℕ) (place : ℕ) → Plain (specific_at which bytes place)
-unfolding specific_at Plain
-plain-specific Dtn bytes place = plain-then (row_at dtn_part bytes place) _ (plain-row dtn_part bytes place) (λ (part, next). plain-dtn part bytes next)
-plain-specific Ipn bytes place =
-    plain-then (row_at ipn_part bytes place) _ (plain-row ipn_part bytes place) (λ (count, place). plain-ipn (count == 3) bytes place)
+row-keeps : {A : Type 0} (row : Head → Result A BundleFault) (bytes more : List ℕ) (place : ℕ)
+    (next next_later : A × ℕ → Result Bundle Stop)
+    → ((value : A × ℕ) → Keeps bytes value.1 (next value) (next_later value))
+    → Keeps bytes place (row_at row bytes place >>= next) (row_at row (bytes ++ more) place >>= next_later)
+row-keeps row bytes more place next next_later each =
+    keeps-then bytes place (row_at row bytes place) (row_at row (bytes ++ more) place) next next_later
+    (row_at-reads row bytes more place) each
 
-plain-eid : (bytes : List ℕ) (place : ℕ) → Plain (eid_at bytes place)
-unfolding eid_at
-plain-eid bytes place =
-    plain-then (row_at pair bytes place) _ (plain-row pair bytes place)
-    (λ (_, place). plain-then (row_at scheme bytes place) _ (plain-row scheme bytes place) (λ (which, place). plain-specific which bytes place))
+keeps-if : (test : Bool) (bytes : List ℕ) (place : ℕ) (now later other other_later : Result Bundle Stop)
+    → Keeps bytes place now later → Keeps bytes place other other_later
+    → Keeps bytes place (if test then now else other) (if test then later else other_later)
+keeps-if true bytes place now later other other_later taken passed = taken
+keeps-if false bytes place now later other other_later taken passed = passed
 
-plain-fragment : (is : Bool) (bytes : List ℕ) (place : ℕ) → Plain (fragment_at is bytes place)
-unfolding fragment_at Plain
-plain-fragment false bytes place = tt
-plain-fragment true bytes place =
-    plain-then (row_at unsigned bytes place) _ (plain-row unsigned bytes place)
-    (λ (offset, place). plain-then (row_at unsigned bytes place) _ (plain-row unsigned bytes place) (λ total. tt))
+keeps-cut : (bytes more : List ℕ) (place : ℕ) → Keeps bytes place (cut_short bytes) (cut_short (bytes ++ more))
+keeps-cut bytes more place =
+    let stop = stopped Cut (length (bytes ++ more)) in
+    before refl (nowhere place stop refl) (nowhere (length bytes) stop refl)
 
-plain-field : (check : Option CheckKind) (start : ℕ) (bytes : List ℕ) (place : ℕ) → Plain (field_at check start bytes place)
-unfolding field_at Plain
-plain-field None start bytes place = tt
-plain-field (Some kind) start bytes place =
-    plain-then (row_at (check_field kind) bytes place) _ (plain-row (check_field kind) bytes place)
-    (λ (_, content). plain-then (bytes_at (check_width kind) bytes content) _ (plain-bytes (check_width kind) bytes content)
-    (λ (stored, next). plain-if (number_from 0 stored == check_of kind start content bytes) (Ok (true, next)) (Err _) tt refl))
-
-plain-content : (size : ℕ) (check : Option CheckKind) (start : ℕ) (bytes : List ℕ) (place : ℕ) → Plain (content_at size check start bytes place)
-unfolding content_at
-plain-content size check start bytes place =
-    plain-then (bytes_at size bytes place) _ (plain-bytes size bytes place) (λ (_, place). plain-field check start bytes place)
-
-plain-primary : (bytes : List ℕ) (place : ℕ) → Plain (primary_at bytes place)
-unfolding primary_at Plain
-plain-primary bytes place =
-    plain-then (row_at primary_block bytes place) _ (plain-row primary_block bytes place)
-    (λ (count, place). plain-then (row_at version bytes place) _ (plain-row version bytes place)
-    (λ (_, place). plain-then (row_at unsigned bytes place) _ (plain-row unsigned bytes place)
-    (λ (flags, place). plain-then (row_at (primary_check_type count flags) bytes place) _ (plain-row (primary_check_type count flags) bytes place)
-    (λ (check, place). plain-then (eid_at bytes place) _ (plain-eid bytes place)
-    (λ (destination, place). plain-then (eid_at bytes place) _ (plain-eid bytes place)
-    (λ (source, place). plain-then (eid_at bytes place) _ (plain-eid bytes place)
-    (λ (report_to, place). plain-then (row_at pair bytes place) _ (plain-row pair bytes place)
-    (λ (_, place). plain-then (row_at unsigned bytes place) _ (plain-row unsigned bytes place)
-    (λ (time, place). plain-then (row_at unsigned bytes place) _ (plain-row unsigned bytes place)
-    (λ (sequence, place). plain-then (row_at unsigned bytes place) _ (plain-row unsigned bytes place)
-    (λ (lifetime, place). plain-then (fragment_at (is_fragment flags) bytes place) _ (plain-fragment (is_fragment flags) bytes place) (λ fragment. tt))))))))))))
-
-plain-opening : (bytes : List ℕ) → Plain (opening_at bytes)
-unfolding opening_at Plain
-plain-opening [] = refl
-plain-opening (first ∷ rest) = plain-if (first == 0x9f) (Ok (true, 1)) (Err _) tt refl
-
--- what is noted of some bytes is noted of those bytes with more after them
-NoteStays : Result Bundle Stop → Result Bundle Stop → Type 0
-NoteStays now later = (payload : ℕ × ℕ) → noted now ≡ Some payload → noted later ≡ Some payload
-
-note-then : {A : Type 0} (now later : Result A Stop) (next next_later : A → Result Bundle Stop) → Plain now → Stays now later
-    → ((value : A) → NoteStays (next value) (next_later value)) → NoteStays (now >>= next) (later >>= next_later)
-unfolding NoteStays Plain
-note-then (Ok value) later next next_later plain (cuts cut) each = absurd cut
-note-then (Ok value) later next next_later plain (same is) each = rw is (each value)
-note-then (Err stop) later next next_later plain stays each = λ payload told. absurd (let none : Some payload ≡ None = sym told ∙ plain in cc)
+-- ---- the payload block, whose note is known
 
 noted-then : (payload : ℕ × ℕ) (field : Reading Bool) (next : Bool × ℕ → Result Bundle Stop)
-    → ((value : Bool × ℕ) → noted (noting payload (next value)) ≡ Some payload) → noted (noting payload (field >>= next)) ≡ Some payload
+    → ((value : Bool × ℕ) → noted (noting payload (next value)) ≡ Some payload)
+    → noted (noting payload (field >>= next)) ≡ Some payload
 noted-then payload (Ok value) next each = each value
 noted-then payload (Err stop) next each = refl
 
-noted-payload_at : (primary : Primary) (blocks size : ℕ) (check : Option CheckKind) (start : ℕ) (bytes : List ℕ) (place : ℕ)
+noted-payload_at : (primary : Primary) (blocks size : ℕ) (check : Option CheckKind) (start : ℕ) (bytes : List ℕ)
+    (place : ℕ)
     → noted (payload_at primary blocks size check start bytes place) ≡ Some (place, size)
 unfolding payload_at
 noted-payload_at primary blocks size check start bytes place =
     noted-then (place, size) (content_at size check start bytes place) _
     (λ (_, end). noted-then (place, size) (row_at closing bytes end) _ (λ last. refl))
 
-note-if : (test : Bool) (now later other other_later : Result Bundle Stop) → NoteStays now later → NoteStays other other_later
-    → NoteStays (if test then now else other) (if test then later else other_later)
-note-if true now later other other_later taken passed = taken
-note-if false now later other other_later taken passed = passed
+stays-noting : {A : Type 0} (payload : ℕ × ℕ) (now later : Result A Stop) → Stays now later
+    → Stays (noting payload now) (noting payload later)
+stays-noting payload (Ok value) later (cuts cut) = absurd cut
+stays-noting payload (Err stop) later (cuts cut) = cuts cut
+stays-noting payload now later (same is) = same (rw is refl)
 
-blocks_at-note : (left : ℕ) (numbers : List ℕ) (primary : Primary) (bytes more : List ℕ) (start : ℕ)
-    → NoteStays (blocks_at left numbers primary bytes start) (blocks_at left numbers primary (bytes ++ more) start)
-unfolding blocks_at NoteStays
-blocks_at-note zero numbers primary bytes more start =
-    note-then (row_at block_too_many bytes start) (row_at block_too_many (bytes ++ more) start) _ _ (plain-row block_too_many bytes start)
-    (row_at-stays block_too_many bytes more start) (λ none payload told. absurd (let no : Some payload ≡ None = sym told in cc))
-blocks_at-note (suc left) numbers primary bytes more start =
-    note-then (row_at block bytes start) (row_at block (bytes ++ more) start) _ _ (plain-row block bytes start) (row_at-stays block bytes more start)
-    (λ (count, place). note-then (row_at unsigned bytes place) (row_at unsigned (bytes ++ more) place) _ _ (plain-row unsigned bytes place) (row_at-stays unsigned bytes more place)
-    (λ (type, place). note-then (row_at (block_number type numbers) bytes place) (row_at (block_number type numbers) (bytes ++ more) place) _ _
-    (plain-row (block_number type numbers) bytes place) (row_at-stays (block_number type numbers) bytes more place)
-    (λ (number, place). note-then (row_at unsigned bytes place) (row_at unsigned (bytes ++ more) place) _ _ (plain-row unsigned bytes place) (row_at-stays unsigned bytes more place)
-    (λ (flags, place). note-then (row_at (block_check_type count) bytes place) (row_at (block_check_type count) (bytes ++ more) place) _ _
-    (plain-row (block_check_type count) bytes place) (row_at-stays (block_check_type count) bytes more place)
-    (λ (check, place). note-then (row_at byte_string bytes place) (row_at byte_string (bytes ++ more) place) _ _ (plain-row byte_string bytes place) (row_at-stays byte_string bytes more place)
-    (λ (size, place). note-if (type == 1)
+payload_at-stays : (primary : Primary) (blocks size : ℕ) (check : Option CheckKind) (start : ℕ) (bytes more : List ℕ)
+    (place : ℕ)
+    → Stays (payload_at primary blocks size check start bytes place)
+    (payload_at primary blocks size check start (bytes ++ more) place)
+unfolding payload_at
+payload_at-stays primary blocks size check start bytes more place =
+    stays-noting (place, size) _ _
+    (stays-then (content_at size check start bytes place) (content_at size check start (bytes ++ more) place) _ _
+    (stays_of bytes place _ _ (content_at-reads size check start bytes more place))
+    (λ (_, end). stays-then (row_at closing bytes end) (row_at closing (bytes ++ more) end) _ _
+    (stays_of bytes end _ _ (row_at-reads closing bytes more end))
+    (λ last. same refl)))
+
+-- bytes that end before the payload does end inside the bundle
+payload_at-cut : (primary : Primary) (blocks size : ℕ) (check : Option CheckKind) (start : ℕ) (bytes : List ℕ)
+    (place : ℕ)
+    → length bytes < place + size → EndsCut (payload_at primary blocks size check start bytes place)
+unfolding payload_at content_at bytes_at
+payload_at-cut primary blocks size check start bytes place missing =
+    let short_now : ltb (length bytes) (place + size) ≡ true = lt-ltb (length bytes) (place + size) missing in
+    rw short_now refl
+
+known_once : {one other : ℕ × ℕ} → Some one ≡ Some other → other ≡ one
+known_once is = cc
+
+known-from : (place size : ℕ) (reading : Result Bundle Stop) → noted reading ≡ Some (place, size)
+    → NotedFrom place reading
+known-from place size reading is = λ payload told.
+    let here : payload ≡ (place, size) = known_once (sym is ∙ told) in
+    rw here (omega arith)
+
+known-within : (bytes : List ℕ) (place size : ℕ) (reading : Result Bundle Stop) → noted reading ≡ Some (place, size)
+    → place + size ≤ length bytes → NotedWithin bytes reading
+known-within bytes place size reading is there = λ payload told.
+    let here : payload ≡ (place, size) = known_once (sym is ∙ told) in
+    rw here there
+
+keeps-known : (bytes : List ℕ) (place : ℕ) (now later : Result Bundle Stop) → Stays now later → noted later ≡ noted now
+    → NotedFrom place now → NotedWithin bytes now → Keeps bytes place now later
+keeps-known bytes place now later (cuts cut) is from within = inside cut is from
+keeps-known bytes place now later (same equal) is from within = after equal from within
+
+payload_at-keeps : (primary : Primary) (blocks size : ℕ) (check : Option CheckKind) (start : ℕ) (bytes more : List ℕ)
+    (place : ℕ)
+    → Keeps bytes place (payload_at primary blocks size check start bytes place)
+    (payload_at primary blocks size check start (bytes ++ more) place)
+payload_at-keeps primary blocks size check start bytes more place =
+    let now = payload_at primary blocks size check start bytes place in
+    let later = payload_at primary blocks size check start (bytes ++ more) place in
+    let is = noted-payload_at primary blocks size check start bytes place in
+    let same_note = noted-payload_at primary blocks size check start (bytes ++ more) place ∙ sym is in
+    let from = known-from place size now is in
+    ⊎_elim
+    (λ missing. inside (payload_at-cut primary blocks size check start bytes place missing) same_note from)
+    (λ there. keeps-known bytes place now later (payload_at-stays primary blocks size check start bytes more place)
+    same_note from (known-within bytes place size now is there))
+    (cases_lt (length bytes) (place + size))
+
+-- ---- the blocks before it
+
+blocks_at-keeps : (left : ℕ) (numbers : List ℕ) (primary : Primary) (bytes more : List ℕ) (start : ℕ)
+    → Keeps bytes start (blocks_at left numbers primary bytes start)
+    (blocks_at left numbers primary (bytes ++ more) start)
+unfolding blocks_at
+blocks_at-keeps zero numbers primary bytes more start =
+    row-keeps block_too_many bytes more start _ _ (λ (none, place). keeps-cut bytes more place)
+blocks_at-keeps (suc left) numbers primary bytes more start =
+    row-keeps block bytes more start _ _
+    (λ (count, place). row-keeps unsigned bytes more place _ _
+    (λ (type, place). row-keeps (block_number type numbers) bytes more place _ _
+    (λ (number, place). row-keeps unsigned bytes more place _ _
+    (λ (flags, place). row-keeps (block_check_type count) bytes more place _ _
+    (λ (check, place). row-keeps byte_string bytes more place _ _
+    (λ (size, place). keeps-if (type == 1) bytes place
     (payload_at primary (length numbers + 1) size check start bytes place)
     (payload_at primary (length numbers + 1) size check start (bytes ++ more) place)
     (content_at size check start bytes place >>= λ x. blocks_at left (numbers ++ number ∷ []) primary bytes x.1)
-    (content_at size check start (bytes ++ more) place >>= λ x. blocks_at left (numbers ++ number ∷ []) primary (bytes ++ more) x.1)
-    (λ payload told. noted-payload_at primary (length numbers + 1) size check start (bytes ++ more) place
-    ∙ sym (noted-payload_at primary (length numbers + 1) size check start bytes place) ∙ told)
-    (note-then (content_at size check start bytes place) (content_at size check start (bytes ++ more) place) _ _
-    (plain-content size check start bytes place) (content_at-stays size check start bytes more place)
-    (λ (_, place). blocks_at-note left (numbers ++ number ∷ []) primary bytes more place))))))))
+    (content_at size check start (bytes ++ more) place >>= λ x.
+    blocks_at left (numbers ++ number ∷ []) primary (bytes ++ more) x.1)
+    (payload_at-keeps primary (length numbers + 1) size check start bytes more place)
+    (keeps-then bytes place (content_at size check start bytes place)
+    (content_at size check start (bytes ++ more) place) _ _
+    (content_at-reads size check start bytes more place)
+    (λ (_, place). blocks_at-keeps left (numbers ++ number ∷ []) primary bytes more place))))))))
 
-bundle_at-note : (bytes more : List ℕ) → NoteStays (bundle_at bytes) (bundle_at (bytes ++ more))
+pub bundle_at-keeps : (bytes more : List ℕ) → Keeps bytes 0 (bundle_at bytes) (bundle_at (bytes ++ more))
 unfolding bundle_at
-bundle_at-note bytes more =
-    note-then (opening_at bytes) (opening_at (bytes ++ more)) _ _ (plain-opening bytes) (opening_at-stays bytes more)
-    (λ (_, start). note-then (primary_at bytes start) (primary_at (bytes ++ more) start) _ _ (plain-primary bytes start) (primary_at-stays bytes more start)
-    (λ (primary, place). note-then (field_at primary.1 start bytes place) (field_at primary.1 start (bytes ++ more) place) _ _
-    (plain-field primary.1 start bytes place) (field_at-stays primary.1 start bytes more place)
-    (λ (_, place). blocks_at-note 64 [] primary.0 bytes more place)))
+bundle_at-keeps bytes more =
+    keeps-then bytes 0 (opening_at bytes) (opening_at (bytes ++ more)) _ _ (opening_at-reads bytes more)
+    (λ (_, start). keeps-then bytes start (primary_at bytes start) (primary_at (bytes ++ more) start) _ _
+    (primary_at-reads bytes more start)
+    (λ ((primary, check), place). keeps-then bytes place (field_at check start bytes place)
+    (field_at check start (bytes ++ more) place) _ _
+    (field_at-reads check start bytes more place)
+    (λ (_, place). blocks_at-keeps 64 [] primary bytes more place)))
 
--- bytes after a bundle leave its note
-noted-chosen : (test : Bool) (bundle : Bundle) (stop : Stop) → stop.payload ≡ Some bundle.payload
-    → noted (if test then Ok bundle else Err stop) ≡ Some bundle.payload
-noted-chosen true bundle stop is = refl
-noted-chosen false bundle stop is = is
+stays_kept : (bytes : List ℕ) (now later : Result Bundle Stop) → Keeps bytes 0 now later → Stays now later
+stays_kept bytes (Ok bundle) later (before cut from past) = absurd cut
+stays_kept bytes (Err stop) later (before cut from past) = cuts (ap (λ (stop : Stop). stop.fault) cut)
+stays_kept bytes now later (inside cut is from) = cuts cut
+stays_kept bytes now later (after is from within) = same is
 
-noted-ends : (bytes : List ℕ) (reading : Result Bundle Stop) → noted (reading >>= λ bundle. ends bytes bundle) ≡ noted reading
-noted-ends bytes (Ok bundle) = noted-chosen (bundle.length == length bytes) bundle _ refl
-noted-ends bytes (Err stop) = refl
-
-pub PayloadLasts-holds : PayloadLasts
-unfolding judged NoteStays
-PayloadLasts-holds bytes more payload told =
-    noted-ends (bytes ++ more) (bundle_at (bytes ++ more))
-    ∙ bundle_at-note bytes more payload (sym (noted-ends bytes (bundle_at bytes)) ∙ told)
+pub bundle_at-stays : (bytes more : List ℕ) → Stays (bundle_at bytes) (bundle_at (bytes ++ more))
+bundle_at-stays bytes more = stays_kept bytes (bundle_at bytes) (bundle_at (bytes ++ more)) (bundle_at-keeps bytes more)

@@ -1,6 +1,6 @@
--- what is read stays what it is however the bytes go on, unless it ends where the bytes end
+-- what is read of some bytes, and of those bytes with more after them
 
-use Rattle.std.proofs.Common.{◌≡◌, ℕ, zero, suc, ◌+◌, ◌-◌, ◌≤◌, Bool, true, false, List, [], ◌∷◌, ◌++◌, length, drop, Option, None, Some, Result, Ok, Err, refl, sym, ap, ◌∙◌, ⊎_elim, length-append, length-drop, arith, ltb}
+use Rattle.std.proofs.Common.{◌≡◌, ℕ, ◌+◌, ◌-◌, ◌≤◌, Bool, true, false, List, [], ◌∷◌, ◌++◌, length, drop, Option, None, Some, Result, Ok, Err, refl, sym, ap, ◌∙◌, ⊎_elim, length-append, length-drop, arith, ltb}
 use Rattle.std.specs.Prelude.{◌==◌, slice_range, if◌then◌else◌}
 use Rattle.std.proofs.lemmas.Bool.{cases_lt, lt-ltb, le-ltb, false≢true}
 use Rattle.std.proofs.lemmas.List.{drop-append-le, take-append-le}
@@ -9,124 +9,261 @@ use Rattle.link_cbor.specs.declared.check.CheckKind.{CheckKind}
 use Rattle.link_cbor.specs.declared.head.Head.{Head}
 use Rattle.link_cbor.specs.Head.{HeadFront, Cut as CutHead, IllFormed, Whole, head_front, is_cut}
 use Rattle.link_cbor.specs.HeadLaws.{told_stays}
+use Rattle.link_bundle_types.specs.declared.eid.Eid.{Eid}
 use Rattle.link_bundle_types.specs.declared.fault.BundleFault.{BundleFault}
 use Rattle.link_bundle_types.specs.declared.fault.BundleFault.TheVariants.{Cut, CheckDiffers}
 use Rattle.link_bundle_rows.specs.declared.endpoint.Scheme.{Scheme}
 use Rattle.link_bundle_rows.specs.declared.endpoint.Scheme.TheVariants.{Dtn, Ipn}
-use Rattle.link_bundle_rows.specs.Rows.{◌>>=◌, unsigned, byte_string, pair, scheme, dtn_part, ipn_part, version, is_fragment, primary_block, primary_check_type, block, block_too_many, block_number, block_check_type, check_width, check_field, closing}
-use Rattle.link_bundle.specs.Reading.{Stop, stopped, placed, head_at, row_at, bytes_at}
+use Rattle.link_bundle_rows.specs.Rows.{◌>>=◌, unsigned, pair, scheme, dtn_part, ipn_part, version, is_fragment, primary_block, primary_check_type, check_width, check_field}
+use Rattle.link_bundle.specs.Reading.{Stop, Reading, stopped, cut_short, placed, judged_at, head_at, row_at, bytes_at}
 use Rattle.link_bundle.specs.EndpointId.{dtn_at, ipn_at, specific_at, eid_at}
 use Rattle.link_bundle.specs.CheckField.{number_from, check_of, field_at}
-use Rattle.link_bundle.specs.Primary.{Primary, fragment_at, primary_at}
+use Rattle.link_bundle.specs.Primary.{fragment_at, primary_at}
 use Rattle.link_bundle.specs.Canonical.{content_at}
-use Rattle.link_bundle.specs.Bundle.{noting, payload_at, blocks_at, opening_at, bundle_at}
+use Rattle.link_bundle.specs.Bundle.{opening_at}
+use Rattle.link_bundle.proofs.HeadEnds.{EndsFrom, head_ends}
 
--- the reading ends where the bytes end
+-- ---- how far one reading goes
+
+-- what is read at an offset ends there or after it, and a stop in it notes no payload
+abbrev pub Onward : {A : Type 0} → ℕ → Reading A → Type 0
+Onward place (Ok (value, next)) = place ≤ next
+Onward place (Err stop) = stop.payload ≡ None
+
+-- what is read, if it is, ends at this offset or after it
+abbrev pub Past : {A : Type 0} → ℕ → Reading A → Type 0
+Past limit (Ok (value, next)) = limit ≤ next
+Past limit (Err stop) = Unit {0}
+
+onward-from : {A : Type 0} (place start : ℕ) (reading : Reading A) → place ≤ start → Onward start reading
+    → Onward place reading
+onward-from place start (Ok (value, next)) before onward = omega arith
+onward-from place start (Err stop) before onward = onward
+
+past-from : {A : Type 0} (limit start : ℕ) (reading : Reading A) → limit ≤ start → Onward start reading
+    → Past limit reading
+past-from limit start (Ok (value, next)) before onward = omega arith
+past-from limit start (Err stop) before onward = tt
+
+onward-if : {A : Type 0} (place : ℕ) (test : Bool) (one other : Reading A) → Onward place one → Onward place other
+    → Onward place (if test then one else other)
+onward-if place true one other taken passed = taken
+onward-if place false one other taken passed = passed
+
+past-if : {A : Type 0} (limit : ℕ) (test : Bool) (one other : Reading A) → Past limit one → Past limit other
+    → Past limit (if test then one else other)
+past-if limit true one other taken passed = taken
+past-if limit false one other taken passed = passed
+
+onward-then : {A B : Type 0} (place : ℕ) (reading : Reading A) (next : A × ℕ → Reading B) → Onward place reading
+    → ((value : A × ℕ) → Onward value.1 (next value)) → Onward place (reading >>= next)
+onward-then place (Ok (value, end)) next onward each =
+    onward-from place end (next (value, end)) onward (each (value, end))
+onward-then place (Err stop) next onward each = onward
+
+onward-judged : {A : Type 0} (place next : ℕ) (told : Result A BundleFault) → Onward next (judged_at place next told)
+onward-judged place next (Ok value) = omega arith
+onward-judged place next (Err fault) = refl
+
+onward-placed : (bytes : List ℕ) (place : ℕ) (front : HeadFront) → Onward place (placed bytes place front)
+onward-placed bytes place CutHead = refl
+onward-placed bytes place IllFormed = refl
+onward-placed bytes place (Whole head size) = omega arith
+
+past-placed : (bytes : List ℕ) (limit place : ℕ) (front : HeadFront) → EndsFrom (limit - place) front
+    → Past limit (placed bytes place front)
+past-placed bytes limit place CutHead ends = tt
+past-placed bytes limit place IllFormed ends = tt
+past-placed bytes limit place (Whole head size) ends = omega arith
+
+onward-bytes : (count : ℕ) (bytes : List ℕ) (place : ℕ) → Onward place (bytes_at count bytes place)
+unfolding bytes_at
+onward-bytes count bytes place =
+    onward-if place (ltb (length bytes) (place + count)) (cut_short bytes) (Ok _) refl (omega arith)
+
+-- ---- two readings
+
+-- the bytes end inside what is read
 abbrev pub EndsCut : {A : Type 0} → Result A Stop → Type 0
 EndsCut (Ok value) = ⊥
 EndsCut (Err stop) = stop.fault ≡ Cut
 
--- what is read of some bytes, and of those bytes with more after them
+-- what is read of some bytes, and of those bytes with more after them: either the bytes end inside it, or it is the same
 pub data Stays {A : Type 0} : Result A Stop → Result A Stop → Type 0 where
   cuts : {now later : Result A Stop} → EndsCut now → Stays now later
   same : {now later : Result A Stop} → later ≡ now → Stays now later
 
 pub stays-then : {A B : Type 0} (now later : Result A Stop) (next next_later : A → Result B Stop)
-    → Stays now later → ((value : A) → Stays (next value) (next_later value)) → Stays (now >>= next) (later >>= next_later)
+    → Stays now later → ((value : A) → Stays (next value) (next_later value))
+    → Stays (now >>= next) (later >>= next_later)
 stays-then (Ok value) later next next_later (cuts cut) each = absurd cut
 stays-then (Err stop) later next next_later (cuts cut) each = cuts cut
 stays-then (Ok value) later next next_later (same is) each = rw is (each value)
 stays-then (Err stop) later next next_later (same is) each = same (rw is refl)
 
-stays-noting : {A : Type 0} (payload : ℕ × ℕ) (now later : Result A Stop) → Stays now later → Stays (noting payload now) (noting payload later)
-stays-noting payload (Ok value) later (cuts cut) = absurd cut
-stays-noting payload (Err stop) later (cuts cut) = cuts cut
-stays-noting payload now later (same is) = same (rw is refl)
+-- it ends where the bytes end, and no payload is noted
+abbrev pub IsCut : {A : Type 0} → List ℕ → Result A Stop → Type 0
+IsCut bytes (Ok value) = ⊥
+IsCut bytes (Err stop) = stop ≡ stopped Cut (length bytes)
 
-stays-if : {A : Type 0} (test : Bool) (now later other other_later : Result A Stop)
-    → Stays now later → Stays other other_later → Stays (if test then now else other) (if test then later else other_later)
-stays-if true now later other other_later taken passed = taken
-stays-if false now later other other_later taken passed = passed
+-- what is read at an offset of some bytes, and of those bytes with more after them: either the first bytes end inside it,
+-- and then it ends where they do or later, or it is the same
+pub data Reads {A : Type 0} : List ℕ → ℕ → Reading A → Reading A → Type 0 where
+  short : {bytes : List ℕ} {place : ℕ} {now later : Reading A}
+      → IsCut bytes now → Onward place later → Past (length bytes) later → Reads bytes place now later
+  whole : {bytes : List ℕ} {place : ℕ} {now later : Reading A} → later ≡ now → Onward place now
+      → Reads bytes place now later
 
-placed-stays : (bytes more : List ℕ) (place : ℕ) (front later : HeadFront) → (is_cut front ≡ false → later ≡ front)
-    → Stays (placed bytes place front) (placed (bytes ++ more) place later)
-placed-stays bytes more place CutHead later told = cuts refl
-placed-stays bytes more place IllFormed later told = same (rw (told refl) refl)
-placed-stays bytes more place (Whole head size) later told = same (rw (told refl) refl)
+pub stays_of : {A : Type 0} (bytes : List ℕ) (place : ℕ) (now later : Reading A) → Reads bytes place now later
+    → Stays now later
+stays_of bytes place (Ok value) later (short cut onward past) = absurd cut
+stays_of bytes place (Err stop) later (short cut onward past) = cuts (ap (λ (stop : Stop). stop.fault) cut)
+stays_of bytes place now later (whole is onward) = same is
 
-head_at-stays : (bytes more : List ℕ) (place : ℕ) → Stays (head_at bytes place) (head_at (bytes ++ more) place)
+onward_of : {A : Type 0} (bytes : List ℕ) (place : ℕ) (now later : Reading A) → Reads bytes place now later
+    → Onward place later
+onward_of bytes place now later (short cut onward past) = onward
+onward_of bytes place now later (whole is onward) = rw is onward
+
+reads-from : {A : Type 0} (bytes : List ℕ) (place start : ℕ) (now later : Reading A) → place ≤ start
+    → Reads bytes start now later → Reads bytes place now later
+reads-from bytes place start now later before (short cut onward past) =
+    short cut (onward-from place start later before onward) past
+reads-from bytes place start now later before (whole is onward) = whole is (onward-from place start now before onward)
+
+reads-then : {A B : Type 0} (bytes : List ℕ) (place : ℕ) (now later : Reading A) (next next_later : A × ℕ → Reading B)
+    → Reads bytes place now later → ((value : A × ℕ) → Reads bytes value.1 (next value) (next_later value))
+    → Reads bytes place (now >>= next) (later >>= next_later)
+reads-then bytes place (Ok value) later next next_later (short cut onward past) each = absurd cut
+reads-then bytes place (Err stop) (Err other) next next_later (short cut onward past) each = short cut onward tt
+reads-then bytes place (Err stop) (Ok (value, end)) next next_later (short cut onward past) each =
+    let on = onward_of bytes end (next (value, end)) (next_later (value, end)) (each (value, end)) in
+    short cut (onward-from place end (next_later (value, end)) onward on)
+    (past-from (length bytes) end (next_later (value, end)) past on)
+reads-then bytes place (Ok (value, end)) later next next_later (whole is onward) each =
+    rw is (reads-from bytes place end (next (value, end)) (next_later (value, end)) onward (each (value, end)))
+reads-then bytes place (Err stop) later next next_later (whole is onward) each = whole (rw is refl) onward
+
+-- nothing more is read
+ended : {A : Type 0} (bytes : List ℕ) (value : A) (place : ℕ)
+    → Reads bytes place (Ok (value, place)) (Ok (value, place))
+ended bytes value place = whole refl (omega arith)
+
+-- ---- each part of a bundle
+
+placed-reads : (bytes more : List ℕ) (place : ℕ) (front later : HeadFront) → (is_cut front ≡ false → later ≡ front)
+    → (is_cut front ≡ true → Past (length bytes) (placed (bytes ++ more) place later))
+    → Reads bytes place (placed bytes place front) (placed (bytes ++ more) place later)
+placed-reads bytes more place CutHead later told past =
+    short refl (onward-placed (bytes ++ more) place later) (past refl)
+placed-reads bytes more place IllFormed later told past = whole (rw (told refl) refl) refl
+placed-reads bytes more place (Whole head size) later told past = whole (rw (told refl) refl) (omega arith)
+
+head_at-reads : (bytes more : List ℕ) (place : ℕ)
+    → Reads bytes place (head_at bytes place) (head_at (bytes ++ more) place)
 unfolding head_at head_front
-head_at-stays bytes more place =
+head_at-reads bytes more place =
+    let later = head_front (drop place (bytes ++ more)) in
     ⊎_elim
-    (λ behind. placed-stays bytes more place (head_front (drop place bytes)) (head_front (drop place (bytes ++ more)))
-    (λ told. absurd (false≢true (sym told ∙ ap (λ (rest : List ℕ). is_cut (head_front rest)) (drop_of_length-le bytes (omega arith))))))
-    (λ within. placed-stays bytes more place (head_front (drop place bytes)) (head_front (drop place (bytes ++ more)))
-    (λ told. ap head_front (drop-append-le place bytes more within) ∙ told_stays (drop place bytes) more told))
+    (λ behind. placed-reads bytes more place (head_front (drop place bytes)) (head_front (drop place (bytes ++ more)))
+    (λ told. absurd (false≢true
+    (sym told ∙ ap (λ (rest : List ℕ). is_cut (head_front rest)) (drop_of_length-le bytes (omega arith)))))
+    (λ _. past-from (length bytes) place (placed (bytes ++ more) place later) (omega arith)
+    (onward-placed (bytes ++ more) place later)))
+    (λ within. placed-reads bytes more place (head_front (drop place bytes)) (head_front (drop place (bytes ++ more)))
+    (λ told. ap head_front (drop-append-le place bytes more within) ∙ told_stays (drop place bytes) more told)
+    (λ cut. past-placed (bytes ++ more) (length bytes) place later
+    (rw (drop-append-le place bytes more within, ← length-drop place bytes) (head_ends (drop place bytes) more cut))))
     (cases_lt (length bytes) place)
 
-pub row_at-stays : {A : Type 0} (row : Head → Result A BundleFault) (bytes more : List ℕ) (place : ℕ)
-    → Stays (row_at row bytes place) (row_at row (bytes ++ more) place)
+pub row_at-reads : {A : Type 0} (row : Head → Result A BundleFault) (bytes more : List ℕ) (place : ℕ)
+    → Reads bytes place (row_at row bytes place) (row_at row (bytes ++ more) place)
 unfolding row_at
-row_at-stays row bytes more place =
-    stays-then (head_at bytes place) (head_at (bytes ++ more) place) _ _ (head_at-stays bytes more place) (λ told. same refl)
+row_at-reads row bytes more place =
+    reads-then bytes place (head_at bytes place) (head_at (bytes ++ more) place) _ _ (head_at-reads bytes more place)
+    (λ (head, next). whole refl (onward-judged place next (row head)))
 
-bytes_at-stays : (count : ℕ) (bytes more : List ℕ) (place : ℕ) → Stays (bytes_at count bytes place) (bytes_at count (bytes ++ more) place)
+row-then : {A B : Type 0} (row : Head → Result A BundleFault) (bytes more : List ℕ) (place : ℕ)
+    (next next_later : A × ℕ → Reading B)
+    → ((value : A × ℕ) → Reads bytes value.1 (next value) (next_later value))
+    → Reads bytes place (row_at row bytes place >>= next) (row_at row (bytes ++ more) place >>= next_later)
+row-then row bytes more place next next_later each =
+    reads-then bytes place (row_at row bytes place) (row_at row (bytes ++ more) place) next next_later
+    (row_at-reads row bytes more place) each
+
+bytes_at-reads : (count : ℕ) (bytes more : List ℕ) (place : ℕ)
+    → Reads bytes place (bytes_at count bytes place) (bytes_at count (bytes ++ more) place)
 unfolding bytes_at
-bytes_at-stays count bytes more place =
+bytes_at-reads count bytes more place =
     ⊎_elim
-    (λ short. let short_now : ltb (length bytes) (place + count) ≡ true = lt-ltb (length bytes) (place + count) short in cuts (rw short_now refl))
+    (λ missing.
+    let short_now : ltb (length bytes) (place + count) ≡ true = lt-ltb (length bytes) (place + count) missing in
+    short (rw short_now refl) (onward-bytes count (bytes ++ more) place)
+    (past-if (length bytes) (ltb (length (bytes ++ more)) (place + count)) (cut_short (bytes ++ more)) (Ok _) tt
+    (omega arith)))
     (λ there.
     let now : ltb (length bytes) (place + count) ≡ false = le-ltb (length bytes) (place + count) there in
-    let later : ltb (length (bytes ++ more)) (place + count) ≡ false = le-ltb (length (bytes ++ more)) (place + count) (omega (arith, length-append bytes more)) in
+    let later : ltb (length (bytes ++ more)) (place + count) ≡ false =
+    le-ltb (length (bytes ++ more)) (place + count) (omega (arith, length-append bytes more)) in
     let within : place ≤ length bytes = omega arith in
     let fits : count ≤ length (drop place bytes) = omega (arith, length-drop place bytes) in
-    same (rw (now, later, drop-append-le place bytes more within, take-append-le count (drop place bytes) more fits) refl))
+    whole
+    (rw (now, later, drop-append-le place bytes more within, take-append-le count (drop place bytes) more fits) refl)
+    (onward-bytes count bytes place))
     (cases_lt (length bytes) (place + count))
 
-dtn_at-stays : (part : Option ℕ) (bytes more : List ℕ) (place : ℕ) → Stays (dtn_at part bytes place) (dtn_at part (bytes ++ more) place)
+dtn_at-reads : (part : Option ℕ) (bytes more : List ℕ) (place : ℕ)
+    → Reads bytes place (dtn_at part bytes place) (dtn_at part (bytes ++ more) place)
 unfolding dtn_at
-dtn_at-stays None bytes more place = same refl
-dtn_at-stays (Some count) bytes more place =
-    stays-then (bytes_at count bytes place) (bytes_at count (bytes ++ more) place) _ _ (bytes_at-stays count bytes more place) (λ name. same refl)
+dtn_at-reads None bytes more place = ended bytes _ place
+dtn_at-reads (Some count) bytes more place =
+    reads-then bytes place (bytes_at count bytes place) (bytes_at count (bytes ++ more) place) _ _
+    (bytes_at-reads count bytes more place)
+    (λ (name, end). ended bytes _ end)
 
-ipn_at-stays : (allocated : Bool) (bytes more : List ℕ) (place : ℕ) → Stays (ipn_at allocated bytes place) (ipn_at allocated (bytes ++ more) place)
+ipn_at-reads : (allocated : Bool) (bytes more : List ℕ) (place : ℕ)
+    → Reads bytes place (ipn_at allocated bytes place) (ipn_at allocated (bytes ++ more) place)
 unfolding ipn_at
-ipn_at-stays false bytes more place =
-    stays-then (row_at unsigned bytes place) (row_at unsigned (bytes ++ more) place) _ _ (row_at-stays unsigned bytes more place)
-    (λ (node, place). stays-then (row_at unsigned bytes place) (row_at unsigned (bytes ++ more) place) _ _ (row_at-stays unsigned bytes more place)
-    (λ service. same refl))
-ipn_at-stays true bytes more place =
-    stays-then (row_at unsigned bytes place) (row_at unsigned (bytes ++ more) place) _ _ (row_at-stays unsigned bytes more place)
-    (λ (allocator, place). stays-then (row_at unsigned bytes place) (row_at unsigned (bytes ++ more) place) _ _ (row_at-stays unsigned bytes more place)
-    (λ (node, place). stays-then (row_at unsigned bytes place) (row_at unsigned (bytes ++ more) place) _ _ (row_at-stays unsigned bytes more place)
-    (λ service. same refl)))
+ipn_at-reads false bytes more place =
+    row-then unsigned bytes more place _ _
+    (λ (node, place). row-then unsigned bytes more place _ _ (λ (service, end). ended bytes _ end))
+ipn_at-reads true bytes more place =
+    row-then unsigned bytes more place _ _
+    (λ (allocator, place). row-then unsigned bytes more place _ _
+    (λ (node, place). row-then unsigned bytes more place _ _ (λ (service, end). ended bytes _ end)))
 
-specific_at-stays : (which : Scheme) (bytes more : List ℕ) (place : ℕ) → Stays (specific_at which bytes place) (specific_at which (bytes ++ more) place)
+specific_at-reads : (which : Scheme) (bytes more : List ℕ) (place : ℕ)
+    → Reads bytes place (specific_at which bytes place) (specific_at which (bytes ++ more) place)
 unfolding specific_at
-specific_at-stays Dtn bytes more place =
-    stays-then (row_at dtn_part bytes place) (row_at dtn_part (bytes ++ more) place) _ _ (row_at-stays dtn_part bytes more place)
-    (λ (part, next). dtn_at-stays part bytes more next)
-specific_at-stays Ipn bytes more place =
-    stays-then (row_at ipn_part bytes place) (row_at ipn_part (bytes ++ more) place) _ _ (row_at-stays ipn_part bytes more place)
-    (λ (count, place). ipn_at-stays (count == 3) bytes more place)
+specific_at-reads Dtn bytes more place =
+    row-then dtn_part bytes more place _ _ (λ (part, next). dtn_at-reads part bytes more next)
+specific_at-reads Ipn bytes more place =
+    row-then ipn_part bytes more place _ _ (λ (count, next). ipn_at-reads (count == 3) bytes more next)
 
-eid_at-stays : (bytes more : List ℕ) (place : ℕ) → Stays (eid_at bytes place) (eid_at (bytes ++ more) place)
+eid_at-reads : (bytes more : List ℕ) (place : ℕ) → Reads bytes place (eid_at bytes place) (eid_at (bytes ++ more) place)
 unfolding eid_at
-eid_at-stays bytes more place =
-    stays-then (row_at pair bytes place) (row_at pair (bytes ++ more) place) _ _ (row_at-stays pair bytes more place)
-    (λ (_, place). stays-then (row_at scheme bytes place) (row_at scheme (bytes ++ more) place) _ _ (row_at-stays scheme bytes more place)
-    (λ (which, place). specific_at-stays which bytes more place))
+eid_at-reads bytes more place =
+    row-then pair bytes more place _ _
+    (λ (_, place). row-then scheme bytes more place _ _ (λ (which, place). specific_at-reads which bytes more place))
 
-fragment_at-stays : (is : Bool) (bytes more : List ℕ) (place : ℕ) → Stays (fragment_at is bytes place) (fragment_at is (bytes ++ more) place)
+eid-then : {B : Type 0} (bytes more : List ℕ) (place : ℕ) (next next_later : Eid × ℕ → Reading B)
+    → ((value : Eid × ℕ) → Reads bytes value.1 (next value) (next_later value))
+    → Reads bytes place (eid_at bytes place >>= next) (eid_at (bytes ++ more) place >>= next_later)
+eid-then bytes more place next next_later each =
+    reads-then bytes place (eid_at bytes place) (eid_at (bytes ++ more) place) next next_later
+    (eid_at-reads bytes more place) each
+
+fragment_at-reads : (is : Bool) (bytes more : List ℕ) (place : ℕ)
+    → Reads bytes place (fragment_at is bytes place) (fragment_at is (bytes ++ more) place)
 unfolding fragment_at
-fragment_at-stays false bytes more place = same refl
-fragment_at-stays true bytes more place =
-    stays-then (row_at unsigned bytes place) (row_at unsigned (bytes ++ more) place) _ _ (row_at-stays unsigned bytes more place)
-    (λ (offset, place). stays-then (row_at unsigned bytes place) (row_at unsigned (bytes ++ more) place) _ _ (row_at-stays unsigned bytes more place)
-    (λ total. same refl))
+fragment_at-reads false bytes more place = ended bytes _ place
+fragment_at-reads true bytes more place =
+    row-then unsigned bytes more place _ _
+    (λ (offset, place). row-then unsigned bytes more place _ _ (λ (total, end). ended bytes _ end))
 
 -- a check field: what is checked stands before its content
-slice-stays : (bytes more : List ℕ) (start end : ℕ) → end ≤ length bytes → slice_range (bytes ++ more) start end ≡ slice_range bytes start end
+slice-stays : (bytes more : List ℕ) (start end : ℕ) → end ≤ length bytes
+    → slice_range (bytes ++ more) start end ≡ slice_range bytes start end
 slice-stays bytes more start end within =
     ⊎_elim
     (λ behind. let none : end - start ≡ 0 = omega arith in rw none refl)
@@ -135,102 +272,84 @@ slice-stays bytes more start end within =
     rw (drop-append-le start bytes more (omega arith), take-append-le (end - start) (drop start bytes) more fits) refl)
     (cases_lt end start)
 
-compared-stays : (kind : CheckKind) (bytes more : List ℕ) (start place content : ℕ)
-    → Stays {A = Bool × ℕ}
-    (bytes_at (check_width kind) bytes content >>= λ x.
-    if number_from 0 x.0 == check_of kind start content bytes then Ok (true, x.1) else Err (stopped CheckDiffers place))
-    (bytes_at (check_width kind) (bytes ++ more) content >>= λ x.
-    if number_from 0 x.0 == check_of kind start content (bytes ++ more) then Ok (true, x.1) else Err (stopped CheckDiffers place))
-unfolding bytes_at check_of
-compared-stays kind bytes more start place content =
+-- what a check field's content is compared with
+compared : CheckKind → ℕ → ℕ → ℕ → List ℕ → Reading Bool
+compared kind start place content bytes =
+    bytes_at (check_width kind) bytes content >>= λ (stored, next).
+    if number_from 0 stored == check_of kind start content bytes then Ok (true, next)
+    else Err (stopped CheckDiffers place)
+
+compared-onward : (kind : CheckKind) (start place content : ℕ) (bytes : List ℕ)
+    → Onward content (compared kind start place content bytes)
+unfolding compared
+compared-onward kind start place content bytes =
+    onward-then content (bytes_at (check_width kind) bytes content) _ (onward-bytes (check_width kind) bytes content)
+    (λ (stored, next). onward-if next (number_from 0 stored == check_of kind start content bytes) (Ok _) (Err _)
+    (omega arith) refl)
+
+compared-reads : (kind : CheckKind) (bytes more : List ℕ) (start place content : ℕ)
+    → Reads bytes content (compared kind start place content bytes) (compared kind start place content (bytes ++ more))
+unfolding compared check_of bytes_at
+compared-reads kind bytes more start place content =
     ⊎_elim
-    (λ short. let short_now : ltb (length bytes) (content + check_width kind) ≡ true = lt-ltb (length bytes) (content + check_width kind) short in cuts (rw short_now refl))
-    (λ there.
-    let now : ltb (length bytes) (content + check_width kind) ≡ false = le-ltb (length bytes) (content + check_width kind) there in
-    let later : ltb (length (bytes ++ more)) (content + check_width kind) ≡ false =
-    le-ltb (length (bytes ++ more)) (content + check_width kind) (omega (arith, length-append bytes more)) in
-    let within : content ≤ length bytes = omega arith in
-    let fits : check_width kind ≤ length (drop content bytes) = omega (arith, length-drop content bytes) in
-    same (rw (now, later, drop-append-le content bytes more within, take-append-le (check_width kind) (drop content bytes) more fits, slice-stays bytes more start content within) refl))
-    (cases_lt (length bytes) (content + check_width kind))
+    (λ behind.
+    let short_now : ltb (length bytes) (content + check_width kind) ≡ true =
+    lt-ltb (length bytes) (content + check_width kind) (omega arith) in
+    let onward = compared-onward kind start place content (bytes ++ more) in
+    short (rw short_now refl) onward
+    (past-from (length bytes) content (compared kind start place content (bytes ++ more)) (omega arith) onward))
+    (λ within.
+    rw (slice-stays bytes more start content within)
+    (reads-then bytes content (bytes_at (check_width kind) bytes content)
+    (bytes_at (check_width kind) (bytes ++ more) content) _ _
+    (bytes_at-reads (check_width kind) bytes more content)
+    (λ (stored, next). whole refl
+    (onward-if next (number_from 0 stored == check_of kind start content bytes) (Ok _) (Err _) (omega arith) refl))))
+    (cases_lt (length bytes) content)
 
-pub field_at-stays : (check : Option CheckKind) (start : ℕ) (bytes more : List ℕ) (place : ℕ)
-    → Stays (field_at check start bytes place) (field_at check start (bytes ++ more) place)
-unfolding field_at
-field_at-stays None start bytes more place = same refl
-field_at-stays (Some kind) start bytes more place =
-    stays-then (row_at (check_field kind) bytes place) (row_at (check_field kind) (bytes ++ more) place) _ _ (row_at-stays (check_field kind) bytes more place)
-    (λ (_, content). compared-stays kind bytes more start place content)
+pub field_at-reads : (check : Option CheckKind) (start : ℕ) (bytes more : List ℕ) (place : ℕ)
+    → Reads bytes place (field_at check start bytes place) (field_at check start (bytes ++ more) place)
+unfolding field_at compared
+field_at-reads None start bytes more place = ended bytes true place
+field_at-reads (Some kind) start bytes more place =
+    row-then (check_field kind) bytes more place _ _
+    (λ (_, content). compared-reads kind bytes more start place content)
 
-pub content_at-stays : (size : ℕ) (check : Option CheckKind) (start : ℕ) (bytes more : List ℕ) (place : ℕ)
-    → Stays (content_at size check start bytes place) (content_at size check start (bytes ++ more) place)
+pub content_at-reads : (size : ℕ) (check : Option CheckKind) (start : ℕ) (bytes more : List ℕ) (place : ℕ)
+    → Reads bytes place (content_at size check start bytes place) (content_at size check start (bytes ++ more) place)
 unfolding content_at
-content_at-stays size check start bytes more place =
-    stays-then (bytes_at size bytes place) (bytes_at size (bytes ++ more) place) _ _ (bytes_at-stays size bytes more place)
-    (λ (_, place). field_at-stays check start bytes more place)
+content_at-reads size check start bytes more place =
+    reads-then bytes place (bytes_at size bytes place) (bytes_at size (bytes ++ more) place) _ _
+    (bytes_at-reads size bytes more place)
+    (λ (_, place). field_at-reads check start bytes more place)
 
-pub primary_at-stays : (bytes more : List ℕ) (place : ℕ) → Stays (primary_at bytes place) (primary_at (bytes ++ more) place)
+pub primary_at-reads : (bytes more : List ℕ) (place : ℕ)
+    → Reads bytes place (primary_at bytes place) (primary_at (bytes ++ more) place)
 unfolding primary_at
-primary_at-stays bytes more place =
-    stays-then (row_at primary_block bytes place) (row_at primary_block (bytes ++ more) place) _ _ (row_at-stays primary_block bytes more place)
-    (λ (count, place). stays-then (row_at version bytes place) (row_at version (bytes ++ more) place) _ _ (row_at-stays version bytes more place)
-    (λ (_, place). stays-then (row_at unsigned bytes place) (row_at unsigned (bytes ++ more) place) _ _ (row_at-stays unsigned bytes more place)
-    (λ (flags, place). stays-then (row_at (primary_check_type count flags) bytes place) (row_at (primary_check_type count flags) (bytes ++ more) place) _ _
-    (row_at-stays (primary_check_type count flags) bytes more place)
-    (λ (check, place). stays-then (eid_at bytes place) (eid_at (bytes ++ more) place) _ _ (eid_at-stays bytes more place)
-    (λ (destination, place). stays-then (eid_at bytes place) (eid_at (bytes ++ more) place) _ _ (eid_at-stays bytes more place)
-    (λ (source, place). stays-then (eid_at bytes place) (eid_at (bytes ++ more) place) _ _ (eid_at-stays bytes more place)
-    (λ (report_to, place). stays-then (row_at pair bytes place) (row_at pair (bytes ++ more) place) _ _ (row_at-stays pair bytes more place)
-    (λ (_, place). stays-then (row_at unsigned bytes place) (row_at unsigned (bytes ++ more) place) _ _ (row_at-stays unsigned bytes more place)
-    (λ (time, place). stays-then (row_at unsigned bytes place) (row_at unsigned (bytes ++ more) place) _ _ (row_at-stays unsigned bytes more place)
-    (λ (sequence, place). stays-then (row_at unsigned bytes place) (row_at unsigned (bytes ++ more) place) _ _ (row_at-stays unsigned bytes more place)
-    (λ (lifetime, place). stays-then (fragment_at (is_fragment flags) bytes place) (fragment_at (is_fragment flags) (bytes ++ more) place) _ _
-    (fragment_at-stays (is_fragment flags) bytes more place)
-    (λ fragment. same refl))))))))))))
+primary_at-reads bytes more place =
+    row-then primary_block bytes more place _ _
+    (λ (count, place). row-then version bytes more place _ _
+    (λ (_, place). row-then unsigned bytes more place _ _
+    (λ (flags, place). row-then (primary_check_type count flags) bytes more place _ _
+    (λ (check, place). eid-then bytes more place _ _
+    (λ (destination, place). eid-then bytes more place _ _
+    (λ (source, place). eid-then bytes more place _ _
+    (λ (report_to, place). row-then pair bytes more place _ _
+    (λ (_, place). row-then unsigned bytes more place _ _
+    (λ (time, place). row-then unsigned bytes more place _ _
+    (λ (sequence, place). row-then unsigned bytes more place _ _
+    (λ (lifetime, place). reads-then bytes place (fragment_at (is_fragment flags) bytes place)
+    (fragment_at (is_fragment flags) (bytes ++ more) place) _ _
+    (fragment_at-reads (is_fragment flags) bytes more place)
+    (λ (fragment, end). ended bytes _ end))))))))))))
 
-payload_at-stays : (primary : Primary) (blocks size : ℕ) (check : Option CheckKind) (start : ℕ) (bytes more : List ℕ) (place : ℕ)
-    → Stays (payload_at primary blocks size check start bytes place) (payload_at primary blocks size check start (bytes ++ more) place)
-unfolding payload_at
-payload_at-stays primary blocks size check start bytes more place =
-    stays-noting (place, size) _ _
-    (stays-then (content_at size check start bytes place) (content_at size check start (bytes ++ more) place) _ _ (content_at-stays size check start bytes more place)
-    (λ (_, end). stays-then (row_at closing bytes end) (row_at closing (bytes ++ more) end) _ _ (row_at-stays closing bytes more end)
-    (λ last. same refl)))
-
-blocks_at-stays : (left : ℕ) (numbers : List ℕ) (primary : Primary) (bytes more : List ℕ) (start : ℕ)
-    → Stays (blocks_at left numbers primary bytes start) (blocks_at left numbers primary (bytes ++ more) start)
-unfolding blocks_at
-blocks_at-stays zero numbers primary bytes more start =
-    stays-then (row_at block_too_many bytes start) (row_at block_too_many (bytes ++ more) start) _ _ (row_at-stays block_too_many bytes more start)
-    (λ none. cuts refl)
-blocks_at-stays (suc left) numbers primary bytes more start =
-    stays-then (row_at block bytes start) (row_at block (bytes ++ more) start) _ _ (row_at-stays block bytes more start)
-    (λ (count, place). stays-then (row_at unsigned bytes place) (row_at unsigned (bytes ++ more) place) _ _ (row_at-stays unsigned bytes more place)
-    (λ (type, place). stays-then (row_at (block_number type numbers) bytes place) (row_at (block_number type numbers) (bytes ++ more) place) _ _
-    (row_at-stays (block_number type numbers) bytes more place)
-    (λ (number, place). stays-then (row_at unsigned bytes place) (row_at unsigned (bytes ++ more) place) _ _ (row_at-stays unsigned bytes more place)
-    (λ (flags, place). stays-then (row_at (block_check_type count) bytes place) (row_at (block_check_type count) (bytes ++ more) place) _ _
-    (row_at-stays (block_check_type count) bytes more place)
-    (λ (check, place). stays-then (row_at byte_string bytes place) (row_at byte_string (bytes ++ more) place) _ _ (row_at-stays byte_string bytes more place)
-    (λ (size, place). stays-if (type == 1)
-    (payload_at primary (length numbers + 1) size check start bytes place)
-    (payload_at primary (length numbers + 1) size check start (bytes ++ more) place)
-    (content_at size check start bytes place >>= λ x. blocks_at left (numbers ++ number ∷ []) primary bytes x.1)
-    (content_at size check start (bytes ++ more) place >>= λ x. blocks_at left (numbers ++ number ∷ []) primary (bytes ++ more) x.1)
-    (payload_at-stays primary (length numbers + 1) size check start bytes more place)
-    (stays-then (content_at size check start bytes place) (content_at size check start (bytes ++ more) place) _ _ (content_at-stays size check start bytes more place)
-    (λ (_, place). blocks_at-stays left (numbers ++ number ∷ []) primary bytes more place))))))))
-
-pub opening_at-stays : (bytes more : List ℕ) → Stays (opening_at bytes) (opening_at (bytes ++ more))
+opening_at-onward : (bytes : List ℕ) → Onward 0 (opening_at bytes)
 unfolding opening_at
-opening_at-stays [] more = cuts refl
-opening_at-stays (first ∷ rest) more = same refl
+opening_at-onward [] = refl
+opening_at-onward (first ∷ rest) = onward-if 0 (first == 0x9f) (Ok (true, 1)) (Err _) (omega arith) refl
 
-pub bundle_at-stays : (bytes more : List ℕ) → Stays (bundle_at bytes) (bundle_at (bytes ++ more))
-unfolding bundle_at
-bundle_at-stays bytes more =
-    stays-then (opening_at bytes) (opening_at (bytes ++ more)) _ _ (opening_at-stays bytes more)
-    (λ (_, start). stays-then (primary_at bytes start) (primary_at (bytes ++ more) start) _ _ (primary_at-stays bytes more start)
-    (λ (primary, place). stays-then (field_at primary.1 start bytes place) (field_at primary.1 start (bytes ++ more) place) _ _
-    (field_at-stays primary.1 start bytes more place)
-    (λ (_, place). blocks_at-stays 64 [] primary.0 bytes more place)))
+pub opening_at-reads : (bytes more : List ℕ) → Reads bytes 0 (opening_at bytes) (opening_at (bytes ++ more))
+unfolding opening_at
+opening_at-reads [] more =
+    short refl (opening_at-onward more) (past-from 0 0 (opening_at more) (omega arith) (opening_at-onward more))
+opening_at-reads (first ∷ rest) more = whole refl (opening_at-onward (first ∷ rest))

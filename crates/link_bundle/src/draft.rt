@@ -40,6 +40,7 @@ impl Draft {
     ghost use Rattle.link_bundle.specs.Fits.{stage_fits, KeepsCheck};
     ghost use Rattle.link_bundle.specs.Bundle.{info_of};
     ghost use Rattle.link_bundle_types.specs.BundleView.{viewed_info};
+    ghost use Rattle.link_bundle_types.specs.ShortNames.{HasShortNames};
     ghost use Rattle.link_bundle.specs.Left.{BlockEnds, FieldsEnd, primary_of, span_of};
 
     /// The draft of a bundle of which no byte has come.
@@ -96,7 +97,8 @@ impl Draft {
 
     /// The same by reference.
     pub fn view(&self) -> BundleView<'_>
-        ensures { viewed_info result ≡ info_of (primary_of self.now) (length self.now.numbers) (span_of self.now.payload).1 }
+        ensures view { viewed_info result ≡ info_of (primary_of self.now) (length self.now.numbers) (span_of self.now.payload).1 }
+        ensures short { HasShortNames (viewed_info result) }
     {
         let (_, payload) = self.payload.unwrap_or((0, 0));
         BundleView {

@@ -45,6 +45,7 @@ fn write_at(buffer: &mut [u8], at: usize, bytes: &[u8])
 
 impl KeptEid {
     ghost use Rattle.link_bundle_types.specs.EidView.{viewed_eid};
+    ghost use Rattle.link_bundle_types.specs.ShortNames.{IsShort};
     ghost use Rattle.link_bundle.specs.KeptEid.{formed, name_of, name_fits};
     ghost use Rattle.link_bundle_types.specs.declared.eid.Eid.TheVariants.{DtnNone, Dtn};
 
@@ -78,7 +79,8 @@ impl KeptEid {
 
     /// The endpoint ID by reference.
     pub fn view(&self) -> EidView<'_>
-        ensures { viewed_eid result ≡ self.now }
+        ensures view { viewed_eid result ≡ self.now }
+        ensures short { IsShort (viewed_eid result) }
     {
         match self.form {
             EidForm::DtnNone => EidView::DtnNone,

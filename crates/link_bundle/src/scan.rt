@@ -35,7 +35,8 @@ fn first_of(piece: &[u8], left: u64) -> &[u8]
 
 impl BundleScan {
     ghost use Rattle.link_bundle.specs.Bundle.{verdict, state_of, payload_span};
-    ghost use Rattle.link_bundle_types.specs.BundleView.{viewed_verdict};
+    ghost use Rattle.link_bundle_types.specs.BundleView.{viewed_info, viewed_verdict};
+    ghost use Rattle.link_bundle_types.specs.ShortNames.{HasShortNames};
     ghost use Rattle.link_bundle.specs.Scan.{HasScanned, scan_size, may_scan};
     ghost use Rattle.link_bundle.specs.Stages.{takes_bytes};
 
@@ -87,7 +88,9 @@ impl BundleScan {
 
     /// The verdict on the bytes seen, as [`finish`](BundleScan::finish) gives it, with the bundle by reference.
     pub fn view(&self) -> Result<BundleView<'_>, (BundleFault, u64)>
-        ensures { (seen : List ℕ) → HasScanned self.now seen → viewed_verdict result ≡ verdict seen }
+        ensures seen { (seen : List ℕ) → HasScanned self.now seen → viewed_verdict result ≡ verdict seen }
+        // Whatever was scanned: there is room for no longer names.
+        ensures short { IfOk result (λ view. HasShortNames (viewed_info view)) }
     {
         match self.stage.state() {
             State::Going => Err((BundleFault::Cut, self.cursor.count)),

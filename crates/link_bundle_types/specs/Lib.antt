@@ -1,3 +1,4 @@
 pub mod EidView
 pub mod BundleView
 pub mod Faults
+pub mod ShortNames

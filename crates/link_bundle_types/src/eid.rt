@@ -1,6 +1,7 @@
 //! Endpoint IDs (RFC 9171 section 4.2.5.1): as values, and as views of what another value holds.
 ghost use Rattle.std.specs.Prelude.{◌≡◌};
 ghost use Rattle.link_bundle_types.specs.EidView.{viewed_eid};
+ghost use Rattle.link_bundle_types.specs.ShortNames.{IsShort};
 
 use arrayvec::ArrayVec;
 
@@ -24,7 +25,9 @@ pub enum Eid {
 impl Eid {
     /// The same endpoint ID by reference.
     pub fn view(&self) -> EidView<'_>
-        ensures { viewed_eid result ≡ self.now }
+        ensures view { viewed_eid result ≡ self.now }
+        // There is room for no longer name.
+        ensures short { IsShort self.now }
     {
         match self {
             Eid::DtnNone => EidView::DtnNone,

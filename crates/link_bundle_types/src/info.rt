@@ -1,6 +1,7 @@
 //! What a whole bundle says of itself: as a value, and as a view of what another value holds.
 ghost use Rattle.std.specs.Prelude.{◌≡◌};
 ghost use Rattle.link_bundle_types.specs.BundleView.{viewed_info};
+ghost use Rattle.link_bundle_types.specs.ShortNames.{HasShortNames};
 
 use crate::eid::{Eid, EidView};
 
@@ -33,7 +34,8 @@ pub struct BundleInfo {
 impl BundleInfo {
     /// The same by reference.
     pub fn view(&self) -> BundleView<'_>
-        ensures { viewed_info result ≡ self.now }
+        ensures view { viewed_info result ≡ self.now }
+        ensures short { HasShortNames self.now }
     {
         BundleView {
             flags: self.flags,

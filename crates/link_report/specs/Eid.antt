@@ -1,5 +1,5 @@
 -- The text of an endpoint ID (RFC 9171 section 4.2.5.1).
-use Rattle.std.specs.Prelude.{ℕ, ◌≤◌, List, ◌++◌, length, codes}
+use Rattle.std.specs.Prelude.{ℕ, List, ◌++◌, codes}
 use Rattle.link_bundle_types.specs.declared.eid.Eid.{Eid}
 use Rattle.link_bundle_types.specs.declared.eid.Eid.TheVariants.{DtnNone, Dtn, Ipn, Ipn3}
 use Rattle.link_report.specs.Text.{escaped, number_text}
@@ -11,10 +11,3 @@ eid_text (Dtn name) = codes "dtn:" ++ escaped name.items
 eid_text (Ipn node service) = number_text (codes "ipn:") node ++ number_text (codes ".") service
 eid_text (Ipn3 allocator node service) =
     number_text (codes "ipn:") allocator ++ number_text (codes ".") node ++ number_text (codes ".") service
-
--- the name of a dtn endpoint ID has at most 1,024 bytes
-abbrev pub IsShort : Eid → Type 0
-IsShort DtnNone = Unit {0}
-IsShort (Dtn name) = length name.items ≤ 1024
-IsShort (Ipn node service) = Unit {0}
-IsShort (Ipn3 allocator node service) = Unit {0}

@@ -3,7 +3,7 @@
 use Rattle.std.specs.Prelude.{ℕ, Option, Some, None, List, [], ◌++◌, codes}
 use Rattle.link_bundle_types.specs.declared.eid.Eid.{Eid}
 use Rattle.link_bundle_types.specs.declared.info.BundleInfo.{BundleInfo}
-use Rattle.link_report.specs.Eid.{eid_text, IsShort}
+use Rattle.link_report.specs.Eid.{eid_text}
 use Rattle.link_report.specs.Text.{number_text}
 
 -- a fragment's offset and the total length; nothing of a bundle that is no fragment
@@ -21,8 +21,3 @@ unfoldable pub identity_text : BundleInfo → List ℕ
 identity_text info =
     origin_text info.source info.time info.sequence ++ codes " destination=" ++ eid_text info.destination
     ++ number_text (codes " payload=") info.payload ++ fragment_text info.fragment
-
--- the names in a bundle's source and destination have at most 1,024 bytes each
-pub record HasShortNames (info : BundleInfo) : Type 0 where
-  pub source : IsShort info.source
-  pub destination : IsShort info.destination

@@ -1,6 +1,7 @@
 -- What the line of a transfer says of its data.
 use Rattle.std.specs.Prelude.{ℕ, Bool, ◌==◌, if◌then◌else◌, Result, Ok, Err, List, ◌++◌, codes}
 use Rattle.link_bundle_types.specs.BundleView.{viewed_info}
+use Rattle.link_bundle_types.specs.ShortNames.{HasShortNames}
 use Rattle.link_bundle_types.specs.declared.fault.BundleFault.{BundleFault}
 use Rattle.link_bundle_types.specs.declared.info.BundleInfo.{BundleInfo}
 use Rattle.link_transfer.specs.declared.announcement.Announced.{Announced}
@@ -10,7 +11,7 @@ use Rattle.link_report.specs.declared.judgement.Judgement.TheVariants.{Abandoned
 use Rattle.link_report.specs.declared.judgement.JudgementView.{JudgementView}
 use Rattle.link_report.specs.declared.judgement.JudgementView.TheVariants as view
 use Rattle.link_report.specs.BundleFault.{code_text}
-use Rattle.link_report.specs.Identity.{identity_text, HasShortNames}
+use Rattle.link_report.specs.Identity.{identity_text}
 use Rattle.link_report.specs.Text.{number_text}
 
 -- the verdict on a transfer's data

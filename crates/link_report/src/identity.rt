@@ -4,34 +4,12 @@ ghost use Rattle.std.specs.Prelude.{◌≡◌, ◌+◌, ◌≤◌, ◌++◌, len
 ghost use Rattle.arrayvec.specs.ArrayVec.{array_vec_len};
 ghost use Rattle.link_bundle_types.specs.EidView.{viewed_eid};
 ghost use Rattle.link_bundle_types.specs.BundleView.{viewed_info};
-ghost use Rattle.link_report.specs.Eid.{eid_text, IsShort};
-ghost use Rattle.link_report.specs.Identity.{fragment_text, origin_text, identity_text, HasShortNames};
+ghost use Rattle.link_bundle_types.specs.ShortNames.{IsShort, HasShortNames};
+ghost use Rattle.link_report.specs.Eid.{eid_text};
+ghost use Rattle.link_report.specs.Identity.{fragment_text, origin_text, identity_text};
 
 use crate::put::{LINE_MAX, Line, put_escaped, put_number, put_text};
-use link_bundle_types::{BundleInfo, BundleView, Eid, EidView};
-
-/// An endpoint ID by reference. An `Eid` has room for no longer name.
-pub(crate) fn view_of_eid(eid: &Eid) -> EidView<'_>
-    ensures view { viewed_eid result ≡ eid.now }
-    ensures short { IsShort eid.now }
-{
-    match eid {
-        Eid::Dtn(name) => EidView::Dtn(name.as_slice()),
-        _ => eid.view(),
-    }
-}
-
-/// A bundle by reference.
-pub(crate) fn view_of_info(info: &BundleInfo) -> BundleView<'_>
-    ensures view { viewed_info result ≡ info.now }
-    ensures short { HasShortNames info.now }
-{
-    BundleView {
-        destination: view_of_eid(&info.destination),
-        source: view_of_eid(&info.source),
-        ..info.view()
-    }
-}
+use link_bundle_types::{BundleView, EidView};
 
 /// Appends an endpoint ID: 4 bytes and an escaped name, or 6 bytes and three numbers.
 #[tactic(auto, using(crate::proofs::Escapes::length_of_escaped), unfolding(crate::specs::Eid::eid_text))]

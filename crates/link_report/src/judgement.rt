@@ -3,11 +3,11 @@
 ghost use Rattle.std.specs.Prelude.{IfOk, ◌≡◌, ◌+◌, ◌≤◌, ◌<◌, ◌++◌};
 ghost use Rattle.arrayvec.specs.ArrayVec.{array_vec_len};
 ghost use Rattle.link_bundle_types.specs.BundleView.{viewed_info, viewed_verdict};
-ghost use Rattle.link_report.specs.Identity.{HasShortNames};
+ghost use Rattle.link_bundle_types.specs.ShortNames.{HasShortNames};
 ghost use Rattle.link_report.specs.Judgement.{judged, judgement_text, viewed_judgement, IsShortJudgement};
 
 use crate::bundle_fault::code_of;
-use crate::identity::{put_identity, view_of_info};
+use crate::identity::put_identity;
 use crate::put::{LINE_MAX, Line, put_number, put_text};
 use link_bundle_types::{BundleFault, BundleInfo, BundleView};
 use link_transfer::Announced;
@@ -53,7 +53,7 @@ impl Judgement {
             Judgement::BadLengthItem => JudgementView::BadLengthItem,
             Judgement::LengthDiffers(announced) => JudgementView::LengthDiffers(*announced),
             Judgement::Bad(fault, offset) => JudgementView::Bad(*fault, *offset),
-            Judgement::Good(info) => JudgementView::Good(view_of_info(info)),
+            Judgement::Good(info) => JudgementView::Good(info.view()),
         }
     }
 }

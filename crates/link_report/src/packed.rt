@@ -2,10 +2,10 @@
 
 ghost use Rattle.std.specs.Prelude.{◌≡◌, []};
 ghost use Rattle.link_bundle_types.specs.BundleView.{viewed_info};
-ghost use Rattle.link_report.specs.Identity.{HasShortNames};
+ghost use Rattle.link_bundle_types.specs.ShortNames.{HasShortNames};
 ghost use Rattle.link_report.specs.Packed.{packed_text, viewed_packed};
 
-use crate::identity::{put_identity, view_of_info};
+use crate::identity::put_identity;
 use crate::put::{Line, put_number, put_text};
 use link_bundle_types::{BundleInfo, BundleView};
 
@@ -59,7 +59,7 @@ pub fn packed_line(line: &mut Line, entry: &PackedEntry)
         number: entry.number,
         segments: entry.segments,
         length: entry.length,
-        info: view_of_info(&entry.info),
+        info: entry.info.view(),
     };
     packed_view_line(line, &view);
 }

@@ -1,5 +1,5 @@
 use Rattle.link_bundle.proofs.Lengths.{FaultLasts-holds, TrailingLasts-holds}
-use Rattle.link_bundle.proofs.Notes.{PayloadLasts-holds}
+use Rattle.link_bundle.proofs.Payloads.{PayloadLasts-holds, PayloadPlaced-holds, PayloadEnds-holds}
 use Rattle.link_bundle.proofs.laws.verdict_lasts.Goals as goal
 
 pub returns-clause-fault : goal.returns-clause-fault
@@ -10,3 +10,9 @@ returns-clause-trailing c = TrailingLasts-holds
 
 pub returns-clause-payload : goal.returns-clause-payload
 returns-clause-payload c = PayloadLasts-holds
+
+pub returns-clause-placed : goal.returns-clause-placed
+returns-clause-placed c = PayloadPlaced-holds
+
+pub returns-clause-ends : goal.returns-clause-ends
+returns-clause-ends c = PayloadEnds-holds

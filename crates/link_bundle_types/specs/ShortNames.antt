@@ -1,0 +1,18 @@
+-- how long the names of a bundle's endpoint IDs may be
+
+use Rattle.std.specs.Prelude.{◌≤◌, length}
+use Rattle.link_bundle_types.specs.declared.eid.Eid.{Eid}
+use Rattle.link_bundle_types.specs.declared.eid.Eid.TheVariants.{DtnNone, Dtn, Ipn, Ipn3}
+use Rattle.link_bundle_types.specs.declared.info.BundleInfo.{BundleInfo}
+
+-- the name of a dtn endpoint ID has at most 1,024 bytes
+abbrev pub IsShort : Eid → Type 0
+IsShort DtnNone = Unit {0}
+IsShort (Dtn name) = length name.items ≤ 1024
+IsShort (Ipn node service) = Unit {0}
+IsShort (Ipn3 allocator node service) = Unit {0}
+
+-- the names in a bundle's source and destination have at most 1,024 bytes each
+pub record HasShortNames (info : BundleInfo) : Type 0 where
+  pub source : IsShort info.source
+  pub destination : IsShort info.destination
