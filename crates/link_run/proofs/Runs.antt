@@ -1,6 +1,8 @@
 -- What a run tells in turn it tells in one, and how a run ends.
-use Rattle.std.proofs.Common.{◌≡◌, ℕ, ◌+◌, ◌-◌, ◌≤◌, ◌⊎◌, List, [], ◌++◌, length, take, drop, Option, Some, None, Result, Err, refl, ap, sym, ◌∙◌, subst, length-append, append-nil, append_assoc, arith, length-take}
+use Rattle.std.proofs.Common.{◌≡◌, ℕ, ◌+◌, ◌-◌, min, ◌≤◌, ◌⊎◌, List, [], ◌++◌, length, take, drop, Option, Some, None, Result, Err, refl, ap, sym, ◌∙◌, subst, length-append, append-nil, append_assoc, arith, length-take}
+use Rattle.std.proofs.Math.Nat.{min-le_right}
 use Rattle.std.proofs.Math.Seq.{take-append-add}
+use Rattle.std.proofs.lemmas.List.{take-append-le, take_min}
 use Rattle.std.specs.Io.KnownBytes.{Consumes, prepend_known}
 use Rattle.std.proofs.KnownBytes.{Consumes-nil, Consumes-trans, Appends-nil, Appends-trans}
 use Rattle.link_wire.specs.Device.{Input, Output}
@@ -33,6 +35,9 @@ texts_as {p} {q} output report =
     let of_output : List ℕ → Texts = λ xs. record { output = xs; report = p.report } in
     let of_report : List ℕ → Texts = λ xs. record { output = q.output; report = xs } in
     ap of_output output ∙ ap of_report report
+
+pub then_assoc : (first second third : Texts) → first then (second then third) ≡ (first then second) then third
+then_assoc first second third = texts_as (sym (append_assoc first.output second.output third.output)) (sym (append_assoc first.report second.report third.report))
 
 pub then_none : (texts : Texts) → texts then no_texts ≡ texts
 then_none texts = texts_as (append-nil texts.output) (append-nil texts.report)
@@ -214,3 +219,34 @@ module _ {R W E : Type 0} (in_look : R → Input) (out_look : W → Output) (rep
       }
   reader_lost tool start old new w history given texts io.Write written due stops = absurd stops.cause
   reader_lost tool start old new w history given texts io.Memory written due stops = absurd stops.cause
+
+-- what a writer failed in, with texts after it that were not begun
+take_less : (count : ℕ) (text more : List ℕ) → take count text ≡ take (min count (length text)) (text ++ more)
+take_less count text more = sym (take-append-le (min count (length text)) text more (min-le_right count (length text)) ∙ take_min count text)
+
+module _ {W E : Type 0} (out_look : W → Output) (report_look : E → Output) where
+  pub part_of_more : (old new : Writers W E) (texts more : Texts) (fault : IoFault) → WritesPart out_look report_look old new texts fault → WritesPart out_look report_look old new (texts then more) fault
+  part_of_more old new texts more fault part = record {
+    kind = part.kind;
+    output_count = min part.output_count (length texts.output);
+    report_count = min part.report_count (length texts.report);
+    output = rw (← take_less part.output_count texts.output more.output) part.output;
+    report = rw (← take_less part.report_count texts.report more.report) part.report;
+    failed = part.failed;
+  }
+
+  pub writes_none : (writers : Writers W E) → Writes out_look report_look writers writers no_texts
+  writes_none writers = record {
+    output = Appends-nil (out_look writers.output).written;
+    report = Appends-nil (report_look writers.report).written;
+    output_sound = refl;
+    report_sound = refl;
+  }
+
+  pub writes_then : (old mid new : Writers W E) (first second : Texts) → Writes out_look report_look old mid first → Writes out_look report_look mid new second → Writes out_look report_look old new (first then second)
+  writes_then old mid new first second one two = record {
+    output = Appends-trans (out_look old.output).written (out_look mid.output).written (out_look new.output).written first.output second.output one.output two.output;
+    report = Appends-trans (report_look old.report).written (report_look mid.report).written (report_look new.report).written first.report second.report one.report two.report;
+    output_sound = two.output_sound ∙ one.output_sound;
+    report_sound = two.report_sound ∙ one.report_sound;
+  }

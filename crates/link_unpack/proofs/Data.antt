@@ -1,0 +1,230 @@
+-- Data of a segment has come.
+use Rattle.std.proofs.Common.{◌≡◌, ℕ, ◌+◌, ◌^◌, ◌<◌, ◌≤◌, inl, Bool, true, false, not, ◌&&◌, ◌==◌, nat_lt, is_some, List, [], ◌∷◌, ◌++◌, length, Err, if◌then◌else◌, refl, ap, sym, ◌∙◌, subst, append-nil, append_assoc, length-append, arith}
+use Rattle.std.proofs.lemmas.Bool.{ltb-true, ltb-false}
+use Rattle.link_wire.specs.Device.{Input, Output}
+use Rattle.link_wire.specs.Message.{data_length}
+use Rattle.link_wire.specs.Session.{source_of, left_of, joined, data_after, IsLeft, GaveBytes, GivesLoad}
+use Rattle.link_wire.specs.Stream.{Entry, End, Clean, Cut, Fault, ended, with_entry, Reading, reading_of}
+use Rattle.link_wire.specs.declared.IoFault.{IoFault}
+use Rattle.link_wire.specs.declared.fault.Stop.{Stop}
+use Rattle.link_wire.specs.declared.fault.Stop.TheVariants as stop
+use Rattle.link_wire.specs.declared.message.Message.{Message}
+use Rattle.link_wire.specs.declared.message.SegmentHead.{SegmentHead}
+use Rattle.link_wire.specs.declared.session.Session.{Session}
+use Rattle.link_io.proofs.Sources.{Takes-then}
+use Rattle.link_transfer.specs.Order.{open_of}
+use Rattle.link_report.specs.Fault.{fault_text}
+use Rattle.link_report.specs.declared.fault.Fault.TheVariants.{Wire}
+use Rattle.link_run.specs.Ends.{end_lines, end_status}
+use Rattle.link_run.specs.Run.{Texts, Devices, devices_at, HasWritten, Gave}
+use Rattle.link_run.specs.Writers.{place_of, on_output, on_report, Writes, WritesPart}
+use Rattle.link_run.specs.declared.writers.Writers.{Writers}
+use Rattle.link_run.proofs.Ends.{standing_lines}
+use Rattle.link_run.proofs.Runs.{◌then◌, then_assoc, texts_as, written_as, written_given, written_more, sound_given, sound_written, writer_lost, part_of_more}
+use Rattle.link_unpack.specs.Transfers.{heads_of, Transfer, closes, continued, after_segment, after_message, transfers_of, settled}
+use Rattle.link_unpack.specs.Unpacking.{parts_of, part_of, line_of, lines_of, are_good, unpack_tool, unpacking_sofar}
+use Rattle.link_unpack.specs.TransferScan.{Follows, grown}
+use Rattle.link_unpack.specs.UnpackRun.{messages_of, AreInOrder, texts_of, GoesOn, IsInSegment, IsWaiting, IsAfter, Unpacks, IsJoining, GivesStage, GivesEnd}
+use Rattle.link_unpack.specs.declared.transfer.TransferScan.{TransferScan}
+use Rattle.link_unpack.specs.declared.unpacking.Stage.{Stage}
+use Rattle.link_unpack.specs.declared.unpacking.Stage.TheVariants as stage
+use Rattle.link_unpack.specs.declared.unpacking.Unpacker.{Unpacker}
+use Rattle.link_unpack.proofs.Heads.{entry, heads_cut, heads_with_data, messages_push, transfers_push, transfer_grows, is_whole}
+use Rattle.link_unpack.proofs.Joins.{after_lines}
+use Rattle.link_unpack.proofs.Orders.{in_order_more, in_order_parts}
+use Rattle.link_unpack.proofs.Steps.{fault_reported, read_lost}
+use Rattle.link_unpack.proofs.Texts.{unlined, parts_more, texts_open, texts_closed, sofar_in_order, settled_open}
+
+-- where a run stands inside the data of a segment
+pub record Inside (now : Stage) (is_open : Bool) (latest : TransferScan) (transfers : List Transfer) (end : End) (last : Bool) : Type 0 where
+  pub offset : ℕ
+  pub sent : Message
+  pub content : List ℕ
+  pub cut : end ≡ Cut offset sent content
+  pub opened : is_open ≡ not last
+  pub in_segment : IsInSegment last sent
+  pub goes : GoesOn latest transfers
+
+abbrev last_of : (now : Stage) → Bool → Bool
+last_of stage.Contact other = other
+last_of stage.Message other = other
+last_of (stage.Data last) other = last
+last_of (stage.Ended answer) other = other
+
+pub inside : (last is_open : Bool) (latest : TransferScan) (transfers : List Transfer) (end : End) → IsWaiting (stage.Data last) is_open latest transfers end → Inside (stage.Data last) is_open latest transfers end last
+inside last is_open latest transfers Clean waits = let never = waits.0 in absurd (cc)
+inside last is_open latest transfers (Cut offset sent content) waits =
+    let same : waits.0 ≡ last = ap (λ (s : Stage). last_of s waits.0) (sym waits.1) in
+    record {
+      offset = offset;
+      sent = sent;
+      content = content;
+      cut = refl;
+      opened = waits.2 ∙ ap not same;
+      in_segment = subst (λ l. IsInSegment l sent) same waits.3;
+      goes = waits.4;
+    }
+inside last is_open latest transfers (Fault offset fault) waits = absurd waits
+
+-- how the reading ends after data
+after_data_by : (test : Bool) (offset : ℕ) (sent : Message) (content : List ℕ) (last : Bool) (left : ℕ) → nat_lt 0 left ≡ test → IsInSegment last sent
+    → IsAfter last left (if test then ended (Cut offset sent content) else with_entry (entry offset sent content) (ended Clean)).end
+after_data_by true offset sent content last left test in_segment = (ltb-true 0 left test, in_segment)
+after_data_by false offset sent content last left test in_segment = let none : left ≤ 0 = ltb-false 0 left test in omega arith
+
+-- how much data a segment has
+size_left : (offset left : ℕ) (end : End) (from : ℕ) (sent : Message) (content : List ℕ) → end ≡ Cut from sent content → IsLeft offset left end → data_length sent ≡ length content + left
+size_left offset left end from sent content cut is =
+    let P : End → Type 0 = λ e. IsLeft offset left e in
+    let parts : (0 < left) × (from ≡ offset) × (data_length sent ≡ length content + left) = subst P cut is in
+    parts.2
+
+module _ {R W E : Type 0} (in_look : R → Input) (out_look : W → Output) (report_look : E → Output) (start : Devices R W E) where
+  module _ (last : Bool) (old : Session R) (before : Writers W E) (u : Unpacker) (history : List ℕ) (at : Unpacks in_look out_look report_look start (stage.Data last) old before u history) where
+    abbrev pub heads : List Entry
+    heads = heads_of (reading_of history)
+
+    abbrev pub transfers : List Transfer
+    transfers = transfers_of heads
+
+    pub here : Inside (stage.Data last) (is_some (open_of (messages_of heads))) u.latest transfers (reading_of history).end last
+    here = inside last _ u.latest transfers _ at.waits
+
+    pub some_left : 0 < left_of old
+    some_left =
+        let P : End → Type 0 = λ e. IsLeft old.offset old.left e in
+        let parts : (0 < old.left) × (here.offset ≡ old.offset) × (data_length here.sent ≡ length here.content + old.left) = subst P here.cut at.session.left in
+        parts.0
+
+    heads_are : heads ≡ (reading_of history).entries ++ entry here.offset here.sent here.content ∷ []
+    heads_are = heads_cut (reading_of history) here.offset here.sent here.content here.cut
+
+    abbrev pub transfer : Transfer
+    transfer = here.goes.transfer
+
+    abbrev pub earlier : List Transfer
+    earlier = here.goes.earlier
+
+    abbrev pub head : SegmentHead
+    head = here.in_segment.head
+
+    module _ (mid new : Session R) (bytes : List ℕ) (ready : GaveBytes in_look old mid history []) (gave : GaveBytes in_look mid new history bytes) where
+      pub room : u.latest.total + length bytes < 2 ^ 63
+      room =
+          let total = at.total in
+          let first = ready.takes.count in
+          let second = gave.takes.count in
+          let given = at.session.at.given in
+          let within = (source_of new).within in
+          omega arith
+
+      new_heads : heads_of (reading_of (history ++ bytes)) ≡ (reading_of history).entries ++ entry here.offset here.sent (here.content ++ bytes) ∷ []
+      new_heads = ap heads_of gave.reading ∙ heads_with_data (reading_of history) here.offset here.sent here.content bytes (left_of new) here.cut
+
+      same_messages : messages_of (heads_of (reading_of (history ++ bytes))) ≡ messages_of heads
+      same_messages =
+          ap messages_of new_heads ∙ messages_push (reading_of history).entries (entry here.offset here.sent (here.content ++ bytes))
+          ∙ sym (messages_push (reading_of history).entries (entry here.offset here.sent here.content)) ∙ sym (ap messages_of heads_are)
+
+      new_in_order : AreInOrder (heads_of (reading_of (history ++ bytes)))
+      new_in_order =
+          let P : List Entry → Type 0 = AreInOrder in
+          let parts = in_order_parts (reading_of history).entries (entry here.offset here.sent here.content) (subst P heads_are at.in_order) in
+          subst P (sym new_heads) (in_order_more (reading_of history).entries (entry here.offset here.sent (here.content ++ bytes)) parts.0 parts.1)
+
+      abbrev pub closing : Bool
+      closing = last && (left_of new == 0)
+
+      sizes : head.length ≡ length (here.content ++ bytes) + left_of new
+      sizes =
+          let size : head.length ≡ length here.content + left_of old = ap data_length (sym here.in_segment.is) ∙ size_left old.offset old.left (reading_of history).end here.offset here.sent here.content here.cut at.session.left in
+          let first = ready.left in
+          let second = gave.left in
+          omega (arith, length-append here.content bytes)
+
+      closed : closes head (here.content ++ bytes) ≡ closing
+      closed = ap (λ b. b && (length (here.content ++ bytes) == head.length)) (sym here.in_segment.ends) ∙ ap (λ b. last && b) (is_whole (length (here.content ++ bytes)) (left_of new) head.length sizes)
+
+      -- the transfers before the segment's head, and after it
+      with_content : (content : List ℕ) → transfers_of ((reading_of history).entries ++ entry here.offset here.sent content ∷ []) ≡ after_segment (transfers_of (reading_of history).entries) head content
+      with_content content = transfers_push (reading_of history).entries (entry here.offset here.sent content) ∙ ap (λ m. after_message (transfers_of (reading_of history).entries) m content) here.in_segment.is
+
+      new_transfers : transfers_of (heads_of (reading_of (history ++ bytes))) ≡ grown transfer bytes closing ∷ earlier
+      new_transfers =
+          ap transfers_of new_heads ∙ with_content (here.content ++ bytes)
+          ∙ transfer_grows (transfers_of (reading_of history).entries) head here.content bytes
+          ∙ ap (λ ts. continued ts bytes (closes head (here.content ++ bytes))) (sym (with_content here.content) ∙ ap transfers_of (sym heads_are) ∙ here.goes.are)
+          ∙ ap (λ c. grown transfer bytes c ∷ earlier) closed
+
+      pub after : IsAfter last (left_of new) (reading_of (history ++ bytes)).end
+      after =
+          let P : Reading → Type 0 = λ r. IsAfter last (left_of new) r.end in
+          let Q : End → Type 0 = λ e. IsAfter last (left_of new) (joined (reading_of history) (data_after (left_of new) bytes e)).end in
+          subst P (sym gave.reading) (subst Q (sym here.cut) (after_data_by (nat_lt 0 (left_of new)) here.offset here.sent (here.content ++ bytes) last (left_of new) refl here.in_segment))
+
+      -- what is written with a part of the data
+      module _ (part : List ℕ) (part_is : part_of u.latest.wanted (grown transfer bytes closing) ≡ part_of u.latest.wanted transfer ++ part) where
+        part_texts : texts_of u.latest.wanted transfers then on_output part ≡ unlined u.latest.wanted (grown transfer bytes closing) earlier
+        part_texts =
+            ap (λ (t : Texts). t then on_output part) (ap (texts_of u.latest.wanted) here.goes.are ∙ texts_open u.latest.wanted transfer earlier here.goes.is_open)
+            ∙ texts_as
+            (ap (λ (xs : List ℕ). xs ++ part) (parts_more u.latest.wanted transfer earlier) ∙ append_assoc (parts_of u.latest.wanted earlier) (part_of u.latest.wanted transfer) part
+            ∙ ap (λ (xs : List ℕ). parts_of u.latest.wanted earlier ++ xs) (sym part_is) ∙ sym (parts_more u.latest.wanted (grown transfer bytes closing) earlier))
+            (append-nil (lines_of u.latest.wanted earlier))
+
+        given_written : HasWritten in_look out_look report_look start (place_of (source_of new) before) (history ++ bytes) (texts_of u.latest.wanted transfers)
+        given_written = written_given in_look out_look report_look start (source_of old) (source_of new) before history bytes _ at.written (Takes-then in_look (source_of old) (source_of mid) (source_of new) [] bytes ready.takes gave.takes)
+
+        pub grows : (written : Writers W E) (v : Unpacker) → Writes out_look report_look before written (on_output part) → Follows v.latest (grown transfer bytes closing) earlier
+            → v.latest.wanted ≡ u.latest.wanted → v.latest.total ≤ u.latest.total + length bytes → v.joiner ≡ u.joiner → v.good ≡ u.good
+            → IsJoining in_look out_look report_look start last new written v (history ++ bytes)
+        grows written v writes follows wanted total joiner good = record {
+          session = gave.at;
+          in_order = new_in_order;
+          joiner = rw (joiner, same_messages) at.joiner;
+          transfer = grown transfer bytes closing;
+          earlier = earlier;
+          are = new_transfers;
+          closed = refl;
+          follows = follows;
+          written = rw wanted (written_as in_look out_look report_look (written_more in_look out_look report_look start (source_of new) before written (history ++ bytes) _ _ given_written writes) refl part_texts);
+          sound = sound_written in_look out_look report_look (source_of new) before written _ (sound_given in_look out_look report_look (source_of old) (source_of new) before bytes at.sound (Takes-then in_look (source_of old) (source_of mid) (source_of new) [] bytes ready.takes gave.takes)) writes;
+          total = let was = at.total in omega (arith, length-append history bytes);
+          good = good ∙ at.good ∙ ap (λ ts. are_good (settled ts)) here.goes.are ∙ ap are_good (settled_open transfer earlier here.goes.is_open);
+          opened = ap (λ ms. is_some (open_of ms)) same_messages ∙ here.opened;
+          after = after;
+        }
+
+        sofar : unpacking_sofar u.latest.wanted (history ++ bytes) ≡ texts_of u.latest.wanted (grown transfer bytes closing ∷ earlier)
+        sofar = sofar_in_order u.latest.wanted (history ++ bytes) new_in_order (after_lines last (left_of new) (reading_of (history ++ bytes)).end after) ∙ ap (texts_of u.latest.wanted) new_transfers
+
+        lost_by : (is_closed : Bool) → closing ≡ is_closed → (written : Writers W E) (fault : IoFault) → WritesPart out_look report_look before written (on_output part) fault
+            → Gave in_look out_look report_look (unpack_tool u.latest.wanted) start (devices_at (place_of (source_of new) written)) (history ++ bytes) (Err fault)
+        lost_by true is written fault lost =
+            let more = on_report (line_of u.latest.wanted (grown transfer bytes closing) earlier) in
+            writer_lost in_look out_look report_look (unpack_tool u.latest.wanted) start (source_of new) before written (history ++ bytes) _ _ _ fault given_written
+            (then_assoc (texts_of u.latest.wanted transfers) (on_output part) more ∙ ap (λ (t : Texts). t then more) part_texts ∙ texts_closed u.latest.wanted (grown transfer bytes closing) earlier is ∙ sym sofar)
+            (inl refl) (part_of_more out_look report_look before written _ more fault lost)
+        lost_by false is written fault lost =
+            writer_lost in_look out_look report_look (unpack_tool u.latest.wanted) start (source_of new) before written (history ++ bytes) _ _ _ fault given_written
+            (part_texts ∙ sym (texts_open u.latest.wanted (grown transfer bytes closing) earlier is) ∙ sym sofar) (inl refl) lost
+
+        pub part_lost : (written : Writers W E) (fault : IoFault) → WritesPart out_look report_look before written (on_output part) fault
+            → Gave in_look out_look report_look (unpack_tool u.latest.wanted) start (devices_at (place_of (source_of new) written)) (history ++ bytes) (Err fault)
+        part_lost written fault lost = lost_by closing refl written fault lost
+
+    -- the input ends inside the data, or the reader fails
+    pub data_ended : (new : Session R) (written : Writers W E) (why : Stop) (next : Stage) → GivesLoad in_look old new history (Err why) → GivesEnd out_look report_look why before written next → GivesStage in_look out_look report_look start u.latest.wanted (stage.Data last) old new before written u history next
+    data_ended new written (stop.Wire offset fault) stage.Contact got gives = absurd gives
+    data_ended new written (stop.Wire offset fault) stage.Message got gives = absurd gives
+    data_ended new written (stop.Wire offset fault) (stage.Data l) got gives = absurd gives
+    data_ended new written (stop.Io fault) stage.Contact got gives = absurd gives
+    data_ended new written (stop.Io fault) stage.Message got gives = absurd gives
+    data_ended new written (stop.Io fault) (stage.Data l) got gives = absurd gives
+    data_ended new written (stop.Wire offset fault) (stage.Ended answer) got gives =
+        fault_reported in_look out_look report_look start (stage.Data last) old new before written u.latest.wanted history [] transfers at.written at.sound (omega arith) offset fault (reading_of history) got.takes
+        (record { over = λ is. got.over; all = λ more may. rw (may got.kind, append-nil, append-nil) refl }) at.in_order refl
+        (ap end_lines got.cut ∙ ap (λ f. fault_text (Wire offset f)) (sym got.kind)) (ap end_status got.cut) (λ other. absurd (other got.kind)) answer gives
+    data_ended new written (stop.Io fault) (stage.Ended answer) got gives =
+        read_lost in_look out_look report_look start (stage.Data last) old new before written u.latest.wanted history [] transfers at.written at.sound (omega arith) fault answer (reading_of history) got.stops (ap reading_of (append-nil history))
+        at.in_order refl (standing_lines old.offset old.left (reading_of history).end at.session.left) gives.0 gives.1

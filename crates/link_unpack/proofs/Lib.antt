@@ -1,0 +1,12 @@
+mod Parts
+mod Judging
+mod Transfers
+mod Orders
+mod Heads
+mod Texts
+mod Joins
+mod Begins
+mod Messages
+mod Outcomes
+mod Steps
+mod Data

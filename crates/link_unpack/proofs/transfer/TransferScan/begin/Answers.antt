@@ -1,0 +1,13 @@
+use Rattle.std.proofs.Common.{[], length, inl, refl, sym, ap}
+use Rattle.link_unpack.proofs.Transfers.{part_of-begun}
+use Rattle.link_unpack.proofs.transfer.TransferScan.begin.Goals as goal
+
+pub returns-clause-follows : goal.returns-clause-follows
+returns-clause-follows c = λ head closed earlier id announced start. record {
+  id = sym id;
+  announced = sym announced;
+  start = start;
+  written = ap length (sym (part_of-begun c.args.self.now.wanted head closed));
+  size = refl;
+  judged = record { seen = []; rest = []; parts = refl; scanned = c.restart.ensures.seen; enough = inl refl };
+}

@@ -1,0 +1,6 @@
+pub mod Transfers
+pub mod Unpacking
+pub mod Pieces
+pub mod TransferScan
+pub mod UnpackRun
+pub mod UnpackRuns

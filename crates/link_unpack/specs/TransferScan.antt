@@ -1,0 +1,25 @@
+-- What is known of the latest transfer.
+use Rattle.std.specs.Prelude.{◌≡◌, ℕ, Bool, List, [], ◌++◌, length}
+use Rattle.link_transfer.specs.Announced.{announced_of}
+use Rattle.link_wire.specs.declared.message.SegmentHead.{SegmentHead}
+use Rattle.link_unpack.specs.Pieces.{HasJudged}
+use Rattle.link_unpack.specs.Transfers.{Transfer}
+use Rattle.link_unpack.specs.Unpacking.{part_of, parts_of}
+use Rattle.link_unpack.specs.declared.transfer.TransferScan.{TransferScan}
+
+-- a transfer of which no data has come
+abbrev pub begun : SegmentHead → Bool → Transfer
+begun head closed = record { first = head; content = []; closed = closed }
+
+-- a transfer with more data
+abbrev pub grown : Transfer → List ℕ → Bool → Transfer
+grown transfer content closed = record { first = transfer.first; content = transfer.content ++ content; closed = closed }
+
+-- it is this transfer, which follows those
+pub record Follows (now : TransferScan) (transfer : Transfer) (earlier : List Transfer) : Type 0 where
+  pub id : now.id ≡ transfer.first.id
+  pub announced : now.announced ≡ announced_of transfer.first.items.items
+  pub start : now.start ≡ length (parts_of now.wanted earlier)
+  pub written : now.written ≡ length (part_of now.wanted transfer)
+  pub size : now.size ≡ length transfer.content
+  pub judged : HasJudged now.scan transfer.content

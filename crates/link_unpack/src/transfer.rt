@@ -1,0 +1,193 @@
+//! The latest transfer of a stream: what is written of it, and its line.
+
+ghost use Rattle.std.specs.Prelude.{◌≡◌, ◌+◌, ◌^◌, ◌≤◌, ◌<◌, ◌++◌, length, List, ℕ};
+ghost use Rattle.link_bundle.specs.Scan.{scan_size};
+ghost use Rattle.link_report.specs.Judgement.{viewed_judgement};
+ghost use Rattle.link_unpack.specs.Pieces.{HasJudged, part_in};
+ghost use Rattle.link_unpack.specs.Unpacking.{is_good};
+
+use crate::wanted::Wanted;
+use link_bundle::BundleScan;
+use link_bundle_types::State;
+use link_cbor::Piecewise;
+use link_report::{JudgementView, Line, TransferView, judge, transfer_view_line};
+use link_transfer::Announced;
+
+/// No input has more bytes.
+const INPUT_LIMIT: u64 = (1 << 63) - 1;
+
+/// Scans one transfer after another. It holds what a line says and no bytes of the data.
+#[derive(Drop)]
+pub struct TransferScan {
+    wanted: Wanted,
+    /// The transfer ID.
+    id: u64,
+    /// What its extension items announce.
+    announced: Announced,
+    /// The offset in the output where its bytes begin.
+    start: u64,
+    /// How many of its bytes were written.
+    written: u64,
+    /// How many bytes of data it has had.
+    size: u64,
+    /// How many bytes of data all transfers have had.
+    total: u64,
+    scan: BundleScan,
+    ghost scanned: { scan_size scan ≤ size },
+    ghost sized: { size ≤ total },
+    ghost sum: { start + written ≤ total },
+    ghost limit: { total < 2 ^ 63 },
+}
+
+/// The next bytes of a bundle's data that has had `before` bytes: those of its payload.
+fn payload_part(piece: &[u8], before: u64, place: u64, count: u64) -> &[u8]
+    ensures part { (0 < count → place + count < 2 ^ 64) → result.now ≡ part_in piece.now before place count }
+    ensures size { length result.now ≤ length piece.now }
+{
+    let end = place
+        .saturating_add(count)
+        .saturating_sub(before)
+        .min(piece.len() as u64);
+    let start = place.saturating_sub(before).min(end);
+    &piece[start as usize..end as usize]
+}
+
+/// Scans the next piece of a bundle, as far as it changes the verdict.
+fn scan_piece(scan: &mut BundleScan, piece: &[u8])
+    requires { scan_size scan.old + length piece.now < 2 ^ 63 }
+    ensures judged { (content : List ℕ) → HasJudged scan.old content → HasJudged scan.new (content ++ piece.now) }
+    ensures size { scan_size scan.new ≤ scan_size scan.old + length piece.now }
+{
+    let taken = scan.feed(piece);
+    if taken < piece.len() && matches!(scan.state(), State::Ended) {
+        scan.step(piece[taken]);
+    }
+}
+
+/// Whether a bundle was judged good.
+fn is_bundle(judgement: &JudgementView<'_>) -> bool
+    ensures { result ≡ is_good (viewed_judgement judgement.now) }
+{
+    matches!(judgement, JudgementView::Good(_))
+}
+
+impl TransferScan {
+    ghost use Rattle.std.specs.Prelude.{◌≡◌, ◌+◌, ◌^◌, ◌≤◌, ◌<◌, [], ◌++◌, not, length, List, ℕ};
+    ghost use Rattle.link_report.specs.Transfer.{transfer_text};
+    ghost use Rattle.link_transfer.specs.Announced.{announced_of};
+    ghost use Rattle.link_wire.specs.declared.message.SegmentHead.{SegmentHead};
+    ghost use Rattle.link_unpack.specs.Pieces.{HasJudged};
+    ghost use Rattle.link_unpack.specs.Transfers.{Transfer};
+    ghost use Rattle.link_unpack.specs.Unpacking.{is_selected, parts_of, part_of, entry_of, judgement_of, is_good};
+    ghost use Rattle.link_unpack.specs.TransferScan.{Follows, begun, grown};
+
+    /// Nothing was written, and no transfer has begun.
+    pub fn new(wanted: Wanted) -> TransferScan
+        ensures wanted { result.wanted ≡ wanted }
+        ensures start { result.start ≡ 0 }
+        ensures written { result.written ≡ 0 }
+        ensures total { result.total ≡ 0 }
+    {
+        TransferScan {
+            wanted,
+            id: 0,
+            announced: Announced::Absent,
+            start: 0,
+            written: 0,
+            size: 0,
+            total: 0,
+            scan: BundleScan::new(),
+        }
+    }
+
+    /// A transfer begins.
+    pub fn begin(&mut self, id: u64, announced: Announced)
+        ensures follows { (head : SegmentHead) (closed : _) (earlier : List Transfer) → head.id ≡ id → announced_of head.items.items ≡ announced
+            → self.old.start + self.old.written ≡ length (parts_of self.old.wanted earlier)
+            → Follows self.new (begun head closed) earlier }
+        ensures wanted { self.new.wanted ≡ self.old.wanted }
+        ensures total { self.new.total ≡ self.old.total }
+    {
+        self.id = id;
+        self.announced = announced;
+        self.start += self.written;
+        self.written = 0;
+        self.size = 0;
+        self.scan.restart();
+    }
+
+    /// Takes the next piece of its data, and returns what of it is written.
+    pub fn take<'a>(&mut self, piece: &'a [u8]) -> &'a [u8]
+        ensures follows { (transfer : Transfer) (closed : _) (earlier : List Transfer) → self.old.total + length piece.now < 2 ^ 63
+            → Follows self.old transfer earlier → Follows self.new (grown transfer piece.now closed) earlier }
+        ensures part { (transfer : Transfer) (closed : _) (earlier : List Transfer) → self.old.total + length piece.now < 2 ^ 63
+            → Follows self.old transfer earlier
+            → part_of self.old.wanted (grown transfer piece.now closed) ≡ part_of self.old.wanted transfer ++ result.now }
+        ensures wanted { self.new.wanted ≡ self.old.wanted }
+        ensures total { self.new.total ≤ self.old.total + length piece.now }
+    {
+        if piece.len() as u64 > INPUT_LIMIT - self.total {
+            return &[];
+        }
+        self.size += piece.len() as u64;
+        self.total += piece.len() as u64;
+        scan_piece(&mut self.scan, piece);
+        let part = self.part(piece);
+        self.written += part.len() as u64;
+        part
+    }
+
+    /// Whether the transfer is written.
+    fn is_selected(&self) -> bool
+        ensures { result ≡ is_selected self.now.wanted.only self.now.id }
+    {
+        match self.wanted.only {
+            Some(only) => only == self.id,
+            None => true,
+        }
+    }
+
+    /// What of the latest piece is written: the scan has seen it, and it is counted.
+    fn part<'a>(&self, piece: &'a [u8]) -> &'a [u8]
+        requires { length piece.now ≤ self.now.size }
+        ensures part { (transfer : Transfer) (closed : _) → self.now.id ≡ transfer.first.id
+            → self.now.size ≡ length transfer.content + length piece.now
+            → HasJudged self.now.scan (transfer.content ++ piece.now)
+            → part_of self.now.wanted (grown transfer piece.now closed) ≡ part_of self.now.wanted transfer ++ result.now }
+        ensures size { length result.now ≤ length piece.now }
+    {
+        if !self.is_selected() {
+            return &[];
+        }
+        if !self.wanted.payload {
+            return piece;
+        }
+        match self.scan.payload_seen() {
+            Some((place, count)) => {
+                payload_part(piece, self.size - piece.len() as u64, place, count)
+            }
+            None => &[],
+        }
+    }
+
+    /// Makes an empty line that of the transfer, which was abandoned or is closed, and returns
+    /// whether it is good.
+    pub fn put_line(&self, line: &mut Line, abandoned: bool) -> bool
+        requires { line.old.items ≡ [] }
+        ensures text { (transfer : Transfer) (earlier : List Transfer) → Follows self.now transfer earlier → abandoned ≡ not transfer.closed
+            → line.new.items ≡ transfer_text (entry_of self.now.wanted transfer (length (parts_of self.now.wanted earlier))) }
+        ensures good { (transfer : Transfer) (earlier : List Transfer) → Follows self.now transfer earlier → abandoned ≡ not transfer.closed
+            → result ≡ is_good (judgement_of transfer) }
+    {
+        let judgement = judge(abandoned, self.announced, self.size, self.scan.view());
+        let entry = TransferView {
+            id: self.id,
+            start: self.start,
+            written: self.written,
+            length: self.size,
+            judgement,
+        };
+        transfer_view_line(line, &entry);
+        is_bundle(&judgement)
+    }
+}
