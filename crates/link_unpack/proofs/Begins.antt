@@ -1,6 +1,5 @@
 -- A transfer begins, and another may be abandoned by it.
-use Rattle.std.proofs.Common.{◌≡◌, ℕ, inl, suc, Bool, true, false, ◌&&◌, ◌==◌, List, [], ◌∷◌, ◌++◌, length, Option, Some, None, Err, if◌then◌else◌, refl, ap, sym, ◌∙◌, subst, append-nil, arith}
-use Rattle.std.proofs.Math.Seq.{drop-nil, take-nil}
+use Rattle.std.proofs.Common.{◌≡◌, ℕ, inl, suc, Bool, true, false, ◌&&◌, ◌==◌, List, [], ◌∷◌, ◌++◌, length, Err, if◌then◌else◌, refl, ap, sym, ◌∙◌, subst, append-nil, arith}
 use Rattle.arrayvec.specs.ArrayVec.{ArrayVec}
 use Rattle.link_wire.specs.Device.{Input, Output}
 use Rattle.link_wire.specs.Codes.{is_start}
@@ -14,13 +13,12 @@ use Rattle.link_wire.specs.declared.message.Message.TheVariants.{Segment}
 use Rattle.link_wire.specs.declared.message.MessageBuffer.{MessageBuffer}
 use Rattle.link_wire.specs.declared.message.SegmentHead.{SegmentHead}
 use Rattle.link_wire.specs.declared.session.Session.{Session}
-use Rattle.link_bundle.specs.Bundle.{judged, noted, bytes_of, payload_in}
 use Rattle.link_run.specs.Run.{Texts, Devices, devices_at, Gave}
 use Rattle.link_run.specs.Writers.{place_of, on_report, Writes, WritesPart}
 use Rattle.link_run.specs.declared.writers.Writers.{Writers}
 use Rattle.link_run.proofs.Runs.{◌then◌, texts_as, written_as, then_assoc, written_more, sound_written, writer_lost, part_of_more}
 use Rattle.link_unpack.specs.Transfers.{heads_of, Transfer, transfers_of, settled}
-use Rattle.link_unpack.specs.Unpacking.{parts_of, part_of, line_of, lines_of, are_good, judgement_of, is_good, is_selected, unpack_tool, unpacking_sofar}
+use Rattle.link_unpack.specs.Unpacking.{parts_of, line_of, lines_of, are_good, judgement_of, is_good, unpack_tool, unpacking_sofar}
 use Rattle.link_unpack.specs.TransferScan.{Follows, begun}
 use Rattle.link_unpack.specs.UnpackRun.{texts_of, last_lines, IsOpen, IsJoining, IsBeginning}
 use Rattle.link_unpack.specs.declared.transfer.TransferScan.{TransferScan}
