@@ -21,5 +21,5 @@ ending_status (Answer answer) = status_of answer
 
 -- what the program itself says on standard error, without the newline
 abbrev pub ending_text : Ending → List ℕ
-ending_text Usage = codes "usage: tcpclkit list < RECORDING"
+ending_text Usage = codes "usage: tcpclkit list|unpack < RECORDING"
 ending_text (Answer answer) = exit_text answer

@@ -1,3 +1,3 @@
 pub mod Words
 pub mod Ending
-pub mod Listed
+pub mod BufferedEnd

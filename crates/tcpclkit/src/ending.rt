@@ -33,7 +33,7 @@ pub fn ending_exit(ending: &Ending) -> (u8, &'static str)
     ensures text { result.1.now ≡ ending_text ending.now }
 {
     match ending {
-        Ending::Usage => (2, "usage: tcpclkit list < RECORDING"),
+        Ending::Usage => (2, "usage: tcpclkit list|unpack < RECORDING"),
         Ending::Answer(answer) => run_exit(answer),
     }
 }

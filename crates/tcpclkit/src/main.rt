@@ -1,7 +1,8 @@
 //! `tcpclkit`: what a recorded TCPCLv4 session (RFC 9174) carried.
 //!
 //! `tcpclkit list` reads a recording from standard input, and writes a line for each message to
-//! standard output and the line of a fault to standard error.
+//! standard output and the line of a fault to standard error. `tcpclkit unpack` writes the data of
+//! its transfers to standard output, and a line for each transfer to standard error.
 #![tactic(auto)]
 
 mod ending;
@@ -13,8 +14,8 @@ use link_wire::IoFault;
 use std::io::ErrorKind;
 use std::process::ExitCode;
 use std::{env, io};
-use streams::list_buffered;
-use words::asks_for_list;
+use streams::run_buffered;
+use words::{Command, command_of};
 
 fn main(rt: HostRuntime) -> ExitCode {
     let (status, message) = ending_exit(&run(&rt));
@@ -26,21 +27,21 @@ fn main(rt: HostRuntime) -> ExitCode {
 
 /// Does what the words ask for.
 fn run(rt: &HostRuntime) -> Ending {
-    match is_list(rt) {
-        Ok(true) => {}
-        Ok(false) => return Ending::Usage,
+    let command = match command(rt) {
+        Ok(Some(command)) => command,
+        Ok(None) => return Ending::Usage,
         // A word that is not UTF-8 is no command.
         Err(error) if error.kind() == ErrorKind::InvalidData => return Ending::Usage,
         Err(_) => return Ending::Answer(Err(IoFault::Memory)),
-    }
-    match list_buffered(rt.alloc(), rt.stdin(), rt.stdout(), rt.stderr()) {
-        Ok(listed) => Ending::Answer(listed.answer),
+    };
+    match run_buffered(rt.alloc(), command, rt.stdin(), rt.stdout(), rt.stderr()) {
+        Ok(end) => Ending::Answer(end.answer),
         Err(_) => Ending::Answer(Err(IoFault::Memory)),
     }
 }
 
-/// Whether the program's words ask for `list`. An `Err` is a word that is not UTF-8, or want of memory.
-fn is_list(rt: &HostRuntime) -> io::Result<bool> {
+/// The command that the program's words ask for. An `Err` is a word that is not UTF-8, or want of memory.
+fn command(rt: &HostRuntime) -> io::Result<Option<Command>> {
     let words: Vec<String> = env::args(rt)?.collect(rt.alloc())?;
-    Ok(asks_for_list(words.as_slice()))
+    Ok(command_of(words.as_slice()))
 }

@@ -1,16 +1,17 @@
-//! `list` over buffered streams.
+//! The tools over buffered streams.
 
-ghost use Rattle.std.specs.Prelude.{◌≡◌, ℕ, List, IfOk, IfErr, IfSome, Ok, Some};
+ghost use Rattle.std.specs.Prelude.{◌≡◌, ℕ, false, List, IfOk, IfErr, IfSome, Ok, Some};
 ghost use Rattle.std.specs.Io.Buffered.{writer_contents};
 ghost use Rattle.std.specs.Io.KnownBytes.{Keeps};
 ghost use Rattle.std.specs.IoError.{error_kind};
-ghost use Rattle.link_list.specs.Listing.{listing};
+ghost use Rattle.link_run.specs.Run.{GivesAnswer};
 ghost use Rattle.link_run.specs.declared.run.Status.{Status};
-ghost use Rattle.tcpclkit.specs.Listed.{HasWritten, IsFlushed};
+ghost use Rattle.tcpclkit.specs.BufferedEnd.{tool_of, HasWritten, IsFlushed};
 
 use crate::ending::after_flush;
-use link_tools::{Status, list};
-use link_wire::{IoFault, Reader, Writer};
+use crate::words::Command;
+use link_tools::{RunEnd, Status, Wanted, list, unpack};
+use link_wire::{InDevice, IoFault, OutDevice, Reader, Writer};
 use std::alloc::Global;
 use std::io;
 use std::io::{BufReader, BufWriter, ErrorKind, Read, Write};
@@ -23,7 +24,7 @@ const TEXT_BUFFER: usize = 256 << 10;
 
 /// A run over buffered streams that has ended.
 #[derive(Drop)]
-pub struct Listed<W, E> {
+pub struct BufferedEnd<W, E> {
     /// The answer, in which a failed flush counts.
     pub answer: Result<Status, IoFault>,
     /// Where the output went to, if all of it was handed on.
@@ -32,41 +33,70 @@ pub struct Listed<W, E> {
     pub report: Option<E>,
 }
 
-/// Lists the input, and hands both texts on to their writers.
+/// Does what the command asks for, and hands both texts on to their writers.
 ///
 /// Where a device fails, nothing is said of how much of the texts has arrived.
 ///
 /// # Errors
 ///
 /// Want of memory for the buffers: nothing was read and nothing written.
-pub fn list_buffered<R: Read + Drop, W: Write + Drop, E: Write + Drop>(
+pub fn run_buffered<R: Read + Drop, W: Write + Drop, E: Write + Drop>(
     alloc: Global,
+    command: Command,
     input: R,
     output: W,
     report: E,
-) -> io::Result<Listed<W, E>>
-    ensures whole { IfOk result (λ listed. (status : Status) (bytes : List ℕ)
-        → listed.answer ≡ Ok status → R.remaining input ≡ Some bytes
-        → HasWritten W.contents E.contents (listing bytes) output report listed status) }
-    ensures flushed { IfOk result (λ listed. (status : Status)
-        → listed.answer ≡ Ok status → IsFlushed listed status) }
+) -> io::Result<BufferedEnd<W, E>>
+    ensures whole { IfOk result (λ end. (status : Status) (bytes : List ℕ)
+        → end.answer ≡ Ok status → R.remaining input ≡ Some bytes
+        → HasWritten W.contents E.contents ((tool_of command).whole bytes) output report end status) }
+    ensures flushed { IfOk result (λ end. (status : Status)
+        → end.answer ≡ Ok status → IsFlushed end status) }
     ensures err { IfErr result (λ error. error_kind error ≡ ErrorKind.OutOfMemory) }
 {
     let reader = BufReader::with_capacity(alloc, INPUT_BUFFER, input)?;
     let output = BufWriter::with_capacity(alloc, TEXT_BUFFER, output)?;
     let report = BufWriter::with_capacity(alloc, TEXT_BUFFER, report)?;
-    let end = list(
+    let end = run(
+        command,
         Reader::new(reader),
         Writer::new(output),
         Writer::new(report),
     );
     let output = flushed(end.output.into_inner());
     let report = flushed(end.report.into_inner());
-    Ok(Listed {
+    Ok(BufferedEnd {
         answer: after_flush(end.answer, output.is_some() && report.is_some()),
         output,
         report,
     })
+}
+
+/// The run of a command.
+fn run<R: InDevice, W: OutDevice, E: OutDevice>(
+    command: Command,
+    reader: R,
+    output: W,
+    report: E,
+) -> RunEnd<R, W, E>
+    requires reader { (R.state reader).failed ≡ false }
+    requires output { (W.state output).failed ≡ false }
+    requires report { (E.state report).failed ≡ false }
+    ensures { GivesAnswer R.state W.state E.state (tool_of command)
+        (record { reader = reader; output = output; report = report })
+        (record { reader = result.reader; output = result.output; report = result.report })
+        result.answer }
+{
+    match command {
+        Command::List => list(reader, output, report),
+        Command::Unpack => {
+            let all = Wanted {
+                only: None,
+                payload: false,
+            };
+            unpack(all, reader, output, report)
+        }
+    }
 }
 
 /// Hands on what the buffer holds. Returns the writer below it, or `None` where it failed.
