@@ -28,6 +28,11 @@ def extensions(*items):
     return struct.pack(">I", len(joined)) + joined
 
 
+def length_item(total):
+    """A Transfer Length item (section 5.2.5.1)."""
+    return item(0x00, 0x0001, struct.pack(">Q", total))
+
+
 def sess_init(*items):
     """SESS_INIT (section 4.6): keepalive of 60 s, MRUs of 64 KiB and 1 MiB, node ID `ipn:1.0`."""
     node = b"ipn:1.0"
@@ -82,7 +87,7 @@ EVERY_MESSAGE = b"".join(
     [
         CONTACT,
         sess_init(item(0x01, 0x1234, b"\xaa"), item(0x00, 0xABCD, b"")),
-        xfer_segment(START, 0, BUNDLE[:17], item(0x00, 0x0001, struct.pack(">Q", len(BUNDLE)))),
+        xfer_segment(START, 0, BUNDLE[:17], length_item(len(BUNDLE))),
         xfer_segment(END, 0, BUNDLE[17:]),
         xfer_ack(END, 0, len(BUNDLE)),
         xfer_refuse(0x02, 0),
@@ -93,9 +98,36 @@ EVERY_MESSAGE = b"".join(
     ]
 )
 
+# The same bundle with a check in its payload block (CRC-16, RFC 9171 section 4.2.1), and with a byte of the payload
+# changed after the check was computed: 37 bytes.
+DAMAGED = bytes.fromhex(
+    "9f"
+    "88 07 00 00 82 02 82 02 01 82 02 82 01 01 82 01 00 82 00 00 00"
+    "86 01 01 00 01 45 69 65 6c 6c 6f 42 4b f3"
+    "ff"
+)
+
+
+# Four transfers: a good one in two segments, with a message between them; one with a damaged bundle; one that its
+# sender left, as after a refusal (section 5.2.4); and one whose announced length is not that of its data.
+TRANSFERS = b"".join(
+    [
+        CONTACT,
+        sess_init(),
+        xfer_segment(START, 0, BUNDLE[:17], length_item(len(BUNDLE))),
+        KEEPALIVE,
+        xfer_segment(END, 0, BUNDLE[17:]),
+        xfer_segment(START | END, 1, DAMAGED),
+        xfer_segment(START, 2, BUNDLE[:10]),
+        xfer_segment(START | END, 3, BUNDLE, length_item(35)),
+        sess_term(0x00, 0x00),
+    ]
+)
+
 RECORDINGS = {
     "prelude-and-transfer.tcpcl": PRELUDE_AND_TRANSFER,
     "every-message.tcpcl": EVERY_MESSAGE,
+    "transfers.tcpcl": TRANSFERS,
 }
 
 
