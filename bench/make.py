@@ -1,10 +1,16 @@
 #!/usr/bin/env python3
-"""Makes the recordings that run.sh measures: `python3 make.py FOLDER`. Each has some 128 MiB.
+"""Makes the recordings that run.sh measures: `python3 make.py FOLDER`.
 
+For list, some 128 MiB each:
 long.tcpcl: one transfer in segments of 64 KiB.
 bundles.tcpcl: a bundle of 200 bytes a transfer, with an acknowledgement and a KEEPALIVE after each.
 short.tcpcl: one transfer in segments of 1 to 16 bytes.
 answers.tcpcl: acknowledgements, refusals and KEEPALIVEs alone.
+
+For unpack, some 256 MiB each, where each transfer is a good bundle:
+plain.tcpcl, crc16.tcpcl, crc32.tcpcl: bundles of 1 MiB in segments of 64 KiB, with no check, and with one over the payload.
+small.tcpcl: bundles of 100 to 300 bytes with a CRC-32C in the primary block, one a transfer, an acknowledgement after each.
+crumbs.tcpcl: bundles of 1 MiB in segments of 1 to 16 bytes.
 
 Only python's standard library is used.
 """
@@ -13,7 +19,8 @@ import struct
 import sys
 from pathlib import Path
 
-SIZE = 128 << 20
+LIST_SIZE = 128 << 20
+UNPACK_SIZE = 256 << 20
 
 # RFC 9174 section 4.2: `dtn!`, version 4, flags 00
 CONTACT = b"dtn!" + bytes([4, 0x00])
@@ -30,6 +37,53 @@ START = 0x02
 
 # a bundle of 200 bytes (RFC 9171 section 4): from ipn:1.1 to ipn:2.1, with 170 bytes of payload
 BUNDLE = bytes.fromhex("9f880700008202820201820282010182010082000000850101000058aa") + bytes(170) + b"\xff"
+
+
+# A bundle's check (RFC 9171 section 4.2.1): its type, the reversed polynomial, the bytes of the field
+NO_CHECK = (0, 0, 0)
+CRC16 = (1, 0x8408, 2)
+CRC32 = (2, 0x82F63B78, 4)
+
+
+def check_value(check, data):
+    """The check of the bytes, as the bytes of its field."""
+    _, polynomial, size = check
+    table = []
+    for entry in range(256):
+        for _ in range(8):
+            entry = entry >> 1 ^ (polynomial if entry & 1 else 0)
+        table.append(entry)
+    ones = (1 << 8 * size) - 1
+    register = ones
+    for byte in data:
+        register = table[(register ^ byte) & 0xFF] ^ register >> 8
+    return (register ^ ones).to_bytes(size, "big")
+
+
+def checked(block, check):
+    """A block whose check field is its last item: 0x42 or 0x44, and the value over the block with zeros in its place."""
+    _, _, size = check
+    if size == 0:
+        return block
+    open_block = block + bytes([0x40 + size])
+    return open_block + check_value(check, open_block + bytes(size))
+
+
+def bundle(payload, primary=NO_CHECK, content=NO_CHECK):
+    """A bundle (section 4) from ipn:1.1 to ipn:2.1 with this payload, and these checks in its two blocks."""
+    first = bytes([0x88 + (primary[0] > 0), 7, 0, primary[0]]) + bytes.fromhex("82028202018202820101820100") + bytes.fromhex("82000000")
+    second = bytes([0x85 + (content[0] > 0), 1, 1, 0, content[0], 0x5A]) + struct.pack(">I", len(payload)) + payload
+    return b"\x9f" + checked(first, primary) + checked(second, content) + b"\xff"
+
+
+def transfer(number, data, sizes):
+    """The segments of a transfer whose data are cut into pieces of these sizes, in turn."""
+    pieces, at, turn = [], 0, 0
+    while at < len(data):
+        pieces.append(data[at : at + sizes[turn % len(sizes)]])
+        at, turn = at + len(pieces[-1]), turn + 1
+    last = len(pieces) - 1
+    return b"".join(segment((START if i == 0 else 0) | (END if i == last else 0), number, piece) for i, piece in enumerate(pieces))
 
 
 def segment(flags, number, data):
@@ -56,16 +110,23 @@ def repeated(block, size):
 def one_transfer(pieces):
     """A transfer that begins with an empty segment and ends with one, and has these between."""
     middle = b"".join(segment(0, 0, piece) for piece in pieces)
-    return segment(START, 0, b"") + repeated(middle, SIZE) + segment(END, 0, b"")
+    return segment(START, 0, b"") + repeated(middle, LIST_SIZE) + segment(END, 0, b"")
 
 
 def recordings():
     """The name of each recording, and what follows its SESS_INIT."""
     data = bytes(range(256)) * 256
     yield "long.tcpcl", one_transfer([data])
-    yield "bundles.tcpcl", repeated(segment(START | END, 7, BUNDLE) + ack(START | END, 7, len(BUNDLE)) + KEEPALIVE, SIZE)
+    yield "bundles.tcpcl", repeated(segment(START | END, 7, BUNDLE) + ack(START | END, 7, len(BUNDLE)) + KEEPALIVE, LIST_SIZE)
     yield "short.tcpcl", one_transfer([data[:length] for length in range(1, 17)])
-    yield "answers.tcpcl", repeated(ack(0, 1, 4096) + refuse(1, 1) + KEEPALIVE, SIZE)
+    yield "answers.tcpcl", repeated(ack(0, 1, 4096) + refuse(1, 1) + KEEPALIVE, LIST_SIZE)
+    payload = (data * 16)[: (1 << 20) - 100]
+    yield "plain.tcpcl", repeated(transfer(7, bundle(payload), [65536]), UNPACK_SIZE)
+    yield "crc16.tcpcl", repeated(transfer(7, bundle(payload, content=CRC16), [65536]), UNPACK_SIZE)
+    yield "crc32.tcpcl", repeated(transfer(7, bundle(payload, content=CRC32), [65536]), UNPACK_SIZE)
+    small = [bundle(data[:length], primary=CRC32) for length in range(60, 260, 10)]
+    yield "small.tcpcl", repeated(b"".join(segment(START | END, 7, it) + ack(START | END, 7, len(it)) for it in small), UNPACK_SIZE)
+    yield "crumbs.tcpcl", repeated(transfer(7, bundle(payload), range(1, 17)), UNPACK_SIZE)
 
 
 def main():

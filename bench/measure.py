@@ -1,8 +1,8 @@
 #!/usr/bin/env python3
-"""Measures `PROGRAM list` against `cat`: `python3 measure.py PROGRAM FOLDER [ROUNDS]`.
+"""Measures `PROGRAM list` and `PROGRAM unpack` against `cat`: `python3 measure.py PROGRAM FOLDER [ROUNDS]`.
 
 The times are user plus system time of the process alone, both taken in turn in each round, and what is printed is the ratio
-of their sums. The output goes to /dev/null. The peak memory is that of the program once it was given all of its input.
+of their sums. The output and the report go to /dev/null. The peak memory is that of the program once it was given all of its input.
 """
 
 import os
@@ -15,7 +15,7 @@ from pathlib import Path
 def seconds(words, path=None):
     """User plus system time of a command whose standard input is the file, if one is given."""
     with open(path or os.devnull, "rb") as given, open(os.devnull, "wb") as nowhere:
-        process = subprocess.Popen(words, stdin=given, stdout=nowhere)
+        process = subprocess.Popen(words, stdin=given, stdout=nowhere, stderr=nowhere)
         _, status, usage = os.wait4(process.pid, 0)
         process.returncode = os.waitstatus_to_exitcode(status)
     if process.returncode != 0:
@@ -23,10 +23,10 @@ def seconds(words, path=None):
     return usage.ru_utime + usage.ru_stime
 
 
-def peak_kilobytes(program, path):
+def peak_kilobytes(words, path):
     """The most memory that the program held, read when it has taken its input and waits for more."""
     with open(os.devnull, "wb") as nowhere, open(path, "rb") as given:
-        process = subprocess.Popen([program, "list"], stdin=subprocess.PIPE, stdout=nowhere)
+        process = subprocess.Popen(words, stdin=subprocess.PIPE, stdout=nowhere, stderr=nowhere)
         while piece := given.read(1 << 20):
             process.stdin.write(piece)
         process.stdin.flush()
@@ -37,33 +37,39 @@ def peak_kilobytes(program, path):
     return next(int(line.split()[1]) for line in lines if line.startswith("VmHWM:"))
 
 
-def ratio(program, path, rounds):
+def ratio(words, path, rounds):
     """How many times as long as `cat` the program takes for the file."""
     ours = theirs = 0.0
     for _ in range(rounds):
-        ours += seconds([program, "list"], path)
+        ours += seconds(words, path)
         theirs += seconds(["cat", path])
     return ours / theirs
 
 
-# the recordings, what they have, and the most that is wanted
+# the command, the recording, what it has, and the most that is wanted
 MEASURED = (
-    ("long.tcpcl", "segments of 64 KiB", 1.3),
-    ("bundles.tcpcl", "one small bundle a transfer, with acknowledgements and keepalives", 2.5),
-    ("short.tcpcl", "segments of 1 to 16 bytes", 7),
-    ("answers.tcpcl", "acknowledgements, refusals and keepalives", 18),
+    ("list", "long.tcpcl", "segments of 64 KiB", 1.3),
+    ("list", "bundles.tcpcl", "one small bundle a transfer, with acknowledgements and keepalives", 2.5),
+    ("list", "short.tcpcl", "segments of 1 to 16 bytes", 7),
+    ("list", "answers.tcpcl", "acknowledgements, refusals and keepalives", 18),
+    ("unpack", "plain.tcpcl", "bundles of 1 MiB in segments of 64 KiB", 1.6),
+    ("unpack", "crc16.tcpcl", "the same with a CRC-16 over each payload", 5.5),
+    ("unpack", "crc32.tcpcl", "the same with a CRC-32C over each payload", 5.5),
+    ("unpack", "small.tcpcl", "one bundle of 100 to 300 bytes a transfer, with acknowledgements", 11),
+    ("unpack", "crumbs.tcpcl", "bundles of 1 MiB in segments of 1 to 16 bytes", 6),
+    ("unpack", "answers.tcpcl", "no transfers", 5),
 )
 
 
 def main():
     program, folder = os.path.abspath(sys.argv[1]), sys.argv[2]
     rounds = int(sys.argv[3]) if len(sys.argv) > 3 else 5
-    print(f"user and system time of `tcpclkit list`, to that of `cat`, over {rounds} rounds of 128 MiB:")
-    for name, what, most in MEASURED:
-        path = os.path.join(folder, name)
-        seconds([program, "list"], path)  # the file is in memory from here on
-        memory = peak_kilobytes(program, path) / 1024
-        print(f"  {what}: {ratio(program, path, rounds):.2f}, at most {most} wanted; peak memory {memory:.1f} MB, below 4 wanted")
+    print(f"user and system time of tcpclkit, to that of `cat`, over {rounds} rounds:")
+    for command, name, what, most in MEASURED:
+        path, words = os.path.join(folder, name), [program, command]
+        seconds(words, path)  # the file is in memory from here on
+        memory = peak_kilobytes(words, path) / 1024
+        print(f"  {command}, {what}: {ratio(words, path, rounds):.2f}, at most {most} wanted; peak memory {memory:.1f} MB, below 4 wanted", flush=True)
 
 
 if __name__ == "__main__":
