@@ -41,7 +41,8 @@ pub struct TransferScan {
 
 /// The next bytes of a bundle's data that has had `before` bytes: those of its payload.
 fn payload_part(piece: &[u8], before: u64, place: u64, count: u64) -> &[u8]
-    ensures part { (0 < count → place + count < 2 ^ 64) → result.now ≡ part_in piece.now before place count }
+    ensures part { (0 < count → place + count < 2 ^ 64) → result.now ≡ part_in piece.now before
+        place count }
     ensures size { length result.now ≤ length piece.now }
 {
     let end = place
@@ -55,7 +56,8 @@ fn payload_part(piece: &[u8], before: u64, place: u64, count: u64) -> &[u8]
 /// Scans the next piece of a bundle, as far as it changes the verdict.
 fn scan_piece(scan: &mut BundleScan, piece: &[u8])
     requires { scan_size scan.old + length piece.now < 2 ^ 63 }
-    ensures judged { (content : List ℕ) → HasJudged scan.old content → HasJudged scan.new (content ++ piece.now) }
+    ensures judged { (content : List ℕ) → HasJudged scan.old content → HasJudged scan.new (content
+        ++ piece.now) }
     ensures size { scan_size scan.new ≤ scan_size scan.old + length piece.now }
 {
     let taken = scan.feed(piece);
@@ -102,7 +104,8 @@ impl TransferScan {
 
     /// A transfer begins.
     pub fn begin(&mut self, id: u64, announced: Announced)
-        ensures follows { (head : SegmentHead) (closed : _) (earlier : List Transfer) → head.id ≡ id → announced_of head.items.items ≡ announced
+        ensures follows { (head : SegmentHead) (closed : _) (earlier : List Transfer) → head.id ≡
+            id → announced_of head.items.items ≡ announced
             → self.old.start + self.old.written ≡ length (parts_of self.old.wanted earlier)
             → Follows self.new (begun head closed) earlier }
         ensures wanted { self.new.wanted ≡ self.old.wanted }
@@ -118,11 +121,15 @@ impl TransferScan {
 
     /// Takes the next piece of its data, and returns what of it is written.
     pub fn take<'a>(&mut self, piece: &'a [u8]) -> &'a [u8]
-        ensures follows { (transfer : Transfer) (closed : _) (earlier : List Transfer) → self.old.total + length piece.now < 2 ^ 63
-            → Follows self.old transfer earlier → Follows self.new (grown transfer piece.now closed) earlier }
-        ensures part { (transfer : Transfer) (closed : _) (earlier : List Transfer) → self.old.total + length piece.now < 2 ^ 63
+        ensures follows { (transfer : Transfer) (closed : _) (earlier : List Transfer) →
+            self.old.total + length piece.now < 2 ^ 63
+            → Follows self.old transfer earlier → Follows self.new (grown transfer piece.now
+            closed) earlier }
+        ensures part { (transfer : Transfer) (closed : _) (earlier : List Transfer) →
+            self.old.total + length piece.now < 2 ^ 63
             → Follows self.old transfer earlier
-            → part_of self.old.wanted (grown transfer piece.now closed) ≡ part_of self.old.wanted transfer ++ result.now }
+            → part_of self.old.wanted (grown transfer piece.now closed) ≡ part_of self.old.wanted
+            transfer ++ result.now }
         ensures wanted { self.new.wanted ≡ self.old.wanted }
         ensures total { self.new.total ≤ self.old.total + length piece.now }
     {
@@ -153,7 +160,8 @@ impl TransferScan {
         ensures part { (transfer : Transfer) (closed : _) → self.now.id ≡ transfer.first.id
             → self.now.size ≡ length transfer.content + length piece.now
             → HasJudged self.now.scan (transfer.content ++ piece.now)
-            → part_of self.now.wanted (grown transfer piece.now closed) ≡ part_of self.now.wanted transfer ++ result.now }
+            → part_of self.now.wanted (grown transfer piece.now closed) ≡ part_of self.now.wanted
+            transfer ++ result.now }
         ensures size { length result.now ≤ length piece.now }
     {
         if !self.is_selected() {
@@ -174,9 +182,12 @@ impl TransferScan {
     /// whether it is good.
     pub fn put_line(&self, line: &mut Line, abandoned: bool) -> bool
         requires { line.old.items ≡ [] }
-        ensures text { (transfer : Transfer) (earlier : List Transfer) → Follows self.now transfer earlier → abandoned ≡ not transfer.closed
-            → line.new.items ≡ transfer_text (entry_of self.now.wanted transfer (length (parts_of self.now.wanted earlier))) }
-        ensures good { (transfer : Transfer) (earlier : List Transfer) → Follows self.now transfer earlier → abandoned ≡ not transfer.closed
+        ensures text { (transfer : Transfer) (earlier : List Transfer) → Follows self.now transfer
+            earlier → abandoned ≡ not transfer.closed
+            → line.new.items ≡ transfer_text (entry_of self.now.wanted transfer (length (parts_of
+            self.now.wanted earlier))) }
+        ensures good { (transfer : Transfer) (earlier : List Transfer) → Follows self.now transfer
+            earlier → abandoned ≡ not transfer.closed
             → result ≡ is_good (judgement_of transfer) }
     {
         let judgement = judge(abandoned, self.announced, self.size, self.scan.view());

@@ -73,10 +73,14 @@ fn take<R: InDevice, W: OutDevice, E: OutDevice>(
 ) -> Stage
     requires { IsTrue (may_go_on stage session.old) }
     ensures fits { IsTrue (may_go_on result session.new) }
-    ensures gives { (start : Devices R W E) (history : List ℕ) → IsUnpacking R.state W.state E.state start stage session.old writers.old unpacker.old history →
-        GivesStage R.state W.state E.state start unpacker.old.latest.wanted stage session.old session.new writers.old writers.new unpacker.new history result }
+    ensures gives { (start : Devices R W E) (history : List ℕ) → IsUnpacking R.state W.state
+        E.state start stage session.old writers.old unpacker.old history →
+        GivesStage R.state W.state E.state start unpacker.old.latest.wanted stage session.old
+        session.new writers.old writers.new unpacker.new history result }
     ensures wanted { unpacker.new.latest.wanted ≡ unpacker.old.latest.wanted }
-    ensures ended { (answer : _) → stage ≡ Stage.Ended answer → (session.new ≡ session.old) × (writers.new ≡ writers.old) × (message.new ≡ message.old) × (unpacker.new ≡ unpacker.old) × (result ≡ stage) }
+    ensures ended { (answer : _) → stage ≡ Stage.Ended answer → (session.new ≡ session.old) ×
+        (writers.new ≡ writers.old) × (message.new ≡ message.old) × (unpacker.new ≡ unpacker.old)
+        × (result ≡ stage) }
 {
     match stage {
         Stage::Contact => take_contact(session, writers, unpacker),
@@ -94,8 +98,10 @@ fn take_contact<R: InDevice, W: OutDevice, E: OutDevice>(
 ) -> Stage
     requires { IsTrue (may_open session.old) }
     ensures fits { IsTrue (may_go_on result session.new) }
-    ensures gives { (start : Devices R W E) (history : List ℕ) → IsUnpacking R.state W.state E.state start Stage.Contact session.old writers.old unpacker.now history →
-        GivesStage R.state W.state E.state start unpacker.now.latest.wanted Stage.Contact session.old session.new writers.old writers.new unpacker.now history result }
+    ensures gives { (start : Devices R W E) (history : List ℕ) → IsUnpacking R.state W.state
+        E.state start Stage.Contact session.old writers.old unpacker.now history →
+        GivesStage R.state W.state E.state start unpacker.now.latest.wanted Stage.Contact
+        session.old session.new writers.old writers.new unpacker.now history result }
 {
     match session.open() {
         Ok(_) => Stage::Message,
@@ -112,8 +118,10 @@ fn take_message<R: InDevice, W: OutDevice, E: OutDevice>(
 ) -> Stage
     requires { IsTrue (may_read session.old) }
     ensures fits { IsTrue (may_go_on result session.new) }
-    ensures gives { (start : Devices R W E) (history : List ℕ) → IsUnpacking R.state W.state E.state start Stage.Message session.old writers.old unpacker.old history →
-        GivesStage R.state W.state E.state start unpacker.old.latest.wanted Stage.Message session.old session.new writers.old writers.new unpacker.new history result }
+    ensures gives { (start : Devices R W E) (history : List ℕ) → IsUnpacking R.state W.state
+        E.state start Stage.Message session.old writers.old unpacker.old history →
+        GivesStage R.state W.state E.state start unpacker.old.latest.wanted Stage.Message
+        session.old session.new writers.old writers.new unpacker.new history result }
     ensures wanted { unpacker.new.latest.wanted ≡ unpacker.old.latest.wanted }
 {
     let offset = match session.read_next(message) {
@@ -150,8 +158,10 @@ fn begin<R: InDevice, W: OutDevice, E: OutDevice>(
     requires opened { IsTrue (is_opened session.now) }
     requires totals { SegmentHasTotals message.now }
     ensures fits { IsTrue (may_go_on result session.now) }
-    ensures gives { (start : Devices R W E) (history : List ℕ) → IsBeginning R.state W.state E.state start abandoned last session.now writers.old unpacker.old message.now history →
-        StandsAfter R.state W.state E.state start unpacker.old.latest.wanted result session.now writers.new unpacker.new history }
+    ensures gives { (start : Devices R W E) (history : List ℕ) → IsBeginning R.state W.state
+        E.state start abandoned last session.now writers.old unpacker.old message.now history →
+        StandsAfter R.state W.state E.state start unpacker.old.latest.wanted result session.now
+        writers.new unpacker.new history }
     ensures wanted { unpacker.new.latest.wanted ≡ unpacker.old.latest.wanted }
 {
     if let Err(fault) = abandon(abandoned, writers, unpacker) {
@@ -164,7 +174,8 @@ fn begin<R: InDevice, W: OutDevice, E: OutDevice>(
 /// The transfer of the segment whose head was read is the latest.
 fn begin_latest(latest: &mut TransferScan, message: &MessageBuffer)
     requires { SegmentHasTotals message.now }
-    ensures follows { (head : SegmentHead) (closed : _) (earlier : List Transfer) → message_of message.now ≡ Message.Segment head → is_start head.flags ≡ true
+    ensures follows { (head : SegmentHead) (closed : _) (earlier : List Transfer) → message_of
+        message.now ≡ Message.Segment head → is_start head.flags ≡ true
         → latest.old.start + latest.old.written ≡ length (parts_of latest.old.wanted earlier)
         → Follows latest.new (begun head closed) earlier }
     ensures wanted { latest.new.wanted ≡ latest.old.wanted }
@@ -184,8 +195,10 @@ fn take_data<R: InDevice, W: OutDevice, E: OutDevice>(
 ) -> Stage
     requires { IsTrue (is_opened session.old) }
     ensures fits { IsTrue (may_go_on result session.new) }
-    ensures gives { (start : Devices R W E) (history : List ℕ) → IsUnpacking R.state W.state E.state start (Stage.Data last) session.old writers.old unpacker.old history →
-        GivesStage R.state W.state E.state start unpacker.old.latest.wanted (Stage.Data last) session.old session.new writers.old writers.new unpacker.new history result }
+    ensures gives { (start : Devices R W E) (history : List ℕ) → IsUnpacking R.state W.state
+        E.state start (Stage.Data last) session.old writers.old unpacker.old history →
+        GivesStage R.state W.state E.state start unpacker.old.latest.wanted (Stage.Data last)
+        session.old session.new writers.old writers.new unpacker.new history result }
     ensures wanted { unpacker.new.latest.wanted ≡ unpacker.old.latest.wanted }
 {
     let size = match session.load() {
@@ -211,8 +224,10 @@ fn go_on<R: InDevice, W: OutDevice, E: OutDevice>(
 ) -> Stage
     requires { IsTrue (is_opened session.now) }
     ensures fits { IsTrue (may_go_on result session.now) }
-    ensures gives { (start : Devices R W E) (history : List ℕ) → IsJoining R.state W.state E.state start last session.now writers.old unpacker.old history →
-        StandsAfter R.state W.state E.state start unpacker.old.latest.wanted result session.now writers.new unpacker.new history }
+    ensures gives { (start : Devices R W E) (history : List ℕ) → IsJoining R.state W.state E.state
+        start last session.now writers.old unpacker.old history →
+        StandsAfter R.state W.state E.state start unpacker.old.latest.wanted result session.now
+        writers.new unpacker.new history }
     ensures other { last ≡ false → left_of session.now ≡ 0 →
         (result ≡ Stage.Message) × (writers.new ≡ writers.old) × (unpacker.new ≡ unpacker.old) }
     ensures wanted { unpacker.new.latest.wanted ≡ unpacker.old.latest.wanted }
@@ -234,9 +249,12 @@ fn report<W: OutDevice, E: OutDevice>(
     unpacker: &mut Unpacker,
     abandoned: bool,
 ) -> Result<(), IoFault>
-    ensures gives { (transfer : Transfer) (earlier : List Transfer) → Follows unpacker.old.latest transfer earlier → abandoned ≡ not transfer.closed →
-        GivesTexts W.state E.state writers.old writers.new (on_report (line_of unpacker.old.latest.wanted transfer earlier)) result }
-    ensures good { (transfer : Transfer) (earlier : List Transfer) → Follows unpacker.old.latest transfer earlier → abandoned ≡ not transfer.closed →
+    ensures gives { (transfer : Transfer) (earlier : List Transfer) → Follows unpacker.old.latest
+        transfer earlier → abandoned ≡ not transfer.closed →
+        GivesTexts W.state E.state writers.old writers.new (on_report (line_of
+        unpacker.old.latest.wanted transfer earlier)) result }
+    ensures good { (transfer : Transfer) (earlier : List Transfer) → Follows unpacker.old.latest
+        transfer earlier → abandoned ≡ not transfer.closed →
         unpacker.new.good ≡ (is_good (judgement_of transfer) && unpacker.old.good) }
     ensures latest { unpacker.new.latest ≡ unpacker.old.latest }
     ensures joiner { unpacker.new.joiner ≡ unpacker.old.joiner }
@@ -254,8 +272,10 @@ fn abandon<W: OutDevice, E: OutDevice>(
     unpacker: &mut Unpacker,
 ) -> Result<(), IoFault>
     ensures gives { (transfers : List Transfer) → IsOpen abandoned unpacker.old.latest transfers →
-        GivesTexts W.state E.state writers.old writers.new (on_report (last_lines unpacker.old.latest.wanted transfers)) result }
-    ensures good { (transfers : List Transfer) → IsOpen abandoned unpacker.old.latest transfers → unpacker.old.good ≡ are_good (settled transfers) →
+        GivesTexts W.state E.state writers.old writers.new (on_report (last_lines
+        unpacker.old.latest.wanted transfers)) result }
+    ensures good { (transfers : List Transfer) → IsOpen abandoned unpacker.old.latest transfers →
+        unpacker.old.good ≡ are_good (settled transfers) →
         unpacker.new.good ≡ are_good transfers }
     ensures latest { unpacker.new.latest ≡ unpacker.old.latest }
     ensures joiner { unpacker.new.joiner ≡ unpacker.old.joiner }
@@ -271,7 +291,9 @@ fn abandon<W: OutDevice, E: OutDevice>(
 fn finish<W: OutDevice, E: OutDevice>(writers: &mut Writers<W, E>, unpacker: &mut Unpacker) -> Stage
     ensures ends { IsEnded result }
     ensures latest { unpacker.new.latest ≡ unpacker.old.latest }
-    ensures gives { (transfers : List Transfer) (messages : List Message) → IsJoinerAt unpacker.old.joiner messages → IsOpen (is_some (open_of messages)) unpacker.old.latest transfers →
+    ensures gives { (transfers : List Transfer) (messages : List Message) → IsJoinerAt
+        unpacker.old.joiner messages → IsOpen (is_some (open_of messages)) unpacker.old.latest
+        transfers →
         GivesFinish W.state E.state unpacker.old transfers writers.old writers.new result }
 {
     let is_open = unpacker.joiner.open().is_some();
@@ -328,9 +350,15 @@ impl<R: InDevice, W: OutDevice, E: OutDevice> UnpackRun<R, W, E> {
         requires reader { (R.state reader).failed ≡ false }
         requires output { (W.state output).failed ≡ false }
         requires report { (E.state report).failed ≡ false }
-        ensures start { unpack_stands R.state W.state E.state result (devices_at (place_of_unpack result)) [] }
+        ensures start { unpack_stands R.state W.state E.state result (devices_at (place_of_unpack
+            result)) [] }
         ensures tool { tool_of_unpack result ≡ unpack_tool wanted }
-        ensures devices { devices_at (place_of_unpack result) ≡ record { reader = reader; output = output; report = report } }
+        ensures devices { devices_at (place_of_unpack result) ≡ record {
+          reader = reader;
+          output =
+              output;
+          report = report;
+        } }
     {
         UnpackRun {
             session: Session::new(Source::new(reader)),
