@@ -7,3 +7,4 @@ mod exit;
 pub use exit::run_exit;
 pub use link_list::{ListRun, list};
 pub use link_run::{Progress, Run, RunEnd, Status};
+pub use link_unpack::{UnpackRun, Wanted, unpack};
