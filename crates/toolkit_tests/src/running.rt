@@ -82,7 +82,7 @@ fn ended<R: InDevice, W: OutDevice, E: OutDevice, T: Run<R, W, E> + Drop>(
     let answer = stepped(&mut run, steps).ok_or("no end")?;
     for _ in 0..3 {
         let again = stepped(&mut run, 1).ok_or("more after the end")?;
-        assert_eq!(rt; run_exit(&again), run_exit(&answer));
+        assert_eq!(rt; again, answer);
     }
     let (reader, output, report) = run.into_parts();
     Ok(RunEnd {
@@ -95,7 +95,7 @@ fn ended<R: InDevice, W: OutDevice, E: OutDevice, T: Run<R, W, E> + Drop>(
 
 /// Two runs called their devices as often, wrote the same and ended alike.
 pub fn alike(rt: &impl Abort, first: &End<'_>, second: &End<'_>) -> Result<(), Fail> {
-    assert_eq!(rt; run_exit(&first.answer), run_exit(&second.answer));
+    assert_eq!(rt; first.answer, second.answer);
     assert_eq!(rt;
         (
             first.reader.calls(),

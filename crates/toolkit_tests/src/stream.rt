@@ -42,7 +42,7 @@ pub const BACK: &[u8] = b"\x00\x82\x00\x00\x00\x85\x01\x01\x00\x00\x45hello\xff"
 /// The bundle.
 pub const PLAIN: &[&[u8]] = &[FRONT, BACK];
 
-/// The back half with CRC-16/X-25 in the payload block: alike, and with the first byte of the payload changed.
+/// The back half with a CRC-16/X-25 in the payload block; then with the first byte of the payload changed.
 pub const CHECKED_BACK: &[u8] =
     b"\x00\x82\x00\x00\x00\x86\x01\x01\x00\x01\x45hello\x42\x4b\xf3\xff";
 

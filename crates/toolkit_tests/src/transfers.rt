@@ -30,7 +30,7 @@ const PAYLOAD_OF_1: Wanted = Wanted {
     payload: true,
 };
 
-/// A recorded stream and what unpacking it gives. The report has no piece with parts of two lines.
+/// A recorded stream and what unpacking it gives.
 pub struct Row {
     pub name: &'static str,
     pub wanted: Wanted,
@@ -98,6 +98,36 @@ pub const EMPTY_END: Row = Row {
     status: 0,
 };
 
+/// The data of two transfers.
+pub const WHOLE_BUNDLES: Row = Row {
+    name: "two bundles",
+    wanted: ALL,
+    stream: TWO_BUNDLES,
+    output: &[FRONT, BACK, FRONT, BACK],
+    report: &[
+        b"transfer 0 start=0 written=34 length=34",
+        GOOD,
+        b"transfer 1 start=34 written=34 length=34",
+        GOOD,
+    ],
+    status: 0,
+};
+
+/// Their payloads.
+pub const PAYLOADS: Row = Row {
+    name: "two payloads",
+    wanted: PAYLOAD,
+    stream: TWO_BUNDLES,
+    output: &[b"hello", b"hello"],
+    report: &[
+        b"transfer 0 start=0 written=5 length=34",
+        GOOD,
+        b"transfer 1 start=5 written=5 length=34",
+        GOOD,
+    ],
+    status: 0,
+};
+
 /// Streams that are read to their end, all of their data wanted.
 pub const WHOLE: [Row; 9] = [
     Row {
@@ -110,19 +140,7 @@ pub const WHOLE: [Row; 9] = [
     },
     ABANDONING,
     EMPTY_END,
-    Row {
-        name: "two bundles",
-        wanted: ALL,
-        stream: TWO_BUNDLES,
-        output: &[FRONT, BACK, FRONT, BACK],
-        report: &[
-            b"transfer 0 start=0 written=34 length=34",
-            GOOD,
-            b"transfer 1 start=34 written=34 length=34",
-            GOOD,
-        ],
-        status: 0,
-    },
+    WHOLE_BUNDLES,
     Row {
         name: "an ID used again",
         wanted: ALL,
@@ -239,19 +257,7 @@ pub const PARTS: [Row; 4] = [
         ],
         status: 0,
     },
-    Row {
-        name: "two payloads",
-        wanted: PAYLOAD,
-        stream: TWO_BUNDLES,
-        output: &[b"hello", b"hello"],
-        report: &[
-            b"transfer 0 start=0 written=5 length=34",
-            GOOD,
-            b"transfer 1 start=5 written=5 length=34",
-            GOOD,
-        ],
-        status: 0,
-    },
+    PAYLOADS,
     Row {
         name: "one of two payloads",
         wanted: PAYLOAD_OF_1,

@@ -5,7 +5,10 @@ ghost use Rattle.std.specs.Prelude.{◌<◌};
 use crate::rows::TRANSFER;
 use crate::running::{Expected, Tool, gives_at_each_pace};
 use crate::stream::{PLAIN, SESSION, built, joined, put_segment, text};
-use crate::transfers::{ABANDONING, ALL, EMPTY_END, FAULTS, GOOD, PARTS, Row, WHOLE};
+use crate::transfers::{
+    ABANDONING, ALL, EMPTY_END, FAULTS, GOOD, PARTS, PAYLOADS, Row, TWO_BUNDLES, WHOLE,
+    WHOLE_BUNDLES,
+};
 use crate::windows::EDGE;
 use crate::{Failing, TestReader, TestWriter};
 use link_tools::{Progress, Run, Status, UnpackRun, Wanted};
@@ -13,19 +16,23 @@ use std::alloc::Global;
 use std::process::Abort;
 use std::test::Fail;
 
+/// Unpacking the stream gives what the row says.
+fn row_gives(rt: &(impl Abort + AllocGlobal), row: &Row, stream: &[u8]) -> Result<(), Fail> {
+    let output = joined(rt.alloc(), row.output)?;
+    let report = joined(rt.alloc(), row.report)?;
+    let want = Expected {
+        tool: Tool::Unpack(row.wanted),
+        output: &output,
+        report: &report,
+        status: row.status,
+    };
+    gives_at_each_pace(rt, row.name, stream, &want)
+}
+
 /// Unpacks each row's stream.
 fn all_given(rt: &(impl Abort + AllocGlobal), rows: &[Row]) -> Result<(), Fail> {
     for row in rows {
-        let stream = built(rt.alloc(), row.stream)?;
-        let output = joined(rt.alloc(), row.output)?;
-        let report = joined(rt.alloc(), row.report)?;
-        let want = Expected {
-            tool: Tool::Unpack(row.wanted),
-            output: &output,
-            report: &report,
-            status: row.status,
-        };
-        gives_at_each_pace(rt, row.name, &stream, &want)?;
+        row_gives(rt, row, &built(rt.alloc(), row.stream)?)?;
     }
     Ok(())
 }
@@ -43,6 +50,22 @@ fn wanted_parts(rt: HostRuntime) -> Result<(), Fail> {
 #[test]
 fn faults(rt: HostRuntime) -> Result<(), Fail> {
     all_given(&rt, &FAULTS)
+}
+
+/// Keepalives stand before two transfers: the first read ends at each place of them in turn.
+#[test]
+fn after_keepalives(rt: HostRuntime) -> Result<(), Fail> {
+    let whole = built(rt.alloc(), TWO_BUNDLES)?;
+    assert_eq!(rt; whole.len(), 186);
+    let (session, transfers) = whole.split_at(38);
+    for size in EDGE - 148..=EDGE {
+        let mut stream = joined(rt.alloc(), &[session])?;
+        stream.resize(size, 4)?;
+        stream.extend_from_slice(transfers)?;
+        row_gives(&rt, &WHOLE_BUNDLES, &stream)?;
+        row_gives(&rt, &PAYLOADS, &stream)?;
+    }
+    Ok(())
 }
 
 /// The stream is one transfer that is the bundle.
@@ -144,12 +167,12 @@ fn after_each_step(
 ) -> Result<(), Fail> {
     let stream = built(rt.alloc(), row.stream)?;
     let mut run = at_once(rt.alloc(), row.wanted, &stream);
-    for (pieces, lines) in written {
+    for (of_output, of_report) in written {
         assert_eq!(rt; run.step(), Ok(Progress::More));
-        let output = row.output.get(..*pieces).ok_or("more than the output")?;
+        let output = row.output.get(..*of_output).ok_or("more than the output")?;
         let output = joined(rt.alloc(), output)?;
         assert!(rt; run.output().written() == output.as_slice());
-        let report = row.report.get(..*lines).ok_or("more than the report")?;
+        let report = row.report.get(..*of_report).ok_or("more than the report")?;
         let report = joined(rt.alloc(), report)?;
         assert_eq!(rt; text(run.report().written())?, text(&report)?);
     }
