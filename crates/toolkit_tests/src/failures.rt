@@ -2,13 +2,15 @@
 
 ghost use Rattle.std.specs.Prelude.{◌≡◌, ◌<◌, false};
 
-use crate::listing::{listed, stepped};
 use crate::rows::{MESSAGES, TRANSFER};
+use crate::running::{End, Tool, alike, ended_over};
 use crate::stream::{
-    CONTACT, CONTACT_LINE, NODE, PARAMETERS, SESSION_WORDS, WHOLE_TRANSFER, joined, text,
+    CHANGED_BACK, CONTACT, CONTACT_LINE, FRONT, NODE, PARAMETERS, Part, SESSION, SESSION_WORDS,
+    WHOLE_TRANSFER, built, joined, text,
 };
+use crate::transfers::{ABANDONED, ALL, PAYLOAD, TWO_BUNDLES};
 use crate::{Failing, TestReader, TestWriter};
-use link_tools::{ListRun, Run, list, run_exit};
+use link_tools::run_exit;
 use link_wire::{InDevice, OutDevice};
 use std::alloc::Global;
 use std::process::Abort;
@@ -34,6 +36,7 @@ impl Device {
 /// A run over devices that move at most that many bytes a call, of which one fails.
 #[derive(Drop)]
 struct Trial<'a> {
+    tool: Tool,
     stream: &'a [u8],
     per_call: usize,
     device: Device,
@@ -53,6 +56,7 @@ impl<'a> Trial<'a> {
     /// The same, failing at this call.
     fn failing_at(&self, call: usize) -> Trial<'a> {
         Trial {
+            tool: self.tool,
             stream: self.stream,
             per_call: self.per_call,
             device: self.device,
@@ -72,65 +76,53 @@ impl<'a> Trial<'a> {
         TestWriter::new(alloc, self.per_call, self.failing(device))
     }
 
-    fn run(&self, alloc: Global) -> ListRun<TestReader<'a>, TestWriter, TestWriter> {
-        ListRun::new(
+    /// The whole call.
+    fn run(&self, alloc: Global) -> End<'a> {
+        self.tool.run(
             self.reader(),
             self.writer(alloc, Device::Output),
             self.writer(alloc, Device::Report),
         )
     }
+
+    /// The same in steps, and three more.
+    fn step_through(&self, rt: &(impl Abort + AllocGlobal)) -> Result<End<'a>, Fail> {
+        self.tool.step_through(
+            rt,
+            self.stream.len().saturating_add(2),
+            self.reader(),
+            self.writer(rt.alloc(), Device::Output),
+            self.writer(rt.alloc(), Device::Report),
+        )
+    }
 }
 
-/// Whether the device fails in this trial. If so, each later step returns the same, and does no I/O.
-fn fails(rt: &(impl Abort + AllocGlobal), trial: &Trial<'_>) -> Result<bool, Fail> {
-    let mut run = trial.run(rt.alloc());
-    let answer = stepped(&mut run, 100).ok_or("no end")?;
-    if answer.is_ok() {
-        return Ok(false);
-    }
-    for _ in 0..3 {
-        let again = stepped(&mut run, 1).ok_or("more after a fault")?;
-        assert_eq!(rt; run_exit(&again), trial.device.exit());
-    }
-    let (reader, output, report) = run.into_parts();
-    stops_there(rt, trial, &reader, &output, &report)?;
-    determined(rt, trial, &reader, &output, &report)?;
-    Ok(true)
-}
-
-/// The whole call stops where the steps did: the steps after the failure did no I/O.
-fn stops_there(
+/// Whether the device fails in this trial, of which `whole` is the run where none fails. If so, each later step
+/// returns the same, and does no I/O: the whole call stops where the steps did.
+fn fails(
     rt: &(impl Abort + AllocGlobal),
     trial: &Trial<'_>,
-    reader: &TestReader<'_>,
-    output: &TestWriter,
-    report: &TestWriter,
-) -> Result<(), Fail> {
-    let whole = list(
-        trial.reader(),
-        trial.writer(rt.alloc(), Device::Output),
-        trial.writer(rt.alloc(), Device::Report),
-    );
-    assert_eq!(rt; run_exit(&whole.answer), trial.device.exit());
-    assert_eq!(rt;
-        (
-            whole.reader.calls(),
-            whole.output.calls(),
-            whole.report.calls()
-        ),
-        (reader.calls(), output.calls(), report.calls())
-    );
-    assert_eq!(rt; text(whole.output.written())?, text(output.written())?);
-    assert_eq!(rt; text(whole.report.written())?, text(report.written())?);
-    Ok(())
+    whole: &End<'_>,
+) -> Result<bool, Fail> {
+    let end = trial.step_through(rt)?;
+    if end.answer.is_ok() {
+        return Ok(false);
+    }
+    assert_eq!(rt; run_exit(&end.answer), trial.device.exit());
+    alike(rt, &end, &trial.run(rt.alloc()))?;
+    assert!(rt; whole.output.written().starts_with(end.output.written()));
+    assert!(rt; whole.report.written().starts_with(end.report.written()));
+    determined(rt, trial, &end)?;
+    Ok(true)
 }
 
 /// A report less the line that only the end of the input determines.
 fn lasting(report: &[u8]) -> &[u8] {
-    if report.ends_with(b": truncated\n") {
-        b""
-    } else {
-        report
+    match report.split_inclusive(|byte| *byte == b'\n').last() {
+        Some(line) if line.ends_with(b": truncated\n") || line.ends_with(b" abandoned\n") => {
+            report.strip_suffix(line).unwrap_or(report)
+        }
+        _ => report,
     }
 }
 
@@ -139,24 +131,22 @@ fn lasting(report: &[u8]) -> &[u8] {
 fn determined(
     rt: &(impl Abort + AllocGlobal),
     trial: &Trial<'_>,
-    reader: &TestReader<'_>,
-    output: &TestWriter,
-    report: &TestWriter,
+    end: &End<'_>,
 ) -> Result<(), Fail> {
     let given = trial
         .stream
-        .get(..reader.given())
+        .get(..end.reader.given())
         .ok_or("more than the stream")?;
-    let alone = listed(rt.alloc(), given, usize::MAX);
+    let alone = ended_over(rt.alloc(), trial.tool, given, usize::MAX);
     if trial.device == Device::Reader {
-        assert_eq!(rt; text(output.written())?, text(alone.output.written())?);
+        assert!(rt; end.output.written() == alone.output.written());
         assert_eq!(rt;
-            text(report.written())?,
+            text(end.report.written())?,
             text(lasting(alone.report.written()))?
         );
     } else {
-        assert!(rt; alone.output.written().starts_with(output.written()));
-        assert!(rt; alone.report.written().starts_with(report.written()));
+        assert!(rt; alone.output.written().starts_with(end.output.written()));
+        assert!(rt; alone.report.written().starts_with(end.report.written()));
     }
     Ok(())
 }
@@ -166,6 +156,7 @@ fn determined(
 fn fails_at_its_calls(
     rt: &(impl Abort + AllocGlobal),
     trial: &Trial<'_>,
+    whole: &End<'_>,
     calls: usize,
     stride: usize,
 ) -> Result<(), Fail>
@@ -176,15 +167,20 @@ fn fails_at_its_calls(
         if is_inner && count % stride != 0 {
             continue;
         }
-        assert!(rt; fails(rt, &trial.failing_at(count + 1))?, "at call {count}");
+        assert!(rt;
+            fails(rt, &trial.failing_at(count + 1), whole)?,
+            "at call {count}"
+        );
     }
-    assert!(rt; !fails(rt, &trial.failing_at(calls.saturating_add(1)))?);
+    let later = trial.failing_at(calls.saturating_add(1));
+    assert!(rt; !fails(rt, &later, whole)?);
     Ok(())
 }
 
 /// Each device fails in turn, in runs over devices that move at most that many bytes a call.
 fn each_fails(
     rt: &(impl Abort + AllocGlobal),
+    tool: Tool,
     stream: &[u8],
     per_call: usize,
     stride: usize,
@@ -192,36 +188,70 @@ fn each_fails(
     requires moves { 0 < per_call }
     requires stride { 0 < stride }
 {
-    let end = listed(rt.alloc(), stream, per_call);
+    let whole = ended_over(rt.alloc(), tool, stream, per_call);
     let calls = [
-        (Device::Reader, end.reader.calls()),
-        (Device::Output, end.output.calls()),
-        (Device::Report, end.report.calls()),
+        (Device::Reader, whole.reader.calls()),
+        (Device::Output, whole.output.calls()),
+        (Device::Report, whole.report.calls()),
     ];
     for (device, calls) in calls {
         let failing = Failing::Never;
         let trial = Trial {
+            tool,
             stream,
             per_call,
             device,
             failing,
         };
-        fails_at_its_calls(rt, &trial, calls, stride)?;
+        fails_at_its_calls(rt, &trial, &whole, calls, stride)?;
     }
     Ok(())
+}
+
+/// Each device fails in turn at each call, in runs over devices that move all bytes at once, seven and one.
+fn each_fails_at_each_pace(
+    rt: &(impl Abort + AllocGlobal),
+    tool: Tool,
+    stream: &[u8],
+) -> Result<(), Fail> {
+    each_fails(rt, tool, stream, usize::MAX, 1)?;
+    each_fails(rt, tool, stream, 7, 1)?;
+    each_fails(rt, tool, stream, 1, 1)
 }
 
 #[test]
 fn every_message(rt: HostRuntime) -> Result<(), Fail> {
     let mut stream = joined(rt.alloc(), MESSAGES)?;
-    each_fails(&rt, &stream, 1, 1)?;
-    each_fails(&rt, &stream, 7, 1)?;
-    each_fails(&rt, &stream, usize::MAX, 1)?;
+    each_fails_at_each_pace(&rt, Tool::List, &stream)?;
     // a fault, so that the report has a line
     stream.push(0x16)?;
-    each_fails(&rt, &stream, 1, 1)?;
-    each_fails(&rt, &stream, 7, 1)?;
-    each_fails(&rt, &stream, usize::MAX, 1)
+    each_fails_at_each_pace(&rt, Tool::List, &stream)
+}
+
+#[test]
+fn two_bundles(rt: HostRuntime) -> Result<(), Fail> {
+    let stream = built(rt.alloc(), TWO_BUNDLES)?;
+    each_fails_at_each_pace(&rt, Tool::Unpack(ALL), &stream)
+}
+
+/// A payload under a check that differs.
+#[test]
+fn changed_payload(rt: HostRuntime) -> Result<(), Fail> {
+    let parts = [
+        Part::Bytes(SESSION),
+        Part::Segment(3, 0, &[FRONT, CHANGED_BACK]),
+    ];
+    let stream = built(rt.alloc(), &parts)?;
+    each_fails_at_each_pace(&rt, Tool::Unpack(PAYLOAD), &stream)
+}
+
+/// A transfer that another abandons, and a fault.
+#[test]
+fn abandoned_transfer(rt: HostRuntime) -> Result<(), Fail> {
+    let mut stream = built(rt.alloc(), ABANDONED)?;
+    each_fails_at_each_pace(&rt, Tool::Unpack(ALL), &stream)?;
+    stream.push(0x16)?;
+    each_fails_at_each_pace(&rt, Tool::Unpack(ALL), &stream)
 }
 
 /// A SESS_INIT whose list is longer than two windows, a segment, and a fault.
@@ -249,7 +279,7 @@ fn long_list(alloc: Global) -> Result<Vec<u8>, Fail> {
 #[test]
 fn long_list_at_once(rt: HostRuntime) -> Result<(), Fail> {
     let stream = long_list(rt.alloc())?;
-    let end = listed(rt.alloc(), &stream, usize::MAX);
+    let end = ended_over(rt.alloc(), Tool::List, &stream, usize::MAX);
     let lines: &[&[u8]] = &[
         CONTACT_LINE,
         SESSION_WORDS,
@@ -265,29 +295,31 @@ fn long_list_at_once(rt: HostRuntime) -> Result<(), Fail> {
         "tcpclkit: byte 18075: unknown message type 16\n"
     );
     assert_eq!(rt; end.reader.calls(), 3);
-    each_fails(&rt, &stream, usize::MAX, 1)
+    each_fails(&rt, Tool::List, &stream, usize::MAX, 1)
 }
 
 #[test]
 fn long_list_by_sevens(rt: HostRuntime) -> Result<(), Fail> {
-    each_fails(&rt, &long_list(rt.alloc())?, 7, 1)
+    each_fails(&rt, Tool::List, &long_list(rt.alloc())?, 7, 1)
 }
 
 #[test]
 fn long_list_byte_by_byte(rt: HostRuntime) -> Result<(), Fail> {
-    each_fails(&rt, &long_list(rt.alloc())?, 1, 31)
+    each_fails(&rt, Tool::List, &long_list(rt.alloc())?, 1, 31)
 }
 
-/// The first line is written before any byte after it is taken.
+/// What the bytes so far determine is written before any byte after them is taken: a line, or a byte of data.
 #[test]
 fn reads_no_further_than_it_writes(rt: HostRuntime) -> Result<(), Fail> {
     let stream = joined(rt.alloc(), TRANSFER)?;
-    let end = list(
-        TestReader::new(&stream, 1, Failing::Never),
-        TestWriter::new(rt.alloc(), 1, Failing::Past(0)),
-        TestWriter::new(rt.alloc(), 1, Failing::Never),
-    );
-    assert_eq!(rt; run_exit(&end.answer), Device::Output.exit());
-    assert_eq!(rt; end.reader.calls(), 6);
+    for (tool, calls) in [(Tool::List, 6), (Tool::Unpack(ALL), 61)] {
+        let end = tool.run(
+            TestReader::new(&stream, 1, Failing::Never),
+            TestWriter::new(rt.alloc(), 1, Failing::Past(0)),
+            TestWriter::new(rt.alloc(), 1, Failing::Never),
+        );
+        assert_eq!(rt; run_exit(&end.answer), Device::Output.exit());
+        assert_eq!(rt; end.reader.calls(), calls);
+    }
     Ok(())
 }

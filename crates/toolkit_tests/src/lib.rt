@@ -6,18 +6,24 @@ mod device;
 #[cfg(test)]
 mod failures;
 #[cfg(test)]
-mod listing;
-#[cfg(test)]
 mod listings;
 mod pace;
 #[cfg(test)]
 mod rows;
+#[cfg(test)]
+mod running;
 #[cfg(test)]
 mod sessions;
 #[cfg(test)]
 mod std_devices;
 #[cfg(test)]
 mod stream;
+#[cfg(test)]
+mod transfers;
+#[cfg(test)]
+mod unpacking;
+#[cfg(test)]
+mod verdicts;
 #[cfg(test)]
 mod windows;
 

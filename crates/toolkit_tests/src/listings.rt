@@ -2,8 +2,8 @@
 
 ghost use Rattle.std.specs.Prelude.{◌<◌};
 
-use crate::listing::{Listing, gives, gives_at_each_pace, listed};
 use crate::rows::{FAULTS, MESSAGE_LINES, MESSAGES, Row, SESSIONS, TRANSFER, TRANSFERS};
+use crate::running::{Expected, Tool, ended_over, gives, gives_at_each_pace};
 use crate::stream::{
     CONTACT, CONTACT_LINE, NO_ITEMS, NODE, PARAMETERS, SESSION_LINE, SESSION_WORDS, WHOLE_TRANSFER,
     joined,
@@ -17,7 +17,8 @@ fn all_given(rt: &(impl Abort + AllocGlobal), rows: &[Row]) -> Result<(), Fail> 
     for row in rows {
         let stream = joined(rt.alloc(), row.stream)?;
         let output = joined(rt.alloc(), row.output)?;
-        let want = Listing {
+        let want = Expected {
+            tool: Tool::List,
             output: &output,
             report: row.report,
             status: row.status,
@@ -56,7 +57,8 @@ fn longest_node(rt: HostRuntime) -> Result<(), Fail> {
     }
     output.extend_from_slice(b" items=0\n")?;
     assert_eq!(rt; output.len(), CONTACT_LINE.len() + 4174);
-    let want = Listing {
+    let want = Expected {
+        tool: Tool::List,
         output: &output,
         report: b"",
         status: 0,
@@ -71,7 +73,8 @@ fn long_item(rt: HostRuntime) -> Result<(), Fail> {
     let stream = joined(rt.alloc(), &[CONTACT, PARAMETERS, NODE, list, &[0; 4091]])?;
     let line = b" node=ipn:1.0 items=1 item=00:abcd:4091\n";
     let output = joined(rt.alloc(), &[CONTACT_LINE, SESSION_WORDS, line])?;
-    let want = Listing {
+    let want = Expected {
+        tool: Tool::List,
         output: &output,
         report: b"",
         status: 0,
@@ -97,7 +100,8 @@ fn longest_list(rt: HostRuntime) -> Result<(), Fail> {
     stream.resize(65_574, 0)?;
     let line = b" node=ipn:1.0 items=1 item=00:abcd:65531\n";
     let output = joined(rt.alloc(), &[CONTACT_LINE, SESSION_WORDS, line])?;
-    let want = Listing {
+    let want = Expected {
+        tool: Tool::List,
         output: &output,
         report: b"",
         status: 0,
@@ -109,7 +113,8 @@ fn longest_list(rt: HostRuntime) -> Result<(), Fail> {
             Some(offset) => format!(in rt.alloc(); "tcpclkit: byte {offset}: truncated\n")?,
             None => String::new(rt.alloc()),
         };
-        let want = Listing {
+        let want = Expected {
+            tool: Tool::List,
             output: if size < 6 { b"" } else { CONTACT_LINE },
             report: report.as_bytes(),
             status: if report.is_empty() { 0 } else { 3 },
@@ -132,7 +137,8 @@ fn long_segment(rt: HostRuntime) -> Result<(), Fail> {
         rt.alloc(),
         &[CONTACT_LINE, SESSION_LINE, line, b"9060 keepalive\n"],
     )?;
-    let want = Listing {
+    let want = Expected {
+        tool: Tool::List,
         output: &output,
         report: b"",
         status: 0,
@@ -159,7 +165,8 @@ fn every_prefix(rt: HostRuntime) -> Result<(), Fail> {
         }
         let is_whole = size > 0 && start == size;
         let fault = format!(in rt.alloc(); "tcpclkit: byte {start}: truncated\n")?;
-        let want = Listing {
+        let want = Expected {
+            tool: Tool::List,
             output: &output,
             report: if is_whole { b"" } else { fault.as_bytes() },
             status: if is_whole { 0 } else { 3 },
@@ -173,7 +180,7 @@ fn every_prefix(rt: HostRuntime) -> Result<(), Fail> {
 fn reads(alloc: Global, stream: &[u8], per_call: usize) -> (usize, usize)
     requires { 0 < per_call }
 {
-    let end = listed(alloc, stream, per_call);
+    let end = ended_over(alloc, Tool::List, stream, per_call);
     (end.reader.calls(), end.reader.given())
 }
 

@@ -3,8 +3,8 @@
 
 ghost use Rattle.std.specs.Prelude.{◌≡◌, false};
 
-use crate::listing::stepped;
 use crate::rows::{TRANSFER, TRANSFER_LINES};
+use crate::running::stepped;
 use crate::stream::{CONTACT_LINE, joined, text};
 use link_tools::{ListRun, Run, list, run_exit};
 use link_wire::{

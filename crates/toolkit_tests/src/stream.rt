@@ -17,6 +17,9 @@ pub const NODE: &[u8] = b"\x00\x07ipn:1.0";
 /// An empty extension list (section 4.8).
 pub const NO_ITEMS: &[u8] = b"\x00\x00\x00\x00";
 
+/// A contact header and a SESS_INIT: 38 bytes.
+pub const SESSION: &[&[u8]] = &[CONTACT, PARAMETERS, NODE, NO_ITEMS];
+
 /// A segment's flags START and END, transfer 0, no items (section 5.2.2): its data length follows.
 pub const WHOLE_TRANSFER: &[u8] = b"\x01\x03\x00\x00\x00\x00\x00\x00\x00\x00\x00\x00\x00\x00";
 
@@ -36,6 +39,16 @@ pub const FRONT: &[u8] = b"\x9f\x88\x07\x00\x00\x82\x02\x82\x02\x01\x82\x02\x82\
 
 pub const BACK: &[u8] = b"\x00\x82\x00\x00\x00\x85\x01\x01\x00\x00\x45hello\xff";
 
+/// The bundle.
+pub const PLAIN: &[&[u8]] = &[FRONT, BACK];
+
+/// The back half with a CRC-16/X-25 in the payload block; then with the first byte of the payload changed.
+pub const CHECKED_BACK: &[u8] =
+    b"\x00\x82\x00\x00\x00\x86\x01\x01\x00\x01\x45hello\x42\x4b\xf3\xff";
+
+pub const CHANGED_BACK: &[u8] =
+    b"\x00\x82\x00\x00\x00\x86\x01\x01\x00\x01\x45iello\x42\x4b\xf3\xff";
+
 pub const CONTACT_LINE: &[u8] = b"0 contact version=4 flags=00\n";
 
 /// The line of a SESS_INIT at offset 6, up to its node ID.
@@ -44,13 +57,55 @@ pub const SESSION_WORDS: &[u8] = b"6 sess-init keepalive=60 segment-mru=65536 tr
 pub const SESSION_LINE: &[u8] =
     b"6 sess-init keepalive=60 segment-mru=65536 transfer-mru=1048576 node=ipn:1.0 items=0\n";
 
-/// The pieces, one after another.
-pub fn joined(alloc: Global, pieces: &[&[u8]]) -> Result<Vec<u8>, Fail> {
-    let mut bytes = Vec::new(alloc);
+/// Appends the pieces, one after another.
+fn append(bytes: &mut Vec<u8>, pieces: &[&[u8]]) -> Result<(), Fail> {
     for piece in pieces {
         bytes.extend_from_slice(piece)?;
     }
+    Ok(())
+}
+
+/// The pieces, one after another.
+pub fn joined(alloc: Global, pieces: &[&[u8]]) -> Result<Vec<u8>, Fail> {
+    let mut bytes = Vec::new(alloc);
+    append(&mut bytes, pieces)?;
     Ok(bytes)
+}
+
+/// A part of a stream.
+#[derive(Clone, Copy)]
+pub enum Part {
+    /// Bytes as they stand, one piece after another.
+    Bytes(&'static [&'static [u8]]),
+    /// A segment: its flags, its transfer ID and the pieces of its data. It has no extension items.
+    Segment(u8, u64, &'static [&'static [u8]]),
+}
+
+/// Appends a segment (section 5.2.2), with an empty extension list if it has START.
+pub fn put_segment(stream: &mut Vec<u8>, flags: u8, id: u64, data: &[&[u8]]) -> Result<(), Fail> {
+    stream.extend_from_slice(&[1, flags])?;
+    stream.extend_from_slice(&id.to_be_bytes())?;
+    if flags & 2 != 0 {
+        stream.extend_from_slice(NO_ITEMS)?;
+    }
+    let mut length: u64 = 0;
+    for piece in data {
+        length = length.saturating_add(piece.len() as u64);
+    }
+    stream.extend_from_slice(&length.to_be_bytes())?;
+    append(stream, data)
+}
+
+/// The parts, one after another.
+pub fn built(alloc: Global, parts: &[Part]) -> Result<Vec<u8>, Fail> {
+    let mut stream = Vec::new(alloc);
+    for part in parts {
+        match *part {
+            Part::Bytes(pieces) => append(&mut stream, pieces)?,
+            Part::Segment(flags, id, data) => put_segment(&mut stream, flags, id, data)?,
+        }
+    }
+    Ok(stream)
 }
 
 /// A text that was written, as an assertion shows it.

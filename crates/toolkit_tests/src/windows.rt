@@ -1,6 +1,6 @@
 //! A source reads 8,192 bytes at a time. Wherever a read ends, a stream is listed alike.
 
-use crate::listing::{Listing, gives, gives_at_each_pace};
+use crate::running::{Expected, Tool, gives, gives_at_each_pace};
 use crate::stream::{
     BACK, CONTACT, CONTACT_LINE, FIRST_SEGMENT, FRONT, LAST_SEGMENT, LENGTH_17, NODE, PARAMETERS,
     WHOLE_TRANSFER, joined,
@@ -68,7 +68,7 @@ const PARTS: [Part; 9] = [
 const PARTS_SIZE: usize = 168;
 
 /// The end of the first read.
-const EDGE: usize = 8192;
+pub const EDGE: usize = 8192;
 
 /// A stream and its lines.
 #[derive(Drop)]
@@ -93,8 +93,9 @@ impl Listed {
         Ok(Listed { stream, lines })
     }
 
-    fn listing(&self) -> Listing<'_> {
-        Listing {
+    fn listing(&self) -> Expected<'_> {
+        Expected {
+            tool: Tool::List,
             output: &self.lines,
             report: b"",
             status: 0,

@@ -1,0 +1,185 @@
+//! Runs of the tools over test devices, and what they must give.
+
+ghost use Rattle.std.specs.Prelude.{◌≡◌, ◌<◌, false};
+
+use crate::stream::text;
+use crate::{Failing, TestReader, TestWriter};
+use link_tools::{
+    ListRun, Progress, Run, RunEnd, Status, UnpackRun, Wanted, list, run_exit, unpack,
+};
+use link_wire::{InDevice, IoFault, OutDevice};
+use std::alloc::Global;
+use std::process::Abort;
+use std::test::Fail;
+
+/// A run over test devices that has ended.
+pub type End<'a> = RunEnd<TestReader<'a>, TestWriter, TestWriter>;
+
+/// A tool that reads a recorded stream.
+#[derive(Clone, Copy, Debug, PartialEq, Eq)]
+pub enum Tool {
+    List,
+    Unpack(Wanted),
+}
+
+impl Tool {
+    /// A whole run.
+    pub fn run<'a>(self, reader: TestReader<'a>, output: TestWriter, report: TestWriter) -> End<'a>
+        requires reader { (⟦<TestReader<'a> as InDevice>⟧.state reader).failed ≡ false }
+        requires output { (⟦<TestWriter as OutDevice>⟧.state output).failed ≡ false }
+        requires report { (⟦<TestWriter as OutDevice>⟧.state report).failed ≡ false }
+    {
+        match self {
+            Tool::List => list(reader, output, report),
+            Tool::Unpack(wanted) => unpack(wanted, reader, output, report),
+        }
+    }
+
+    /// A run in steps: at most that many to its end, and three more.
+    pub fn step_through<'a>(
+        self,
+        rt: &impl Abort,
+        steps: usize,
+        reader: TestReader<'a>,
+        output: TestWriter,
+        report: TestWriter,
+    ) -> Result<End<'a>, Fail>
+        requires reader { (⟦<TestReader<'a> as InDevice>⟧.state reader).failed ≡ false }
+        requires output { (⟦<TestWriter as OutDevice>⟧.state output).failed ≡ false }
+        requires report { (⟦<TestWriter as OutDevice>⟧.state report).failed ≡ false }
+    {
+        match self {
+            Tool::List => ended(rt, ListRun::new(reader, output, report), steps),
+            Tool::Unpack(wanted) => {
+                ended(rt, UnpackRun::new(wanted, reader, output, report), steps)
+            }
+        }
+    }
+}
+
+/// Steps a run to its end, which comes within that many steps.
+pub fn stepped<R: InDevice, W: OutDevice, E: OutDevice, T: Run<R, W, E>>(
+    run: &mut T,
+    steps: usize,
+) -> Option<Result<Status, IoFault>> {
+    for _ in 0..steps {
+        match run.step() {
+            Ok(Progress::More) => {}
+            Ok(Progress::Done(status)) => return Some(Ok(status)),
+            Err(fault) => return Some(Err(fault)),
+        }
+    }
+    None
+}
+
+/// Steps a run to its end, and three times more: each of these returns the same.
+fn ended<R: InDevice, W: OutDevice, E: OutDevice, T: Run<R, W, E> + Drop>(
+    rt: &impl Abort,
+    run: T,
+    steps: usize,
+) -> Result<RunEnd<R, W, E>, Fail> {
+    let mut run = run;
+    let answer = stepped(&mut run, steps).ok_or("no end")?;
+    for _ in 0..3 {
+        let again = stepped(&mut run, 1).ok_or("more after the end")?;
+        assert_eq!(rt; again, answer);
+    }
+    let (reader, output, report) = run.into_parts();
+    Ok(RunEnd {
+        reader,
+        output,
+        report,
+        answer,
+    })
+}
+
+/// Two runs called their devices as often, wrote the same and ended alike.
+pub fn alike(rt: &impl Abort, first: &End<'_>, second: &End<'_>) -> Result<(), Fail> {
+    assert_eq!(rt; first.answer, second.answer);
+    assert_eq!(rt;
+        (
+            first.reader.calls(),
+            first.output.calls(),
+            first.report.calls()
+        ),
+        (
+            second.reader.calls(),
+            second.output.calls(),
+            second.report.calls()
+        )
+    );
+    assert!(rt; first.output.written() == second.output.written());
+    assert_eq!(rt;
+        text(first.report.written())?,
+        text(second.report.written())?
+    );
+    Ok(())
+}
+
+/// What a tool must give for a stream.
+#[derive(Drop)]
+pub struct Expected<'a> {
+    pub tool: Tool,
+    pub output: &'a [u8],
+    pub report: &'a [u8],
+    pub status: u8,
+}
+
+/// Runs a tool over a stream, and devices that move at most that many bytes a call and never fail.
+pub fn ended_over<'a>(alloc: Global, tool: Tool, stream: &'a [u8], per_call: usize) -> End<'a>
+    requires { 0 < per_call }
+{
+    tool.run(
+        TestReader::new(stream, per_call, Failing::Never),
+        TestWriter::new(alloc, per_call, Failing::Never),
+        TestWriter::new(alloc, per_call, Failing::Never),
+    )
+}
+
+/// Over devices that move at most that many bytes a call, the tool gives this for the stream.
+pub fn gives(
+    rt: &(impl Abort + AllocGlobal),
+    name: &str,
+    stream: &[u8],
+    per_call: usize,
+    want: &Expected<'_>,
+) -> Result<(), Fail>
+    requires { 0 < per_call }
+{
+    let end = ended_over(rt.alloc(), want.tool, stream, per_call);
+    let output = end.output.written();
+    assert!(rt;
+        output == want.output,
+        "output: {name}: {}",
+        output.escape_ascii()
+    );
+    assert_eq!(rt;
+        text(end.report.written())?,
+        text(want.report)?,
+        "report: {name}"
+    );
+    assert_eq!(rt; run_exit(&end.answer), (want.status, ""), "status: {name}");
+    Ok(())
+}
+
+/// The tool gives this whether the bytes are moved all at once, by sevens or one by one, and in steps too: each step
+/// after the end returns the same, and does no I/O.
+pub fn gives_at_each_pace(
+    rt: &(impl Abort + AllocGlobal),
+    name: &str,
+    stream: &[u8],
+    want: &Expected<'_>,
+) -> Result<(), Fail> {
+    gives(rt, name, stream, usize::MAX, want)?;
+    gives(rt, name, stream, 7, want)?;
+    gives(rt, name, stream, 1, want)?;
+    let whole = ended_over(rt.alloc(), want.tool, stream, usize::MAX);
+    let in_steps = want.tool.step_through(
+        rt,
+        stream.len().saturating_add(2),
+        TestReader::new(stream, usize::MAX, Failing::Never),
+        TestWriter::new(rt.alloc(), usize::MAX, Failing::Never),
+        TestWriter::new(rt.alloc(), usize::MAX, Failing::Never),
+    )?;
+    alike(rt, &in_steps, &whole)
+}

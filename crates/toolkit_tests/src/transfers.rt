@@ -1,0 +1,370 @@
+//! Worked streams with transfers, and the texts and the status that unpacking them gives.
+
+use crate::stream::{
+    BACK, CONTACT, FIRST_SEGMENT, FRONT, LENGTH_17, LENGTH_34, NO_ITEMS, NODE, PARAMETERS, PLAIN,
+    Part, SESSION, WHOLE_TRANSFER,
+};
+use link_tools::Wanted;
+
+/// All data of all transfers.
+pub const ALL: Wanted = Wanted {
+    only: None,
+    payload: false,
+};
+
+/// All data of transfers with ID 1.
+const ONLY_1: Wanted = Wanted {
+    only: Some(1),
+    payload: false,
+};
+
+/// The payloads of all transfers.
+pub const PAYLOAD: Wanted = Wanted {
+    only: None,
+    payload: true,
+};
+
+/// The payloads of transfers with ID 1.
+const PAYLOAD_OF_1: Wanted = Wanted {
+    only: Some(1),
+    payload: true,
+};
+
+/// A recorded stream and what unpacking it gives.
+pub struct Row {
+    pub name: &'static str,
+    pub wanted: Wanted,
+    pub stream: &'static [Part],
+    pub output: &'static [&'static [u8]],
+    pub report: &'static [&'static [u8]],
+    pub status: u8,
+}
+
+/// The first 10 bytes of the bundle.
+const FIRST_10: &[u8] = b"\x9f\x88\x07\x00\x00\x82\x02\x82\x02\x01";
+
+/// The end of the line of a transfer that is the bundle.
+pub const GOOD: &[u8] = b" good source=ipn:1.1 time=0 sequence=0 destination=ipn:2.1 payload=5\n";
+
+/// Ten bytes of the bundle, and then another transfer.
+pub const ABANDONED: &[Part] = &[
+    Part::Bytes(SESSION),
+    Part::Segment(2, 0, &[FIRST_10]),
+    Part::Segment(3, 1, PLAIN),
+];
+
+/// The bundle in two transfers of two segments each: 186 bytes.
+pub const TWO_BUNDLES: &[Part] = &[
+    Part::Bytes(SESSION),
+    Part::Segment(2, 0, &[FRONT]),
+    Part::Segment(1, 0, &[BACK]),
+    Part::Segment(2, 1, &[FRONT]),
+    Part::Segment(1, 1, &[BACK]),
+];
+
+/// The bundle in three transfers, of which the first and the last have one ID.
+const SAME_ID: &[Part] = &[
+    Part::Bytes(SESSION),
+    Part::Segment(3, 1, PLAIN),
+    Part::Segment(3, 0, PLAIN),
+    Part::Segment(3, 1, PLAIN),
+];
+
+/// A transfer that another abandons.
+pub const ABANDONING: Row = Row {
+    name: "a transfer that another abandons",
+    wanted: ALL,
+    stream: ABANDONED,
+    output: &[FIRST_10, FRONT, BACK],
+    report: &[
+        b"transfer 0 start=0 written=10 length=10 abandoned\n",
+        b"transfer 1 start=10 written=34 length=34",
+        GOOD,
+    ],
+    status: 1,
+};
+
+/// A transfer whose last segment has no data.
+pub const EMPTY_END: Row = Row {
+    name: "a last segment without data",
+    wanted: ALL,
+    stream: &[
+        Part::Bytes(SESSION),
+        Part::Segment(2, 0, PLAIN),
+        Part::Segment(1, 0, &[]),
+    ],
+    output: &[FRONT, BACK],
+    report: &[b"transfer 0 start=0 written=34 length=34", GOOD],
+    status: 0,
+};
+
+/// The data of two transfers.
+pub const WHOLE_BUNDLES: Row = Row {
+    name: "two bundles",
+    wanted: ALL,
+    stream: TWO_BUNDLES,
+    output: &[FRONT, BACK, FRONT, BACK],
+    report: &[
+        b"transfer 0 start=0 written=34 length=34",
+        GOOD,
+        b"transfer 1 start=34 written=34 length=34",
+        GOOD,
+    ],
+    status: 0,
+};
+
+/// Their payloads.
+pub const PAYLOADS: Row = Row {
+    name: "two payloads",
+    wanted: PAYLOAD,
+    stream: TWO_BUNDLES,
+    output: &[b"hello", b"hello"],
+    report: &[
+        b"transfer 0 start=0 written=5 length=34",
+        GOOD,
+        b"transfer 1 start=5 written=5 length=34",
+        GOOD,
+    ],
+    status: 0,
+};
+
+/// Streams that are read to their end, all of their data wanted.
+pub const WHOLE: [Row; 9] = [
+    Row {
+        name: "a contact header",
+        wanted: ALL,
+        stream: &[Part::Bytes(&[CONTACT])],
+        output: &[],
+        report: &[],
+        status: 0,
+    },
+    ABANDONING,
+    EMPTY_END,
+    WHOLE_BUNDLES,
+    Row {
+        name: "an ID used again",
+        wanted: ALL,
+        stream: SAME_ID,
+        output: &[FRONT, BACK, FRONT, BACK, FRONT, BACK],
+        report: &[
+            b"transfer 1 start=0 written=34 length=34",
+            GOOD,
+            b"transfer 0 start=34 written=34 length=34",
+            GOOD,
+            b"transfer 1 start=68 written=34 length=34",
+            GOOD,
+        ],
+        status: 0,
+    },
+    Row {
+        name: "an announced length that differs",
+        wanted: ALL,
+        stream: &[
+            Part::Bytes(SESSION),
+            Part::Bytes(&[
+                FIRST_SEGMENT,
+                b"\x00\x00\x00\x0d\x00\x00\x01\x00\x08\x00\x00\x00\x00\x00\x00\x00\x23",
+                LENGTH_17,
+                FRONT,
+            ]),
+            Part::Segment(1, 0, &[BACK]),
+        ],
+        output: PLAIN,
+        report: &[b"transfer 0 start=0 written=34 length=34 length-differs announced=35\n"],
+        status: 1,
+    },
+    Row {
+        name: "a length announced twice",
+        wanted: ALL,
+        stream: &[
+            Part::Bytes(SESSION),
+            Part::Bytes(&[
+                FIRST_SEGMENT,
+                b"\x00\x00\x00\x1a",
+                b"\x00\x00\x01\x00\x08\x00\x00\x00\x00\x00\x00\x00\x23",
+                b"\x00\x00\x01\x00\x08\x00\x00\x00\x00\x00\x00\x00\x23",
+                LENGTH_17,
+                FRONT,
+            ]),
+            Part::Segment(1, 0, &[BACK]),
+        ],
+        output: PLAIN,
+        report: &[b"transfer 0 start=0 written=34 length=34 bad-length-item\n"],
+        status: 1,
+    },
+    Row {
+        name: "an abandoned transfer with a malformed length item",
+        wanted: ALL,
+        stream: &[
+            Part::Bytes(SESSION),
+            Part::Bytes(&[
+                FIRST_SEGMENT,
+                b"\x00\x00\x00\x05\x00\x00\x01\x00\x00",
+                b"\x00\x00\x00\x00\x00\x00\x00\x0a",
+                FIRST_10,
+            ]),
+            Part::Segment(3, 1, PLAIN),
+        ],
+        output: &[FIRST_10, FRONT, BACK],
+        report: &[
+            b"transfer 0 start=0 written=10 length=10 abandoned\n",
+            b"transfer 1 start=10 written=34 length=34",
+            GOOD,
+        ],
+        status: 1,
+    },
+    Row {
+        name: "other messages inside a transfer",
+        wanted: ALL,
+        stream: &[
+            Part::Bytes(SESSION),
+            Part::Segment(2, 0, &[FRONT]),
+            Part::Bytes(&[b"\x04", b"\x06\x01\x16"]),
+            Part::Segment(1, 0, &[BACK]),
+        ],
+        output: PLAIN,
+        report: &[b"transfer 0 start=0 written=34 length=34", GOOD],
+        status: 0,
+    },
+];
+
+/// Streams of which a part is wanted.
+pub const PARTS: [Row; 4] = [
+    Row {
+        name: "one of two transfers",
+        wanted: ONLY_1,
+        stream: ABANDONED,
+        output: PLAIN,
+        report: &[
+            b"transfer 0 start=0 written=0 length=10 abandoned\n",
+            b"transfer 1 start=0 written=34 length=34",
+            GOOD,
+        ],
+        status: 1,
+    },
+    Row {
+        name: "each transfer of one ID",
+        wanted: ONLY_1,
+        stream: SAME_ID,
+        output: &[FRONT, BACK, FRONT, BACK],
+        report: &[
+            b"transfer 1 start=0 written=34 length=34",
+            GOOD,
+            b"transfer 0 start=34 written=0 length=34",
+            GOOD,
+            b"transfer 1 start=34 written=34 length=34",
+            GOOD,
+        ],
+        status: 0,
+    },
+    PAYLOADS,
+    Row {
+        name: "one of two payloads",
+        wanted: PAYLOAD_OF_1,
+        stream: TWO_BUNDLES,
+        output: &[b"hello"],
+        report: &[
+            b"transfer 0 start=0 written=0 length=34",
+            GOOD,
+            b"transfer 1 start=0 written=5 length=34",
+            GOOD,
+        ],
+        status: 0,
+    },
+];
+
+/// Streams with a fault.
+pub const FAULTS: [Row; 7] = [
+    Row {
+        name: "the longest segment cut",
+        wanted: ALL,
+        stream: &[
+            Part::Bytes(SESSION),
+            Part::Bytes(&[
+                WHOLE_TRANSFER,
+                b"\xff\xff\xff\xff\xff\xff\xff\xff",
+                b"\x9f\x88\x07",
+            ]),
+        ],
+        output: &[b"\x9f\x88\x07"],
+        report: &[b"tcpclkit: byte 38: truncated\n"],
+        status: 3,
+    },
+    Row {
+        name: "a start of the open transfer",
+        wanted: ALL,
+        stream: &[
+            Part::Bytes(SESSION),
+            Part::Segment(2, 0, &[FIRST_10]),
+            Part::Segment(3, 0, PLAIN),
+        ],
+        output: &[FIRST_10],
+        report: &[b"tcpclkit: byte 70: start repeats the open transfer\n"],
+        status: 3,
+    },
+    Row {
+        name: "a cut segment abandons the open transfer",
+        wanted: ALL,
+        stream: &[
+            Part::Bytes(SESSION),
+            Part::Segment(2, 0, &[FIRST_10]),
+            Part::Bytes(&[
+                b"\x01\x03\x00\x00\x00\x00\x00\x00\x00\x01",
+                NO_ITEMS,
+                LENGTH_34,
+                b"\x9f\x88\x07",
+            ]),
+        ],
+        output: &[FIRST_10, b"\x9f\x88\x07"],
+        report: &[
+            b"transfer 0 start=0 written=10 length=10 abandoned\n",
+            b"tcpclkit: byte 70: truncated\n",
+        ],
+        status: 3,
+    },
+    Row {
+        name: "a transfer after SESS_TERM",
+        wanted: ALL,
+        stream: &[
+            Part::Bytes(SESSION),
+            Part::Segment(2, 0, &[FRONT]),
+            Part::Bytes(&[b"\x05\x00\x00"]),
+            Part::Segment(1, 0, &[BACK]),
+            Part::Segment(3, 1, PLAIN),
+        ],
+        output: PLAIN,
+        report: &[
+            b"transfer 0 start=0 written=34 length=34",
+            GOOD,
+            b"tcpclkit: byte 115: start after session termination\n",
+        ],
+        status: 3,
+    },
+    Row {
+        name: "a second SESS_INIT",
+        wanted: ALL,
+        stream: &[
+            Part::Bytes(SESSION),
+            Part::Bytes(&[PARAMETERS, NODE, NO_ITEMS]),
+        ],
+        output: &[],
+        report: &[b"tcpclkit: byte 38: second session initiation\n"],
+        status: 3,
+    },
+    Row {
+        name: "a transfer before SESS_INIT",
+        wanted: ALL,
+        stream: &[Part::Bytes(&[CONTACT]), Part::Segment(3, 0, PLAIN)],
+        output: &[],
+        report: &[b"tcpclkit: byte 6: segment before session initiation\n"],
+        status: 3,
+    },
+    Row {
+        name: "a segment of no transfer",
+        wanted: ALL,
+        stream: &[Part::Bytes(SESSION), Part::Segment(1, 5, PLAIN)],
+        output: &[],
+        report: &[b"tcpclkit: byte 38: no such open transfer\n"],
+        status: 3,
+    },
+];
