@@ -10,7 +10,7 @@ pub mod Opening
 pub mod Verdicts
 pub mod HeadEnds
 pub mod Steady
-pub mod Notes
+pub mod Keeping
 pub mod Lengths
 pub mod Payloads
 pub mod Feeding

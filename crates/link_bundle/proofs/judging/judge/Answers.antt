@@ -3,9 +3,9 @@ use Rattle.std.proofs.lemmas.Result.{err_from_is_err_and}
 use Rattle.link_bundle_rows.specs.Rows.{check_field}
 use Rattle.link_bundle.specs.Reading.{Reading, stopped}
 use Rattle.link_bundle.specs.CheckField.{field_at}
-use Rattle.link_bundle.specs.Left.{field_left, stage_left, ends_of, with_note, after_field}
+use Rattle.link_bundle.specs.Left.{field_left, stage_left, ends_of, with_known_payload, after_field}
 use Rattle.link_bundle.proofs.Heads.{row_at-refused, ends_of-stopped}
-use Rattle.link_bundle.proofs.Fields.{field_at-told}
+use Rattle.link_bundle.proofs.Fields.{field_at-accepted}
 use Rattle.link_bundle.proofs.judging.judge.Goals as goal
 
 pub returns-in_err-check_field-in-Check-clause-judges : goal.returns-in_err-check_field-in-Check-clause-judges
@@ -24,6 +24,6 @@ returns-in_ok-check_field-in-Check-clause-judges c =
     let cursor = c.args.cursor.now in
     rw c.in-Check.is
     (λ bytes start told within.
-    ap (λ (field : Reading Bool). ends_of bytes (with_note now.payload (after_field now bytes field)))
-    (field_at-told c.in-Check.kind bytes start cursor.place cursor.count c.check_width.result c.args.head c.in_ok-check_field-in-Check.field-0
+    ap (λ (field : Reading Bool). ends_of bytes (with_known_payload now.payload (after_field now bytes field)))
+    (field_at-accepted c.in-Check.kind bytes start cursor.place cursor.count c.check_width.result c.args.head c.in_ok-check_field-in-Check.field-0
     told (sym c.check_field.ensures.judged ∙ c.in_ok-check_field-in-Check.was) c.check_width.ensures))

@@ -5,14 +5,14 @@ use Rattle.link_bundle.specs.CheckKinds.{kind_of}
 use Rattle.link_bundle.specs.Bundle.{Bundle}
 use Rattle.link_bundle.specs.Reading.{Stop}
 use Rattle.link_bundle_rows.specs.Rows.{byte_string}
-use Rattle.link_bundle.proofs.Heads.{row_at-told, data_read}
+use Rattle.link_bundle.proofs.Heads.{row_at-accepted, data_read}
 use Rattle.link_bundle.proofs.draft.Draft.data.Goals as goal
 
 pub returns-clause-judges : goal.returns-clause-judges
 unfolding field_left stage_left data_left
 returns-clause-judges c = λ place bytes start told within.
     let now = c.args.self.now in
-    rw (row_at-told byte_string bytes place c.args.next c.args.head c.in_ok-size.size told (sym c.byte_string.ensures.judged ∙ c.in_ok-size.was))
+    rw (row_at-accepted byte_string bytes place c.args.next c.args.head c.in_ok-size.size told (sym c.byte_string.ensures.judged ∙ c.in_ok-size.was))
     (ap (λ (r : Result Bundle Stop). ends_of bytes r)
     (data_read now.payload c.then_some-self.result (now.block_type == 1) now.numbers (primary_of now) (kind_of now.check) c.in_ok-size.size start c.args.next bytes c.requires c.then_some-self.ensures)
     ∙ c.content.ensures.reads bytes start c.args.next within)
