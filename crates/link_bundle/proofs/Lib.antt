@@ -15,3 +15,4 @@ pub mod Lengths
 pub mod Payloads
 pub mod Feeding
 pub mod FirstHead
+pub mod Judgings

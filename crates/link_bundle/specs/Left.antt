@@ -341,14 +341,6 @@ JudgesFrom place next which old head result new =
     ends_of bytes (with_known_payload old.payload (field_left which old (block_start which start place) bytes place))
     ≡ goes_on result new (block_start which start place) place next bytes
 
--- wherever it begins
-abbrev pub JudgesAt : ℕ → Field → Draft → HeadItem → Result Stage BundleFault → Draft → Type 0
-JudgesAt next which old head result new = (place : ℕ) → JudgesFrom place next which old head result new
-
--- and wherever it ends
-abbrev pub Judges : Field → Draft → HeadItem → Result Stage BundleFault → Draft → Type 0
-Judges which old head result new = (next : ℕ) → JudgesAt next which old head result new
-
 -- what comes after a block, after its fields and after an endpoint ID
 
 abbrev pub BlockEnds : Draft → Stage → Draft → Type 0
