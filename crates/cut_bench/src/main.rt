@@ -18,7 +18,7 @@ const PIECES: usize = 16;
 const SEGMENTS: u32 = 16_384;
 
 /// How many bytes a chunk has, and one of them, which its first names.
-fn told(chunk: &[u8]) -> u64 {
+fn sample(chunk: &[u8]) -> u64 {
     let first = chunk.first().copied().unwrap_or(0);
     let other = chunk.get(usize::from(first) * 256).copied().unwrap_or(0);
     (chunk.len() as u64).wrapping_add(u64::from(other))
@@ -50,7 +50,7 @@ fn cut(alloc: Global, piece: &mut [u8; PIECE]) -> Result<u64, AllocError> {
             next(piece);
             cutter.push_slice(piece, false);
             while let Some(_cut) = cutter.cut() {
-                answer = answer.wrapping_add(told(cutter.bytes()));
+                answer = answer.wrapping_add(sample(cutter.bytes()));
             }
         }
     }
@@ -63,7 +63,7 @@ fn copy(alloc: Global, piece: &mut [u8; PIECE]) -> Result<u64, AllocError> {
     let mut buffer = vec![in alloc; 0u8; PIECE * PIECES]?;
     for _segment in 0..SEGMENTS {
         fill(&mut buffer, piece);
-        answer = answer.wrapping_add(told(&buffer));
+        answer = answer.wrapping_add(sample(&buffer));
     }
     Ok(answer)
 }

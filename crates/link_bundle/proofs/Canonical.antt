@@ -12,7 +12,7 @@ use Rattle.link_bundle.specs.Reading.{stopped, head_at}
 use Rattle.link_bundle.specs.Primary.{Primary}
 use Rattle.link_bundle.specs.Bundle.{blocks_at}
 use Rattle.link_bundle.specs.Left.{primary_of, type_left, number_left, block_flags_left, block_check_left, data_left}
-use Rattle.link_bundle.proofs.Heads.{row_at-told, row_at-refused}
+use Rattle.link_bundle.proofs.Heads.{row_at-accepted, row_at-refused}
 
 pub blocks_at-refused : (left : ℕ) (numbers : List ℕ) (primary : Primary) (bytes : List ℕ) (place next : ℕ) (head : Head) (fault : BundleFault)
     → head_at bytes place ≡ Ok (head, next) → block head ≡ Err fault
@@ -37,7 +37,7 @@ pub blocks_at-open : (draft : Draft) (bytes : List ℕ) (place next : ℕ) (head
 unfolding blocks_at type_left number_left block_flags_left block_check_left data_left
 blocks_at-open draft bytes place next head count room told judged =
     let more : 64 - length draft.numbers ≡ suc (63 - length draft.numbers) = omega arith in
-    rw (more, row_at-told block bytes place next head count told judged) refl
+    rw (more, row_at-accepted block bytes place next head count told judged) refl
 
 pub no_room : (count : ℕ) → true ≡ (count == 64) → 64 - count ≡ 0
 no_room count full = grind (arith, nat_tests)

@@ -24,7 +24,7 @@ use Rattle.link_bundle.specs.Reading.{Stop, stopped, Reading, bytes_at}
 use Rattle.link_bundle.specs.CheckField.{field_at}
 use Rattle.link_bundle.specs.Canonical.{content_at}
 use Rattle.link_bundle.specs.Bundle.{Bundle, ends, judged}
-use Rattle.link_bundle.specs.Left.{span_of, bundle_of, ends_of, with_note, after_field, zeroed_check, stored_left, stage_left, BlockEnds, FieldsEnd, NameGoesOn}
+use Rattle.link_bundle.specs.Left.{span_of, bundle_of, ends_of, with_known_payload, after_field, zeroed_check, stored_left, stage_left, BlockEnds, FieldsEnd, NameGoesOn}
 use Rattle.link_bundle.specs.Scan.{HasCome, IsInside, IsInStored}
 use Rattle.link_bundle.proofs.Fields.{stored_left-step, stored_left-last}
 use Rattle.link_bundle.proofs.Heads.{no_content, ends_of-stopped}
@@ -33,11 +33,11 @@ use Rattle.link_bundle.proofs.Steps.{Enters, entered, regrown, all_grown, one_by
 
 -- the bundle, by what comes after its present block's data
 abbrev by_field : Draft → List ℕ → Reading Bool → Result Bundle Stop
-by_field draft bytes field = ends_of bytes (with_note draft.payload (after_field draft bytes field))
+by_field draft bytes field = ends_of bytes (with_known_payload draft.payload (after_field draft bytes field))
 
 -- what a check field at `field` says, whose content ends at `place`
-abbrev check_told : Bool → ℕ → ℕ → Reading Bool
-check_told same place field = if same then Ok (true, place) else Err (stopped CheckDiffers field)
+abbrev check_result : Bool → ℕ → ℕ → Reading Bool
+check_result same place field = if same then Ok (true, place) else Err (stopped CheckDiffers field)
 
 -- a run of the content, and then the rest
 skipped : Option CheckKind → ℕ → List ℕ → Reading (List ℕ) → Reading Bool
@@ -206,7 +206,7 @@ last_stored : (field left stored expected : ℕ) (kind : CheckKind) (old new : C
     → (come : HasCome (Stored field left stored kind) old draft seen) → left ≡ 1
     → TakesZero draft.check old new → Checks kind draft.check new expected
     → judged ((seen ++ byte ∷ []) ++ more)
-    ≡ by_field draft ((seen ++ byte ∷ []) ++ more) (check_told (stored * 256 + byte == expected) (length (seen ++ byte ∷ [])) field)
+    ≡ by_field draft ((seen ++ byte ∷ []) ++ more) (check_result (stored * 256 + byte == expected) (length (seen ++ byte ∷ [])) field)
 unfolding stage_left
 last_stored field left stored expected kind old new draft seen more byte come one takes checks =
     let bytes = (seen ++ byte ∷ []) ++ more in
@@ -220,7 +220,7 @@ last_stored field left stored expected kind old new draft seen more byte come on
     ∙ ap (λ (reading : Reading Bool). by_field draft bytes reading)
     (ap (λ (check : ℕ). stored_left left stored check field bytes (length seen)) check
     ∙ stored_left-last left stored expected field bytes more byte (length seen) (next_run seen more (byte ∷ [])) one
-    ∙ ap (λ (place : ℕ). check_told (stored * 256 + byte == expected) place field) (sym longer))
+    ∙ ap (λ (place : ℕ). check_result (stored * 256 + byte == expected) place field) (sym longer))
 
 -- the check is there, and nothing more of the block is checked
 pub equal_stored : (field left stored expected : ℕ) (kind : CheckKind) (old grown_cursor new : Cursor) (draft after : Draft) (stage : Stage) (seen : List ℕ) (byte : ℕ)
@@ -235,7 +235,7 @@ equal_stored field left stored expected kind old grown_cursor new draft after st
     (λ more.
     let bytes = (seen ++ byte ∷ []) ++ more in
     last_stored field left stored expected kind old grown_cursor draft seen more byte come one takes checks
-    ∙ ap (λ (is : Bool). by_field draft bytes (check_told is (length (seen ++ byte ∷ [])) field)) same
+    ∙ ap (λ (is : Bool). by_field draft bytes (check_result is (length (seen ++ byte ∷ [])) field)) same
     ∙ ends bytes 0 (length (seen ++ byte ∷ [])))
 
 -- the check differs
@@ -253,14 +253,14 @@ other_stored field left stored expected kind old new draft seen byte come small 
       reads = λ more.
           let bytes = (seen ++ byte ∷ []) ++ more in
           last_stored field left stored expected kind old new draft seen more byte come one takes checks
-          ∙ ap (λ (is : Bool). by_field draft bytes (check_told is (length (seen ++ byte ∷ [])) field)) differs
+          ∙ ap (λ (is : Bool). by_field draft bytes (check_result is (length (seen ++ byte ∷ [])) field)) differs
           ∙ ends_of-stopped draft.payload bytes (stopped CheckDiffers field);
       stands = tt;
     }
 
 -- bytes after the bundle
 ends-trailing : (payload : Option (ℕ × ℕ)) (info : BundleInfo) (place : ℕ) (bytes : List ℕ) → is_some payload ≡ true → place < length bytes
-    → ends bytes (record { info = info; length = place; payload = span_of payload }) ≡ with_note payload (Err (stopped Trailing place))
+    → ends bytes (record { info = info; length = place; payload = span_of payload }) ≡ with_known_payload payload (Err (stopped Trailing place))
 ends-trailing None info place bytes told short = cc
 ends-trailing (Some payload) info place bytes told short =
     let other : (place == length bytes) ≡ false = ne_eqb place (length bytes) (λ same. omega arith) in rw other refl

@@ -16,8 +16,8 @@ use Rattle.link_bundle.specs.declared.stage.Role.{Role}
 use Rattle.link_bundle.specs.declared.stage.Stage.TheVariants.{Head, Name, Content}
 use Rattle.link_bundle.specs.Reading.{Stop, stopped}
 use Rattle.link_bundle.specs.Canonical.{content_at}
-use Rattle.link_bundle.specs.Bundle.{Bundle, judged, told, verdict, state_of, is_going, bundle_goes}
-use Rattle.link_bundle.specs.Left.{block_start, ends_of, with_note, name_left, stage_left}
+use Rattle.link_bundle.specs.Bundle.{Bundle, judged, verdict_by, verdict, state_of, is_going, bundle_goes}
+use Rattle.link_bundle.specs.Left.{block_start, ends_of, with_known_payload, name_left, stage_left}
 use Rattle.link_bundle.specs.Scan.{HasCome}
 use Rattle.link_bundle.proofs.Heads.{ends_of-stopped}
 use Rattle.link_bundle.proofs.Lengths.{whole-within}
@@ -107,14 +107,14 @@ taken_all seen bytes count all before =
     ∙ append-nil (take count bytes))
 
 -- bytes that are cut go on
-told-cut : (payload : Option (ℕ × ℕ)) (place : ℕ) → is_going (state_of (told (with_note payload (Err (stopped Cut place))))) ≡ true
-told-cut None place = refl
-told-cut (Some payload) place = refl
+verdict_by-cut : (payload : Option (ℕ × ℕ)) (place : ℕ) → is_going (state_of (verdict_by (with_known_payload payload (Err (stopped Cut place))))) ≡ true
+verdict_by-cut None place = refl
+verdict_by-cut (Some payload) place = refl
 
-pub goes-cut : (payload : Option (ℕ × ℕ)) (bytes : List ℕ) (place : ℕ) → judged bytes ≡ with_note payload (Err (stopped Cut place))
+pub goes-cut : (payload : Option (ℕ × ℕ)) (bytes : List ℕ) (place : ℕ) → judged bytes ≡ with_known_payload payload (Err (stopped Cut place))
     → bundle_goes bytes ≡ true
 unfolding verdict
-goes-cut payload bytes place is = rw is (told-cut payload place)
+goes-cut payload bytes place is = rw is (verdict_by-cut payload place)
 
 -- inside a name and inside data more is needed
 pub goes_in_content : (left : ℕ) (cursor : Cursor) (draft : Draft) (seen run : List ℕ) → HasCome (Content left) cursor draft seen
@@ -158,7 +158,7 @@ goes_in_head which cursor draft seen run head count come begins whole before =
     ap head_front (after_seen cursor.place seen (take count run) (begins ∙ come.count)) ∙ cut_by run head count (head_front (take count run)) whole before refl in
     goes-cut draft.payload bytes (length bytes)
     (come.reads (take count run)
-    ∙ ap (λ (reading : Result Bundle Stop). ends_of bytes (with_note draft.payload reading))
+    ∙ ap (λ (reading : Result Bundle Stop). ends_of bytes (with_known_payload draft.payload reading))
     (field_left-stopped which draft (block_start which come.start cursor.place) bytes cursor.place (stopped Cut (length bytes))
     (head_at-cut bytes cursor.place cut))
     ∙ ends_of-stopped draft.payload bytes (stopped Cut (length bytes)))

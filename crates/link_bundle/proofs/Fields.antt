@@ -15,7 +15,7 @@ use Rattle.link_bundle_rows.specs.Rows.{◌>>=◌, check_width, check_field}
 use Rattle.link_bundle.specs.Reading.{stopped, Reading, head_at, bytes_at}
 use Rattle.link_bundle.specs.CheckField.{number_from, check_of, field_at}
 use Rattle.link_bundle.specs.Left.{zeroed_check, stored_left}
-use Rattle.link_bundle.proofs.Heads.{row_at-told}
+use Rattle.link_bundle.proofs.Heads.{row_at-accepted}
 use Rattle.link_bundle.proofs.Runs.{with_run, bytes_at-step, bytes_at-last}
 
 -- the check type that was read is that of the field
@@ -28,13 +28,13 @@ same_check (Is (Some Crc32)) Crc16 told = cc
 same_check (Is (Some Crc32)) Crc32 told = refl
 
 -- after the field's head the content is read, and compared with the check
-pub field_at-told : (kind : CheckKind) (bytes : List ℕ) (start place next width : ℕ) (head : Head) (count : ℕ)
+pub field_at-accepted : (kind : CheckKind) (bytes : List ℕ) (start place next width : ℕ) (head : Head) (count : ℕ)
     → head_at bytes place ≡ Ok (head, next) → check_field kind head ≡ Ok count → width ≡ check_width kind
     → field_at (Some kind) start bytes place ≡ stored_left width 0 (zeroed_check kind start next (next + width - next) bytes) place bytes next
 unfolding field_at stored_left check_of zeroed_check
-field_at-told kind bytes start place next width head count told judged is_width =
+field_at-accepted kind bytes start place next width head count told judged is_width =
     let all : next + width - next ≡ check_width kind = omega (arith, is_width) in
-    rw (row_at-told (check_field kind) bytes place next head count told judged, all, is_width) refl
+    rw (row_at-accepted (check_field kind) bytes place next head count told judged, all, is_width) refl
 
 -- what a content is compared with, after a byte
 compared : ℕ → ℕ → ℕ → Reading (List ℕ) → Reading Bool

@@ -17,9 +17,9 @@ from_none Cut = tt
 from_none IllFormed = tt
 from_none (Whole head size) = omega arith
 
-with_argument-told : (major size value : ℕ) → is_cut (with_argument major size value) ≡ false
+with_argument-uncut : (major size value : ℕ) → is_cut (with_argument major size value) ≡ false
 unfolding with_argument
-with_argument-told major size value =
+with_argument-uncut major size value =
     ⊎_elim (λ simple. rw simple refl) (λ plain. rw plain refl)
     (cases_Bool ((major == 7) && ((size == 1) && nat_lt value 32)))
 
@@ -29,9 +29,9 @@ with_argument-ends count major size value within =
     ⊎_elim (λ simple. rw simple tt) (λ plain. rw plain (omega arith))
     (cases_Bool ((major == 7) && ((size == 1) && nat_lt value 32)))
 
-no_argument-told : (major : ℕ) → is_cut (no_argument major) ≡ false
+no_argument-uncut : (major : ℕ) → is_cut (no_argument major) ≡ false
 unfolding no_argument
-no_argument-told major =
+no_argument-uncut major =
     ⊎_elim (λ wrong. rw wrong refl) (λ right. rw right refl) (cases_Bool (nat_lt major 2 || (major == 6)))
 
 argument_front-ends : (major size : ℕ) (rest more : List ℕ) → is_cut (argument_front major size rest) ≡ true
@@ -43,7 +43,7 @@ argument_front-ends major size rest more cut =
     (λ there. rw (argument_front-there major size (rest ++ more) there)
     (with_argument-ends (suc (length rest)) major size (big_endian (take size (rest ++ more))) (omega arith)))
     (cases_lt (length (rest ++ more)) size))
-    (λ there. absurd (false≢true (sym (with_argument-told major size (big_endian (take size rest)))
+    (λ there. absurd (false≢true (sym (with_argument-uncut major size (big_endian (take size rest)))
     ∙ ap is_cut (sym (argument_front-there major size rest there)) ∙ cut)))
     (cases_lt (length rest) size)
 
@@ -58,7 +58,7 @@ front_by-ends major information rest more cut =
     (λ least'. ⊎_elim (λ below. absurd
     (false≢true (ap is_cut (sym (front_by-reserved major information rest least' below)) ∙ cut)))
     (λ least''. absurd (false≢true
-    (sym (no_argument-told major) ∙ ap is_cut (sym (front_by-none major information rest least'')) ∙ cut)))
+    (sym (no_argument-uncut major) ∙ ap is_cut (sym (front_by-none major information rest least'')) ∙ cut)))
     (cases_lt information 31))
     (cases_lt information 28))
     (cases_lt information 24)

@@ -1,4 +1,4 @@
--- a head that is told, judged by its row; what comes after a block
+-- a whole head, judged by its row; what comes after a block
 
 use Rattle.std.proofs.Common.{◌≡◌, ℕ, ◌-◌, ◌≤◌, Bool, true, false, List, length, Option, None, Some, Result, Ok, Err, refl, is_some}
 use Rattle.std.specs.Prelude.{is_none, if◌then◌else◌}
@@ -13,19 +13,19 @@ use Rattle.link_bundle.specs.CheckField.{field_at}
 use Rattle.link_bundle.specs.Primary.{Primary}
 use Rattle.link_bundle.specs.Canonical.{content_at}
 use Rattle.link_bundle.specs.Bundle.{info_of, payload_at, blocks_at}
-use Rattle.link_bundle.specs.Left.{ends_of, with_note, block_end, span_of}
+use Rattle.link_bundle.specs.Left.{ends_of, with_known_payload, block_end, span_of}
 
-pub row_at-told : {A : Type 0} (row : Head → Result A BundleFault) (bytes : List ℕ) (place next : ℕ) (head : Head) (value : A)
+pub row_at-accepted : {A : Type 0} (row : Head → Result A BundleFault) (bytes : List ℕ) (place next : ℕ) (head : Head) (value : A)
     → head_at bytes place ≡ Ok (head, next) → row head ≡ Ok value → row_at row bytes place ≡ Ok (value, next)
 unfolding row_at
-row_at-told row bytes place next head value told judged = rw (told, judged) refl
+row_at-accepted row bytes place next head value told judged = rw (told, judged) refl
 
 pub row_at-refused : {A : Type 0} (row : Head → Result A BundleFault) (bytes : List ℕ) (place next : ℕ) (head : Head) (fault : BundleFault)
     → head_at bytes place ≡ Ok (head, next) → row head ≡ Err fault → row_at row bytes place ≡ Err (stopped fault place)
 unfolding row_at
 row_at-refused row bytes place next head fault told judged = rw (told, judged) refl
 
-pub ruleset heads = (row_at-told, row_at-refused)
+pub ruleset heads = (row_at-accepted, row_at-refused)
 
 pub closes : (payload : Option (ℕ × ℕ)) (numbers : List ℕ) (primary : Primary) (bytes : List ℕ) (place : ℕ) → is_some payload ≡ true
     → block_end payload numbers primary bytes place
@@ -41,9 +41,9 @@ goes_to_block (Some payload) numbers primary bytes place told = cc
 -- the payload block's data, and that of another block
 pub data_read : (payload new : Option (ℕ × ℕ)) (is_payload : Bool) (numbers : List ℕ) (primary : Primary) (check : Option CheckKind) (size start next : ℕ) (bytes : List ℕ)
     → is_none payload ≡ true → new ≡ then_some is_payload (next, size)
-    → with_note payload (if is_payload then payload_at primary (length numbers) size check start bytes next
+    → with_known_payload payload (if is_payload then payload_at primary (length numbers) size check start bytes next
     else (content_at size check start bytes next >>= λ x. blocks_at (64 - length numbers) numbers primary bytes x.1))
-    ≡ with_note new (content_at size check start bytes next >>= λ x. block_end new numbers primary bytes x.1)
+    ≡ with_known_payload new (content_at size check start bytes next >>= λ x. block_end new numbers primary bytes x.1)
 unfolding payload_at
 data_read None new true numbers primary check size start next bytes told is = rw is refl
 data_read None new false numbers primary check size start next bytes told is = rw is refl
@@ -54,8 +54,8 @@ pub no_content : (check : Option CheckKind) (start : ℕ) (bytes : List ℕ) (pl
 unfolding content_at
 no_content check start bytes place within = rw (bytes_at-none bytes place within) refl
 
--- a stop stays, with its note
+-- a stop stays, with what is known of its payload
 pub ends_of-stopped : (payload : Option (ℕ × ℕ)) (bytes : List ℕ) (stop : Stop)
-    → ends_of bytes (with_note payload (Err stop)) ≡ with_note payload (Err stop)
+    → ends_of bytes (with_known_payload payload (Err stop)) ≡ with_known_payload payload (Err stop)
 ends_of-stopped None bytes stop = refl
 ends_of-stopped (Some payload) bytes stop = refl

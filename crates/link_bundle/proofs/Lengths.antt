@@ -19,9 +19,9 @@ use Rattle.link_bundle.specs.Reading.{Stop, Reading, placed, judged_at, head_at,
 use Rattle.link_bundle.specs.CheckField.{field_at}
 use Rattle.link_bundle.specs.Primary.{Primary, primary_at}
 use Rattle.link_bundle.specs.Canonical.{content_at}
-use Rattle.link_bundle.specs.Bundle.{Bundle, noting, info_of, payload_at, blocks_at, opening_at, bundle_at, ends, judged, told, verdict}
+use Rattle.link_bundle.specs.Bundle.{Bundle, with_payload, info_of, payload_at, blocks_at, opening_at, bundle_at, ends, judged, verdict_by, verdict}
 use Rattle.link_bundle.proofs.Steady.{Stays, cuts, same}
-use Rattle.link_bundle.proofs.Notes.{bundle_at-stays}
+use Rattle.link_bundle.proofs.Keeping.{bundle_at-stays}
 
 -- a whole head has no more bytes than there are
 HeadWithin : List ℕ → HeadFront → Type 0
@@ -111,10 +111,10 @@ unfolding BundleWithin
 within-then bytes (Ok value) next each = each value
 within-then bytes (Err stop) next each = tt
 
-within-noting : (payload : ℕ × ℕ) (bytes : List ℕ) (reading : Result Bundle Stop) → BundleWithin bytes reading → BundleWithin bytes (noting payload reading)
+within-with_payload : (payload : ℕ × ℕ) (bytes : List ℕ) (reading : Result Bundle Stop) → BundleWithin bytes reading → BundleWithin bytes (with_payload payload reading)
 unfolding BundleWithin
-within-noting payload bytes (Ok bundle) within = within
-within-noting payload bytes (Err stop) within = tt
+within-with_payload payload bytes (Ok bundle) within = within
+within-with_payload payload bytes (Err stop) within = tt
 
 within-if : (test : Bool) (bytes : List ℕ) (one other : Result Bundle Stop) → BundleWithin bytes one → BundleWithin bytes other
     → BundleWithin bytes (if test then one else other)
@@ -131,7 +131,7 @@ payload_at-within : (primary : Primary) (blocks size : ℕ) (check : Option Chec
     → BundleWithin bytes (payload_at primary blocks size check start bytes place)
 unfolding payload_at
 payload_at-within primary blocks size check start bytes place =
-    within-noting (place, size) bytes _
+    within-with_payload (place, size) bytes _
     (within-then bytes (content_at size check start bytes place) _
     (λ (_, end). ended-within bytes (row_at closing bytes end) (info_of primary blocks size) (place, size) (row_at-within closing bytes end)))
 
@@ -161,7 +161,7 @@ bundle_at-within bytes =
 
 -- the verdict by what is read
 judgement : List ℕ → Result Bundle Stop → Result BundleInfo (BundleFault × ℕ)
-judgement bytes reading = told (reading >>= λ bundle. ends bytes bundle)
+judgement bytes reading = verdict_by (reading >>= λ bundle. ends bytes bundle)
 
 longer : (bytes : List ℕ) (byte : ℕ) (more : List ℕ) → length bytes < length (bytes ++ byte ∷ more)
 longer bytes byte more = omega (arith, length-append bytes (byte ∷ more))

@@ -10,8 +10,9 @@ pub mod Opening
 pub mod Verdicts
 pub mod HeadEnds
 pub mod Steady
-pub mod Notes
+pub mod Keeping
 pub mod Lengths
 pub mod Payloads
 pub mod Feeding
 pub mod FirstHead
+pub mod Judgings

@@ -10,14 +10,14 @@ use Rattle.link_bundle.specs.declared.stage.Stage.TheVariants.{Name}
 use Rattle.link_bundle.specs.Bundle.{Bundle}
 use Rattle.link_bundle_rows.specs.Rows.{◌>>=◌}
 use Rattle.link_bundle.specs.Reading.{Reading, Stop, bytes_at}
-use Rattle.link_bundle.specs.Left.{with_eid, after_eid, after_primary, ends_of, with_note, kept_name, name_left, field_left, stage_left, source_left, report_to_left, timestamp_left, time_left, sequence_left, lifetime_left}
+use Rattle.link_bundle.specs.Left.{with_eid, after_eid, after_primary, ends_of, with_known_payload, kept_name, name_left, field_left, stage_left, source_left, report_to_left, timestamp_left, time_left, sequence_left, lifetime_left}
 use Rattle.link_bundle.specs.Stages.{stage_after}
 use Rattle.link_bundle.proofs.Runs.{with_run, bytes_at-none, bytes_at-run, run_within}
 
 -- the reading of the whole bundle, by what stands at an endpoint ID
 abbrev pub by_eid : Role → Draft → ℕ → List ℕ → Reading Eid → Result Bundle Stop
 by_eid role draft start bytes reading =
-    ends_of bytes (with_note draft.payload (after_primary draft start bytes (after_eid role draft bytes reading)))
+    ends_of bytes (with_known_payload draft.payload (after_primary draft start bytes (after_eid role draft bytes reading)))
 
 -- the numbers so far of an ipn endpoint ID make no difference after it
 pub by_eid-numbered : (role : Role) (draft : Draft) (allocator : Option ℕ) (node start : ℕ) (bytes : List ℕ) (reading : Reading Eid)

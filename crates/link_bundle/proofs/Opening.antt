@@ -16,7 +16,7 @@ use Rattle.link_bundle.specs.Fits.{stage_fits}
 use Rattle.link_bundle.specs.Reading.{stopped}
 use Rattle.link_bundle.specs.Primary.{primary_at}
 use Rattle.link_bundle.specs.Bundle.{opening_at, bundle_at, judged}
-use Rattle.link_bundle.specs.Left.{field_left, stage_left, with_note, primary_block_left, version_left, flags_left, check_type_left, destination_left, source_left, report_to_left, timestamp_left, time_left, sequence_left, lifetime_left}
+use Rattle.link_bundle.specs.Left.{field_left, stage_left, with_known_payload, primary_block_left, version_left, flags_left, check_type_left, destination_left, source_left, report_to_left, timestamp_left, time_left, sequence_left, lifetime_left}
 use Rattle.link_bundle.specs.Scan.{HasCome}
 use Rattle.link_bundle.proofs.Fields.{before_and, after_and}
 use Rattle.link_bundle.proofs.Steps.{Enters, entered, all_grown, one_byte}
@@ -48,7 +48,7 @@ unfolding judged bundle_at opening_at stage_left field_left primary_at primary_b
 open_reads draft more start blank = rw (blank.payload, blank.numbers) refl
 
 other_reads : (draft : Draft) (byte : ℕ) (more : List ℕ) → IsBlank draft → byte ≢ 0x9f
-    → judged (byte ∷ more) ≡ with_note draft.payload (Err (stopped NotABundle 0))
+    → judged (byte ∷ more) ≡ with_known_payload draft.payload (Err (stopped NotABundle 0))
 unfolding judged bundle_at opening_at
 other_reads draft byte more blank other = rw (ne_eqb byte 0x9f other, blank.payload) refl
 

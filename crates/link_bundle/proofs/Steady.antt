@@ -8,7 +8,7 @@ use Rattle.std.proofs.Math.ListN.{drop_of_length-le}
 use Rattle.link_cbor.specs.declared.check.CheckKind.{CheckKind}
 use Rattle.link_cbor.specs.declared.head.Head.{Head}
 use Rattle.link_cbor.specs.Head.{HeadFront, Cut as CutHead, IllFormed, Whole, head_front, is_cut}
-use Rattle.link_cbor.specs.HeadLaws.{told_stays}
+use Rattle.link_cbor.specs.HeadLaws.{uncut_stays}
 use Rattle.link_bundle_types.specs.declared.eid.Eid.{Eid}
 use Rattle.link_bundle_types.specs.declared.fault.BundleFault.{BundleFault}
 use Rattle.link_bundle_types.specs.declared.fault.BundleFault.TheVariants.{Cut, CheckDiffers}
@@ -25,7 +25,7 @@ use Rattle.link_bundle.proofs.HeadEnds.{EndsFrom, head_ends}
 
 -- ---- how far one reading goes
 
--- what is read at an offset ends there or after it, and a stop in it notes no payload
+-- what is read at an offset ends there or after it, and a stop in it has no payload
 abbrev pub Onward : {A : Type 0} → ℕ → Reading A → Type 0
 Onward place (Ok (value, next)) = place ≤ next
 Onward place (Err stop) = stop.payload ≡ None
@@ -101,7 +101,7 @@ stays-then (Err stop) later next next_later (cuts cut) each = cuts cut
 stays-then (Ok value) later next next_later (same is) each = rw is (each value)
 stays-then (Err stop) later next next_later (same is) each = same (rw is refl)
 
--- it ends where the bytes end, and no payload is noted
+-- it ends where the bytes end, and no payload is known
 abbrev pub IsCut : {A : Type 0} → List ℕ → Result A Stop → Type 0
 IsCut bytes (Ok value) = ⊥
 IsCut bytes (Err stop) = stop ≡ stopped Cut (length bytes)
@@ -171,7 +171,7 @@ head_at-reads bytes more place =
     (λ _. past-from (length bytes) place (placed (bytes ++ more) place later) (omega arith)
     (onward-placed (bytes ++ more) place later)))
     (λ within. placed-reads bytes more place (head_front (drop place bytes)) (head_front (drop place (bytes ++ more)))
-    (λ told. ap head_front (drop-append-le place bytes more within) ∙ told_stays (drop place bytes) more told)
+    (λ told. ap head_front (drop-append-le place bytes more within) ∙ uncut_stays (drop place bytes) more told)
     (λ cut. past-placed (bytes ++ more) (length bytes) place later
     (rw (drop-append-le place bytes more within, ← length-drop place bytes) (head_ends (drop place bytes) more cut))))
     (cases_lt (length bytes) place)

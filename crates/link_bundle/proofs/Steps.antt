@@ -31,7 +31,7 @@ use Rattle.link_bundle.specs.Covers.{Covers}
 use Rattle.link_bundle.specs.Fits.{is_block, KeepsCheck}
 use Rattle.link_bundle.specs.Bundle.{Bundle, judged}
 use Rattle.link_bundle.specs.Reading.{Stop, stopped, head_at}
-use Rattle.link_bundle.specs.Left.{block_start, field_left, ends_of, with_note, stage_left, goes_on, JudgesFrom}
+use Rattle.link_bundle.specs.Left.{block_start, field_left, ends_of, with_known_payload, stage_left, goes_on, JudgesFrom}
 use Rattle.link_bundle.proofs.Heads.{ends_of-stopped}
 use Rattle.link_bundle.proofs.Stops.{field_left-stopped}
 use Rattle.link_bundle.specs.Scan.{HasCome, HeadCame, Stands, IsInHead, IsInside, IsInStored}
@@ -261,7 +261,7 @@ bad_head which cursor draft seen come told = record {
   count = come.count;
   start = come.start;
   reads = λ more. come.reads more
-      ∙ ap (λ (reading : Result Bundle Stop). ends_of (seen ++ more) (with_note draft.payload reading))
+      ∙ ap (λ (reading : Result Bundle Stop). ends_of (seen ++ more) (with_known_payload draft.payload reading))
       (field_left-stopped which draft (block_start which come.start cursor.place) (seen ++ more) cursor.place (stopped BadHead cursor.place)
       (head_at-bad cursor.place seen more come.in_bytes told))
       ∙ ends_of-stopped draft.payload (seen ++ more) (stopped BadHead cursor.place);
@@ -278,7 +278,7 @@ unfolding stage_left
 judged_head which cursor draft new head result seen come told judges more =
     let whole = head_at-whole cursor.place seen more head come.in_bytes told in
     come.reads more
-    ∙ subst (λ (count : ℕ). ends_of (seen ++ more) (with_note draft.payload (field_left which draft (block_start which come.start cursor.place) (seen ++ more) cursor.place))
+    ∙ subst (λ (count : ℕ). ends_of (seen ++ more) (with_known_payload draft.payload (field_left which draft (block_start which come.start cursor.place) (seen ++ more) cursor.place))
     ≡ goes_on result new (block_start which come.start cursor.place) cursor.place count (seen ++ more)) come.count
     (judges (seen ++ more) come.start (rw come.count whole) (omega (arith, length-append seen more, come.count)))
 

@@ -15,8 +15,8 @@ use Rattle.link_bundle.specs.CheckKinds.{kind_of, is_kind}
 use Rattle.link_bundle.specs.Fits.{rest_fits, scan_fits}
 use Rattle.link_bundle.specs.Reading.{Stop, stopped, cut_short, head_at}
 use Rattle.link_bundle.specs.Canonical.{content_at}
-use Rattle.link_bundle.specs.Bundle.{Bundle, opening_at, bundle_at, judged, told, verdict, noted, payload_in, payload_span, state_of}
-use Rattle.link_bundle.specs.Left.{bundle_of, block_start, ends_of, with_note, name_left, stored_left, stage_left}
+use Rattle.link_bundle.specs.Bundle.{Bundle, opening_at, bundle_at, judged, verdict_by, verdict, payload_of, payload_in, payload_span, state_of}
+use Rattle.link_bundle.specs.Left.{bundle_of, block_start, ends_of, with_known_payload, name_left, stored_left, stage_left}
 use Rattle.link_bundle.specs.Scan.{HasCome}
 use Rattle.link_bundle.specs.Stages.{stage_state}
 use Rattle.link_bundle.proofs.Fields.{has_room, some_left}
@@ -38,13 +38,13 @@ head_at-cut bytes place cut = rw cut refl
 -- bytes that may go on are cut
 going_cut : (stage : Stage) (cursor : Cursor) (draft : Draft) (seen : List ℕ) → HasCome stage cursor draft seen
     → IsTrue (scan_fits stage cursor draft) → stage_state stage ≡ state.Going
-    → judged seen ≡ with_note draft.payload (Err (stopped Cut (length seen)))
+    → judged seen ≡ with_known_payload draft.payload (Err (stopped Cut (length seen)))
 unfolding stage_left judged bundle_at opening_at name_left stored_left content_at
 going_cut Start cursor draft seen come fits going =
     rw (come.stands.nothing, (blank draft fits).payload) refl
 going_cut (Head which) cursor draft seen come fits going =
     read_now (Head which) cursor draft seen come
-    ∙ ap (λ (reading : Result Bundle Stop). ends_of seen (with_note draft.payload reading))
+    ∙ ap (λ (reading : Result Bundle Stop). ends_of seen (with_known_payload draft.payload reading))
     (field_left-stopped which draft (block_start which come.start cursor.place) seen cursor.place (stopped Cut (length seen))
     (head_at-cut seen cursor.place come.stands.cut))
     ∙ ends_of-stopped draft.payload seen (stopped Cut (length seen))
@@ -69,19 +69,19 @@ ended_whole cursor draft seen come =
     read_now Ended cursor draft seen come ∙ rw (eq-eqb cursor.place (length seen) come.stands) refl
 
 failed_stop : (fault : BundleFault) (place : ℕ) (cursor : Cursor) (draft : Draft) (seen : List ℕ) → HasCome (Failed fault place) cursor draft seen
-    → judged seen ≡ with_note draft.payload (Err (stopped fault place))
+    → judged seen ≡ with_known_payload draft.payload (Err (stopped fault place))
 unfolding stage_left
 failed_stop fault place cursor draft seen come = read_now (Failed fault place) cursor draft seen come
 
-told-stopped : (payload : Option (ℕ × ℕ)) (fault : BundleFault) (place : ℕ) → told (with_note payload (Err (stopped fault place))) ≡ Err (fault, place)
-told-stopped None fault place = refl
-told-stopped (Some payload) fault place = refl
+verdict_by-stopped : (payload : Option (ℕ × ℕ)) (fault : BundleFault) (place : ℕ) → verdict_by (with_known_payload payload (Err (stopped fault place))) ≡ Err (fault, place)
+verdict_by-stopped None fault place = refl
+verdict_by-stopped (Some payload) fault place = refl
 
 pub verdict-going : (stage : Stage) (cursor : Cursor) (draft : Draft) (seen : List ℕ) → HasCome stage cursor draft seen
     → IsTrue (scan_fits stage cursor draft) → stage_state stage ≡ state.Going → verdict seen ≡ Err (Cut, cursor.count)
 unfolding verdict
 verdict-going stage cursor draft seen come fits going =
-    ap told (going_cut stage cursor draft seen come fits going) ∙ told-stopped draft.payload Cut (length seen)
+    ap verdict_by (going_cut stage cursor draft seen come fits going) ∙ verdict_by-stopped draft.payload Cut (length seen)
     ∙ ap (λ (count : ℕ). Err (Cut, count)) (sym come.count)
 
 pub verdict-ended : (stage : Stage) (cursor : Cursor) (draft : Draft) (seen : List ℕ) → HasCome stage cursor draft seen
@@ -92,7 +92,7 @@ verdict-ended (Head which) cursor draft seen come is = cc
 verdict-ended (Name role left) cursor draft seen come is = cc
 verdict-ended (Content left) cursor draft seen come is = cc
 verdict-ended (Stored field left stored kind) cursor draft seen come is = cc
-verdict-ended Ended cursor draft seen come is = ap told (ended_whole cursor draft seen come)
+verdict-ended Ended cursor draft seen come is = ap verdict_by (ended_whole cursor draft seen come)
 verdict-ended (Failed fault place) cursor draft seen come is = cc
 
 pub verdict-failed : (stage : Stage) (cursor : Cursor) (draft : Draft) (seen : List ℕ) (fault : BundleFault) (place : ℕ) → HasCome stage cursor draft seen
@@ -104,10 +104,10 @@ verdict-failed (Name role left) cursor draft seen fault place come is = cc
 verdict-failed (Content left) cursor draft seen fault place come is = cc
 verdict-failed (Stored field left stored kind) cursor draft seen fault place come is = cc
 verdict-failed Ended cursor draft seen fault place come is = cc
-verdict-failed (Failed told_fault at) cursor draft seen fault place come is =
-    let same : told_fault ≡ fault = cc in
+verdict-failed (Failed kept_fault at) cursor draft seen fault place come is =
+    let same : kept_fault ≡ fault = cc in
     let here : at ≡ place = cc in
-    ap told (failed_stop told_fault at cursor draft seen come) ∙ told-stopped draft.payload told_fault at
+    ap verdict_by (failed_stop kept_fault at cursor draft seen come) ∙ verdict_by-stopped draft.payload kept_fault at
     ∙ ap (λ (fault : BundleFault). Err (fault, at)) same ∙ ap (λ (place : ℕ). Err (fault, place)) here
 
 -- the state that a caller sees
@@ -123,37 +123,37 @@ state_of-seen Ended cursor draft seen come fits = sym (ap state_of (verdict-ende
 state_of-seen (Failed fault place) cursor draft seen come fits =
     sym (ap state_of (verdict-failed (Failed fault place) cursor draft seen fault place come refl) ∙ rw fits refl)
 
--- the payload's note
-noted-stopped : (payload : Option (ℕ × ℕ)) (stop_fault : BundleFault) (place : ℕ) → noted (with_note payload (Err (stopped stop_fault place))) ≡ payload
-noted-stopped None fault place = refl
-noted-stopped (Some payload) fault place = refl
+-- where the payload is
+payload_of-stopped : (payload : Option (ℕ × ℕ)) (stop_fault : BundleFault) (place : ℕ) → payload_of (with_known_payload payload (Err (stopped stop_fault place))) ≡ payload
+payload_of-stopped None fault place = refl
+payload_of-stopped (Some payload) fault place = refl
 
 span_back : (payload : Option (ℕ × ℕ)) (draft : Draft) (place : ℕ) → draft.payload ≡ payload → is_some payload ≡ true
-    → noted (Ok (bundle_of draft place)) ≡ payload
-span_back None draft place is told = cc
-span_back (Some payload) draft place is told = rw is refl
+    → payload_of (Ok (bundle_of draft place)) ≡ payload
+span_back None draft place is known = cc
+span_back (Some payload) draft place is known = rw is refl
 
-pub noted-seen : (stage : Stage) (cursor : Cursor) (draft : Draft) (seen : List ℕ) → HasCome stage cursor draft seen
-    → IsTrue (scan_fits stage cursor draft) → noted (judged seen) ≡ draft.payload
-noted-seen Start cursor draft seen come fits = ap noted (going_cut Start cursor draft seen come fits refl) ∙ noted-stopped draft.payload Cut (length seen)
-noted-seen (Head which) cursor draft seen come fits =
-    ap noted (going_cut (Head which) cursor draft seen come fits refl) ∙ noted-stopped draft.payload Cut (length seen)
-noted-seen (Name role left) cursor draft seen come fits =
-    ap noted (going_cut (Name role left) cursor draft seen come fits refl) ∙ noted-stopped draft.payload Cut (length seen)
-noted-seen (Content left) cursor draft seen come fits =
-    ap noted (going_cut (Content left) cursor draft seen come fits refl) ∙ noted-stopped draft.payload Cut (length seen)
-noted-seen (Stored field left stored kind) cursor draft seen come fits =
-    ap noted (going_cut (Stored field left stored kind) cursor draft seen come fits refl) ∙ noted-stopped draft.payload Cut (length seen)
-noted-seen Ended cursor draft seen come fits = ap noted (ended_whole cursor draft seen come) ∙ span_back draft.payload draft cursor.place refl fits
-noted-seen (Failed fault place) cursor draft seen come fits =
-    ap noted (failed_stop fault place cursor draft seen come) ∙ noted-stopped draft.payload fault place
+pub payload_of-seen : (stage : Stage) (cursor : Cursor) (draft : Draft) (seen : List ℕ) → HasCome stage cursor draft seen
+    → IsTrue (scan_fits stage cursor draft) → payload_of (judged seen) ≡ draft.payload
+payload_of-seen Start cursor draft seen come fits = ap payload_of (going_cut Start cursor draft seen come fits refl) ∙ payload_of-stopped draft.payload Cut (length seen)
+payload_of-seen (Head which) cursor draft seen come fits =
+    ap payload_of (going_cut (Head which) cursor draft seen come fits refl) ∙ payload_of-stopped draft.payload Cut (length seen)
+payload_of-seen (Name role left) cursor draft seen come fits =
+    ap payload_of (going_cut (Name role left) cursor draft seen come fits refl) ∙ payload_of-stopped draft.payload Cut (length seen)
+payload_of-seen (Content left) cursor draft seen come fits =
+    ap payload_of (going_cut (Content left) cursor draft seen come fits refl) ∙ payload_of-stopped draft.payload Cut (length seen)
+payload_of-seen (Stored field left stored kind) cursor draft seen come fits =
+    ap payload_of (going_cut (Stored field left stored kind) cursor draft seen come fits refl) ∙ payload_of-stopped draft.payload Cut (length seen)
+payload_of-seen Ended cursor draft seen come fits = ap payload_of (ended_whole cursor draft seen come) ∙ span_back draft.payload draft cursor.place refl fits
+payload_of-seen (Failed fault place) cursor draft seen come fits =
+    ap payload_of (failed_stop fault place cursor draft seen come) ∙ payload_of-stopped draft.payload fault place
 
 -- how much of the payload is there
-pub seen_of-none : (seen : List ℕ) (payload : Option (ℕ × ℕ)) → noted (judged seen) ≡ payload → payload ≡ None → payload_span seen ≡ None
+pub seen_of-none : (seen : List ℕ) (payload : Option (ℕ × ℕ)) → payload_of (judged seen) ≡ payload → payload ≡ None → payload_span seen ≡ None
 unfolding payload_span payload_in
 seen_of-none seen payload is none = rw (is, none) refl
 
-pub seen_of-some : (seen : List ℕ) (payload : Option (ℕ × ℕ)) (place size count : ℕ) → noted (judged seen) ≡ payload → payload ≡ Some (place, size)
+pub seen_of-some : (seen : List ℕ) (payload : Option (ℕ × ℕ)) (place size count : ℕ) → payload_of (judged seen) ≡ payload → payload ≡ Some (place, size)
     → count ≡ length seen → payload_span seen ≡ Some (place, min size (count - place))
 unfolding payload_span payload_in
 seen_of-some seen payload place size count is some counted =

@@ -20,10 +20,10 @@ pub record Bundle : Type 0 where
   pub length : ℕ
   pub payload : ℕ × ℕ
 
--- a stop after the payload's data head, whose bytes are noted
-abbrev pub noting : {A : Type 0} → ℕ × ℕ → Result A Stop → Result A Stop
-noting payload (Ok value) = Ok value
-noting payload (Err stop) = Err (record stop { payload = Some payload })
+-- a stop after the payload's data head: where its bytes are is known
+abbrev pub with_payload : {A : Type 0} → ℕ × ℕ → Result A Stop → Result A Stop
+with_payload payload (Ok value) = Ok value
+with_payload payload (Err stop) = Err (record stop { payload = Some payload })
 
 abbrev pub info_of : Primary → ℕ → ℕ → BundleInfo
 info_of primary blocks payload =
@@ -31,7 +31,7 @@ info_of primary blocks payload =
 
 -- the data of the payload block that begins at `start`, its check field, and the break after it
 unfoldable pub payload_at : Primary → ℕ → ℕ → Option CheckKind → ℕ → List ℕ → ℕ → Result Bundle Stop
-payload_at primary blocks size check start bytes place = noting (place, size) do
+payload_at primary blocks size check start bytes place = with_payload (place, size) do
   (_, end) ← content_at size check start bytes place
   (_, end) ← row_at closing bytes end
   Ok (record { info = info_of primary blocks size; length = end; payload = (place, size) })
@@ -78,17 +78,17 @@ judged bytes = do
   bundle ← bundle_at bytes
   ends bytes bundle
 
-abbrev pub told : Result Bundle Stop → Result BundleInfo (BundleFault × ℕ)
-told (Ok bundle) = Ok bundle.info
-told (Err stop) = Err (stop.fault, stop.place)
+abbrev pub verdict_by : Result Bundle Stop → Result BundleInfo (BundleFault × ℕ)
+verdict_by (Ok bundle) = Ok bundle.info
+verdict_by (Err stop) = Err (stop.fault, stop.place)
 
 -- the verdict on the bytes: a bundle, or the first fault and its offset
 unfoldable pub verdict : List ℕ → Result BundleInfo (BundleFault × ℕ)
-verdict bytes = told (judged bytes)
+verdict bytes = verdict_by (judged bytes)
 
-abbrev pub noted : Result Bundle Stop → Option (ℕ × ℕ)
-noted (Ok bundle) = Some bundle.payload
-noted (Err stop) = stop.payload
+abbrev pub payload_of : Result Bundle Stop → Option (ℕ × ℕ)
+payload_of (Ok bundle) = Some bundle.payload
+payload_of (Err stop) = stop.payload
 
 abbrev pub bytes_of : Option (ℕ × ℕ) → List ℕ → List ℕ
 bytes_of None bytes = []
@@ -96,7 +96,7 @@ bytes_of (Some (place, size)) bytes = take size (drop place bytes)
 
 -- the payload's bytes that are there, also in what is no bundle; none where its data head was not accepted
 unfoldable pub payload_in : List ℕ → List ℕ
-payload_in bytes = bytes_of (noted (judged bytes)) bytes
+payload_in bytes = bytes_of (payload_of (judged bytes)) bytes
 
 -- the offset of the payload's first byte, and how many of its bytes are there
 abbrev pub spanned : Option (ℕ × ℕ) → ℕ → Option (ℕ × ℕ)
@@ -104,7 +104,7 @@ spanned None count = None
 spanned (Some (place, size)) count = Some (place, count)
 
 unfoldable pub payload_span : List ℕ → Option (ℕ × ℕ)
-payload_span bytes = spanned (noted (judged bytes)) (length (payload_in bytes))
+payload_span bytes = spanned (payload_of (judged bytes)) (length (payload_in bytes))
 
 -- a verdict as a state: bytes that end inside a bundle may go on
 abbrev pub state_of : Result BundleInfo (BundleFault × ℕ) → State

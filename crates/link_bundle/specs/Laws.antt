@@ -5,7 +5,7 @@ use Rattle.link_bundle_types.specs.declared.fault.BundleFault.{BundleFault}
 use Rattle.link_bundle_types.specs.declared.fault.BundleFault.TheVariants.{Trailing}
 use Rattle.link_bundle_types.specs.declared.info.BundleInfo.{BundleInfo}
 use Rattle.link_bundle_types.specs.Faults.{lasts}
-use Rattle.link_bundle.specs.Bundle.{judged, verdict, noted, payload_in, bundle_goes}
+use Rattle.link_bundle.specs.Bundle.{judged, verdict, payload_of, payload_in, bundle_goes}
 
 -- a fault stays, unless it is that the bytes end inside the bundle
 abbrev pub FaultLasts : Type 0
@@ -23,13 +23,13 @@ TrailingLasts =
 abbrev pub PayloadLasts : Type 0
 PayloadLasts =
     (bytes more : List ℕ) (payload : ℕ × ℕ) →
-    noted (judged bytes) ≡ Some payload → noted (judged (bytes ++ more)) ≡ Some payload
+    payload_of (judged bytes) ≡ Some payload → payload_of (judged (bytes ++ more)) ≡ Some payload
 
 -- where the payload's bytes are, known or not yet known, says which of them are there
 abbrev pub PayloadPlaced : Type 0
 PayloadPlaced =
     (bytes more : List ℕ) (place size : ℕ) →
-    noted (judged (bytes ++ more)) ≡ Some (place, size) → payload_in bytes ≡ take size (drop place bytes)
+    payload_of (judged (bytes ++ more)) ≡ Some (place, size) → payload_in bytes ≡ take size (drop place bytes)
 
 -- once the bytes are a bundle, or no bundle however they go on, all of the payload's bytes are there that will be
 abbrev pub PayloadEnds : Type 0

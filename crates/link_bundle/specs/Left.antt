@@ -31,7 +31,7 @@ use Rattle.link_bundle.specs.KeptEid.{name_of}
 use Rattle.link_bundle.specs.CheckField.{number_from, field_at}
 use Rattle.link_bundle.specs.Primary.{Primary, fragment_at}
 use Rattle.link_bundle.specs.Canonical.{content_at}
-use Rattle.link_bundle.specs.Bundle.{Bundle, noting, info_of, payload_at, blocks_at, ends, judged}
+use Rattle.link_bundle.specs.Bundle.{Bundle, with_payload, info_of, payload_at, blocks_at, ends, judged}
 
 abbrev pub primary_of : Draft → Primary
 primary_of draft = record { flags = draft.flags; destination = draft.destination; source = draft.source; time = draft.time; sequence = draft.sequence; lifetime = draft.lifetime; fragment = draft.fragment }
@@ -45,9 +45,9 @@ bundle_of draft end =
     let payload = span_of draft.payload in
     record { info = info_of (primary_of draft) (length draft.numbers) payload.1; length = end; payload = payload }
 
-abbrev pub with_note : Option (ℕ × ℕ) → Result Bundle Stop → Result Bundle Stop
-with_note None reading = reading
-with_note (Some payload) reading = noting payload reading
+abbrev pub with_known_payload : Option (ℕ × ℕ) → Result Bundle Stop → Result Bundle Stop
+with_known_payload None reading = reading
+with_known_payload (Some payload) reading = with_payload payload reading
 
 -- after a block: the next block, or after the payload block the break
 abbrev pub block_end : Option (ℕ × ℕ) → List ℕ → Primary → List ℕ → ℕ → Result Bundle Stop
@@ -317,70 +317,62 @@ block_start field.Closing start place = start
 unfoldable pub stage_left : Stage → Draft → ℕ → ℕ → List ℕ → ℕ → Result Bundle Stop
 stage_left Start draft start field bytes place = judged bytes
 stage_left (Head which) draft start field bytes place =
-    ends_of bytes (with_note draft.payload (field_left which draft (block_start which start field) bytes field))
+    ends_of bytes (with_known_payload draft.payload (field_left which draft (block_start which start field) bytes field))
 stage_left (Name role left) draft start field bytes place =
-    ends_of bytes (with_note draft.payload (after_primary draft start bytes (after_eid role draft bytes (name_left (kept_name role draft) left bytes place))))
+    ends_of bytes (with_known_payload draft.payload (after_primary draft start bytes (after_eid role draft bytes (name_left (kept_name role draft) left bytes place))))
 stage_left (Content left) draft start field bytes place =
-    ends_of bytes (with_note draft.payload (after_field draft bytes (content_at left (kind_of draft.check) start bytes place)))
+    ends_of bytes (with_known_payload draft.payload (after_field draft bytes (content_at left (kind_of draft.check) start bytes place)))
 stage_left (Stored field left stored kind) draft start content bytes place =
     let check = zeroed_check kind start content (place + left - content) bytes in
-    ends_of bytes (with_note draft.payload (after_field draft bytes (stored_left left stored check field bytes place)))
+    ends_of bytes (with_known_payload draft.payload (after_field draft bytes (stored_left left stored check field bytes place)))
 stage_left Ended draft start field bytes place = ends bytes (bundle_of draft field)
-stage_left (Failed fault at) draft start field bytes place = with_note draft.payload (Err (stopped fault at))
+stage_left (Failed fault at) draft start field bytes place = with_known_payload draft.payload (Err (stopped fault at))
 
 -- what a whole head at `place`, with `next` after it, leads to
 abbrev pub goes_on : Result Stage BundleFault → Draft → ℕ → ℕ → ℕ → List ℕ → Result Bundle Stop
 goes_on (Ok stage) draft start place next bytes = stage_left stage draft start next bytes next
-goes_on (Err fault) draft start place next bytes = with_note draft.payload (Err (stopped fault place))
+goes_on (Err fault) draft start place next bytes = with_known_payload draft.payload (Err (stopped fault place))
 
 -- the head at this offset, with `next` after it, is judged as the reading judges it: the stage and the draft are those
 -- after it
 abbrev pub JudgesFrom : ℕ → ℕ → Field → Draft → HeadItem → Result Stage BundleFault → Draft → Type 0
 JudgesFrom place next which old head result new =
     (bytes : List ℕ) (start : ℕ) → head_at bytes place ≡ Ok (head, next) → next ≤ length bytes →
-    ends_of bytes (with_note old.payload (field_left which old (block_start which start place) bytes place))
+    ends_of bytes (with_known_payload old.payload (field_left which old (block_start which start place) bytes place))
     ≡ goes_on result new (block_start which start place) place next bytes
-
--- wherever it begins
-abbrev pub JudgesAt : ℕ → Field → Draft → HeadItem → Result Stage BundleFault → Draft → Type 0
-JudgesAt next which old head result new = (place : ℕ) → JudgesFrom place next which old head result new
-
--- and wherever it ends
-abbrev pub Judges : Field → Draft → HeadItem → Result Stage BundleFault → Draft → Type 0
-Judges which old head result new = (next : ℕ) → JudgesAt next which old head result new
 
 -- what comes after a block, after its fields and after an endpoint ID
 
 abbrev pub BlockEnds : Draft → Stage → Draft → Type 0
 BlockEnds old stage new =
     (bytes : List ℕ) (start next : ℕ) →
-    ends_of bytes (with_note old.payload (block_end old.payload old.numbers (primary_of old) bytes next))
+    ends_of bytes (with_known_payload old.payload (block_end old.payload old.numbers (primary_of old) bytes next))
     ≡ stage_left stage new start next bytes next
 
 abbrev pub FieldsEnd : Draft → Stage → Draft → Type 0
 FieldsEnd old stage new =
     (bytes : List ℕ) (start next : ℕ) →
-    ends_of bytes (with_note old.payload (after_field old bytes (field_at (kind_of old.check) start bytes next)))
+    ends_of bytes (with_known_payload old.payload (after_field old bytes (field_at (kind_of old.check) start bytes next)))
     ≡ stage_left stage new start next bytes next
 
 -- after the head of data of this size
 abbrev pub ContentBegins : ℕ → Draft → Stage → Draft → Type 0
 ContentBegins size old stage new =
     (bytes : List ℕ) (start next : ℕ) → next ≤ length bytes →
-    ends_of bytes (with_note old.payload (after_field old bytes (content_at size (kind_of old.check) start bytes next)))
+    ends_of bytes (with_known_payload old.payload (after_field old bytes (content_at size (kind_of old.check) start bytes next)))
     ≡ stage_left stage new start next bytes next
 
 abbrev pub EidEnds : Role → Eid → Draft → Stage → Draft → Type 0
 EidEnds role eid old stage new =
     (bytes : List ℕ) (start next : ℕ) →
-    ends_of bytes (with_note old.payload (after_primary old start bytes (after_eid role old bytes (Ok (eid, next)))))
+    ends_of bytes (with_known_payload old.payload (after_primary old start bytes (after_eid role old bytes (Ok (eid, next)))))
     ≡ stage_left stage new start next bytes next
 
 -- a name begins, of this many bytes
 abbrev pub NameBegins : Role → ℕ → Draft → Stage → Draft → Type 0
 NameBegins role size old stage new =
     (bytes : List ℕ) (start next : ℕ) → next ≤ length bytes →
-    ends_of bytes (with_note old.payload (after_primary old start bytes (after_eid role old bytes (name_left [] size bytes next))))
+    ends_of bytes (with_known_payload old.payload (after_primary old start bytes (after_eid role old bytes (name_left [] size bytes next))))
     ≡ stage_left stage new start next bytes next
 
 -- more bytes of a name, of which `left` bytes were left

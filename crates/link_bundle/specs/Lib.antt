@@ -12,3 +12,4 @@ pub mod Covers
 pub mod Stages
 pub mod Scan
 pub mod Laws
+pub mod Judged

@@ -1,5 +1,5 @@
 //! What is held of a bundle while its heads come, and how each head goes into it.
-ghost use Rattle.std.specs.Prelude.{◌≡◌, ◌≤◌, [], ◌++◌, IfOk, IsTrue, length};
+ghost use Rattle.std.specs.Prelude.{◌≡◌, ◌≤◌, [], ◌++◌, IsTrue, length};
 
 use crate::kept_eid::{EidForm, KeptEid};
 use crate::numbers::BlockNumbers;
@@ -144,15 +144,13 @@ impl Draft {
 
 /// The primary block (RFC 9171 section 4.3.1).
 impl Draft {
-    ghost use Rattle.link_bundle.specs.Fits.{stage_fits, Follows, KeepsCheck};
-    ghost use Rattle.link_bundle.specs.Left.{Judges};
+    ghost use Rattle.link_bundle.specs.Fits.{stage_fits};
+    ghost use Rattle.link_bundle.specs.Judged.{Judged};
 
     /// Judges a head of the primary block.
     pub fn primary(&mut self, field: PrimaryField, head: Head) -> Result<Stage, BundleFault>
         requires { IsTrue (stage_fits (Stage.Head (Field.Primary field)) self.old) }
-        ensures judges { Judges (Field.Primary field) self.old head result self.new }
-        ensures follows { Follows result self.new }
-        ensures keeps { IfOk result (λ stage. KeepsCheck self.old.check stage self.new.check) }
+        ensures { Judged (Field.Primary field) self.old head result self.new }
     {
         match field {
             PrimaryField::Block => self.primary_block(head),
@@ -171,9 +169,7 @@ impl Draft {
     #[tactic(auto, using(crate::proofs::Heads::heads), unfolding(crate::specs::Left::field_left, crate::specs::Left::stage_left, crate::specs::Left::primary_block_left))]
     fn primary_block(&mut self, head: Head) -> Result<Stage, BundleFault>
         requires { IsTrue (stage_fits (Stage.Head (Field.Primary PrimaryField.Block)) self.old) }
-        ensures judges { Judges (Field.Primary PrimaryField.Block) self.old head result self.new }
-        ensures follows { Follows result self.new }
-        ensures keeps { IfOk result (λ stage. KeepsCheck self.old.check stage self.new.check) }
+        ensures { Judged (Field.Primary PrimaryField.Block) self.old head result self.new }
     {
         self.count = row::primary_block(head)?;
         Ok(Stage::Head(Field::Primary(PrimaryField::Version)))
@@ -182,9 +178,7 @@ impl Draft {
     #[tactic(auto, using(crate::proofs::Heads::heads), unfolding(crate::specs::Left::field_left, crate::specs::Left::stage_left, crate::specs::Left::version_left))]
     fn version(&mut self, head: Head) -> Result<Stage, BundleFault>
         requires { IsTrue (stage_fits (Stage.Head (Field.Primary PrimaryField.Version)) self.old) }
-        ensures judges { Judges (Field.Primary PrimaryField.Version) self.old head result self.new }
-        ensures follows { Follows result self.new }
-        ensures keeps { IfOk result (λ stage. KeepsCheck self.old.check stage self.new.check) }
+        ensures { Judged (Field.Primary PrimaryField.Version) self.old head result self.new }
     {
         row::version(head)?;
         Ok(Stage::Head(Field::Primary(PrimaryField::Flags)))
@@ -193,9 +187,7 @@ impl Draft {
     #[tactic(auto, using(crate::proofs::Heads::heads), unfolding(crate::specs::Left::field_left, crate::specs::Left::stage_left, crate::specs::Left::flags_left))]
     fn flags(&mut self, head: Head) -> Result<Stage, BundleFault>
         requires { IsTrue (stage_fits (Stage.Head (Field.Primary PrimaryField.Flags)) self.old) }
-        ensures judges { Judges (Field.Primary PrimaryField.Flags) self.old head result self.new }
-        ensures follows { Follows result self.new }
-        ensures keeps { IfOk result (λ stage. KeepsCheck self.old.check stage self.new.check) }
+        ensures { Judged (Field.Primary PrimaryField.Flags) self.old head result self.new }
     {
         self.flags = row::unsigned(head)?;
         Ok(Stage::Head(Field::Primary(PrimaryField::CheckType)))
@@ -204,9 +196,7 @@ impl Draft {
     #[tactic(auto, using(crate::proofs::Heads::heads), unfolding(crate::specs::Left::field_left, crate::specs::Left::stage_left, crate::specs::Left::check_type_left, crate::specs::Left::destination_left))]
     fn primary_check_type(&mut self, head: Head) -> Result<Stage, BundleFault>
         requires { IsTrue (stage_fits (Stage.Head (Field.Primary PrimaryField.CheckType)) self.old) }
-        ensures judges { Judges (Field.Primary PrimaryField.CheckType) self.old head result self.new }
-        ensures follows { Follows result self.new }
-        ensures keeps { IfOk result (λ stage. KeepsCheck self.old.check stage self.new.check) }
+        ensures { Judged (Field.Primary PrimaryField.CheckType) self.old head result self.new }
     {
         self.check = CheckType::Is(row::primary_check_type(self.count, self.flags, head)?);
         Ok(Stage::Head(Field::Endpoint(Role::Destination, Part::Whole)))
@@ -214,9 +204,7 @@ impl Draft {
 
     #[tactic(auto, using(crate::proofs::Heads::heads), unfolding(crate::specs::Left::field_left, crate::specs::Left::stage_left, crate::specs::Left::timestamp_left))]
     fn timestamp(&mut self, head: Head) -> Result<Stage, BundleFault>
-        ensures judges { Judges (Field.Primary PrimaryField.Timestamp) self.old head result self.new }
-        ensures follows { Follows result self.new }
-        ensures keeps { IfOk result (λ stage. KeepsCheck self.old.check stage self.new.check) }
+        ensures { Judged (Field.Primary PrimaryField.Timestamp) self.old head result self.new }
     {
         row::pair(head)?;
         Ok(Stage::Head(Field::Primary(PrimaryField::Time)))
@@ -224,9 +212,7 @@ impl Draft {
 
     #[tactic(auto, using(crate::proofs::Heads::heads), unfolding(crate::specs::Left::field_left, crate::specs::Left::stage_left, crate::specs::Left::time_left))]
     fn time(&mut self, head: Head) -> Result<Stage, BundleFault>
-        ensures judges { Judges (Field.Primary PrimaryField.Time) self.old head result self.new }
-        ensures follows { Follows result self.new }
-        ensures keeps { IfOk result (λ stage. KeepsCheck self.old.check stage self.new.check) }
+        ensures { Judged (Field.Primary PrimaryField.Time) self.old head result self.new }
     {
         self.time = row::unsigned(head)?;
         Ok(Stage::Head(Field::Primary(PrimaryField::Sequence)))
@@ -234,9 +220,7 @@ impl Draft {
 
     #[tactic(auto, using(crate::proofs::Heads::heads), unfolding(crate::specs::Left::field_left, crate::specs::Left::stage_left, crate::specs::Left::sequence_left))]
     fn sequence(&mut self, head: Head) -> Result<Stage, BundleFault>
-        ensures judges { Judges (Field.Primary PrimaryField.Sequence) self.old head result self.new }
-        ensures follows { Follows result self.new }
-        ensures keeps { IfOk result (λ stage. KeepsCheck self.old.check stage self.new.check) }
+        ensures { Judged (Field.Primary PrimaryField.Sequence) self.old head result self.new }
     {
         self.sequence = row::unsigned(head)?;
         Ok(Stage::Head(Field::Primary(PrimaryField::Lifetime)))
@@ -244,9 +228,7 @@ impl Draft {
 
     #[tactic(auto, using(crate::proofs::Heads::heads), unfolding(crate::specs::Left::field_left, crate::specs::Left::stage_left, crate::specs::Left::lifetime_left, crate::specs::Left::offset_left, crate::specs::Primary::fragment_at))]
     fn lifetime(&mut self, head: Head) -> Result<Stage, BundleFault>
-        ensures judges { Judges (Field.Primary PrimaryField.Lifetime) self.old head result self.new }
-        ensures follows { Follows result self.new }
-        ensures keeps { IfOk result (λ stage. KeepsCheck self.old.check stage self.new.check) }
+        ensures { Judged (Field.Primary PrimaryField.Lifetime) self.old head result self.new }
     {
         self.lifetime = row::unsigned(head)?;
         if row::is_fragment(self.flags) {
@@ -258,9 +240,7 @@ impl Draft {
 
     #[tactic(auto, using(crate::proofs::Heads::heads), unfolding(crate::specs::Left::field_left, crate::specs::Left::stage_left, crate::specs::Left::offset_left, crate::specs::Left::total_left, crate::specs::Primary::fragment_at))]
     fn fragment_offset(&mut self, head: Head) -> Result<Stage, BundleFault>
-        ensures judges { Judges (Field.Primary PrimaryField.FragmentOffset) self.old head result self.new }
-        ensures follows { Follows result self.new }
-        ensures keeps { IfOk result (λ stage. KeepsCheck self.old.check stage self.new.check) }
+        ensures { Judged (Field.Primary PrimaryField.FragmentOffset) self.old head result self.new }
     {
         self.fragment_offset = row::unsigned(head)?;
         Ok(Stage::Head(Field::Primary(PrimaryField::TotalLength)))
@@ -268,9 +248,7 @@ impl Draft {
 
     #[tactic(auto, using(crate::proofs::Heads::heads), unfolding(crate::specs::Left::field_left, crate::specs::Left::stage_left, crate::specs::Left::total_left))]
     fn total_length(&mut self, head: Head) -> Result<Stage, BundleFault>
-        ensures judges { Judges (Field.Primary PrimaryField.TotalLength) self.old head result self.new }
-        ensures follows { Follows result self.new }
-        ensures keeps { IfOk result (λ stage. KeepsCheck self.old.check stage self.new.check) }
+        ensures { Judged (Field.Primary PrimaryField.TotalLength) self.old head result self.new }
     {
         let total_length = row::unsigned(head)?;
         self.fragment = Some((self.fragment_offset, total_length));
@@ -280,16 +258,15 @@ impl Draft {
 
 /// Endpoint IDs (RFC 9171 section 4.2.5.1).
 impl Draft {
-    ghost use Rattle.link_bundle.specs.Fits.{stage_fits, rest_fits, Follows, KeepsCheck};
-    ghost use Rattle.link_bundle.specs.Left.{Judges, EidEnds, NameBegins, NameGoesOn, with_eid, kept_name};
+    ghost use Rattle.link_bundle.specs.Fits.{stage_fits, rest_fits, KeepsCheck};
+    ghost use Rattle.link_bundle.specs.Judged.{Judged};
+    ghost use Rattle.link_bundle.specs.Left.{EidEnds, NameBegins, NameGoesOn, with_eid, kept_name};
     ghost use Rattle.link_bundle.specs.KeptEid.{formed};
     ghost use Rattle.link_bundle_types.specs.declared.eid.Eid.TheVariants.{Dtn};
 
     /// Judges a head of an endpoint ID.
     pub fn endpoint(&mut self, role: Role, part: Part, head: Head) -> Result<Stage, BundleFault>
-        ensures judges { Judges (Field.Endpoint role part) self.old head result self.new }
-        ensures follows { Follows result self.new }
-        ensures keeps { IfOk result (λ stage. KeepsCheck self.old.check stage self.new.check) }
+        ensures { Judged (Field.Endpoint role part) self.old head result self.new }
     {
         match part {
             Part::Whole => self.eid(role, head),
@@ -304,9 +281,7 @@ impl Draft {
 
     #[tactic(auto, using(crate::proofs::Heads::heads), unfolding(crate::specs::Left::field_left, crate::specs::Left::stage_left, crate::specs::EndpointId::eid_at, crate::specs::Left::scheme_left))]
     fn eid(&mut self, role: Role, head: Head) -> Result<Stage, BundleFault>
-        ensures judges { Judges (Field.Endpoint role Part.Whole) self.old head result self.new }
-        ensures follows { Follows result self.new }
-        ensures keeps { IfOk result (λ stage. KeepsCheck self.old.check stage self.new.check) }
+        ensures { Judged (Field.Endpoint role Part.Whole) self.old head result self.new }
     {
         row::pair(head)?;
         Ok(Stage::Head(Field::Endpoint(role, Part::Scheme)))
@@ -314,9 +289,7 @@ impl Draft {
 
     #[tactic(auto, using(crate::proofs::Heads::heads), unfolding(crate::specs::Left::field_left, crate::specs::Left::stage_left, crate::specs::Left::scheme_left))]
     fn scheme(&mut self, role: Role, head: Head) -> Result<Stage, BundleFault>
-        ensures judges { Judges (Field.Endpoint role Part.Scheme) self.old head result self.new }
-        ensures follows { Follows result self.new }
-        ensures keeps { IfOk result (λ stage. KeepsCheck self.old.check stage self.new.check) }
+        ensures { Judged (Field.Endpoint role Part.Scheme) self.old head result self.new }
     {
         let scheme = row::scheme(head)?;
         Ok(Stage::Head(Field::Endpoint(role, Part::Specific(scheme))))
@@ -324,9 +297,7 @@ impl Draft {
 
     #[tactic(auto, using(crate::proofs::Heads::heads), unfolding(crate::specs::Left::field_left, crate::specs::Left::stage_left, crate::specs::EndpointId::specific_at))]
     fn dtn(&mut self, role: Role, head: Head) -> Result<Stage, BundleFault>
-        ensures judges { Judges (Field.Endpoint role (Part.Specific Scheme.Dtn)) self.old head result self.new }
-        ensures follows { Follows result self.new }
-        ensures keeps { IfOk result (λ stage. KeepsCheck self.old.check stage self.new.check) }
+        ensures { Judged (Field.Endpoint role (Part.Specific Scheme.Dtn)) self.old head result self.new }
     {
         match row::dtn_part(head)? {
             None => Ok(self.after_eid(role, EidForm::DtnNone)),
@@ -336,9 +307,7 @@ impl Draft {
 
     #[tactic(auto, using(crate::proofs::Heads::heads), unfolding(crate::specs::Left::field_left, crate::specs::Left::stage_left, crate::specs::EndpointId::specific_at, crate::specs::EndpointId::ipn_at, crate::specs::Left::allocator_left, crate::specs::Left::node_left, crate::specs::Left::service_left))]
     fn ipn(&mut self, role: Role, head: Head) -> Result<Stage, BundleFault>
-        ensures judges { Judges (Field.Endpoint role (Part.Specific Scheme.Ipn)) self.old head result self.new }
-        ensures follows { Follows result self.new }
-        ensures keeps { IfOk result (λ stage. KeepsCheck self.old.check stage self.new.check) }
+        ensures { Judged (Field.Endpoint role (Part.Specific Scheme.Ipn)) self.old head result self.new }
     {
         let part = match row::ipn_part(head)? {
             3 => Part::Allocator,
@@ -352,9 +321,7 @@ impl Draft {
 
     #[tactic(auto, using(crate::proofs::Heads::heads), unfolding(crate::specs::Left::field_left, crate::specs::Left::stage_left, crate::specs::Left::allocator_left))]
     fn allocator(&mut self, role: Role, head: Head) -> Result<Stage, BundleFault>
-        ensures judges { Judges (Field.Endpoint role Part.Allocator) self.old head result self.new }
-        ensures follows { Follows result self.new }
-        ensures keeps { IfOk result (λ stage. KeepsCheck self.old.check stage self.new.check) }
+        ensures { Judged (Field.Endpoint role Part.Allocator) self.old head result self.new }
     {
         self.allocator = Some(row::unsigned(head)?);
         Ok(Stage::Head(Field::Endpoint(role, Part::Node)))
@@ -362,9 +329,7 @@ impl Draft {
 
     #[tactic(auto, using(crate::proofs::Heads::heads), unfolding(crate::specs::Left::field_left, crate::specs::Left::stage_left, crate::specs::Left::node_left))]
     fn node(&mut self, role: Role, head: Head) -> Result<Stage, BundleFault>
-        ensures judges { Judges (Field.Endpoint role Part.Node) self.old head result self.new }
-        ensures follows { Follows result self.new }
-        ensures keeps { IfOk result (λ stage. KeepsCheck self.old.check stage self.new.check) }
+        ensures { Judged (Field.Endpoint role Part.Node) self.old head result self.new }
     {
         self.node = row::unsigned(head)?;
         Ok(Stage::Head(Field::Endpoint(role, Part::Service)))
@@ -372,9 +337,7 @@ impl Draft {
 
     #[tactic(auto, using(crate::proofs::Heads::heads), unfolding(crate::specs::Left::field_left, crate::specs::Left::stage_left, crate::specs::Left::service_left))]
     fn service(&mut self, role: Role, head: Head) -> Result<Stage, BundleFault>
-        ensures judges { Judges (Field.Endpoint role Part.Service) self.old head result self.new }
-        ensures follows { Follows result self.new }
-        ensures keeps { IfOk result (λ stage. KeepsCheck self.old.check stage self.new.check) }
+        ensures { Judged (Field.Endpoint role Part.Service) self.old head result self.new }
     {
         let service = row::unsigned(head)?;
         let node = self.node;
@@ -449,8 +412,9 @@ impl Draft {
 
 /// Canonical blocks (RFC 9171 section 4.3.2).
 impl Draft {
-    ghost use Rattle.link_bundle.specs.Fits.{stage_fits, Follows, KeepsCheck};
-    ghost use Rattle.link_bundle.specs.Left.{Judges, JudgesAt, ContentBegins};
+    ghost use Rattle.link_bundle.specs.Fits.{stage_fits, KeepsCheck};
+    ghost use Rattle.link_bundle.specs.Judged.{Judged, JudgedAt};
+    ghost use Rattle.link_bundle.specs.Left.{ContentBegins};
 
     /// Judges a head of a canonical block, with `next` the offset after it.
     pub fn canonical(
@@ -460,9 +424,7 @@ impl Draft {
         next: u64,
     ) -> Result<Stage, BundleFault>
         requires { IsTrue (stage_fits (Stage.Head (Field.Canonical field)) self.old) }
-        ensures judges { JudgesAt next (Field.Canonical field) self.old head result self.new }
-        ensures follows { Follows result self.new }
-        ensures keeps { IfOk result (λ stage. KeepsCheck self.old.check stage self.new.check) }
+        ensures { JudgedAt next (Field.Canonical field) self.old head result self.new }
     {
         match field {
             CanonicalField::Block => self.block(head),
@@ -477,9 +439,7 @@ impl Draft {
     #[tactic(auto, using(crate::proofs::Heads::heads), unfolding(crate::specs::Left::field_left, crate::specs::Left::stage_left))]
     fn block(&mut self, head: Head) -> Result<Stage, BundleFault>
         requires { IsTrue (stage_fits (Stage.Head (Field.Canonical CanonicalField.Block)) self.old) }
-        ensures judges { Judges (Field.Canonical CanonicalField.Block) self.old head result self.new }
-        ensures follows { Follows result self.new }
-        ensures keeps { IfOk result (λ stage. KeepsCheck self.old.check stage self.new.check) }
+        ensures { Judged (Field.Canonical CanonicalField.Block) self.old head result self.new }
     {
         self.count = row::block(head)?;
         if self.numbers.is_full() {
@@ -491,9 +451,7 @@ impl Draft {
     #[tactic(auto, using(crate::proofs::Heads::heads), unfolding(crate::specs::Left::field_left, crate::specs::Left::stage_left, crate::specs::Left::type_left))]
     fn block_type(&mut self, head: Head) -> Result<Stage, BundleFault>
         requires { IsTrue (stage_fits (Stage.Head (Field.Canonical CanonicalField.Type)) self.old) }
-        ensures judges { Judges (Field.Canonical CanonicalField.Type) self.old head result self.new }
-        ensures follows { Follows result self.new }
-        ensures keeps { IfOk result (λ stage. KeepsCheck self.old.check stage self.new.check) }
+        ensures { Judged (Field.Canonical CanonicalField.Type) self.old head result self.new }
     {
         self.block_type = row::unsigned(head)?;
         Ok(Stage::Head(Field::Canonical(CanonicalField::Number)))
@@ -502,9 +460,7 @@ impl Draft {
     #[tactic(auto, using(crate::proofs::Heads::heads), unfolding(crate::specs::Left::field_left, crate::specs::Left::stage_left, crate::specs::Left::number_left))]
     fn block_number(&mut self, head: Head) -> Result<Stage, BundleFault>
         requires { IsTrue (stage_fits (Stage.Head (Field.Canonical CanonicalField.Number)) self.old) }
-        ensures judges { Judges (Field.Canonical CanonicalField.Number) self.old head result self.new }
-        ensures follows { Follows result self.new }
-        ensures keeps { IfOk result (λ stage. KeepsCheck self.old.check stage self.new.check) }
+        ensures { Judged (Field.Canonical CanonicalField.Number) self.old head result self.new }
     {
         let number = row::block_number(self.block_type, self.numbers.as_slice(), head)?;
         self.numbers.push(number);
@@ -514,9 +470,7 @@ impl Draft {
     #[tactic(auto, using(crate::proofs::Heads::heads), unfolding(crate::specs::Left::field_left, crate::specs::Left::stage_left, crate::specs::Left::block_flags_left))]
     fn block_flags(&mut self, head: Head) -> Result<Stage, BundleFault>
         requires { IsTrue (stage_fits (Stage.Head (Field.Canonical CanonicalField.Flags)) self.old) }
-        ensures judges { Judges (Field.Canonical CanonicalField.Flags) self.old head result self.new }
-        ensures follows { Follows result self.new }
-        ensures keeps { IfOk result (λ stage. KeepsCheck self.old.check stage self.new.check) }
+        ensures { Judged (Field.Canonical CanonicalField.Flags) self.old head result self.new }
     {
         row::unsigned(head)?;
         Ok(Stage::Head(Field::Canonical(CanonicalField::CheckType)))
@@ -525,9 +479,7 @@ impl Draft {
     #[tactic(auto, using(crate::proofs::Heads::heads), unfolding(crate::specs::Left::field_left, crate::specs::Left::stage_left, crate::specs::Left::block_check_left))]
     fn block_check_type(&mut self, head: Head) -> Result<Stage, BundleFault>
         requires { IsTrue (stage_fits (Stage.Head (Field.Canonical CanonicalField.CheckType)) self.old) }
-        ensures judges { Judges (Field.Canonical CanonicalField.CheckType) self.old head result self.new }
-        ensures follows { Follows result self.new }
-        ensures keeps { IfOk result (λ stage. KeepsCheck self.old.check stage self.new.check) }
+        ensures { Judged (Field.Canonical CanonicalField.CheckType) self.old head result self.new }
     {
         self.check = CheckType::Is(row::block_check_type(self.count, head)?);
         Ok(Stage::Head(Field::Canonical(CanonicalField::Data)))
@@ -536,9 +488,7 @@ impl Draft {
     #[tactic(auto, using(crate::proofs::Heads::heads), unfolding(crate::specs::Left::field_left, crate::specs::Left::stage_left, crate::specs::Left::data_left))]
     fn data(&mut self, head: Head, next: u64) -> Result<Stage, BundleFault>
         requires { IsTrue (stage_fits (Stage.Head (Field.Canonical CanonicalField.Data)) self.old) }
-        ensures judges { JudgesAt next (Field.Canonical CanonicalField.Data) self.old head result self.new }
-        ensures follows { Follows result self.new }
-        ensures keeps { IfOk result (λ stage. KeepsCheck self.old.check stage self.new.check) }
+        ensures { JudgedAt next (Field.Canonical CanonicalField.Data) self.old head result self.new }
     {
         let size = row::byte_string(head)?;
         self.payload = (self.block_type == row::PAYLOAD_TYPE).then_some((next, size));

@@ -1,8 +1,8 @@
 //! Heads of a bundle: the one that a piece begins with, and what a head that has come whole leads to.
-ghost use Rattle.std.specs.Prelude.{◌≡◌, ◌^◌, ◌-◌, ◌<◌, ◌≤◌, ℕ, IfOk, IsTrue, List, length, take, drop};
+ghost use Rattle.std.specs.Prelude.{◌≡◌, ◌^◌, ◌-◌, ◌<◌, ◌≤◌, ℕ, IsTrue, List, length, take, drop};
 ghost use Rattle.link_cbor.specs.Head.{Whole, head_front, front_of};
-ghost use Rattle.link_bundle.specs.Fits.{scan_fits, stage_fits, Follows, KeepsCheck};
-ghost use Rattle.link_bundle.specs.Left.{JudgesFrom};
+ghost use Rattle.link_bundle.specs.Fits.{scan_fits, stage_fits};
+ghost use Rattle.link_bundle.specs.Judged.{JudgedFrom};
 ghost use Rattle.link_bundle.specs.Scan.{HasCome, HeadCame};
 
 use crate::cursor::Cursor;
@@ -16,9 +16,7 @@ use link_cbor::{Head, HeadScan, HeadStep, Piecewise};
 #[tactic(auto, using(crate::proofs::Heads::heads), unfolding(crate::specs::Left::field_left, crate::specs::Left::stage_left))]
 fn judge(draft: &mut Draft, cursor: &Cursor, field: Field, head: Head) -> Result<Stage, BundleFault>
     requires { IsTrue (stage_fits (Stage.Head field) draft.old) }
-    ensures judges { JudgesFrom cursor.now.place cursor.now.count field draft.old head result draft.new }
-    ensures follows { Follows result draft.new }
-    ensures keeps { IfOk result (λ stage. KeepsCheck draft.old.check stage draft.new.check) }
+    ensures { JudgedFrom cursor.now.place cursor.now.count field draft.old head result draft.new }
 {
     match field {
         Field::Primary(which) => draft.primary(which, head),

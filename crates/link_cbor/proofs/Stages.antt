@@ -13,7 +13,7 @@ use Rattle.link_cbor.specs.declared.head.HeadStep.{HeadStep}
 use Rattle.link_cbor.specs.declared.head.HeadStep.TheVariants.{More, Done, Bad}
 use Rattle.link_cbor.specs.Head.{Cut, Whole, big_endian, head_front, front_of, step_at, step_of, argument_front, with_argument, no_argument, front_by}
 use Rattle.link_cbor.specs.HeadLaws.{argument_front-cut, argument_front-there, front_by-small, front_by-argument, front_by-reserved, front_by-none}
-use Rattle.link_cbor.specs.Stage.{front_from, told_at, stage_fits, StandsAt}
+use Rattle.link_cbor.specs.Stage.{front_from, outcome_at, stage_fits, StandsAt}
 
 -- what `stage_fits` says of an argument
 pub record ArgumentFits (count left value : ℕ) : Type 0 where
@@ -41,27 +41,27 @@ stage_fits-argument count major left value facts =
     rw (lt-ltb 0 left facts.wanted, le-leb left 8 facts.most, le-leb (count + left) 9 facts.room, lt-ltb value (256 ^ (8 - left)) facts.fits) refl
 
 -- what a scan returns is what the bytes seen begin with
-told_from : (count : ℕ) (stage : Stage) → stage_fits count stage ≡ true → front_from count stage [] ≡ front_of (told_at stage) count
+outcome_from : (count : ℕ) (stage : Stage) → stage_fits count stage ≡ true → front_from count stage [] ≡ front_of (outcome_at stage) count
 unfolding front_from head_front argument_front
-told_from count Start fits = refl
-told_from count (Argument major left value) fits = rw (lt-ltb 0 left (argument_fits count major left value fits).wanted) refl
-told_from count Simple fits = refl
-told_from count (WholeHead head) fits = refl
-told_from count NoHead fits = refl
+outcome_from count Start fits = refl
+outcome_from count (Argument major left value) fits = rw (lt-ltb 0 left (argument_fits count major left value fits).wanted) refl
+outcome_from count Simple fits = refl
+outcome_from count (WholeHead head) fits = refl
+outcome_from count NoHead fits = refl
 
 step_at_front : (step : HeadStep) (size : ℕ) → step_at (front_of step size) ≡ step
 step_at_front More size = refl
 step_at_front (Done head) size = refl
 step_at_front Bad size = refl
 
-pub told_front : (count : ℕ) (stage : Stage) (seen : List ℕ) → count ≡ length seen
-    → StandsAt count stage (λ more. head_front (seen ++ more)) → head_front seen ≡ front_of (told_at stage) (length seen)
-told_front count stage seen size stands =
-    ap head_front (sym (append-nil seen)) ∙ stands.reads [] ∙ told_from count stage stands.fits ∙ ap (front_of (told_at stage)) size
+pub outcome_front : (count : ℕ) (stage : Stage) (seen : List ℕ) → count ≡ length seen
+    → StandsAt count stage (λ more. head_front (seen ++ more)) → head_front seen ≡ front_of (outcome_at stage) (length seen)
+outcome_front count stage seen size stands =
+    ap head_front (sym (append-nil seen)) ∙ stands.reads [] ∙ outcome_from count stage stands.fits ∙ ap (front_of (outcome_at stage)) size
 
 -- what it returns is what a scan of these bytes returns
-pub told_step : (stage : Stage) (seen : List ℕ) → head_front seen ≡ front_of (told_at stage) (length seen) → told_at stage ≡ step_of seen
-told_step stage seen front = sym (ap step_at front ∙ step_at_front (told_at stage) (length seen))
+pub outcome_step : (stage : Stage) (seen : List ℕ) → head_front seen ≡ front_of (outcome_at stage) (length seen) → outcome_at stage ≡ step_of seen
+outcome_step stage seen front = sym (ap step_at front ∙ step_at_front (outcome_at stage) (length seen))
 
 -- ---- an argument
 

@@ -83,14 +83,14 @@ front_stays major information rest more (none least) told =
     front_by-none major information (rest ++ more) least ∙ sym (front_by-none major information rest least)
 
 -- a head that is known to be complete or ill-formed is so whatever bytes follow
-pub told_stays : (seen more : List ℕ) → is_cut (head_front seen) ≡ false → head_front (seen ++ more) ≡ head_front seen
+pub uncut_stays : (seen more : List ℕ) → is_cut (head_front seen) ≡ false → head_front (seen ++ more) ≡ head_front seen
 unfolding head_front
-told_stays [] more told = absurd (false≢true (sym told))
-told_stays (first ∷ rest) more told = front_stays (first / 32) (first % 32) rest more (kind_of (first % 32)) told
+uncut_stays [] more told = absurd (false≢true (sym told))
+uncut_stays (first ∷ rest) more told = front_stays (first / 32) (first % 32) rest more (kind_of (first % 32)) told
 
 pub whole_stays : (seen more : List ℕ) (head : Head) (size : ℕ)
     → head_front seen ≡ Whole head size → head_front (seen ++ more) ≡ Whole head size
-whole_stays seen more head size told = told_stays seen more (ap is_cut told) ∙ told
+whole_stays seen more head size told = uncut_stays seen more (ap is_cut told) ∙ told
 
 pub ill_formed_stays : (seen more : List ℕ) → head_front seen ≡ IllFormed → head_front (seen ++ more) ≡ IllFormed
-ill_formed_stays seen more told = told_stays seen more (ap is_cut told) ∙ told
+ill_formed_stays seen more told = uncut_stays seen more (ap is_cut told) ∙ told

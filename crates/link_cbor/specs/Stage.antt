@@ -26,12 +26,12 @@ wants_more (WholeHead head) = false
 wants_more NoHead = false
 
 -- what the bytes that were seen say of the head
-abbrev pub told_at : Stage → HeadStep
-told_at Start = More
-told_at (Argument major left value) = More
-told_at Simple = More
-told_at (WholeHead head) = Done head
-told_at NoHead = Bad
+abbrev pub outcome_at : Stage → HeadStep
+outcome_at Start = More
+outcome_at (Argument major left value) = More
+outcome_at Simple = More
+outcome_at (WholeHead head) = Done head
+outcome_at NoHead = Bad
 
 -- what keeps the argument in 64 bits: its bytes are at most eight, of which those that were seen encode `value`
 unfoldable pub stage_fits : ℕ → Stage → Bool

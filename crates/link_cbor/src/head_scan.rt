@@ -26,11 +26,11 @@ const LEAST_IN_NEXT_BYTE: u8 = 32;
 
 impl Stage {
     ghost use Rattle.link_cbor.specs.Head.{head_front, no_argument};
-    ghost use Rattle.link_cbor.specs.Stage.{told_at, StandsAt};
+    ghost use Rattle.link_cbor.specs.Stage.{outcome_at, StandsAt};
 
     /// What the bytes seen say of the head.
-    fn told(self) -> HeadStep
-        ensures { result ≡ told_at self }
+    fn outcome(self) -> HeadStep
+        ensures { result ≡ outcome_at self }
     {
         match self {
             Stage::Whole(head) => HeadStep::Done(head),
@@ -106,7 +106,7 @@ impl HeadScan {
         ensures front { (seen : List ℕ) → HasScanned self.now seen → head_front seen ≡ front_of result (length seen) }
         ensures may_step { IsTrue (may_scan self.now) ↔ (result ≡ More) }
     {
-        self.stage.told()
+        self.stage.outcome()
     }
 
     /// The stage after one more byte.
@@ -137,7 +137,7 @@ impl HeadScan {
                 major: 7,
                 value: Some(u64::from(byte)),
             }),
-            told => told,
+            ended => ended,
         }
     }
 }

@@ -1,4 +1,4 @@
--- What a run tells in turn it tells in one, and how a run ends.
+-- What the steps of a run write in turn the run writes in all, and how a run ends.
 use Rattle.std.proofs.Common.{◌≡◌, ℕ, ◌+◌, ◌-◌, min, ◌≤◌, ◌⊎◌, List, [], ◌++◌, length, take, drop, Option, Some, None, Result, Err, refl, ap, sym, ◌∙◌, subst, length-append, append-nil, append_assoc, arith, length-take}
 use Rattle.std.proofs.Math.Nat.{min-le_right}
 use Rattle.std.proofs.Math.Seq.{take-append-add}

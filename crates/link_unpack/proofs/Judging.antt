@@ -10,7 +10,7 @@ use Rattle.link_bundle_types.specs.declared.fault.State.{State}
 use Rattle.link_bundle_types.specs.declared.fault.State.TheVariants as state
 use Rattle.link_bundle_types.specs.declared.info.BundleInfo.{BundleInfo}
 use Rattle.link_bundle_types.specs.Faults.{lasts}
-use Rattle.link_bundle.specs.Bundle.{judged, verdict, noted, bytes_of, payload_in, spanned, payload_span, state_of, is_going, bundle_goes}
+use Rattle.link_bundle.specs.Bundle.{judged, verdict, payload_of, bytes_of, payload_in, spanned, payload_span, state_of, is_going, bundle_goes}
 use Rattle.link_bundle.specs.Scan.{HasScanned, may_scan}
 use Rattle.link_bundle.specs.Stages.{takes_bytes}
 use Rattle.link_bundle.specs.declared.scan.BundleScan.{BundleScan}
@@ -222,16 +222,16 @@ payload-judged scan content judged = ⊎_elim
 
 -- ---- the payload's bytes of a piece
 
--- a span is of a payload whose place is noted
-record IsNoted (note : Option (ℕ × ℕ)) (place count there : ℕ) : Type 0 where
+-- a span is of a payload whose place is known
+record IsKnown (known : Option (ℕ × ℕ)) (place count there : ℕ) : Type 0 where
   size : ℕ
-  is : note ≡ Some (place, size)
+  is : known ≡ Some (place, size)
   all : count ≡ there
 
-span_noted : (note : Option (ℕ × ℕ)) (place count there : ℕ) → Some (place, count) ≡ spanned note there
-    → IsNoted note place count there
-span_noted None place count there is = cc
-span_noted (Some (at, size)) place count there is =
+span_known : (known : Option (ℕ × ℕ)) (place count there : ℕ) → Some (place, count) ≡ spanned known there
+    → IsKnown known place count there
+span_known None place count there is = cc
+span_known (Some (at, size)) place count there is =
     let same : ◌≡◌ {A = ℕ × ℕ} (place, count) (at, there) = cc in
     record {
       size = size;
@@ -243,10 +243,10 @@ span_none : (told : Option (ℕ × ℕ)) (there : ℕ) → None ≡ spanned told
 span_none None there is = refl
 span_none (Some (at, size)) there is = cc
 
-payload_at_note : (bytes : List ℕ) (payload : Option (ℕ × ℕ)) → noted (judged bytes) ≡ payload
+payload_in-known : (bytes : List ℕ) (payload : Option (ℕ × ℕ)) → payload_of (judged bytes) ≡ payload
     → payload_in bytes ≡ bytes_of payload bytes
 unfolding payload_in
-payload_at_note bytes payload is = ap (λ (told : Option (ℕ × ℕ)). bytes_of told bytes) is
+payload_in-known bytes payload is = ap (λ (told : Option (ℕ × ℕ)). bytes_of told bytes) is
 
 module _ (scan : BundleScan) (content piece : List ℕ) (now : HasJudged scan (content ++ piece)) where
   -- where the payload's place is known
@@ -256,25 +256,25 @@ module _ (scan : BundleScan) (content piece : List ℕ) (now : HasJudged scan (c
   unfolding payload_span
   part_some place count limit span short =
       let whole = content ++ piece in
-      let here = span_noted (noted (judged now.seen)) place count (length (payload_in now.seen)) (span now.seen now.scanned) in
-      let note : noted (judged whole) ≡ Some (place, here.size) =
-      ap (λ xs. noted (judged xs)) (sym now.parts) ∙ PayloadLasts-holds now.seen now.rest (place, here.size) here.is in
-      let after : payload_in whole ≡ take here.size (drop place whole) = payload_at_note whole (Some (place, here.size)) note in
+      let here = span_known (payload_of (judged now.seen)) place count (length (payload_in now.seen)) (span now.seen now.scanned) in
+      let where_now : payload_of (judged whole) ≡ Some (place, here.size) =
+      ap (λ xs. payload_of (judged xs)) (sym now.parts) ∙ PayloadLasts-holds now.seen now.rest (place, here.size) here.is in
+      let after : payload_in whole ≡ take here.size (drop place whole) = payload_in-known whole (Some (place, here.size)) where_now in
       let count_is : count ≡ length (take here.size (drop place whole)) =
       here.all ∙ ap length (payload-judged scan whole now ∙ after) in (
         part_fits whole place here.size count limit count_is short,
         after ∙ part_more content piece place here.size count count_is
             ∙ ap (λ xs. xs ++ part_in piece (length content) place count)
-            (sym (PayloadPlaced-holds content piece place here.size note)),
+            (sym (PayloadPlaced-holds content piece place here.size where_now)),
       )
 
   -- where it is not: then nothing of it was there before
-  earlier_none : payload_in (content ++ piece) ≡ [] → (note : Option (ℕ × ℕ)) → noted (judged content) ≡ note → payload_in content ≡ []
-  earlier_none none None is = payload_at_note content None is
+  earlier_none : payload_in (content ++ piece) ≡ [] → (known : Option (ℕ × ℕ)) → payload_of (judged content) ≡ known → payload_in content ≡ []
+  earlier_none none None is = payload_in-known content None is
   earlier_none none (Some (place, size)) is =
       let later = PayloadLasts-holds content piece (place, size) is in
-      payload_at_note content (Some (place, size)) is
-      ∙ no_part content piece place size (sym (payload_at_note (content ++ piece) (Some (place, size)) later) ∙ none)
+      payload_in-known content (Some (place, size)) is
+      ∙ no_part content piece place size (sym (payload_in-known (content ++ piece) (Some (place, size)) later) ∙ none)
 
   pub part_none : ((seen : List ℕ) → HasScanned scan seen → None ≡ payload_span seen)
       → payload_in (content ++ piece) ≡ payload_in content ++ []
@@ -282,5 +282,5 @@ module _ (scan : BundleScan) (content piece : List ℕ) (now : HasJudged scan (c
   part_none span =
       let none : payload_in (content ++ piece) ≡ [] =
       sym (payload-judged scan (content ++ piece) now)
-      ∙ payload_at_note now.seen None (span_none (noted (judged now.seen)) (length (payload_in now.seen)) (span now.seen now.scanned)) in
-      none ∙ sym (append-nil (payload_in content) ∙ earlier_none none (noted (judged content)) refl)
+      ∙ payload_in-known now.seen None (span_none (payload_of (judged now.seen)) (length (payload_in now.seen)) (span now.seen now.scanned)) in
+      none ∙ sym (append-nil (payload_in content) ∙ earlier_none none (payload_of (judged content)) refl)

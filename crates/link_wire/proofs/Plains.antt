@@ -79,31 +79,28 @@ module _ (window : List ℕ) (some : 0 < length window) where
   keepalive_head is = typed window 4 0 Keepalive some is (pure_is Keepalive)
 
 module _ (window : List ℕ) (enough : 3 ≤ length window) where
+  -- a message of two bytes, as they stand in the window
+  of_two_bytes : (message : ℕ → ℕ → Message)
+      → IsPart message_at (take 3 window) (message (big_number 1 (take 1 (drop 1 window))) (big_number 1 (take 1 (drop 2 window))))
+      → IsPart message_at (take 3 window) (message (slice_index window 1) (slice_index window 2))
+  of_two_bytes message whole =
+      let P : ℕ → Type 0 = λ n. IsPart message_at (take 3 window) (message n (big_number 1 (take 1 (drop 2 window)))) in
+      let Q : ℕ → Type 0 = λ n. IsPart message_at (take 3 window) (message (slice_index window 1) n) in
+      subst Q (byte_of window 2 (omega arith)) (subst P (byte_of window 1 (omega arith)) whole)
+
   pub sess_term_head : slice_index window 0 ≡ 5
       → IsPart message_at (take 3 window) (SessTerm (slice_index window 1) (slice_index window 2))
   unfolding fields_at sess_term_at
-  sess_term_head is =
-      let first = byte_of window 1 (omega arith) in
-      let second = byte_of window 2 (omega arith) in
-      let message = SessTerm (big_number 1 (take 1 (drop 1 window))) (big_number 1 (take 1 (drop 2 window))) in
-      let P : ℕ → Type 0 = λ n. IsPart message_at (take 3 window) (SessTerm n (big_number 1 (take 1 (drop 2 window)))) in
-      let Q : ℕ → Type 0 = λ n. IsPart message_at (take 3 window) (SessTerm (slice_index window 1) n) in
-      let whole : IsPart message_at (take 3 window) message = typed window 5 2 message (omega arith) is
-      (field_then window 1 1 1 _ _ (omega arith) (field_then window 2 1 0 _ _ (omega arith) (pure_is message))) in
-      subst Q second (subst P first whole)
+  sess_term_head is = of_two_bytes (λ flags reason. SessTerm flags reason)
+      (typed window 5 2 _ (omega arith) is
+      (field_then window 1 1 1 _ _ (omega arith) (field_then window 2 1 0 _ _ (omega arith) (pure_is _))))
 
   pub msg_reject_head : slice_index window 0 ≡ 6
       → IsPart message_at (take 3 window) (MsgReject (slice_index window 1) (slice_index window 2))
   unfolding fields_at msg_reject_at
-  msg_reject_head is =
-      let first = byte_of window 1 (omega arith) in
-      let second = byte_of window 2 (omega arith) in
-      let message = MsgReject (big_number 1 (take 1 (drop 1 window))) (big_number 1 (take 1 (drop 2 window))) in
-      let P : ℕ → Type 0 = λ n. IsPart message_at (take 3 window) (MsgReject n (big_number 1 (take 1 (drop 2 window)))) in
-      let Q : ℕ → Type 0 = λ n. IsPart message_at (take 3 window) (MsgReject (slice_index window 1) n) in
-      let whole : IsPart message_at (take 3 window) message = typed window 6 2 message (omega arith) is
-      (field_then window 1 1 1 _ _ (omega arith) (field_then window 2 1 0 _ _ (omega arith) (pure_is message))) in
-      subst Q second (subst P first whole)
+  msg_reject_head is = of_two_bytes (λ reason header. MsgReject reason header)
+      (typed window 6 2 _ (omega arith) is
+      (field_then window 1 1 1 _ _ (omega arith) (field_then window 2 1 0 _ _ (omega arith) (pure_is _))))
 
 pub refuse_head : (window : List ℕ) → 10 ≤ length window → slice_index window 0 ≡ 3
     → IsPart message_at (take 10 window) (Refuse (slice_index window 1) (big_number 8 (slice_range window 2 10)))

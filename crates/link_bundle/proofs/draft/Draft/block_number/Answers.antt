@@ -1,20 +1,21 @@
-use Rattle.std.proofs.Common.{◌≡◌, ℕ, ◌+◌, ◌-◌, List, [], ◌∷◌, length, ◌∙◌, refl, sym, ap, length-append, arith}
+use Rattle.std.proofs.Common.{◌≡◌, ℕ, ◌+◌, ◌-◌, List, [], ◌∷◌, length, ◌∙◌, refl, sym, ap, length-append, arith, rules}
 use Rattle.link_bundle.specs.Left.{field_left, stage_left, number_left}
 use Rattle.link_bundle_rows.specs.Rows.{block_number}
-use Rattle.link_bundle.proofs.Heads.{row_at-told}
+use Rattle.link_bundle.proofs.Heads.{row_at-accepted}
+use Rattle.link_bundle.proofs.Judgings.{as_judged}
 use Rattle.link_bundle.proofs.draft.Draft.block_number.Goals as goal
 
-pub returns-clause-judges : goal.returns-clause-judges
+pub returns : goal.returns
 unfolding field_left stage_left number_left
-returns-clause-judges c = λ next place bytes start told within.
+returns c = as_judged (search rules) (search rules) (λ next place bytes start told within.
     let now = c.args.self.now in
     let more = length-append now.numbers (c.in_ok-number.number ∷ []) in
     let left : 64 - (length now.numbers + 1) ≡ 63 - length now.numbers = omega arith in
     rw (
       c.push.ensures,
-      row_at-told (block_number now.block_type now.numbers) bytes place next c.args.head c.in_ok-number.number told
+      row_at-accepted (block_number now.block_type now.numbers) bytes place next c.args.head c.in_ok-number.number told
           (ap (λ (numbers : List ℕ). block_number now.block_type numbers c.args.head) (sym c.as_slice.ensures.value)
           ∙ sym c.block_number.ensures.judged ∙ c.in_ok-number.was),
       more,
       left,
-    ) refl
+    ) refl)

@@ -1,14 +1,14 @@
 use Rattle.std.proofs.Common.{length, sym, ap, ◌∙◌}
 use Rattle.link_cbor.specs.Head.{front_of}
-use Rattle.link_cbor.proofs.Stages.{told_front, told_step}
+use Rattle.link_cbor.proofs.Stages.{outcome_front, outcome_step}
 use Rattle.link_cbor.proofs.head_scan.HeadScan.outcome.Goals as goal
 
 pub returns-clause-seen : goal.returns-clause-seen
 returns-clause-seen c seen scanned =
-    c.told.ensures
-    ∙ told_step c.args.self.now.stage seen (told_front c.args.self.now.count c.args.self.now.stage seen scanned.count scanned.stands)
+    c.outcome.ensures
+    ∙ outcome_step c.args.self.now.stage seen (outcome_front c.args.self.now.count c.args.self.now.stage seen scanned.count scanned.stands)
 
 pub returns-clause-front : goal.returns-clause-front
 returns-clause-front c seen scanned =
-    told_front c.args.self.now.count c.args.self.now.stage seen scanned.count scanned.stands
-    ∙ ap (λ step. front_of step (length seen)) (sym c.told.ensures)
+    outcome_front c.args.self.now.count c.args.self.now.stage seen scanned.count scanned.stands
+    ∙ ap (λ step. front_of step (length seen)) (sym c.outcome.ensures)

@@ -1,4 +1,4 @@
--- what is read of a bundle, of some bytes and of those bytes with more after them: where the payload's bytes are noted
+-- a bundle, read of some bytes and of those bytes with more after them: where the payload's bytes are
 
 use Rattle.std.proofs.Common.{◌≡◌, ℕ, zero, suc, ◌+◌, ◌<◌, ◌≤◌, Bool, true, false, List, [], ◌∷◌, ◌++◌, length, Option, None, Some, Result, Ok, Err, refl, sym, ap, ◌∙◌, ⊎_elim, arith, ltb}
 use Rattle.std.specs.Prelude.{◌==◌, if◌then◌else◌}
@@ -12,42 +12,42 @@ use Rattle.link_bundle.specs.Reading.{Stop, Reading, stopped, cut_short, row_at,
 use Rattle.link_bundle.specs.CheckField.{field_at}
 use Rattle.link_bundle.specs.Primary.{Primary, primary_at}
 use Rattle.link_bundle.specs.Canonical.{content_at}
-use Rattle.link_bundle.specs.Bundle.{Bundle, noting, payload_at, blocks_at, opening_at, bundle_at, noted}
+use Rattle.link_bundle.specs.Bundle.{Bundle, with_payload, payload_at, blocks_at, opening_at, bundle_at, payload_of}
 use Rattle.link_bundle.proofs.Steady.{EndsCut, Stays, cuts, same, stays-then, IsCut, Reads, short, whole, stays_of, row_at-reads, field_at-reads, content_at-reads, primary_at-reads, opening_at-reads}
 
--- the payload that is noted begins at this offset or after it
-abbrev pub NotedFrom : ℕ → Result Bundle Stop → Type 0
-NotedFrom place reading = (payload : ℕ × ℕ) → noted reading ≡ Some payload → place ≤ payload.0
+-- the payload, where it is known, begins at this offset or after it
+abbrev pub PayloadFrom : ℕ → Result Bundle Stop → Type 0
+PayloadFrom place reading = (payload : ℕ × ℕ) → payload_of reading ≡ Some payload → place ≤ payload.0
 
 -- all of its bytes are there
-abbrev pub NotedWithin : List ℕ → Result Bundle Stop → Type 0
-NotedWithin bytes reading = (payload : ℕ × ℕ) → noted reading ≡ Some payload → payload.0 + payload.1 ≤ length bytes
+abbrev pub PayloadWithin : List ℕ → Result Bundle Stop → Type 0
+PayloadWithin bytes reading = (payload : ℕ × ℕ) → payload_of reading ≡ Some payload → payload.0 + payload.1 ≤ length bytes
 
 -- what is read of a bundle from an offset, of some bytes and of those bytes with more after them: the bytes end before
--- the payload is noted, or after that, or they do not end inside the bundle
+-- the payload is known, or after that, or they do not end inside the bundle
 pub data Keeps : List ℕ → ℕ → Result Bundle Stop → Result Bundle Stop → Type 0 where
   before : {bytes : List ℕ} {place : ℕ} {now later : Result Bundle Stop}
-      → IsCut bytes now → NotedFrom place later → NotedFrom (length bytes) later → Keeps bytes place now later
+      → IsCut bytes now → PayloadFrom place later → PayloadFrom (length bytes) later → Keeps bytes place now later
   inside : {bytes : List ℕ} {place : ℕ} {now later : Result Bundle Stop}
-      → EndsCut now → noted later ≡ noted now → NotedFrom place now → Keeps bytes place now later
+      → EndsCut now → payload_of later ≡ payload_of now → PayloadFrom place now → Keeps bytes place now later
   after : {bytes : List ℕ} {place : ℕ} {now later : Result Bundle Stop}
-      → later ≡ now → NotedFrom place now → NotedWithin bytes now → Keeps bytes place now later
+      → later ≡ now → PayloadFrom place now → PayloadWithin bytes now → Keeps bytes place now later
 
-pub not_noted : (stop : Stop) (payload : ℕ × ℕ) → stop.payload ≡ None → stop.payload ≡ Some payload → ⊥
-not_noted stop payload plain told = let no : Some payload ≡ None = sym told ∙ plain in cc
+pub stop_without_payload : (stop : Stop) (payload : ℕ × ℕ) → stop.payload ≡ None → stop.payload ≡ Some payload → ⊥
+stop_without_payload stop payload plain told = let no : Some payload ≡ None = sym told ∙ plain in cc
 
-nowhere : (place : ℕ) (stop : Stop) → stop.payload ≡ None → NotedFrom place (Err stop)
-nowhere place stop plain = λ payload told. absurd (not_noted stop payload plain told)
+nowhere : (place : ℕ) (stop : Stop) → stop.payload ≡ None → PayloadFrom place (Err stop)
+nowhere place stop plain = λ payload told. absurd (stop_without_payload stop payload plain told)
 
-sooner : (place start : ℕ) (reading : Result Bundle Stop) → place ≤ start → NotedFrom start reading
-    → NotedFrom place reading
+sooner : (place start : ℕ) (reading : Result Bundle Stop) → place ≤ start → PayloadFrom start reading
+    → PayloadFrom place reading
 sooner place start reading lower from = λ payload told. let on = from payload told in omega arith
 
-noted_later : (bytes : List ℕ) (place : ℕ) (now later : Result Bundle Stop) → Keeps bytes place now later
-    → NotedFrom place later
-noted_later bytes place now later (before cut from past) = from
-noted_later bytes place now later (inside cut is from) = λ payload told. from payload (sym is ∙ told)
-noted_later bytes place now later (after is from within) = λ payload told. from payload (ap noted (sym is) ∙ told)
+payload_later : (bytes : List ℕ) (place : ℕ) (now later : Result Bundle Stop) → Keeps bytes place now later
+    → PayloadFrom place later
+payload_later bytes place now later (before cut from past) = from
+payload_later bytes place now later (inside cut is from) = λ payload told. from payload (sym is ∙ told)
+payload_later bytes place now later (after is from within) = λ payload told. from payload (ap payload_of (sym is) ∙ told)
 
 keeps-sooner : (bytes : List ℕ) (place start : ℕ) (now later : Result Bundle Stop) → place ≤ start
     → Keeps bytes start now later → Keeps bytes place now later
@@ -66,12 +66,12 @@ keeps-then bytes place (Err stop) (Err other) next next_later (short cut onward 
     before cut (nowhere place other onward) (nowhere (length bytes) other onward)
 keeps-then bytes place (Err stop) (Ok (value, end)) next next_later (short cut onward past) each =
     let rest = next_later (value, end) in
-    let from = noted_later bytes end (next (value, end)) rest (each (value, end)) in
+    let from = payload_later bytes end (next (value, end)) rest (each (value, end)) in
     before cut (sooner place end rest onward from) (sooner (length bytes) end rest past from)
 keeps-then bytes place (Ok (value, end)) later next next_later (whole is onward) each =
     rw is (keeps-sooner bytes place end (next (value, end)) (next_later (value, end)) onward (each (value, end)))
 keeps-then bytes place (Err stop) later next next_later (whole is onward) each =
-    after (rw is refl) (nowhere place stop onward) (λ payload told. absurd (not_noted stop payload onward told))
+    after (rw is refl) (nowhere place stop onward) (λ payload told. absurd (stop_without_payload stop payload onward told))
 
 row-keeps : {A : Type 0} (row : Head → Result A BundleFault) (bytes more : List ℕ) (place : ℕ)
     (next next_later : A × ℕ → Result Bundle Stop)
@@ -92,27 +92,27 @@ keeps-cut bytes more place =
     let stop = stopped Cut (length (bytes ++ more)) in
     before refl (nowhere place stop refl) (nowhere (length bytes) stop refl)
 
--- ---- the payload block, whose note is known
+-- ---- the payload block
 
-noted-then : (payload : ℕ × ℕ) (field : Reading Bool) (next : Bool × ℕ → Result Bundle Stop)
-    → ((value : Bool × ℕ) → noted (noting payload (next value)) ≡ Some payload)
-    → noted (noting payload (field >>= next)) ≡ Some payload
-noted-then payload (Ok value) next each = each value
-noted-then payload (Err stop) next each = refl
+payload_of-then : (payload : ℕ × ℕ) (field : Reading Bool) (next : Bool × ℕ → Result Bundle Stop)
+    → ((value : Bool × ℕ) → payload_of (with_payload payload (next value)) ≡ Some payload)
+    → payload_of (with_payload payload (field >>= next)) ≡ Some payload
+payload_of-then payload (Ok value) next each = each value
+payload_of-then payload (Err stop) next each = refl
 
-noted-payload_at : (primary : Primary) (blocks size : ℕ) (check : Option CheckKind) (start : ℕ) (bytes : List ℕ)
+payload_of-payload_at : (primary : Primary) (blocks size : ℕ) (check : Option CheckKind) (start : ℕ) (bytes : List ℕ)
     (place : ℕ)
-    → noted (payload_at primary blocks size check start bytes place) ≡ Some (place, size)
+    → payload_of (payload_at primary blocks size check start bytes place) ≡ Some (place, size)
 unfolding payload_at
-noted-payload_at primary blocks size check start bytes place =
-    noted-then (place, size) (content_at size check start bytes place) _
-    (λ (_, end). noted-then (place, size) (row_at closing bytes end) _ (λ last. refl))
+payload_of-payload_at primary blocks size check start bytes place =
+    payload_of-then (place, size) (content_at size check start bytes place) _
+    (λ (_, end). payload_of-then (place, size) (row_at closing bytes end) _ (λ last. refl))
 
-stays-noting : {A : Type 0} (payload : ℕ × ℕ) (now later : Result A Stop) → Stays now later
-    → Stays (noting payload now) (noting payload later)
-stays-noting payload (Ok value) later (cuts cut) = absurd cut
-stays-noting payload (Err stop) later (cuts cut) = cuts cut
-stays-noting payload now later (same is) = same (rw is refl)
+stays-with_payload : {A : Type 0} (payload : ℕ × ℕ) (now later : Result A Stop) → Stays now later
+    → Stays (with_payload payload now) (with_payload payload later)
+stays-with_payload payload (Ok value) later (cuts cut) = absurd cut
+stays-with_payload payload (Err stop) later (cuts cut) = cuts cut
+stays-with_payload payload now later (same is) = same (rw is refl)
 
 payload_at-stays : (primary : Primary) (blocks size : ℕ) (check : Option CheckKind) (start : ℕ) (bytes more : List ℕ)
     (place : ℕ)
@@ -120,7 +120,7 @@ payload_at-stays : (primary : Primary) (blocks size : ℕ) (check : Option Check
     (payload_at primary blocks size check start (bytes ++ more) place)
 unfolding payload_at
 payload_at-stays primary blocks size check start bytes more place =
-    stays-noting (place, size) _ _
+    stays-with_payload (place, size) _ _
     (stays-then (content_at size check start bytes place) (content_at size check start (bytes ++ more) place) _ _
     (stays_of bytes place _ _ (content_at-reads size check start bytes more place))
     (λ (_, end). stays-then (row_at closing bytes end) (row_at closing (bytes ++ more) end) _ _
@@ -139,20 +139,20 @@ payload_at-cut primary blocks size check start bytes place missing =
 known_once : {one other : ℕ × ℕ} → Some one ≡ Some other → other ≡ one
 known_once is = cc
 
-known-from : (place size : ℕ) (reading : Result Bundle Stop) → noted reading ≡ Some (place, size)
-    → NotedFrom place reading
+known-from : (place size : ℕ) (reading : Result Bundle Stop) → payload_of reading ≡ Some (place, size)
+    → PayloadFrom place reading
 known-from place size reading is = λ payload told.
     let here : payload ≡ (place, size) = known_once (sym is ∙ told) in
     rw here (omega arith)
 
-known-within : (bytes : List ℕ) (place size : ℕ) (reading : Result Bundle Stop) → noted reading ≡ Some (place, size)
-    → place + size ≤ length bytes → NotedWithin bytes reading
+known-within : (bytes : List ℕ) (place size : ℕ) (reading : Result Bundle Stop) → payload_of reading ≡ Some (place, size)
+    → place + size ≤ length bytes → PayloadWithin bytes reading
 known-within bytes place size reading is there = λ payload told.
     let here : payload ≡ (place, size) = known_once (sym is ∙ told) in
     rw here there
 
-keeps-known : (bytes : List ℕ) (place : ℕ) (now later : Result Bundle Stop) → Stays now later → noted later ≡ noted now
-    → NotedFrom place now → NotedWithin bytes now → Keeps bytes place now later
+keeps-known : (bytes : List ℕ) (place : ℕ) (now later : Result Bundle Stop) → Stays now later → payload_of later ≡ payload_of now
+    → PayloadFrom place now → PayloadWithin bytes now → Keeps bytes place now later
 keeps-known bytes place now later (cuts cut) is from within = inside cut is from
 keeps-known bytes place now later (same equal) is from within = after equal from within
 
@@ -163,13 +163,13 @@ payload_at-keeps : (primary : Primary) (blocks size : ℕ) (check : Option Check
 payload_at-keeps primary blocks size check start bytes more place =
     let now = payload_at primary blocks size check start bytes place in
     let later = payload_at primary blocks size check start (bytes ++ more) place in
-    let is = noted-payload_at primary blocks size check start bytes place in
-    let same_note = noted-payload_at primary blocks size check start (bytes ++ more) place ∙ sym is in
+    let is = payload_of-payload_at primary blocks size check start bytes place in
+    let same_payload = payload_of-payload_at primary blocks size check start (bytes ++ more) place ∙ sym is in
     let from = known-from place size now is in
     ⊎_elim
-    (λ missing. inside (payload_at-cut primary blocks size check start bytes place missing) same_note from)
+    (λ missing. inside (payload_at-cut primary blocks size check start bytes place missing) same_payload from)
     (λ there. keeps-known bytes place now later (payload_at-stays primary blocks size check start bytes more place)
-    same_note from (known-within bytes place size now is there))
+    same_payload from (known-within bytes place size now is there))
     (cases_lt (length bytes) (place + size))
 
 -- ---- the blocks before it

@@ -1,0 +1,31 @@
+-- a head of a bundle, judged: what every judging of one promises
+
+use Rattle.std.specs.Prelude.{ℕ, Result, IfOk}
+use Rattle.link_cbor.specs.declared.head.Head.{Head as HeadItem}
+use Rattle.link_bundle_types.specs.declared.fault.BundleFault.{BundleFault}
+use Rattle.link_bundle.specs.declared.draft.Draft.{Draft}
+use Rattle.link_bundle.specs.declared.stage.Stage.{Stage}
+use Rattle.link_bundle.specs.declared.stage.Field.{Field}
+use Rattle.link_bundle.specs.Fits.{Follows, KeepsCheck}
+use Rattle.link_bundle.specs.Left.{JudgesFrom}
+
+-- the head is judged as the reading judges it (`reading` says so); what follows keeps the scan in bounds, and keeps what
+-- the checks cover
+pub record IsJudged (reading : Type 0) (old : Draft) (result : Result Stage BundleFault) (new : Draft) : Type 0 where
+  pub judges : reading
+  pub follows : Follows result new
+  pub keeps : IfOk result (λ stage. KeepsCheck old.check stage new.check)
+
+-- the head at `place`, with `next` after it
+abbrev pub JudgedFrom : ℕ → ℕ → Field → Draft → HeadItem → Result Stage BundleFault → Draft → Type 0
+JudgedFrom place next which old head result new = IsJudged (JudgesFrom place next which old head result new) old result new
+
+-- wherever it begins
+abbrev pub JudgedAt : ℕ → Field → Draft → HeadItem → Result Stage BundleFault → Draft → Type 0
+JudgedAt next which old head result new =
+    IsJudged ((place : ℕ) → JudgesFrom place next which old head result new) old result new
+
+-- and wherever it ends
+abbrev pub Judged : Field → Draft → HeadItem → Result Stage BundleFault → Draft → Type 0
+Judged which old head result new =
+    IsJudged ((next place : ℕ) → JudgesFrom place next which old head result new) old result new
