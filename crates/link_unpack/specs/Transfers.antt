@@ -33,7 +33,7 @@ abbrev pub ordered_by : Option OrderFault → Entry → Ordered → Ordered
 ordered_by (Some fault) head rest = record { heads = []; refused = Some (head.offset, fault) }
 ordered_by None head rest = record { heads = head ∷ rest.heads; refused = rest.refused }
 
--- heads after these messages
+-- of heads that come after these messages: each is judged by all messages before it
 unfoldable pub ordered_after : List Message → List Entry → Ordered
 ordered_after before [] = record { heads = []; refused = None }
 ordered_after before (head ∷ more) =
@@ -51,6 +51,7 @@ pub record Transfer : Type 0 where
   pub content : List ℕ
   pub closed : Bool
 
+-- the segment has END, and all of its data is there
 abbrev pub closes : SegmentHead → List ℕ → Bool
 closes head content = is_end head.flags && (length content == head.length)
 
@@ -60,13 +61,15 @@ continued [] content closed = []
 continued (latest ∷ earlier) content closed =
     record { first = latest.first; content = latest.content ++ content; closed = closed } ∷ earlier
 
--- A segment with START is the first of a transfer; another goes on with the latest.
+-- A segment with START is the first of a transfer, also where the latest was not closed (section 5.2.4); another goes on with the
+-- latest.
 abbrev pub after_segment : List Transfer → SegmentHead → List ℕ → List Transfer
 after_segment transfers head content =
     if is_start head.flags
     then record { first = head; content = content; closed = closes head content } ∷ transfers
     else continued transfers content (closes head content)
 
+-- no other message is about a transfer of this direction
 abbrev pub after_message : List Transfer → Message → List ℕ → List Transfer
 after_message transfers (SessInit keepalive segment_mru transfer_mru node items) content = transfers
 after_message transfers (Segment head) content = after_segment transfers head content
