@@ -20,10 +20,10 @@ use Rattle.link_wire.specs.declared.session.Session.{Session}
 use Rattle.link_report.specs.Message.{contact_text, message_text}
 use Rattle.link_report.specs.Fault.{fault_text}
 use Rattle.link_report.specs.declared.fault.Fault.TheVariants.{Wire}
-use Rattle.link_run.specs.Ends.{end_lines, end_status, lasting_lines}
+use Rattle.link_run.specs.Ends.{end_lines, end_status, lasting_lines, is_shown}
 use Rattle.link_run.specs.Run.{Texts, Outcome, Devices, devices_at, NoneFailed, HasWritten, Ended, WentOn, GivesStep}
 use Rattle.link_run.specs.Writers.{place_of, on_output, on_report, Writes, WritesPart, GivesReport}
-use Rattle.link_list.specs.Listing.{contact_lines, message_lines, lines_of, listing, listing_by, listing_sofar, listing_sofar_by, list_tool}
+use Rattle.link_list.specs.Listing.{contact_lines, message_lines, lines_of, listing, listing_by, listing_sofar, listing_sofar_by, listing_shows, list_tool}
 use Rattle.link_list.specs.ListRun.{most_given, IsWaiting, progress_of, Begins, Lists, IsListing, GivesStage, GivesLine, GoesOn, GivesEnd}
 use Rattle.link_list.specs.declared.listing.Stage.{Stage}
 use Rattle.link_list.specs.declared.listing.Stage.TheVariants as stage
@@ -31,13 +31,17 @@ use Rattle.link_run.specs.declared.run.Progress.{Progress}
 use Rattle.link_run.specs.declared.run.Status.{Status}
 use Rattle.link_run.specs.declared.writers.Writers.{Writers}
 use Rattle.link_run.proofs.Runs.{◌then◌, no_texts, texts_as, written_as, written_given, written_more, sound_given, sound_written, all_given, answered, writer_lost}
-use Rattle.link_run.proofs.Ends.{undecided_lines, standing_lines, lasts, lasting_as, reported, read_failed}
+use Rattle.link_run.proofs.Ends.{undecided_lines, undecided_shown, standing_lines, standing_shown, lasts, lasting_as, reported, read_failed}
 
 -- ---- the texts that bytes determine
 
 sofar_is : (bytes : List ℕ) (reading : Reading) → reading_of bytes ≡ reading → listing_sofar bytes ≡ listing_sofar_by reading
 unfolding listing_sofar
 sofar_is bytes reading is = ap listing_sofar_by is
+
+shows_is : (bytes : List ℕ) (reading : Reading) → reading_of bytes ≡ reading → listing_shows bytes ≡ is_shown reading.end
+unfolding listing_shows
+shows_is bytes reading is = ap (λ (r : Reading). is_shown r.end) is
 
 whole_is : (bytes : List ℕ) (reading : Reading) → reading_of bytes ≡ reading → listing bytes ≡ listing_by reading
 unfolding listing
@@ -235,7 +239,7 @@ module _ {R W E : Type 0} (in_look : R → Input) (out_look : W → Output) (rep
     contact_ended after (stop.Io fault) (stage.Ended answer) got gives =
         let size = got.size in
         read_failed in_look out_look report_look list_tool start (most_given stage.Contact) (source_of old) (source_of new) before after [] got.given (listing_sofar []) begun fresh.sound (omega arith) fault answer got.stops
-        (nothing_read ∙ sym (sofar_is got.given _ got.reading ∙ texts_as no_lines refl)) gives.0 gives.1
+        (nothing_read ∙ sym (sofar_is got.given _ got.reading ∙ texts_as no_lines refl)) (shows_is got.given _ got.reading) gives.0 gives.1
 
 -- ---- messages
 
@@ -291,7 +295,7 @@ module _ {R W E : Type 0} (in_look : R → Input) (out_look : W → Output) (rep
     message_ended after (stop.Io fault) (stage.Ended answer) got gives =
         let size = got.size in
         read_failed in_look out_look report_look list_tool start (most_given stage.Message) (source_of old) (source_of new) before after history got.given (listing_sofar history) at.written at.sound (omega arith) fault answer got.stops
-        (sofar_undecided history got.given got.same got.undecided standing) gives.0 gives.1
+        (sofar_undecided history got.given got.same got.undecided standing) (shows_is (history ++ got.given) _ refl ∙ undecided_shown _ got.undecided) gives.0 gives.1
 
 -- ---- data
 
@@ -362,7 +366,7 @@ module _ {R W E : Type 0} (in_look : R → Input) (out_look : W → Output) (rep
         cut (ap end_status got.cut) (λ other. absurd (other got.kind)) answer (omega arith) gives
     data_ended new after (stop.Io fault) (stage.Ended answer) got gives =
         read_failed in_look out_look report_look list_tool start (most_given stage.Data) (source_of old) (source_of new) before after history [] (listing_sofar history) at.written at.sound (omega arith) fault answer got.stops
-        (ap listing_sofar (sym (append-nil history))) gives.0 gives.1
+        (ap listing_sofar (sym (append-nil history))) (ap listing_shows (append-nil history) ∙ shows_is history _ refl ∙ standing_shown old.offset old.left _ at.session.left) gives.0 gives.1
 
 -- ---- a step
 

@@ -1,10 +1,10 @@
 -- What `list` writes of a recorded stream.
-use Rattle.std.specs.Prelude.{ℕ, List, [], ◌++◌, Option, Some, None}
+use Rattle.std.specs.Prelude.{ℕ, Bool, List, [], ◌++◌, Option, Some, None}
 use Rattle.std.specs.List.{flat_map}
 use Rattle.link_wire.specs.Stream.{Entry, Reading, reading_of}
 use Rattle.link_wire.specs.declared.message.Contact.{Contact}
 use Rattle.link_report.specs.Message.{contact_text, message_text}
-use Rattle.link_run.specs.Ends.{end_lines, end_status, lasting_lines}
+use Rattle.link_run.specs.Ends.{end_lines, end_status, lasting_lines, is_shown}
 use Rattle.link_run.specs.Run.{Texts, Outcome, Tool}
 
 -- the line of the contact header, where there is one
@@ -36,5 +36,9 @@ listing_sofar_by reading = record { output = lines_of reading; report = lasting_
 unfoldable pub listing_sofar : List ℕ → Texts
 listing_sofar bytes = listing_sofar_by (reading_of bytes)
 
+-- whether these bytes show a fault
+unfoldable pub listing_shows : List ℕ → Bool
+listing_shows bytes = is_shown (reading_of bytes).end
+
 abbrev pub list_tool : Tool
-list_tool = record { whole = listing; sofar = listing_sofar }
+list_tool = record { whole = listing; sofar = listing_sofar; shows = listing_shows }

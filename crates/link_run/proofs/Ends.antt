@@ -1,5 +1,5 @@
 -- How a run ends that reports a fault, and one whose reader fails.
-use Rattle.std.proofs.Common.{◌≡◌, ℕ, ◌≤◌, ◌⊎◌, inl, inr, List, [], ◌++◌, length, Result, Ok, Err, ⊎_elim, refl, ap, sym, ◌∙◌, subst}
+use Rattle.std.proofs.Common.{◌≡◌, ℕ, ◌≤◌, ◌⊎◌, inl, inr, false, List, [], ◌++◌, length, Result, Ok, Err, ⊎_elim, refl, ap, sym, ◌∙◌, subst}
 use Rattle.link_wire.specs.Device.{Input, Output}
 use Rattle.link_wire.specs.Source.{Takes, StopsAfter, IsOver}
 use Rattle.link_wire.specs.Stream.{End, Clean, Cut, Fault}
@@ -10,7 +10,7 @@ use Rattle.link_wire.specs.declared.fault.WireFault.{WireFault}
 use Rattle.link_wire.specs.declared.fault.WireFault.TheVariants as wire
 use Rattle.link_report.specs.Fault.{fault_text}
 use Rattle.link_report.specs.declared.fault.Fault.TheVariants.{Wire}
-use Rattle.link_run.specs.Ends.{lasting_line, lasting_lines}
+use Rattle.link_run.specs.Ends.{lasting_line, lasting_lines, is_lasting, is_shown}
 use Rattle.link_run.specs.Run.{Texts, Tool, Devices, devices_at, NoneFailed, HasWritten, Ended, Gave}
 use Rattle.link_run.specs.Writers.{place_of, on_report, WritesPart, Reports, GivesReport}
 use Rattle.link_run.specs.declared.run.Status.{Status}
@@ -24,6 +24,16 @@ pub undecided_lines : (end : End) → IsUndecided end → lasting_lines end ≡ 
 undecided_lines Clean is = refl
 undecided_lines (Cut offset message content) is = absurd is
 undecided_lines (Fault offset fault) is = ap (lasting_line offset) is
+
+pub undecided_shown : (end : End) → IsUndecided end → is_shown end ≡ false
+undecided_shown Clean is = refl
+undecided_shown (Cut offset message content) is = absurd is
+undecided_shown (Fault offset fault) is = ap is_lasting is
+
+pub standing_shown : (offset left : ℕ) (end : End) → IsLeft offset left end → is_shown end ≡ false
+standing_shown offset left Clean is = refl
+standing_shown offset left (Cut from message content) is = refl
+standing_shown offset left (Fault from fault) is = absurd is
 
 pub standing_lines : (offset left : ℕ) (end : End) → IsLeft offset left end → lasting_lines end ≡ []
 standing_lines offset left Clean is = refl
@@ -76,10 +86,10 @@ module _ {R W E : Type 0} (in_look : R → Input) (out_look : W → Output) (rep
     reported (Err failure) gives = record { given = given; size = size; gave = lost failure gives }
 
   -- the reader failed
-  pub read_failed : (fault : IoFault) (answer : Result Status IoFault) → StopsAfter in_look old new given fault → texts ≡ tool.sofar (history ++ given)
+  pub read_failed : (fault : IoFault) (answer : Result Status IoFault) → StopsAfter in_look old new given fault → texts ≡ tool.sofar (history ++ given) → tool.shows (history ++ given) ≡ false
       → answer ≡ Err fault → after ≡ before → Ended in_look out_look report_look tool start (devices_at (place_of new after)) most history answer
-  read_failed fault answer stops due is same =
-      let gave = reader_lost in_look out_look report_look tool start old new before history given texts fault written due stops in
+  read_failed fault answer stops due unshown is same =
+      let gave = reader_lost in_look out_look report_look tool start old new before history given texts fault written due unshown stops in
       let P : Writers W E → Type 0 = λ w. Ended in_look out_look report_look tool start (devices_at (place_of new w)) most history answer in
       let Q : Result Status IoFault → Type 0 = λ a. Ended in_look out_look report_look tool start (devices_at (place_of new before)) most history a in
       subst P (sym same) (subst Q (sym is) (record { given = given; size = size; gave = gave }))

@@ -1,5 +1,5 @@
 -- What the steps of a run write in turn the run writes in all, and how a run ends.
-use Rattle.std.proofs.Common.{◌≡◌, ℕ, ◌+◌, ◌-◌, min, ◌≤◌, ◌⊎◌, List, [], ◌++◌, length, take, drop, Option, Some, None, Result, Err, refl, ap, sym, ◌∙◌, subst, length-append, append-nil, append_assoc, arith, length-take}
+use Rattle.std.proofs.Common.{◌≡◌, ℕ, ◌+◌, ◌-◌, min, ◌≤◌, ◌⊎◌, false, List, [], ◌++◌, length, take, drop, Option, Some, None, Result, Err, refl, ap, sym, ◌∙◌, subst, length-append, append-nil, append_assoc, arith, length-take}
 use Rattle.std.proofs.Math.Nat.{min-le_right}
 use Rattle.std.proofs.Math.Seq.{take-append-add}
 use Rattle.std.proofs.lemmas.List.{take-append-le, take_min}
@@ -191,11 +191,12 @@ module _ {R W E : Type 0} (in_look : R → Input) (out_look : W → Output) (rep
 
   -- the source stopped after some bytes, and what is due was written
   pub reader_lost : (tool : Tool) (start : Devices R W E) (old new : Source R) (w : Writers W E) (history given : List ℕ) (texts : Texts) (fault : IoFault)
-      → HasWritten in_look out_look report_look start (place_of old w) history texts → texts ≡ tool.sofar (history ++ given)
+      → HasWritten in_look out_look report_look start (place_of old w) history texts → texts ≡ tool.sofar (history ++ given) → tool.shows (history ++ given) ≡ false
       → StopsAfter in_look old new given fault → Gave in_look out_look report_look tool start (devices_at (place_of new w)) (history ++ given) (Err fault)
-  reader_lost tool start old new w history given texts io.Read written due stops =
+  reader_lost tool start old new w history given texts io.Read written due unshown stops =
       let none : given ++ stops.past ≡ given = rw stops.cause.0 (append-nil given) in
       record {
+        unshown = unshown;
         written = record {
           takes = rw none at (Consumes-trans (in_look start.reader).left (ahead in_look old) (in_look new.reader).left history (given ++ stops.past) written.takes stops.next);
           writes = rw due at written.writes;
@@ -203,11 +204,12 @@ module _ {R W E : Type 0} (in_look : R → Input) (out_look : W → Output) (rep
         };
         failed = stops.cause.1;
       }
-  reader_lost tool start old new w history given texts io.InputTooLong written due stops =
+  reader_lost tool start old new w history given texts io.InputTooLong written due unshown stops =
       let before = written.count in
       let count = stops.count in
       let limit = stops.cause.1 in
       record {
+        unshown = unshown;
         past = stops.past;
         few = stops.cause.0;
         limit = omega (arith, length-append history given);
@@ -217,8 +219,8 @@ module _ {R W E : Type 0} (in_look : R → Input) (out_look : W → Output) (rep
           reports = rw due at written.reports;
         };
       }
-  reader_lost tool start old new w history given texts io.Write written due stops = absurd stops.cause
-  reader_lost tool start old new w history given texts io.Memory written due stops = absurd stops.cause
+  reader_lost tool start old new w history given texts io.Write written due unshown stops = absurd stops.cause
+  reader_lost tool start old new w history given texts io.Memory written due unshown stops = absurd stops.cause
 
 -- what a writer failed in, with texts after it that were not begun
 take_less : (count : ℕ) (text more : List ℕ) → take count text ≡ take (min count (length text)) (text ++ more)

@@ -1,5 +1,5 @@
 -- What is reported of how a recorded stream ends.
-use Rattle.std.specs.Prelude.{ℕ, List, []}
+use Rattle.std.specs.Prelude.{ℕ, Bool, true, false, List, []}
 use Rattle.link_wire.specs.Stream.{End, Clean, Cut, Fault}
 use Rattle.link_wire.specs.declared.fault.WireFault.{WireFault}
 use Rattle.link_wire.specs.declared.fault.WireFault.TheVariants.{Truncated}
@@ -21,6 +21,17 @@ end_status end = 3
 abbrev pub lasting_line : ℕ → WireFault → List ℕ
 lasting_line offset Truncated = []
 lasting_line offset fault = fault_text (Wire offset fault)
+
+-- a fault that more bytes do not mend
+abbrev pub is_lasting : WireFault → Bool
+is_lasting Truncated = false
+is_lasting fault = true
+
+-- the bytes show such a fault
+abbrev pub is_shown : End → Bool
+is_shown Clean = false
+is_shown (Cut offset message content) = false
+is_shown (Fault offset fault) = is_lasting fault
 
 abbrev pub lasting_lines : End → List ℕ
 lasting_lines Clean = []

@@ -1,5 +1,5 @@
 -- What a run of a tool has written, and how it ends.
-use Rattle.std.specs.Prelude.{◌≡◌, ℕ, ◌+◌, ◌<◌, ◌≤◌, ◌⊎◌, true, false, List, [], ◌++◌, length, take, Result, Ok, Err}
+use Rattle.std.specs.Prelude.{◌≡◌, ℕ, ◌+◌, ◌<◌, ◌≤◌, ◌⊎◌, Bool, true, false, List, [], ◌++◌, length, take, Result, Ok, Err}
 use Rattle.std.specs.Io.KnownBytes.{Consumes, Appends, IsAtEnd}
 use Rattle.link_wire.specs.Device.{Input, Output}
 use Rattle.link_wire.specs.Limits.{longest_input, window_size}
@@ -21,11 +21,12 @@ pub record Outcome : Type 0 where
   pub texts : Texts
   pub status : ℕ
 
--- A tool: what comes of an input that is exactly these bytes, and the texts that these bytes determine already, however
--- they go on.
+-- A tool: what comes of an input that is exactly these bytes; the texts that these bytes determine already, however
+-- they go on; and whether they show a fault that ends its run.
 pub record Tool : Type 0 where
   pub whole : List ℕ → Outcome
   pub sofar : List ℕ → Texts
+  pub shows : List ℕ → Bool
 
 -- the devices of a run
 pub record Devices (R W E : Type 0) : Type 0 where
@@ -88,14 +89,16 @@ module _ {R W E : Type 0} (in_look : R → Input) (out_look : W → Output) (rep
     pub ends : status.0 ≡ (tool.whole given).status
     pub settled : AllGiven now unread ⊎ ((more : List ℕ) → tool.whole (given ++ more) ≡ tool.whole given)
 
-  -- The reader failed: all that it gave was given, and the texts are those that these bytes determine.
+  -- The reader failed: all that it gave was given, it shows no fault, and the texts are those that these bytes determine.
   pub record LostReader (tool : Tool) (start now : Devices R W E) (given : List ℕ) : Type 0 where
+    pub unshown : tool.shows given ≡ false
     pub written : HandedBack start now given (tool.sofar given)
     pub failed : (in_look now.reader).failed ≡ true
 
-  -- The reader gave a byte past the limit: the last bytes that it gave were not given, and the texts are those that the
-  -- others determine.
+  -- The reader gave a byte past the limit: the last bytes that it gave were not given, the others show no fault, and the
+  -- texts are those that they determine.
   pub record PassedLimit (tool : Tool) (start now : Devices R W E) (given : List ℕ) : Type 0 where
+    pub unshown : tool.shows given ≡ false
     pub past : List ℕ
     pub few : length past ≤ window_size
     pub limit : longest_input < length given + length past

@@ -19,7 +19,7 @@ use Rattle.link_run.specs.Ends.{end_lines, end_status}
 use Rattle.link_run.specs.Run.{Texts, Devices, devices_at, HasWritten, Gave}
 use Rattle.link_run.specs.Writers.{place_of, on_output, on_report, Writes, WritesPart}
 use Rattle.link_run.specs.declared.writers.Writers.{Writers}
-use Rattle.link_run.proofs.Ends.{standing_lines}
+use Rattle.link_run.proofs.Ends.{standing_lines, standing_shown}
 use Rattle.link_run.proofs.Runs.{◌then◌, then_assoc, texts_as, written_as, written_given, written_more, sound_given, sound_written, writer_lost, part_of_more}
 use Rattle.link_unpack.specs.Transfers.{heads_of, Transfer, closes, continued, after_segment, after_message, transfers_of, settled}
 use Rattle.link_unpack.specs.Unpacking.{parts_of, part_of, line_of, lines_of, are_good, unpack_tool, unpacking_sofar}
@@ -227,4 +227,5 @@ module _ {R W E : Type 0} (in_look : R → Input) (out_look : W → Output) (rep
         (ap end_lines got.cut ∙ ap (λ f. fault_text (Wire offset f)) (sym got.kind)) (ap end_status got.cut) (λ other. absurd (other got.kind)) answer gives
     data_ended new written (stop.Io fault) (stage.Ended answer) got gives =
         read_lost in_look out_look report_look start (stage.Data last) old new before written u.latest.wanted history [] transfers at.written at.sound (omega arith) fault answer (reading_of history) got.stops (ap reading_of (append-nil history))
-        at.in_order refl (standing_lines old.offset old.left (reading_of history).end at.session.left) gives.0 gives.1
+        at.in_order refl (standing_lines old.offset old.left (reading_of history).end at.session.left)
+        (standing_shown old.offset old.left (reading_of history).end at.session.left) gives.0 gives.1

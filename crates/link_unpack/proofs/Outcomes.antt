@@ -9,16 +9,22 @@ use Rattle.link_transfer.specs.Order.{refusal}
 use Rattle.link_transfer.specs.declared.fault.OrderFault.{OrderFault}
 use Rattle.link_report.specs.Fault.{fault_text}
 use Rattle.link_report.specs.declared.fault.Fault.TheVariants.{Order}
-use Rattle.link_run.specs.Ends.{end_lines, end_status, lasting_lines}
+use Rattle.link_run.specs.Ends.{end_lines, end_status, lasting_lines, is_shown}
 use Rattle.link_run.specs.Run.{Texts, Outcome}
 use Rattle.link_run.specs.Writers.{on_report}
 use Rattle.link_run.proofs.Runs.{◌then◌, texts_as}
 use Rattle.link_unpack.specs.Transfers.{Ordered, ordered, cut_heads, heads_of, Transfer, transfers_of, settled}
-use Rattle.link_unpack.specs.Unpacking.{parts_of, lines_of, unpacking, unpacking_by, unpacking_sofar, unpacking_sofar_by}
+use Rattle.link_unpack.specs.Unpacking.{parts_of, lines_of, unpacking, unpacking_by, unpacking_sofar, unpacking_sofar_by, unpacking_shows, unpacking_shows_by}
 use Rattle.link_unpack.specs.UnpackRun.{messages_of, AreInOrder, texts_of}
 use Rattle.link_unpack.specs.declared.wanted.Wanted.{Wanted}
 use Rattle.link_unpack.proofs.Heads.{entry, heads_joined, stays_first}
 use Rattle.link_unpack.proofs.Orders.{all, in_order_refused}
+
+-- no head is refused, and the end shows no fault
+pub unshown_at : (bytes : List ℕ) (reading : Reading) → reading_of bytes ≡ reading → AreInOrder (heads_of reading) → is_shown reading.end ≡ false → unpacking_shows bytes ≡ false
+unfolding unpacking_shows
+unshown_at bytes reading is in_order none =
+    ap (λ (r : Reading). unpacking_shows_by r.end (ordered (heads_of r))) is ∙ ap (unpacking_shows_by reading.end) in_order ∙ none
 
 module _ (wanted : Wanted) where
   pub whole_is : (bytes : List ℕ) (reading : Reading) → reading_of bytes ≡ reading → unpacking wanted bytes ≡ unpacking_by wanted reading.end (ordered (heads_of reading))

@@ -19,13 +19,13 @@ use Rattle.link_transfer.specs.Order.{refusal, open_of}
 use Rattle.link_transfer.specs.declared.fault.OrderFault.{OrderFault}
 use Rattle.link_report.specs.Fault.{fault_text}
 use Rattle.link_report.specs.declared.fault.Fault.TheVariants.{Wire, Order}
-use Rattle.link_run.specs.Ends.{end_lines, end_status, lasting_lines}
+use Rattle.link_run.specs.Ends.{end_lines, end_status, lasting_lines, is_shown}
 use Rattle.link_run.specs.Run.{Texts, Outcome, Devices, devices_at, NoneFailed, HasWritten, WentOn, Ended, GivesStep}
 use Rattle.link_run.specs.Writers.{place_of, on_report, GivesReport}
 use Rattle.link_run.specs.declared.run.Progress.{Progress}
 use Rattle.link_run.specs.declared.run.Status.{Status}
 use Rattle.link_run.specs.declared.writers.Writers.{Writers}
-use Rattle.link_run.proofs.Ends.{undecided_lines, lasts, lasting_as, reported, read_failed}
+use Rattle.link_run.proofs.Ends.{undecided_lines, undecided_shown, lasts, lasting_as, reported, read_failed}
 use Rattle.link_run.proofs.Runs.{◌then◌, no_texts, then_none, texts_as, written_as, written_given, written_more, sound_given, sound_written, all_given, answered, writer_lost}
 use Rattle.link_unpack.specs.Transfers.{cut_heads, heads_of, Transfer, transfers_of}
 use Rattle.link_unpack.specs.Unpacking.{parts_of, lines_of, are_good, unpack_tool, unpacking, unpacking_by, unpacking_sofar}
@@ -39,7 +39,7 @@ use Rattle.link_unpack.proofs.Heads.{heads_clean, no_transfers}
 use Rattle.link_unpack.proofs.Joins.{stands}
 use Rattle.link_unpack.proofs.Messages.{between}
 use Rattle.link_unpack.proofs.Orders.{all, in_order_none}
-use Rattle.link_unpack.proofs.Outcomes.{whole_is, stopped, whole_at, sofar_at, order_whole, order_sofar, HasHead, head_stays}
+use Rattle.link_unpack.proofs.Outcomes.{whole_is, stopped, whole_at, sofar_at, order_whole, order_sofar, HasHead, head_stays, unshown_at}
 
 -- what stands at a stage, as its step gives it
 module _ {R W E : Type 0} (in_look : R → Input) (out_look : W → Output) (report_look : E → Output) (start : Devices R W E) where
@@ -83,11 +83,11 @@ module _ {R W E : Type 0} (in_look : R → Input) (out_look : W → Output) (rep
 
     -- a failed read: no head has come, and no fault is shown
     pub read_lost : (fault : IoFault) (answer : Result Status IoFault) (reading : Reading) → StopsAfter in_look (source_of old) (source_of new) given fault → reading_of (history ++ given) ≡ reading
-        → AreInOrder (heads_of reading) → transfers_of (heads_of reading) ≡ transfers → lasting_lines reading.end ≡ [] → answer ≡ Err fault → after ≡ before
+        → AreInOrder (heads_of reading) → transfers_of (heads_of reading) ≡ transfers → lasting_lines reading.end ≡ [] → is_shown reading.end ≡ false → answer ≡ Err fault → after ≡ before
         → Ended in_look out_look report_look (unpack_tool wanted) start (devices_at (place_of (source_of new) after)) (most_given now) history answer
-    read_lost fault answer reading stops is in_order are none given_answer same =
+    read_lost fault answer reading stops is in_order are none unshown given_answer same =
         read_failed in_look out_look report_look (unpack_tool wanted) start (most_given now) (source_of old) (source_of new) before after history given (texts_of wanted transfers) written sound size fault answer stops
-        (sym (sofar_at wanted _ reading transfers in_order are [] is none ∙ then_none (texts_of wanted transfers))) given_answer same
+        (sym (sofar_at wanted _ reading transfers in_order are [] is none ∙ then_none (texts_of wanted transfers))) (unshown_at _ reading is in_order unshown) given_answer same
 
 -- ---- the head of a message
 
@@ -166,7 +166,7 @@ module _ {R W E : Type 0} (in_look : R → Input) (out_look : W → Output) (rep
         let same = same_heads (reading_of history) reading clean got.same.entries (undecided_heads reading.end got.undecided) in
         let P : List Entry → Type 0 = AreInOrder in
         read_lost in_look out_look report_look start stage.Message old new before after u.latest.wanted history got.given transfers at.written at.sound (omega arith) fault answer reading got.stops refl
-        (subst P (sym same) at.in_order) (ap transfers_of same) (undecided_lines reading.end got.undecided) gives.0 gives.1
+        (subst P (sym same) at.in_order) (ap transfers_of same) (undecided_lines reading.end got.undecided) (undecided_shown reading.end got.undecided) gives.0 gives.1
 
     -- a head that is not in order
     module _ (offset : ℕ) (sent : Message) (got : GaveMessage in_look old new history offset sent) (fault : OrderFault) (refused : refusal (messages_of (heads_of (reading_of history))) (event_of sent) ≡ Some fault) where
@@ -269,7 +269,7 @@ module _ {R W E : Type 0} (in_look : R → Input) (out_look : W → Output) (rep
     contact_ended after (stop.Io fault) (stage.Ended answer) got gives =
         let size = got.size in
         read_lost in_look out_look report_look start stage.Contact old new before after u.latest.wanted [] got.given [] begun fresh.sound (omega arith) fault answer _ got.stops got.reading
-        in_order_none no_transfers refl gives.0 gives.1
+        in_order_none no_transfers refl refl gives.0 gives.1
 
 -- ---- a step
 

@@ -12,7 +12,7 @@ use Rattle.link_report.specs.Transfer.{transfer_text}
 use Rattle.link_report.specs.declared.judgement.Judgement.{Judgement}
 use Rattle.link_report.specs.declared.judgement.Judgement.TheVariants.{Abandoned, BadLengthItem, LengthDiffers, Bad, Good}
 use Rattle.link_report.specs.declared.transfer.TransferEntry.{TransferEntry}
-use Rattle.link_run.specs.Ends.{end_lines, lasting_lines}
+use Rattle.link_run.specs.Ends.{end_lines, lasting_lines, is_shown}
 use Rattle.link_run.specs.Run.{Texts, Outcome, Tool}
 use Rattle.link_unpack.specs.Transfers.{Ordered, ordered, heads_of, Transfer, transfers_of, settled}
 use Rattle.link_unpack.specs.declared.wanted.Wanted.{Wanted}
@@ -126,5 +126,17 @@ unpacking_sofar_by wanted end order =
 unfoldable pub unpacking_sofar : Wanted → List ℕ → Texts
 unpacking_sofar wanted bytes = let reading = reading_of bytes in unpacking_sofar_by wanted reading.end (ordered (heads_of reading))
 
+-- whether a head is refused, or the end is a fault
+abbrev pub is_stopped : Option (ℕ × OrderFault) → End → Bool
+is_stopped (Some refused) end = true
+is_stopped None end = is_shown end
+
+abbrev pub unpacking_shows_by : End → Ordered → Bool
+unpacking_shows_by end order = is_stopped order.refused end
+
+-- whether these bytes show a fault, of the stream or of the order of its messages
+unfoldable pub unpacking_shows : List ℕ → Bool
+unpacking_shows bytes = let reading = reading_of bytes in unpacking_shows_by reading.end (ordered (heads_of reading))
+
 abbrev pub unpack_tool : Wanted → Tool
-unpack_tool wanted = record { whole = unpacking wanted; sofar = unpacking_sofar wanted }
+unpack_tool wanted = record { whole = unpacking wanted; sofar = unpacking_sofar wanted; shows = unpacking_shows }
