@@ -109,7 +109,7 @@ module _ {R W E : Type 0} (in_look : R → Input) (out_look : W → Output) (rep
         let P : Writers W E → Type 0 = λ w. Lists in_look out_look report_look start stage.Data new w (history ++ given) in
         record {
           given = given;
-          some = some;
+          some = λ may. some;
           size = size;
           count = takes.count;
           at = subst P (sym same) (record { session = at; written = written_as in_look out_look report_look mid_written refl (sym texts); sound = mid_sound; waits = waiting });
@@ -122,7 +122,7 @@ module _ {R W E : Type 0} (in_look : R → Input) (out_look : W → Output) (rep
         let P : End → Type 0 = λ end. IsWaiting stage.Message after.line.items end in
         record {
           given = given;
-          some = some;
+          some = λ may. some;
           size = size;
           count = takes.count;
           at = record {

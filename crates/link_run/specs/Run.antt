@@ -134,10 +134,10 @@ module _ {R W E : Type 0} (in_look : R → Input) (out_look : W → Output) (rep
     pub given : List ℕ
     pub gave : Gave tool start now given answer
 
-  -- a step went on: it was given some bytes, at most so many, and the run stands after them
+  -- a step went on: it was given at most so many bytes, some if it may be given any, and the run stands after them
   pub record WentOn (old new : Place R W E) (stands : List ℕ → Type 0) (most : ℕ) (history : List ℕ) : Type 0 where
     pub given : List ℕ
-    pub some : 0 < length given
+    pub some : 0 < most → 0 < length given
     pub size : length given ≤ most
     pub count : given_by new.source ≡ given_by old.source + length given
     pub at : stands (history ++ given)

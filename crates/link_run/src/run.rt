@@ -53,7 +53,7 @@ pub trait Run<R: InDevice, W: OutDevice, E: OutDevice>: Sized {
     // it was given exactly these bytes since its devices stood so, and has written exactly what they determine
     ghost stands: { Self → Devices R W E → List ℕ → Type 0 };
 
-    // the most bytes that its next step is given
+    // the most bytes that its next step is given: none where it writes what stands before all of them
     ghost most: { Self → ℕ };
 
     // it has ended with this answer
@@ -65,6 +65,7 @@ pub trait Run<R: InDevice, W: OutDevice, E: OutDevice>: Sized {
         ensures tool { tool self.new ≡ tool self.old }
         ensures gives { (start : Devices R W E) (history : List ℕ) → stands self.old start history →
             GivesStep R.state W.state E.state (tool self.old) start (place self.old) (place self.new) (stands self.new start) (most self.old) history result }
+        ensures goes_on { most self.new ≡ 0 → IsEnd result }
         ensures ends { IsEnd result → has_ended self.new result }
         ensures again { (answer : _) → has_ended self.old answer → (self.new ≡ self.old) × (result ≡ answer) };
 

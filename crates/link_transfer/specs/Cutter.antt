@@ -3,12 +3,16 @@ use Rattle.std.specs.Prelude.{◌≡◌, ℕ, ◌<◌, ◌≤◌, Bool, true, na
 use Rattle.link_wire.specs.Bytes.{AreBytes}
 use Rattle.link_transfer.specs.Chunks.{first_chunks}
 use Rattle.link_transfer.specs.Cutting.{Cutting, due, left_of}
-use Rattle.link_transfer.specs.Held.{waits}
+use Rattle.link_transfer.specs.Held.{waits, wanted_of}
 use Rattle.link_transfer.specs.declared.cutter.Cutter.{Cutter}
 
 -- a cut waits
 abbrev pub cut_waits : Cutter → Bool
 cut_waits cutter = waits cutter.begun cutter.ended cutter.segment cutter.hold (length cutter.held.bytes)
+
+-- after how many further bytes of a bundle that goes on a cut waits
+abbrev pub wanted_by : Cutter → ℕ
+wanted_by cutter = wanted_of cutter.begun cutter.segment cutter.hold (length cutter.held.bytes)
 
 -- how many bytes are held that no cut has given
 abbrev pub held_size : Cutter → ℕ

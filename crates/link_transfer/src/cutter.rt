@@ -30,8 +30,8 @@ pub struct Cutter {
 impl Cutter {
     ghost use Rattle.link_transfer.specs.Chunks.{chunks};
     ghost use Rattle.link_transfer.specs.Cutting.{Cutting, beginning, with_bytes, with_each, due, next_chunk, next_cut, after_cut, shown};
-    ghost use Rattle.link_transfer.specs.Cutter.{IsCutterAt, cut_waits, held_size};
-    ghost use Rattle.link_transfer.specs.Held.{wanted_of, cut_of, is_last_of, announced_by};
+    ghost use Rattle.link_transfer.specs.Cutter.{IsCutterAt, cut_waits, wanted_by, held_size};
+    ghost use Rattle.link_transfer.specs.Held.{cut_of, is_last_of, announced_by};
 
     /// A cutter for segments of at most `segment` bytes, 1 to 65,536, which announces the lengths of bundles of at most
     /// `hold` bytes, 0 to 1,048,576. It takes memory once, for the greater of `segment` and `hold + 1` bytes.
@@ -119,6 +119,7 @@ impl Cutter {
         requires { cut_waits self.old ≡ false }
         ensures within { result ≤ length bytes.now }
         ensures some { 0 < length bytes.now → 0 < result }
+        ensures whole { length bytes.now ≤ wanted_by self.old → result ≡ length bytes.now }
         ensures pushed { (so_far : Cutting) → IsCutterAt self.old so_far →
             IsCutterAt self.new
             (with_bytes (take result bytes.now) (last && result == length bytes.now) so_far) }
@@ -137,11 +138,10 @@ impl Cutter {
 
     /// After how many further bytes a cut waits, if none of them is the bundle's last.
     #[inline]
-    fn wanted(&self) -> usize
+    pub fn wanted(&self) -> usize
         requires { cut_waits self.now ≡ false }
         ensures some { 0 < result }
-        ensures value { result
-            ≡ wanted_of self.now.begun self.now.segment self.now.hold (held_size self.now) }
+        ensures value { result ≡ wanted_by self.now }
         ensures room { length self.now.held.bytes + result ≤ self.now.held.room }
     {
         let full = if self.begun {

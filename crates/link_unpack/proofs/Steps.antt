@@ -46,8 +46,8 @@ module _ {R W E : Type 0} (in_look : R → Input) (out_look : W → Output) (rep
   pub stage_given : (wanted : Wanted) (now next : Stage) (old new : Session R) (before after : Writers W E) (u : Unpacker) (history given : List ℕ) → Takes in_look (source_of old) (source_of new) given → 0 < length given → length given ≤ most_given now
       → StandsAfter in_look out_look report_look start wanted next new after u (history ++ given) → GivesStage in_look out_look report_look start wanted now old new before after u history next
   stage_given wanted now stage.Contact old new before after u history given takes some size stood = absurd stood
-  stage_given wanted now stage.Message old new before after u history given takes some size stood = record { given = given; some = some; size = size; count = takes.count; at = stood }
-  stage_given wanted now (stage.Data last) old new before after u history given takes some size stood = record { given = given; some = some; size = size; count = takes.count; at = stood }
+  stage_given wanted now stage.Message old new before after u history given takes some size stood = record { given = given; some = λ may. some; size = size; count = takes.count; at = stood }
+  stage_given wanted now (stage.Data last) old new before after u history given takes some size stood = record { given = given; some = λ may. some; size = size; count = takes.count; at = stood }
   stage_given wanted now (stage.Ended answer) old new before after u history given takes some size stood = record { given = given; size = size; gave = stood }
 
   -- a fault of the wire
@@ -253,7 +253,7 @@ module _ {R W E : Type 0} (in_look : R → Input) (out_look : W → Output) (rep
       pub contact_step : WentOn in_look out_look report_look (place_of (source_of old) before) (place_of (source_of new) before) (Unpacks in_look out_look report_look start stage.Message new before u) 6 []
       contact_step =
           let size = got.size in
-          record { given = got.given; some = omega arith; size = omega arith; count = got.takes.count; at = contact_read }
+          record { given = got.given; some = λ may. omega arith; size = omega arith; count = got.takes.count; at = contact_read }
 
     pub contact_ended : (after : Writers W E) (why : Stop) (next : Stage) → GivesContact in_look old new (Err why) → GivesEnd out_look report_look why before after next → GivesStage in_look out_look report_look start u.latest.wanted stage.Contact old new before after u [] next
     contact_ended after (stop.Wire offset fault) stage.Contact got gives = absurd gives

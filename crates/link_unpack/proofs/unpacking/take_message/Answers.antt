@@ -76,7 +76,7 @@ returns-in-Ok-Other-clause-gives g c = λ start history at.
     let none = no_left g.R.InDevice.state g.W.OutDevice.state g.E.OutDevice.state start c.args.session.now c.read_next.new.self c.args.writers.now c.args.unpacker.now history at c.in-Ok-Some.offset sent got c.event.new.self other may.0 joins in
     let stood = passed g.R.InDevice.state g.W.OutDevice.state g.E.OutDevice.state start c.args.session.now c.read_next.new.self c.args.writers.now c.args.unpacker.now history at c.in-Ok-Some.offset sent got c.event.new.self other may.0 joins in
     let same = c.go_on-in-Ok-Other.ensures.other refl none in
-    rw (same.0, same.1, same.2) (record { given = got.given; some = got.some; size = got.size; count = got.takes.count; at = stood })
+    rw (same.0, same.1, same.2) (record { given = got.given; some = λ may. got.some; size = got.size; count = got.takes.count; at = stood })
 
 pub returns-in-Err-event-clause-gives : goal.returns-in-Err-event-clause-gives
 returns-in-Err-event-clause-gives g c = λ start history at.

@@ -1,18 +1,24 @@
-use Rattle.std.proofs.Common.{◌++◌, [], Ok, Err, refl, ◌∙◌, arith}
+use Rattle.std.proofs.Common.{◌≡◌, ℕ, zero, suc, ◌+◌, ◌-◌, ◌^◌, ◌<◌, ◌++◌, [], length, Ok, Err, refl, ◌∙◌, arith}
 use Rattle.link_run.proofs.Runs.{handed_back}
 use Rattle.link_run.proofs.run.Run.run.Goals as goal
 
 pub steps-init : goal.steps-init
 steps-init g c = (refl, ([], c.requires))
 
+-- each step is given a byte, and the one before them all is the first
+falls : (limit before after size most next : ℕ) → after ≡ before + size → after < limit → (0 < most → 0 < size) → (next ≡ 0 → ⊥)
+    → (limit - after) + (1 - next) < (limit - before) + (1 - most)
+falls limit before after size most zero count within some goes_on = absurd (goes_on refl)
+falls limit before after size zero (suc next) count within some goes_on = omega arith
+falls limit before after size (suc most) (suc next) count within some goes_on = let given = some (omega arith) in omega arith
+
 pub steps-smaller : goal.steps-smaller
 steps-smaller g c =
     let stood = c.steps.invariant.1 in
     let went = rw c.in-Ok-More.field-0-is at (c.in-Ok-More.ensures.gives _ stood.0 stood.1) in
-    let some = went.some in
-    let count = went.count in
     let within = (g.Self.Run.place c.step.new.self).source.within in
-    omega arith
+    falls (2 ^ 63) _ _ (length went.given) _ _ went.count (omega arith) went.some
+    (λ none. rw c.in-Ok-More.field-0-is at (c.in-Ok-More.ensures.goes_on none))
 
 pub steps-preserved : goal.steps-preserved
 steps-preserved g c =

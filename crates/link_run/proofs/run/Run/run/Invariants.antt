@@ -1,4 +1,4 @@
-use Rattle.std.proofs.Common.{◌≡◌, ◌-◌, ◌^◌, List, ℕ}
+use Rattle.std.proofs.Common.{◌≡◌, ◌+◌, ◌-◌, ◌^◌, List, ℕ}
 use Rattle.link_wire.specs.Source.{given_by}
 use Rattle.link_run.specs.Run.{devices_at}
 use Rattle.link_run.proofs.run.Run.run.Given as goal
@@ -9,6 +9,6 @@ invariant-steps g l =
     (g.Self.Run.tool l.run ≡ g.Self.Run.tool l.fn.self)
     × ((history : List ℕ) × g.Self.Run.stands l.run (devices_at (g.Self.Run.place l.fn.self)) history)
 
--- each step is given a byte, and a source gives no more than 2^63 - 1
+-- each step is given a byte, but for one before them all, and a source gives no more than 2^63 - 1
 abbrev pub decreases-steps : goal.decreases-steps
-decreases-steps g l = 2 ^ 63 - given_by (g.Self.Run.place l.run).source
+decreases-steps g l = (2 ^ 63 - given_by (g.Self.Run.place l.run).source) + (1 - g.Self.Run.most l.run)
