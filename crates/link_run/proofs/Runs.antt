@@ -252,3 +252,14 @@ module _ {W E : Type 0} (out_look : W → Output) (report_look : E → Output) w
     output_sound = two.output_sound ∙ one.output_sound;
     report_sound = two.report_sound ∙ one.report_sound;
   }
+
+  -- texts were written, and then a writer failed in others
+  pub part_behind : (old mid new : Writers W E) (first second : Texts) (fault : IoFault) → Writes out_look report_look old mid first → WritesPart out_look report_look mid new second fault → WritesPart out_look report_look old new (first then second) fault
+  part_behind old mid new first second fault one part = record {
+    kind = part.kind;
+    output_count = length first.output + part.output_count;
+    report_count = length first.report + part.report_count;
+    output = rw take-append-add (Appends-trans (out_look old.output).written (out_look mid.output).written (out_look new.output).written first.output (take part.output_count second.output) one.output part.output);
+    report = rw take-append-add (Appends-trans (report_look old.report).written (report_look mid.report).written (report_look new.report).written first.report (take part.report_count second.report) one.report part.report);
+    failed = part.failed;
+  }

@@ -6,5 +6,6 @@ mod exit;
 
 pub use exit::run_exit;
 pub use link_list::{ListRun, list};
+pub use link_pack::{PackOptions, PackRun, pack};
 pub use link_run::{Progress, Run, RunEnd, Status};
 pub use link_unpack::{UnpackRun, Wanted, unpack};

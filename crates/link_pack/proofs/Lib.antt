@@ -1,0 +1,11 @@
+mod Dividing
+mod Texts
+mod Sending
+mod Writing
+mod Taking
+mod Outcomes
+mod Grown
+mod Steps
+mod Founds
+mod Goings
+mod Preludes

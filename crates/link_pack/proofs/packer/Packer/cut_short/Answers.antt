@@ -1,0 +1,12 @@
+use Rattle.std.proofs.Common.{sym, refl, ap, ◌∙◌, arith}
+use Rattle.link_bundle_types.specs.BundleView.{viewed_verdict}
+use Rattle.link_pack.proofs.Dividing.{open_mends}
+use Rattle.link_pack.proofs.packer.Packer.cut_short.Goals as goal
+
+pub returns-in-Err : goal.returns-in-Err
+returns-in-Err c = λ begun scanned goes.
+    let told = sym (c.view.ensures.seen begun scanned) ∙ ap viewed_verdict c.in-Err.is in
+    let mends = open_mends begun c.in-Err.fault c.in-Err.place told goes in (
+      omega (arith, c.count.ensures.seen begun scanned, c.if-count-eq0.false),
+      (record { fault = c.in-Err.fault; place = c.in-Err.place; is = told; mends = mends }, refl),
+    )

@@ -1,0 +1,12 @@
+use Rattle.link_transfer.specs.Cutting.{Cutting}
+use Rattle.link_transfer.specs.Cutter.{IsCutterAt, held_size}
+use Rattle.link_pack.proofs.Writing.{Sent}
+use Rattle.link_pack.proofs.segments.write_segments.Given as goal
+
+-- of what was left some segments are written, and the others are left
+abbrev pub invariant-loop-cut : goal.invariant-loop-cut
+invariant-loop-cut g l = (so_far : Cutting) → IsCutterAt l.fn.cutter so_far
+    → Sent g.W.OutDevice.state g.E.OutDevice.state l.id so_far l.fn.writers l.writers l.cutter
+
+abbrev pub decreases-loop-cut : goal.decreases-loop-cut
+decreases-loop-cut g l = held_size l.cutter

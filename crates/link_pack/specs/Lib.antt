@@ -1,0 +1,6 @@
+pub mod Bundles
+pub mod Segments
+pub mod Packing
+pub mod Packer
+pub mod PackRun
+pub mod PackRuns

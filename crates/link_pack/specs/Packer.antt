@@ -1,0 +1,86 @@
+-- What is known of the bundle that is being packed.
+use Rattle.std.specs.Prelude.{◌≡◌, ℕ, ◌-◌, ◌<◌, ◌≤◌, Bool, true, false, List, [], ◌++◌, length, take, Option, Some, None, Ok, Err}
+use Rattle.link_bundle.specs.Bundle.{verdict, bundle_goes}
+use Rattle.link_bundle.specs.Scan.{HasScanned}
+use Rattle.link_bundle_types.specs.Faults.{lasts}
+use Rattle.link_bundle_types.specs.declared.fault.BundleFault.{BundleFault}
+use Rattle.link_bundle_types.specs.declared.fault.State.{State}
+use Rattle.link_bundle_types.specs.declared.fault.State.TheVariants as state
+use Rattle.link_bundle_types.specs.declared.info.BundleInfo.{BundleInfo}
+use Rattle.link_transfer.specs.Cutter.{IsCutterAt}
+use Rattle.link_transfer.specs.Cutting.{Cutting, with_bytes}
+use Rattle.link_report.specs.Fault.{fault_text}
+use Rattle.link_report.specs.declared.fault.Fault.{Fault}
+use Rattle.link_report.specs.declared.fault.Fault.TheVariants.{Bundle}
+use Rattle.link_pack.specs.Bundles.{Packed, Refusal, Faulty, front_of, divided}
+use Rattle.link_pack.specs.Segments.{going}
+use Rattle.link_pack.specs.Packing.{segment_size, lasting, refusal_line}
+use Rattle.link_pack.specs.declared.options.PackOptions.{PackOptions}
+use Rattle.link_pack.specs.declared.packer.Found.{Found}
+use Rattle.link_pack.specs.declared.packer.Found.TheVariants as found
+use Rattle.link_pack.specs.declared.packer.Packer.{Packer}
+
+-- a cutter that was given these bytes of a bundle, and has given all chunks that are due
+abbrev pub cutting : PackOptions → (begun : List ℕ) → Cutting
+cutting options begun = going (segment_size options) options.announce begun
+
+-- these bundles were packed, and exactly these bytes of the next one have come
+pub record Holds (packer : Packer) (bundles : List Packed) (begun : List ℕ) : Type 0 where
+  pub number : packer.number ≡ length bundles
+  pub scanned : HasScanned packer.scan begun
+  pub cut : IsCutterAt packer.cutter (cutting packer.options begun)
+  pub front : front_of begun ≡ begun
+  pub goes : bundle_goes begun ≡ true
+  pub within : length begun ≤ packer.options.peer_transfer
+
+-- a run of bytes more has come; `whole` says that it ends the bundle
+pub record Grows (packer : Packer) (begun run : List ℕ) (whole : Bool) : Type 0 where
+  pub scanned : HasScanned packer.scan (begun ++ run)
+  pub cut : IsCutterAt packer.cutter (with_bytes run whole (cutting packer.options begun))
+  pub front : front_of (begun ++ run) ≡ begun ++ run
+  pub within : length (begun ++ run) ≤ packer.options.peer_transfer
+
+-- the run shows that these are bytes of no bundle that the peer takes
+pub record Refuses (packer : Packer) (begun run : List ℕ) (fault : Fault) : Type 0 where
+  -- its bytes before the one that shows it
+  pub accepted : List ℕ
+  pub refusal : Refusal
+  pub cut : IsCutterAt packer.cutter (with_bytes accepted false (cutting packer.options begun))
+  pub text : fault_text fault ≡ refusal_line packer.number refusal
+  pub lasts : lasting refusal ≡ true
+  pub divides : (more : List ℕ) → divided packer.options.peer_transfer ((begun ++ run) ++ more) ≡ record { bundles = []; rest = Some (record { accepted = begun ++ accepted; refusal = refusal }) }
+
+-- what a run of bytes makes of the bundle
+abbrev pub Took : Packer → (begun run : List ℕ) → Found → Type 0
+Took packer begun run found.Part = Grows packer begun run false × (bundle_goes (begun ++ run) ≡ true)
+Took packer begun run found.Whole = Grows packer begun run true × ((info : BundleInfo) × (verdict (begun ++ run) ≡ Ok info))
+Took packer begun run (found.Refused fault) = Refuses packer begun run fault
+
+-- these bytes end inside a bundle
+pub record IsCut (bytes : List ℕ) : Type 0 where
+  pub fault : BundleFault
+  pub place : ℕ
+  pub is : verdict bytes ≡ Err (fault, place)
+  pub mends : lasts fault ≡ false
+
+-- why the input's last bytes are no bundle
+abbrev pub CutShort : (number : ℕ) → (begun : List ℕ) → Option Fault → Type 0
+CutShort number begun None = begun ≡ []
+CutShort number begun (Some fault) = (0 < length begun) × ((cut : IsCut begun) × (fault_text fault ≡ refusal_line number (Faulty cut.fault cut.place)))
+
+-- what the state of the scan makes of the bundle
+abbrev pub found_by : (number : ℕ) → State → Found
+found_by number state.Going = found.Part
+found_by number state.Ended = found.Whole
+found_by number (state.Failed fault place) = found.Refused (Bundle number place fault)
+
+-- what of a run is accepted
+abbrev pub accepted_of : Found → (run : List ℕ) → List ℕ
+accepted_of found.Part run = run
+accepted_of found.Whole run = run
+accepted_of (found.Refused fault) run = take (length run - 1) run
+
+abbrev pub is_whole : Found → Bool
+is_whole found.Part = false
+is_whole found.Whole = true
+is_whole (found.Refused fault) = false

@@ -1,0 +1,70 @@
+-- The segments of a transfer (RFC 9174 section 5.2.2): the chunks of a bundle, each after its head.
+use Rattle.std.specs.Prelude.{ℕ, zero, suc, ◌+◌, ◌-◌, Bool, false, ◌&&◌, ◌==◌, List, [], ◌++◌, length, None, if◌then◌else◌}
+use Rattle.link_wire.specs.Spelling.{segment_head_bytes}
+use Rattle.link_transfer.specs.Chunks.{chunk_at, chunk_count, first_chunks}
+use Rattle.link_transfer.specs.Cutting.{Cutting, beginning, due_of, due, announcement}
+use Rattle.link_transfer.specs.declared.cut.Cut.{Cut}
+
+-- START 2, END 1
+abbrev pub flags_of : (first last : Bool) → ℕ
+flags_of first last = (if first then 2 else 0) + (if last then 1 else 0)
+
+-- a chunk that was cut so, as a segment
+abbrev pub segment_bytes : (id : ℕ) → Cut → (chunk : List ℕ) → List ℕ
+segment_bytes id cut chunk = segment_head_bytes (flags_of cut.first cut.last) id (length chunk) cut.announce ++ chunk
+
+-- the bytes of a bundle that have come: how they are cut
+pub record Sending : Type 0 where
+  pub segment : ℕ
+  pub hold : ℕ
+  -- the bytes, and whether they are a whole bundle
+  pub bundle : List ℕ
+  pub whole : Bool
+
+-- nothing is given of it yet
+abbrev pub cutting_of : Sending → Cutting
+cutting_of sending = record { segment = sending.segment; hold = sending.hold; bundle = sending.bundle; whole = sending.whole; given = []; chunk = None }
+
+-- how chunk number `k`, from 0, is cut: the first chunk announces the length
+abbrev pub cut_at : Sending → (k : ℕ) → Cut
+cut_at sending k = record {
+  first = k == 0;
+  last = sending.whole && (k + 1 == chunk_count sending.segment (length sending.bundle));
+  announce = if k == 0 then announcement (cutting_of sending) else None;
+}
+
+-- `count` segments from number `k` on
+unfoldable pub segments_from : (id : ℕ) → Sending → (k count : ℕ) → List ℕ
+segments_from id sending k zero = []
+segments_from id sending k (suc count) =
+    segment_bytes id (cut_at sending k) (chunk_at sending.segment k sending.bundle) ++ segments_from id sending (suc k) count
+
+-- all that are due: of a whole bundle all, of one that goes on those of its full chunks, once its length is announced no more
+abbrev pub segments_of : (id : ℕ) → Sending → List ℕ
+segments_of id sending = segments_from id sending 0 (due (cutting_of sending))
+
+-- ---- of a cutter
+
+abbrev pub sending_of : Cutting → Sending
+sending_of so_far = record { segment = so_far.segment; hold = so_far.hold; bundle = so_far.bundle; whole = so_far.whole }
+
+-- the segments that are due and were not given
+abbrev pub segments_left : (id : ℕ) → Cutting → List ℕ
+segments_left id so_far = segments_from id (sending_of so_far) (length so_far.given) (due so_far - length so_far.given)
+
+-- all that are due were given; after a whole bundle another begins
+abbrev pub all_given : Cutting → Cutting
+all_given so_far =
+    if so_far.whole then beginning so_far.segment so_far.hold
+    else record so_far { given = first_chunks so_far.segment (due so_far) so_far.bundle; chunk = None }
+
+-- a bundle that goes on, of which all chunks that are due were given
+abbrev pub going : (segment hold : ℕ) → (bundle : List ℕ) → Cutting
+going segment hold bundle = record {
+  segment = segment;
+  hold = hold;
+  bundle = bundle;
+  whole = false;
+  given = first_chunks segment (due_of false segment hold (length bundle)) bundle;
+  chunk = None;
+}

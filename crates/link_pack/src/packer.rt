@@ -1,0 +1,183 @@
+//! The bundle that is being packed: scanned, and cut into chunks.
+
+ghost use Rattle.std.specs.Prelude.{◌≡◌, ◌<◌, min};
+ghost use Rattle.link_pack.specs.Packing.{segment_size};
+
+use crate::options::PackOptions;
+use link_bundle::BundleScan;
+use link_bundle_types::State;
+use link_cbor::Piecewise;
+use link_report::{Fault, Line, PackedView, packed_view_line};
+use link_transfer::Cutter;
+use link_wire::INPUT_LIMIT;
+use std::alloc::{AllocError, Global};
+
+/// The most data of a segment, whatever the peer takes.
+const SEGMENT_LIMIT: u64 = 65_536;
+
+/// What a run of bytes makes of the bundle.
+#[derive(Clone, Copy, Debug, PartialEq, Eq)]
+pub enum Found {
+    /// It goes on.
+    Part,
+    /// It is whole.
+    Whole,
+    /// It is none that the peer takes.
+    Refused(Fault),
+}
+
+/// Packs one bundle after another. Of a bundle it holds no bytes but those of a chunk, and of a bundle whose length may
+/// yet be announced.
+#[derive(Drop)]
+pub struct Packer {
+    pub options: PackOptions,
+    /// How many bundles were packed: the next one's number.
+    pub number: u64,
+    scan: BundleScan,
+    pub cutter: Cutter,
+}
+
+/// How many bytes of data a segment has at most.
+fn segment(options: &PackOptions) -> u64
+    ensures value { result ≡ segment_size options.now }
+    ensures some { 0 < result }
+{
+    options.peer_segment.min(SEGMENT_LIMIT)
+}
+
+impl Packer {
+    ghost use Rattle.std.specs.Prelude.{◌≡◌, ◌+◌, ◌-◌, min, true, ◌^◌, ◌<◌, ◌≤◌, false, List, ℕ, [], ◌∷◌, ◌++◌, length, take, IfOk, IfSome, IfNone, Ok};
+    ghost use Rattle.link_bundle.specs.Bundle.{verdict, state_of, bundle_goes};
+    ghost use Rattle.link_bundle.specs.Scan.{HasScanned, scan_size};
+    ghost use Rattle.link_bundle_types.specs.declared.info.BundleInfo.{BundleInfo};
+    ghost use Rattle.link_report.specs.Fault.{fault_text};
+    ghost use Rattle.link_transfer.specs.Cutter.{IsCutterAt, cut_waits, wanted_by};
+    ghost use Rattle.link_transfer.specs.Cutting.{Cutting, with_bytes};
+    ghost use Rattle.link_pack.specs.Bundles.{Packed};
+    ghost use Rattle.link_pack.specs.Packing.{line_of};
+    ghost use Rattle.link_pack.specs.Packer.{Holds, Took, CutShort, found_by, accepted_of, is_whole};
+
+    /// Nothing was packed. It takes memory once, for the cutter.
+    pub fn new(alloc: Global, options: PackOptions) -> Result<Packer, AllocError>
+        ensures start { IfOk result (λ packer. Holds packer [] []) }
+        ensures options { IfOk result (λ packer. packer.options ≡ options) }
+        ensures quiet { IfOk result (λ packer. cut_waits packer.cutter ≡ false) }
+    {
+        let cutter = Cutter::new(alloc, segment(&options) as usize, options.announce as usize)?;
+        Ok(Packer {
+            options,
+            number: 0,
+            scan: BundleScan::new(),
+            cutter,
+        })
+    }
+
+    /// How many bytes more the bundle may have.
+    fn room(&self) -> u64
+        ensures { result ≡ min self.now.options.peer_transfer (2 ^ 63 - 1) - scan_size self.now.scan }
+    {
+        self.options
+            .peer_transfer
+            .min(INPUT_LIMIT)
+            .saturating_sub(self.scan.count())
+    }
+
+    /// Takes the next bytes of a piece that is not empty, and returns how many it took and what they make of the bundle:
+    /// no more than the peer's limit leaves, and than fill a chunk.
+    pub fn take(&mut self, piece: &[u8]) -> (usize, Found)
+        requires some { 0 < length piece.now }
+        requires quiet { cut_waits self.old.cutter ≡ false }
+        ensures within { result.0 ≤ length piece.now }
+        ensures some { (bundles : List Packed) (begun : List ℕ) → Holds self.old bundles begun → length begun + length piece.now < 2 ^ 63
+            → 0 < result.0 }
+        ensures took { (bundles : List Packed) (begun : List ℕ) → Holds self.old bundles begun → length begun + length piece.now < 2 ^ 63
+            → Took self.new begun (take result.0 piece.now) result.1 }
+        ensures options { self.new.options ≡ self.old.options }
+        ensures number { self.new.number ≡ self.old.number }
+    {
+        let room = self.room();
+        if room == 0 {
+            let fault = Fault::TooLong(self.number, self.options.peer_transfer);
+            return (1, Found::Refused(fault));
+        }
+        let size = room.min(piece.len().min(self.cutter.wanted()) as u64) as usize;
+        let count = self.scan.feed(&piece[..size]);
+        let found = self.found();
+        self.cut(&piece[..count], found);
+        (count, found)
+    }
+
+    /// What the bytes that were scanned make of the bundle.
+    fn found(&self) -> Found
+        ensures { (seen : List ℕ) → HasScanned self.now.scan seen → result ≡ found_by self.now.number (state_of (verdict seen)) }
+    {
+        match self.scan.state() {
+            State::Going => Found::Part,
+            State::Ended => Found::Whole,
+            State::Failed(fault, place) => {
+                Found::Refused(Fault::Bundle(self.number, place, fault))
+            }
+        }
+    }
+
+    /// Hands the cutter what was accepted of a run: the byte that shows a fault is not.
+    fn cut(&mut self, run: &[u8], found: Found)
+        requires { cut_waits self.old.cutter ≡ false }
+        ensures cut { (so_far : Cutting) → IsCutterAt self.old.cutter so_far → length run.now ≤ wanted_by self.old.cutter
+            → IsCutterAt self.new.cutter (with_bytes (accepted_of found run.now) (is_whole found) so_far) }
+        ensures scan { self.new.scan ≡ self.old.scan }
+        ensures number { self.new.number ≡ self.old.number }
+        ensures options { self.new.options ≡ self.old.options }
+    {
+        match found {
+            Found::Part => self.cutter.push_slice(run, false),
+            Found::Whole => self.cutter.push_slice(run, true),
+            Found::Refused(_) => {
+                self.cutter
+                    .push_slice(&run[..run.len().saturating_sub(1)], false)
+            }
+        };
+    }
+
+    /// Makes an empty line that of the bundle, which is whole.
+    pub fn put_line(&self, line: &mut Line)
+        requires { line.old.items ≡ [] }
+        ensures { (bytes : List ℕ) (info : BundleInfo) → HasScanned self.now.scan bytes → verdict bytes ≡ Ok info
+            → line.new.items ≡ line_of self.now.options self.now.number (record { bytes = bytes; info = info }) }
+    {
+        if let Ok(info) = self.scan.view() {
+            let length = self.scan.count();
+            let entry = PackedView {
+                number: self.number,
+                segments: length.div_ceil(segment(&self.options)),
+                length,
+                info,
+            };
+            packed_view_line(line, &entry);
+        }
+    }
+
+    /// Another bundle begins.
+    pub fn next(&mut self)
+        ensures scanned { HasScanned self.new.scan [] }
+        ensures number { self.old.number + 1 < 2 ^ 64 → self.new.number ≡ self.old.number + 1 }
+        ensures options { self.new.options ≡ self.old.options }
+        ensures cutter { self.new.cutter ≡ self.old.cutter }
+    {
+        self.scan.restart();
+        self.number = self.number.saturating_add(1);
+    }
+
+    /// Why the bytes that have come are no bundle; `None` where none has come.
+    pub fn cut_short(&self) -> Option<Fault>
+        ensures { (begun : List ℕ) → HasScanned self.now.scan begun → bundle_goes begun ≡ true → CutShort self.now.number begun result }
+    {
+        if self.scan.count() == 0 {
+            return None;
+        }
+        match self.scan.view() {
+            Ok(_) => None,
+            Err((fault, place)) => Some(Fault::Bundle(self.number, place, fault)),
+        }
+    }
+}
