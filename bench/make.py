@@ -1,5 +1,5 @@
 #!/usr/bin/env python3
-"""Makes the recordings that run.sh measures: `python3 make.py FOLDER`.
+"""Makes the files that run.sh measures: `python3 make.py FOLDER`.
 
 For list, some 128 MiB each:
 long.tcpcl: one transfer in segments of 64 KiB.
@@ -12,6 +12,9 @@ plain.tcpcl, crc16.tcpcl, crc32.tcpcl: bundles of 1 MiB in segments of 64 KiB, w
 small.tcpcl: bundles of 100 to 300 bytes with a CRC-32C in the primary block, one a transfer, an acknowledgement after each.
 crumbs.tcpcl: bundles of 1 MiB in segments of 1 to 16 bytes.
 
+For pack, some 256 MiB each, the same bundles one after another:
+plain.bundles, crc16.bundles, crc32.bundles, small.bundles.
+
 Only python's standard library is used.
 """
 
@@ -20,7 +23,7 @@ import sys
 from pathlib import Path
 
 LIST_SIZE = 128 << 20
-UNPACK_SIZE = 256 << 20
+BUNDLES_SIZE = 256 << 20
 
 # RFC 9174 section 4.2: `dtn!`, version 4, flags 00
 CONTACT = b"dtn!" + bytes([4, 0x00])
@@ -113,26 +116,38 @@ def one_transfer(pieces):
     return segment(START, 0, b"") + repeated(middle, LIST_SIZE) + segment(END, 0, b"")
 
 
+DATA = bytes(range(256)) * 256
+
+
+def bundles():
+    """The name of each kind of bundles, and bundles of that kind."""
+    payload = (DATA * 16)[: (1 << 20) - 100]
+    yield "plain", [bundle(payload)]
+    yield "crc16", [bundle(payload, content=CRC16)]
+    yield "crc32", [bundle(payload, content=CRC32)]
+    yield "small", [bundle(DATA[:length], primary=CRC32) for length in range(60, 260, 10)]
+
+
 def recordings():
     """The name of each recording, and what follows its SESS_INIT."""
-    data = bytes(range(256)) * 256
+    data = DATA
     yield "long.tcpcl", one_transfer([data])
     yield "bundles.tcpcl", repeated(segment(START | END, 7, BUNDLE) + ack(START | END, 7, len(BUNDLE)) + KEEPALIVE, LIST_SIZE)
     yield "short.tcpcl", one_transfer([data[:length] for length in range(1, 17)])
     yield "answers.tcpcl", repeated(ack(0, 1, 4096) + refuse(1, 1) + KEEPALIVE, LIST_SIZE)
-    payload = (data * 16)[: (1 << 20) - 100]
-    yield "plain.tcpcl", repeated(transfer(7, bundle(payload), [65536]), UNPACK_SIZE)
-    yield "crc16.tcpcl", repeated(transfer(7, bundle(payload, content=CRC16), [65536]), UNPACK_SIZE)
-    yield "crc32.tcpcl", repeated(transfer(7, bundle(payload, content=CRC32), [65536]), UNPACK_SIZE)
-    small = [bundle(data[:length], primary=CRC32) for length in range(60, 260, 10)]
-    yield "small.tcpcl", repeated(b"".join(segment(START | END, 7, it) + ack(START | END, 7, len(it)) for it in small), UNPACK_SIZE)
-    yield "crumbs.tcpcl", repeated(transfer(7, bundle(payload), range(1, 17)), UNPACK_SIZE)
+    kinds = dict(bundles())
+    for name in ("plain", "crc16", "crc32"):
+        yield name + ".tcpcl", repeated(transfer(7, kinds[name][0], [65536]), BUNDLES_SIZE)
+    yield "small.tcpcl", repeated(b"".join(segment(START | END, 7, it) + ack(START | END, 7, len(it)) for it in kinds["small"]), BUNDLES_SIZE)
+    yield "crumbs.tcpcl", repeated(transfer(7, kinds["plain"][0], range(1, 17)), BUNDLES_SIZE)
 
 
 def main():
     folder = Path(sys.argv[1])
     for name, messages in recordings():
         (folder / name).write_bytes(CONTACT + SESS_INIT + messages)
+    for name, kind in bundles():
+        (folder / f"{name}.bundles").write_bytes(repeated(b"".join(kind), BUNDLES_SIZE))
 
 
 if __name__ == "__main__":

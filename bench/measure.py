@@ -1,5 +1,5 @@
 #!/usr/bin/env python3
-"""Measures `PROGRAM list` and `PROGRAM unpack` against `cat`: `python3 measure.py PROGRAM FOLDER [ROUNDS]`.
+"""Measures `PROGRAM list`, `unpack` and `pack` against `cat`: `python3 measure.py PROGRAM FOLDER [ROUNDS]`.
 
 The times are user plus system time of the process alone, both taken in turn in each round, and what is printed is the ratio
 of their sums. The output and the report go to /dev/null. The peak memory is that of the program once it was given all of its input.
@@ -46,7 +46,10 @@ def ratio(words, path, rounds):
     return ours / theirs
 
 
-# the command, the recording, what it has, and the most that is wanted
+# the words of pack
+PACK = "pack --node ipn:1.0"
+
+# the words, the file, what it has, and the most that is wanted; of memory in MB
 MEASURED = (
     ("list", "long.tcpcl", "segments of 64 KiB", 1.3),
     ("list", "bundles.tcpcl", "one small bundle a transfer, with acknowledgements and keepalives", 2.5),
@@ -58,6 +61,11 @@ MEASURED = (
     ("unpack", "small.tcpcl", "one bundle of 100 to 300 bytes a transfer, with acknowledgements", 11),
     ("unpack", "crumbs.tcpcl", "bundles of 1 MiB in segments of 1 to 16 bytes", 6),
     ("unpack", "answers.tcpcl", "no transfers", 5),
+    (PACK, "plain.bundles", "bundles of 1 MiB", 1.6),
+    (PACK, "crc16.bundles", "the same with a CRC-16 over each payload", 5.5),
+    (PACK, "crc32.bundles", "the same with a CRC-32C over each payload", 5.5),
+    (PACK + " --announce 1048576", "plain.bundles", "bundles of 1 MiB whose length is announced", 2.2, 6),
+    (PACK, "small.bundles", "bundles of 100 to 300 bytes", 12),
 )
 
 
@@ -65,11 +73,12 @@ def main():
     program, folder = os.path.abspath(sys.argv[1]), sys.argv[2]
     rounds = int(sys.argv[3]) if len(sys.argv) > 3 else 5
     print(f"user and system time of tcpclkit, to that of `cat`, over {rounds} rounds:")
-    for command, name, what, most in MEASURED:
-        path, words = os.path.join(folder, name), [program, command]
+    for command, name, what, most, *memory_wanted in MEASURED:
+        path, words = os.path.join(folder, name), [program, *command.split()]
         seconds(words, path)  # the file is in memory from here on
         memory = peak_kilobytes(words, path) / 1024
-        print(f"  {command}, {what}: {ratio(words, path, rounds):.2f}, at most {most} wanted; peak memory {memory:.1f} MB, below 4 wanted", flush=True)
+        room = memory_wanted[0] if memory_wanted else 4
+        print(f"  {command}, {what}: {ratio(words, path, rounds):.2f}, at most {most} wanted; peak memory {memory:.1f} MB, below {room} wanted", flush=True)
 
 
 if __name__ == "__main__":

@@ -1,5 +1,5 @@
 #!/usr/bin/env bash
-# Measures `tcpclkit list` and `tcpclkit unpack`: bench/run.sh [PROGRAM [ROUNDS]]
+# Measures `tcpclkit list`, `unpack` and `pack`: bench/run.sh [PROGRAM [ROUNDS]]
 # PROGRAM is by default the one that `rt run` or `rt check` left in crates/tcpclkit/out.
 set -eu
 here=$(cd "$(dirname "$0")" && pwd)

@@ -1,5 +1,5 @@
 #!/usr/bin/env python3
-"""Makes the recordings of this folder: `python3 make.py [FOLDER]`.
+"""Makes the recordings of this folder, and the bundles for `pack`: `python3 make.py [FOLDER]`.
 
 Each recording is what one entity sent in a TCPCLv4 session (RFC 9174): a contact header, then messages. Numbers on the
 wire are unsigned and big-endian. Only python's standard library is used.
@@ -124,17 +124,22 @@ TRANSFERS = b"".join(
     ]
 )
 
-RECORDINGS = {
+# Two bundles, one after another: the second has a check.
+CHECKED = DAMAGED.replace(b"iello", b"hello")
+TWO_BUNDLES = BUNDLE + CHECKED
+
+FILES = {
     "prelude-and-transfer.tcpcl": PRELUDE_AND_TRANSFER,
     "every-message.tcpcl": EVERY_MESSAGE,
     "transfers.tcpcl": TRANSFERS,
+    "two.bundles": TWO_BUNDLES,
 }
 
 
 def main():
     folder = Path(sys.argv[1]) if len(sys.argv) > 1 else Path(__file__).resolve().parent
-    for name, recording in RECORDINGS.items():
-        (folder / name).write_bytes(recording)
+    for name, content in FILES.items():
+        (folder / name).write_bytes(content)
 
 
 if __name__ == "__main__":

@@ -1,11 +1,13 @@
 -- What is given in turn is given in one.
-use Rattle.std.proofs.Common.{◌≡◌, ℕ, ◌+◌, List, [], ◌++◌, length, take, drop, Option, Some, None, ap, sym, ◌∙◌, Bool, true, false, ◌&&◌, eqb, eqb-true, add_assoc, length-append, append_assoc, add-zero, refl, take-append-drop}
+use Rattle.std.proofs.Common.{◌≡◌, ℕ, zero, suc, ◌+◌, ◌<◌, ◌≤◌, List, [], ◌∷◌, ◌++◌, length, take, drop, Option, Some, None, ap, sym, ◌∙◌, Bool, true, false, ◌&&◌, eqb, eqb-true, add_assoc, length-append, append_assoc, append-nil, add-zero, refl, arith, length-take, length-drop, take-append-drop}
 use Rattle.std.specs.Io.KnownBytes.{Consumes, prepend_known}
 use Rattle.std.proofs.KnownBytes.{Consumes-nil, Consumes-trans}
 use Rattle.std.proofs.lemmas.List.Elements.{All-nil, All-append}
+use Rattle.std.proofs.lemmas.Grind.{common_steps}
 use Rattle.link_io.specs.Bytes.{IsByte}
 use Rattle.link_io.specs.Device.{Input}
-use Rattle.link_io.specs.Source.{is_open, is_fresh, IsSourceAt, IsLiveBy, IsLive, HasEnded, given_by, window_of, ahead, Takes, StopsAfter}
+use Rattle.link_io.specs.Limits.{window_size}
+use Rattle.link_io.specs.Source.{is_open, is_fresh, IsSourceAt, IsLiveBy, IsLive, HasEnded, IsOver, given_by, window_of, ahead, WindowAfter, Takes, Readies, StopsAfter}
 use Rattle.link_io.specs.declared.fault.IoFault.{IoFault}
 use Rattle.link_io.proofs.Windows.{range_none}
 use Rattle.link_io.specs.declared.source.Flow.{Flow}
@@ -59,6 +61,40 @@ module _ {R : Type 0} (look : R → Input) (s : Source R) (fresh : is_fresh s �
       let rest = (and_true (eqb s.given 0) _ fresh).1 in
       live_open s.flow (look s.reader).left s.start s.end (and_true (is_open s.flow) _ rest).0
 
+-- a window from which nothing was given, and what lay in it is empty now, was empty
+emptied : (old new : List ℕ) → (0 < length old → new ≡ old) → new ≡ [] → new ≡ old
+emptied [] new kept none = none
+emptied (b ∷ old) new kept none = kept (omega arith)
+
+drop_none : (n : ℕ) (xs : List ℕ) → length (take n xs) ≡ 0 → drop n xs ≡ xs
+drop_none n [] none = grind (arith, common_steps)
+drop_none zero (x ∷ xs) none = refl
+drop_none (suc n) (x ∷ xs) none = absurd (omega arith)
+
+drop_less : (n bound : ℕ) (xs : List ℕ) → length xs ≤ bound → 0 < length (take n xs) → length (drop n xs) < bound
+drop_less n bound xs room some = omega (arith, length-take n xs, length-drop n xs)
+
+module _ {R : Type 0} where
+  -- the first bytes of a window were given
+  pub WindowAfter-drop : (old new : Source R) (n : ℕ) → window_of new ≡ drop n (window_of old) → length (window_of old) ≤ window_size → WindowAfter old new (take n (window_of old))
+  WindowAfter-drop old new n rest room = record {
+    kept = λ none. rest ∙ drop_none n (window_of old) none;
+    less = λ some. rw rest (drop_less n window_size (window_of old) room some);
+  }
+
+  pub WindowAfter-none : (s : Source R) → WindowAfter s s []
+  WindowAfter-none s = record { kept = λ none. refl; less = λ some. absurd (omega arith) }
+
+  less_then : (old mid new : Source R) (xs ys : List ℕ) → WindowAfter old mid xs → WindowAfter mid new ys → 0 < length (xs ++ ys) → length (window_of new) < window_size
+  less_then old mid new xs [] p q some = rw (q.kept refl) (p.less (rw append-nil at some))
+  less_then old mid new xs (y ∷ ys) p q some = q.less (omega arith)
+
+  WindowAfter-then : (old mid new : Source R) (xs ys : List ℕ) → WindowAfter old mid xs → WindowAfter mid new ys → WindowAfter old new (xs ++ ys)
+  WindowAfter-then old mid new xs ys p q = record {
+    kept = λ none. q.kept (omega (arith, length-append xs ys)) ∙ p.kept (omega (arith, length-append xs ys));
+    less = less_then old mid new xs ys p q;
+  }
+
 module _ {R : Type 0} (look : R → Input) where
   pub Takes-none : (s : Source R) → Takes look s s []
   Takes-none s = record {
@@ -66,6 +102,7 @@ module _ {R : Type 0} (look : R → Input) where
     next = Consumes-nil (ahead look s);
     count = sym (add-zero (given_by s));
     device = refl;
+    window = WindowAfter-none s;
   }
 
   pub Takes-then : (old mid new : Source R) (xs ys : List ℕ) → Takes look old mid xs → Takes look mid new ys → Takes look old new (xs ++ ys)
@@ -74,6 +111,30 @@ module _ {R : Type 0} (look : R → Input) where
     next = Consumes-trans (ahead look old) (ahead look mid) (ahead look new) xs ys p.next q.next;
     count = more_given (given_by old) (given_by mid) (given_by new) xs ys p.count q.count;
     device = q.device ∙ p.device;
+    window = WindowAfter-then old mid new xs ys p.window q.window;
+  }
+
+  -- a window was made ready, and some of it was given
+  pub Readies-takes : (old mid new : Source R) (bytes : List ℕ) → Readies look old mid → Takes look mid new bytes → 0 < length bytes → Takes look old new bytes
+  Readies-takes old mid new bytes p q some = record {
+    bytes_fit = q.bytes_fit;
+    next = Consumes-trans (ahead look old) (ahead look mid) (ahead look new) [] bytes p.next q.next;
+    count = q.count ∙ ap (λ n. n + length bytes) p.count;
+    device = q.device ∙ p.device;
+    window = record { kept = λ none. absurd (omega arith); less = q.window.less };
+  }
+
+  -- nothing could be made ready, since the input is over
+  pub Readies-over : (old new : Source R) → Readies look old new → IsOver look new → Takes look old new []
+  Readies-over old new p over = record {
+    bytes_fit = All-nil IsByte;
+    next = p.next;
+    count = p.count ∙ sym (add-zero (given_by old));
+    device = p.device;
+    window = record {
+      kept = λ none. emptied (window_of old) (window_of new) p.kept (range_none new.window new.start new.end over.ended.1);
+      less = λ some. absurd (omega arith);
+    };
   }
 
   pub StopsAfter-then : (old mid new : Source R) (xs ys : List ℕ) (fault : IoFault) → Takes look old mid xs → StopsAfter look mid new ys fault → StopsAfter look old new (xs ++ ys) fault

@@ -74,12 +74,26 @@ module _ {R : Type 0} where
     pub ended : HasEnded s
     pub empty : IsAtEnd (look s.reader).left
 
+  -- What lies in the window after these bytes were given. Only an empty window is read into, so where a byte was given
+  -- less than a whole window is left; where none was, nothing was read.
+  pub record WindowAfter (old new : Source R) (bytes : List ℕ) : Type 0 where
+    pub kept : length bytes ≡ 0 → window_of new ≡ window_of old
+    pub less : 0 < length bytes → length (window_of new) < window_size
+
   -- from old to new these bytes were given, the next ones, and the reader did not fail
   pub record Takes (look : R → Input) (old new : Source R) (bytes : List ℕ) : Type 0 where
     pub bytes_fit : AreBytes bytes
     pub next : Consumes (ahead look old) (ahead look new) bytes
     pub count : given_by new ≡ given_by old + length bytes
     pub device : (look new.reader).failed ≡ (look old.reader).failed
+    pub window : WindowAfter old new bytes
+
+  -- from old to new nothing was given, and the reader did not fail; what lay in the window lies in it
+  pub record Readies (look : R → Input) (old new : Source R) : Type 0 where
+    pub next : Consumes (ahead look old) (ahead look new) []
+    pub count : given_by new ≡ given_by old
+    pub device : (look new.reader).failed ≡ (look old.reader).failed
+    pub kept : 0 < length (window_of old) → window_of new ≡ window_of old
 
   -- Why the source stopped: the reader failed, and all that was taken before was given; or the last read brought bytes,
   -- which were not given, of which one is past the limit.
@@ -100,7 +114,7 @@ module _ {R : Type 0} where
 
   -- What a call gives that makes the window ready: some bytes lie in it, or the input has ended.
   pub record GaveReady (look : R → Input) (old new : Source R) (n : ℕ) : Type 0 where
-    pub takes : Takes look old new []
+    pub readies : Readies look old new
     pub live : IsLive look new
     pub size : n ≡ length (window_of new)
     pub over : n ≡ 0 → IsOver look new

@@ -3,12 +3,13 @@ use Rattle.std.proofs.Common.{◌≡◌, ℕ, ◌+◌, ◌<◌, ◌≤◌, ◌�
 use Rattle.std.proofs.lemmas.Bool.{lt-ltb, le-ltb}
 use Rattle.std.proofs.lemmas.Grind.{flat_map-append}
 use Rattle.link_wire.specs.Device.{Input, Output}
+use Rattle.link_wire.specs.Limits.{window_size}
 use Rattle.link_wire.specs.Message.{data_length}
-use Rattle.link_wire.specs.Source.{Takes, IsOver}
+use Rattle.link_wire.specs.Source.{window_of, Takes, Readies, IsOver}
 use Rattle.link_wire.specs.Stream.{Entry, End, Clean, Cut, Fault, Stream, ended, with_entry, Reading, reading_of}
 use Rattle.link_wire.specs.Session.{source_of, left_of, joined, data_after, IsSessionAt, IsLeft, IsRead, IsUndecided, SameMessages, GaveContact, GivesContact, GaveMessage, GaveEnd, GivesNext, GaveBytes, GivesLoad}
 use Rattle.link_wire.proofs.Contacts.{reading-none}
-use Rattle.link_io.proofs.Sources.{Takes-then}
+use Rattle.link_io.proofs.Sources.{Readies-takes}
 use Rattle.link_wire.specs.declared.IoFault.{IoFault}
 use Rattle.link_wire.specs.declared.fault.Stop.{Stop}
 use Rattle.link_wire.specs.declared.fault.Stop.TheVariants as stop
@@ -24,14 +25,14 @@ use Rattle.link_run.specs.Ends.{end_lines, end_status, lasting_lines, is_shown}
 use Rattle.link_run.specs.Run.{Texts, Outcome, Devices, devices_at, NoneFailed, HasWritten, Ended, WentOn, GivesStep}
 use Rattle.link_run.specs.Writers.{place_of, on_output, on_report, Writes, WritesPart, GivesReport}
 use Rattle.link_list.specs.Listing.{contact_lines, message_lines, lines_of, listing, listing_by, listing_sofar, listing_sofar_by, listing_shows, list_tool}
-use Rattle.link_list.specs.ListRun.{most_given, IsWaiting, progress_of, Begins, Lists, IsListing, GivesStage, GivesLine, GoesOn, GivesEnd}
+use Rattle.link_list.specs.ListRun.{most_given, IsWaiting, HasNoContent, IsWaitingAfter, progress_of, Begins, Lists, IsListing, GivesStage, GivesLine, GoesOn, GivesEnd}
 use Rattle.link_list.specs.declared.listing.Stage.{Stage}
 use Rattle.link_list.specs.declared.listing.Stage.TheVariants as stage
 use Rattle.link_run.specs.declared.run.Progress.{Progress}
 use Rattle.link_run.specs.declared.run.Status.{Status}
 use Rattle.link_run.specs.declared.writers.Writers.{Writers}
-use Rattle.link_run.proofs.Runs.{◌then◌, no_texts, texts_as, written_as, written_given, written_more, sound_given, sound_written, all_given, answered, writer_lost}
-use Rattle.link_run.proofs.Ends.{undecided_lines, undecided_shown, standing_lines, standing_shown, lasts, lasting_as, reported, read_failed}
+use Rattle.link_run.proofs.Runs.{◌then◌, no_texts, texts_as, written_as, written_given, written_more, sound_given, sound_written, few_over, all_given, answered, writer_lost}
+use Rattle.link_run.proofs.Ends.{undecided_lines, undecided_shown, standing_lines, standing_shown, lasts, lasting_as, few_at_fault, reported, read_failed}
 
 -- ---- the texts that bytes determine
 
@@ -104,15 +105,16 @@ module _ {R W E : Type 0} (in_look : R → Input) (out_look : W → Output) (rep
 
     -- the line waits for data
     waits : after ≡ mid → listing_sofar (history ++ given) ≡ listing_sofar history → IsWaiting stage.Data mid.line.items (reading_of (history ++ given)).end
-        → WentOn in_look out_look report_look (place_of (source_of old) before) (place_of (source_of new) after) (Lists in_look out_look report_look start stage.Data new after) (most_given now) history
-    waits same texts waiting =
+        → IsWaitingAfter now (reading_of (history ++ given)).end → GivesStage in_look out_look report_look start now old new before after history stage.Data
+    waits same texts waiting after_step =
         let P : Writers W E → Type 0 = λ w. Lists in_look out_look report_look start stage.Data new w (history ++ given) in
         record {
           given = given;
           some = λ may. some;
           size = size;
           count = takes.count;
-          at = subst P (sym same) (record { session = at; written = written_as in_look out_look report_look mid_written refl (sym texts); sound = mid_sound; waits = waiting });
+          window = takes.window.less some;
+          at = (subst P (sym same) (record { session = at; written = written_as in_look out_look report_look mid_written refl (sym texts); sound = mid_sound; waits = waiting }), after_step);
         }
 
     -- the line was written
@@ -125,6 +127,7 @@ module _ {R W E : Type 0} (in_look : R → Input) (out_look : W → Output) (rep
           some = λ may. some;
           size = size;
           count = takes.count;
+          window = takes.window.less some;
           at = record {
             session = at;
             written = written_as in_look out_look report_look (written_more in_look out_look report_look start (source_of new) mid after (history ++ given) (listing_sofar history) (on_output mid.line.items) mid_written writes) refl (sym texts);
@@ -139,16 +142,16 @@ module _ {R W E : Type 0} (in_look : R → Input) (out_look : W → Output) (rep
     lost fault part texts = record {
       given = given;
       size = size;
-      gave = writer_lost in_look out_look report_look list_tool start (source_of new) mid after (history ++ given) (listing_sofar history) (on_output mid.line.items) (listing_sofar (history ++ given)) fault mid_written (sym texts) (inl refl) part;
+      gave = writer_lost in_look out_look report_look list_tool start (source_of new) mid after (history ++ given) (listing_sofar history) (on_output mid.line.items) (listing_sofar (history ++ given)) fault mid_written (sym texts) (inl refl) (takes.window.less some) part;
     }
 
     pub goes_on : (next : Stage)
-        → (0 < left_of new → (listing_sofar (history ++ given) ≡ listing_sofar history) × IsWaiting stage.Data mid.line.items (reading_of (history ++ given)).end)
+        → (0 < left_of new → (listing_sofar (history ++ given) ≡ listing_sofar history) × IsWaiting stage.Data mid.line.items (reading_of (history ++ given)).end × IsWaitingAfter now (reading_of (history ++ given)).end)
         → (left_of new ≡ 0 → (listing_sofar (history ++ given) ≡ listing_sofar history then on_output mid.line.items) × ((reading_of (history ++ given)).end ≡ Clean))
         → GoesOn out_look report_look (left_of new) mid after next → GivesStage in_look out_look report_look start now old new before after history next
     goes_on stage.Contact more whole went = absurd went
     goes_on stage.Message more whole went = let written = whole went.0 in wrote went.1 written.0 written.1
-    goes_on stage.Data more whole went = let written = more went.0 in waits went.1 written.0 written.1
+    goes_on stage.Data more whole went = let written = more went.0 in waits went.1 written.0 written.1 written.2
     goes_on (stage.Ended (Ok status)) more whole went = absurd went
     goes_on (stage.Ended (Err fault)) more whole went = let written = whole went.0 in lost fault went.1 written.0
 
@@ -183,10 +186,10 @@ module _ {R W E : Type 0} (in_look : R → Input) (out_look : W → Output) (rep
           (λ is. inr (sofar_texts is.0, λ more. whole_is ((history ++ given) ++ more) reading (read.all more (λ e. absurd (is.0 e))) ∙ sym (whole_is (history ++ given) reading here)))
           (lasts offset fault)
 
-      pub fault_reported : (answer : Result Status IoFault) → length given ≤ most_given now → GivesReport out_look report_look before after line answer → Ended in_look out_look report_look list_tool start (devices_at (place_of (source_of new) after)) (most_given now) history answer
-      fault_reported answer size gives =
+      pub fault_reported : (answer : Result Status IoFault) → length given ≤ most_given now → length (window_of (source_of new)) < window_size → GivesReport out_look report_look before after line answer → Ended in_look out_look report_look list_tool start (devices_at (place_of (source_of new) after)) (most_given now) history answer
+      fault_reported answer size few gives =
           reported in_look out_look report_look list_tool start (most_given now) (source_of old) (source_of new) before after history given texts written sound size line takes
-          whole_texts (ap (λ (o : Outcome). o.status) (whole_is (history ++ given) reading here) ∙ ends_with) shown answer gives
+          whole_texts (ap (λ (o : Outcome). o.status) (whole_is (history ++ given) reading here) ∙ ends_with) shown few answer gives
 
 -- ---- the contact header
 
@@ -235,7 +238,8 @@ module _ {R W E : Type 0} (in_look : R → Input) (out_look : W → Output) (rep
         let place : (let e : End = Fault 0 fault in e) ≡ Fault offset fault = ap (λ n. let e : End = Fault n fault in e) (sym got.place) in
         fault_reported in_look out_look report_look start stage.Contact old new before after [] got.given (listing_sofar []) begun fresh.sound offset fault _ got.takes got.is_read
         (ap (λ (t : Texts). t.output) nothing_read ∙ sym no_lines) (ap (λ (t : Texts). t.report) nothing_read)
-        (ap end_lines place) refl (λ other. ap lasting_lines place ∙ lasting_as offset fault other) answer got.size gives
+        (ap end_lines place) refl (λ other. ap lasting_lines place ∙ lasting_as offset fault other) answer got.size
+        (few_at_fault in_look (source_of old) (source_of new) [] got.given 0 fault _ got.takes got.is_read refl (ap (λ (r : Reading). is_shown r.end) reading-none)) gives
     contact_ended after (stop.Io fault) (stage.Ended answer) got gives =
         let size = got.size in
         read_failed in_look out_look report_look list_tool start (most_given stage.Contact) (source_of old) (source_of new) before after [] got.given (listing_sofar []) begun fresh.sound (omega arith) fault answer got.stops
@@ -256,8 +260,9 @@ module _ {R W E : Type 0} (in_look : R → Input) (out_look : W → Output) (rep
         (λ more.
         let test : nat_lt 0 (data_length message) ≡ true = lt-ltb 0 (data_length message) (omega (arith, got.left)) in
         let reading = got.reading ∙ ap (λ b. joined (reading_of history) (if b then ended (Cut offset message []) else with_entry (record { offset = offset; message = message; content = [] }) (ended Clean))) test in
-        let P : End → Type 0 = λ end. IsWaiting stage.Data mid.line.items end in
-        (sofar_same history given _ reading refl refl standing, subst P (sym (ap (λ (r : Reading). r.end) reading)) (refl, line)))
+        let P : End → Type 0 = λ end. IsWaiting stage.Data mid.line.items end × HasNoContent end in
+        let waiting = subst P (sym (ap (λ (r : Reading). r.end) reading)) ((refl, line), refl) in
+        (sofar_same history given _ reading refl refl standing, waiting.0, waiting.1))
         (λ none.
         let test : nat_lt 0 (data_length message) ≡ false = le-ltb 0 (data_length message) (omega (arith, got.left)) in
         let reading = got.reading ∙ ap (λ b. joined (reading_of history) (if b then ended (Cut offset message []) else with_entry (record { offset = offset; message = message; content = [] }) (ended Clean))) test in
@@ -277,7 +282,8 @@ module _ {R W E : Type 0} (in_look : R → Input) (out_look : W → Output) (rep
               (written_as in_look out_look report_look (written_given in_look out_look report_look start (source_of old) (source_of new) before history [] (listing_sofar history) at.written got.takes) refl texts)
               (sound_given in_look out_look report_look (source_of old) (source_of new) before [] at.sound got.takes)
               (sym (ap (λ (t : Outcome). t.status) (whole_is (history ++ []) _ reading) ∙ ap end_status got.clean))
-              (inl (all_given in_look out_look report_look (source_of new) before got.over));
+              (inl (all_given in_look out_look report_look (source_of new) before got.over))
+              (few_over in_look (source_of new) got.over);
         })
 
     pub message_ended : (after : Writers W E) (why : Stop) (next : Stage) → GivesNext in_look old new history (Err why) → GivesEnd out_look report_look why before after next → GivesStage in_look out_look report_look start stage.Message old new before after history next
@@ -291,7 +297,8 @@ module _ {R W E : Type 0} (in_look : R → Input) (out_look : W → Output) (rep
         fault_reported in_look out_look report_look start stage.Message old new before after history got.given (listing_sofar history) at.written at.sound offset fault _ got.takes got.is_read
         (ap (λ (t : Texts). t.output) (sofar_is history _ refl) ∙ sym (lines_joined (reading_of history) (ended (Fault offset fault)) ∙ ap (λ xs. lines_of (reading_of history) ++ xs) no_lines ∙ append-nil (lines_of (reading_of history))))
         (ap (λ (t : Texts). t.report) (sofar_is history _ refl) ∙ standing)
-        refl refl (λ other. lasting_as offset fault other) answer got.size gives
+        refl refl (λ other. lasting_as offset fault other) answer got.size
+        (few_at_fault in_look (source_of old) (source_of new) history got.given offset fault _ got.takes got.is_read refl (standing_shown old.offset old.left _ at.session.left)) gives
     message_ended after (stop.Io fault) (stage.Ended answer) got gives =
         let size = got.size in
         read_failed in_look out_look report_look list_tool start (most_given stage.Message) (source_of old) (source_of new) before after history got.given (listing_sofar history) at.written at.sound (omega arith) fault answer got.stops
@@ -331,7 +338,7 @@ module _ {R W E : Type 0} (in_look : R → Input) (out_look : W → Output) (rep
     standing_data : lasting_lines (reading_of history).end ≡ []
     standing_data = ap lasting_lines inside.end
 
-    module _ (mid new : Session R) (bytes : List ℕ) (ready : GaveBytes in_look old mid history []) (gave : GaveBytes in_look mid new history bytes) where
+    module _ (mid new : Session R) (bytes : List ℕ) (ready : Readies in_look (source_of old) (source_of mid)) (gave : GaveBytes in_look mid new history bytes) where
       -- the reading with these bytes
       read_data : (test : Bool) → nat_lt 0 (left_of new) ≡ test → reading_of (history ++ bytes) ≡ joined (reading_of history) (if test then ended (Cut inside.offset inside.message (inside.content ++ bytes)) else with_entry (record { offset = inside.offset; message = inside.message; content = inside.content ++ bytes }) (ended Clean))
       read_data test is =
@@ -341,11 +348,11 @@ module _ {R W E : Type 0} (in_look : R → Input) (out_look : W → Output) (rep
 
       pub data_step : (after : Writers W E) (next : Stage) → 0 < length bytes → length bytes ≤ most_given stage.Data → GoesOn out_look report_look (left_of new) before after next → GivesStage in_look out_look report_look start stage.Data old new before after history next
       data_step after next some size gives =
-          goes_on in_look out_look report_look start stage.Data old new before before after history bytes refl refl at.written at.sound (Takes-then in_look (source_of old) (source_of mid) (source_of new) [] bytes ready.takes gave.takes) some size gave.at next
+          goes_on in_look out_look report_look start stage.Data old new before before after history bytes refl refl at.written at.sound (Readies-takes in_look (source_of old) (source_of mid) (source_of new) bytes ready gave.takes some) some size gave.at next
           (λ more.
           let reading = read_data true (lt-ltb 0 (left_of new) more) in
           let P : End → Type 0 = λ end. IsWaiting stage.Data before.line.items end in
-          (sofar_same history bytes _ reading refl refl standing_data, subst P (sym (ap (λ (r : Reading). r.end) reading)) (refl, inside.line)))
+          (sofar_same history bytes _ reading refl refl standing_data, subst P (sym (ap (λ (r : Reading). r.end) reading)) (refl, inside.line), tt))
           (λ none.
           let reading = read_data false (le-ltb 0 (left_of new) (omega arith)) in
           (sofar_one history bytes _ _ reading refl refl standing_data ∙ ap (λ xs. listing_sofar history then on_output xs) (sym inside.line), ap (λ (r : Reading). r.end) reading))
@@ -363,7 +370,7 @@ module _ {R W E : Type 0} (in_look : R → Input) (out_look : W → Output) (rep
         fault_reported in_look out_look report_look start stage.Data old new before after history [] (listing_sofar history) at.written at.sound offset fault (reading_of history) got.takes
         (record { over = λ is. got.over; all = λ more may. rw (may got.kind, append-nil, append-nil) refl })
         (ap (λ (t : Texts). t.output) (sofar_is history _ refl)) (ap (λ (t : Texts). t.report) (sofar_is history _ refl) ∙ standing_data)
-        cut (ap end_status got.cut) (λ other. absurd (other got.kind)) answer (omega arith) gives
+        cut (ap end_status got.cut) (λ other. absurd (other got.kind)) answer (omega arith) (few_over in_look (source_of new) got.over) gives
     data_ended new after (stop.Io fault) (stage.Ended answer) got gives =
         read_failed in_look out_look report_look list_tool start (most_given stage.Data) (source_of old) (source_of new) before after history [] (listing_sofar history) at.written at.sound (omega arith) fault answer got.stops
         (ap listing_sofar (sym (append-nil history))) (ap listing_shows (append-nil history) ∙ shows_is history _ refl ∙ standing_shown old.offset old.left _ at.session.left) gives.0 gives.1
@@ -376,7 +383,7 @@ module _ {R W E : Type 0} (in_look : R → Input) (out_look : W → Output) (rep
       → GivesStep in_look out_look report_look list_tool start (place_of (source_of old) before) (place_of (source_of new) after) (IsListing in_look out_look report_look start next new after) (most_given now) history (progress_of next)
   stage_step now stage.Contact old new before after history gives = absurd gives
   stage_step now stage.Message old new before after history gives = gives
-  stage_step now stage.Data old new before after history gives = gives
+  stage_step now stage.Data old new before after history gives = record { given = gives.given; some = gives.some; size = gives.size; count = gives.count; window = gives.window; at = gives.at.0 }
   stage_step now (stage.Ended (Ok status)) old new before after history gives = gives
   stage_step now (stage.Ended (Err fault)) old new before after history gives = gives
 

@@ -41,6 +41,19 @@ IsWaiting now line Clean = (now ≡ stage.Message)
 IsWaiting now line (Cut offset message content) = (now ≡ stage.Data) × (line ≡ message_text offset message)
 IsWaiting now line (Fault offset fault) = ⊥
 
+-- of a segment that is open none of the data has come
+abbrev pub HasNoContent : End → Type 0
+HasNoContent Clean = Unit {0}
+HasNoContent (Cut offset message content) = content ≡ []
+HasNoContent (Fault offset fault) = Unit {0}
+
+-- how the reading ends where data waits after a step at this stage: the step at a message gives no data
+abbrev pub IsWaitingAfter : Stage → End → Type 0
+IsWaitingAfter stage.Contact end = Unit {0}
+IsWaitingAfter stage.Message end = HasNoContent end
+IsWaitingAfter stage.Data end = Unit {0}
+IsWaitingAfter (stage.Ended answer) end = Unit {0}
+
 -- what the step returns that leaves this stage
 abbrev pub progress_of : Stage → Result Progress IoFault
 progress_of stage.Contact = Ok More
@@ -75,7 +88,7 @@ module _ {R W E : Type 0} where
     GivesStage now old new before after history (stage.Ended answer) = Ended in_look out_look report_look list_tool start (devices_at (place_of (source_of new) after)) (most_given now) history answer
     GivesStage now old new before after history stage.Contact = ⊥
     GivesStage now old new before after history stage.Message = WentOn in_look out_look report_look (place_of (source_of old) before) (place_of (source_of new) after) (Lists stage.Message new after) (most_given now) history
-    GivesStage now old new before after history stage.Data = WentOn in_look out_look report_look (place_of (source_of old) before) (place_of (source_of new) after) (Lists stage.Data new after) (most_given now) history
+    GivesStage now old new before after history stage.Data = WentOn in_look out_look report_look (place_of (source_of old) before) (place_of (source_of new) after) (λ bytes. Lists stage.Data new after bytes × IsWaitingAfter now (reading_of bytes).end) (most_given now) history
 
 -- what the parts of a step do
 module _ {W E : Type 0} (out_look : W → Output) (report_look : E → Output) where

@@ -63,7 +63,7 @@ pub none_front : front_of [] ≡ []
 none_front = taken-nil bundle_goes []
 
 -- a whole bundle, and bytes that show a fault, are not empty
-some_stopped : (front : List ℕ) → bundle_goes front ≡ false → 0 < length front
+pub some_stopped : (front : List ℕ) → bundle_goes front ≡ false → 0 < length front
 some_stopped [] idle = absurd (false≢true (sym idle ∙ none_goes))
 some_stopped (byte ∷ bytes) idle = omega arith
 
@@ -84,10 +84,10 @@ goes_cut part goes = cut_by part (verdict part) refl goes
 
 -- ---- a front judged
 
-within_limit : (limit : ℕ) (front : List ℕ) → length front ≤ limit → judged_front limit front ≡ refused_by (verdict front)
+pub within_limit : (limit : ℕ) (front : List ℕ) → length front ≤ limit → judged_front limit front ≡ refused_by (verdict front)
 within_limit limit front within = rw (le-ltb limit (length front) within) refl
 
-beyond_limit : (limit : ℕ) (front : List ℕ) → limit < length front → judged_front limit front ≡ Err (Longer limit)
+pub beyond_limit : (limit : ℕ) (front : List ℕ) → limit < length front → judged_front limit front ≡ Err (Longer limit)
 beyond_limit limit front beyond = rw (lt-ltb limit (length front) beyond) refl
 
 refused_whole : (said : Result BundleInfo (BundleFault × ℕ)) (info : BundleInfo) → refused_by said ≡ Ok info → said ≡ Ok info
@@ -141,7 +141,7 @@ unfolding divided divided_in
 divided_none limit = refl
 
 -- bytes that there are, by their front
-divided_front : (limit : ℕ) (front bytes : List ℕ) → 0 < length bytes → front_of bytes ≡ front
+pub divided_front : (limit : ℕ) (front bytes : List ℕ) → 0 < length bytes → front_of bytes ≡ front
     → divided limit bytes ≡ divided_by (divided limit) front bytes (judged_front limit front)
 unfolding divided divided_in
 divided_front limit front [] some is = absurd (omega arith)

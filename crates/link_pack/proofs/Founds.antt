@@ -10,7 +10,7 @@ use Rattle.link_report.specs.declared.fault.Fault.{Fault}
 use Rattle.link_run.specs.Run.{Texts, Outcome, Devices}
 use Rattle.link_run.specs.Writers.{on_output, on_report}
 use Rattle.link_run.specs.declared.writers.Writers.{Writers}
-use Rattle.link_run.proofs.Runs.{◌then◌}
+use Rattle.link_run.proofs.Runs.{◌then◌, few_over}
 use Rattle.link_pack.specs.Bundles.{Packed, Faulty, divided, joined}
 use Rattle.link_pack.specs.Packing.{end_bytes, line_of, refusal_line, packing}
 use Rattle.link_pack.specs.Packer.{Holds, Grows, Refuses, Took, IsCut, CutShort}
@@ -132,7 +132,7 @@ module _ {R W E : Type 0} (in_look : R → Input) (out_look : W → Output) (rep
               written ∙ sym (sofar_refused options (history ++ run) at.bundles (at.begun ++ refuses.accepted) refuses.refusal refuses.lasts refused_now),
               λ rest. whole_is ((history ++ run) ++ rest) (refused_divides rest) ∙ sym now,
             ))
-            after packed next
+            (takes.window.less some) after packed next
             (as_stood (λ o n. GivesLast out_look report_look before after (record { output = run_segments o n at.begun refuses.accepted false; report = fault_text fault }) 3 next) gives)
 
       pub came : (what : Found) (took : Took mid at.begun run what) → GivesFound out_look report_look mid at.bundles at.begun run before after packed what took next
@@ -152,7 +152,7 @@ module _ {R W E : Type 0} (in_look : R → Input) (out_look : W → Output) (rep
       finished_by more outcome is same gives =
           let now : packing options (history ++ []) ≡ outcome = at_end (packing options) ∙ is in
           ended in_look out_look report_look start old before packer history at new [] takes (omega arith) more outcome.status
-          (same ∙ sym (ap (λ (o : Outcome). o.texts) now)) (ap (λ (o : Outcome). o.status) now) (inl over) after packer next gives
+          (same ∙ sym (ap (λ (o : Outcome). o.texts) now)) (ap (λ (o : Outcome). o.status) now) (inl over) (few_over in_look new over) after packer next gives
 
       finished_short : (short : Option Fault) → CutShort packer.number at.begun short → GivesShort out_look report_look options before after short next
           → GivesStage in_look out_look report_look start options stage.Bundles old new before after packer history next

@@ -1,9 +1,9 @@
-mod Dividing
+pub mod Dividing
 mod Texts
-mod Sending
+pub mod Sending
 mod Writing
 mod Taking
-mod Outcomes
+pub mod Outcomes
 mod Grown
 mod Steps
 mod Founds

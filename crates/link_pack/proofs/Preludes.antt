@@ -1,6 +1,8 @@
 -- The first step of a run of `pack`.
-use Rattle.std.proofs.Common.{◌≡◌, ℕ, inl, List, [], ◌++◌, Ok, Err, refl, ap, sym, ◌∙◌, subst, append-nil, arith}
+use Rattle.std.proofs.Common.{◌≡◌, ℕ, ◌<◌, inl, List, [], ◌++◌, length, Ok, Err, refl, ap, sym, ◌∙◌, subst, append-nil, arith}
 use Rattle.link_wire.specs.Device.{Input, Output}
+use Rattle.link_wire.specs.Limits.{window_size}
+use Rattle.link_wire.specs.Source.{window_of}
 use Rattle.link_wire.specs.declared.Source.{Source}
 use Rattle.link_run.specs.Run.{Devices}
 use Rattle.link_run.specs.Writers.{on_output}
@@ -26,6 +28,9 @@ prelude_texts options =
 
 module _ {R W E : Type 0} (in_look : R → Input) (out_look : W → Output) (report_look : E → Output) (start : Devices R W E) where
   module _ (source : Source R) (before after : Writers W E) (packer : Packer) (fresh : Begins in_look out_look report_look start source before packer []) where
+    few : length (window_of source) < window_size
+    few = let none = ap length fresh.unread in omega arith
+
     from_none : (next : Stage) → GivesRun out_look report_look before after (on_output (prelude_bytes packer.options)) (Unit {0}) next
         → GivesStage in_look out_look report_look start packer.options stage.Prelude source source before after packer [] next
     from_none stage.Prelude gives = absurd gives
@@ -34,6 +39,7 @@ module _ {R W E : Type 0} (in_look : R → Input) (out_look : W → Output) (rep
       some = λ may. absurd (omega arith);
       size = omega arith;
       count = omega arith;
+      window = few;
       at = record {
         source = fresh.source;
         live = fresh.live;
@@ -51,7 +57,7 @@ module _ {R W E : Type 0} (in_look : R → Input) (out_look : W → Output) (rep
       given = [];
       size = omega arith;
       gave = writer_lost in_look out_look report_look (pack_tool packer.options) start source before after [] no_texts (on_output (prelude_bytes packer.options)) _ fault fresh.written
-          (prelude_texts packer.options ∙ sym (sofar_going packer.options [] [] [] fresh.holds.front fresh.holds.goes fresh.holds.within refl)) (inl refl) gives;
+          (prelude_texts packer.options ∙ sym (sofar_going packer.options [] [] [] fresh.holds.front fresh.holds.goes fresh.holds.within refl)) (inl refl) few gives;
     }
 
   pub begun : (source : Source R) (before after : Writers W E) (packer : Packer) (history : List ℕ) (next : Stage) → Begins in_look out_look report_look start source before packer history

@@ -1,7 +1,8 @@
 -- The steps of a run of `pack`.
 use Rattle.std.proofs.Common.{◌≡◌, ℕ, ◌+◌, ◌<◌, ◌≤◌, ◌⊎◌, inl, inr, List, [], ◌++◌, length, Ok, Err, ⊎_elim, refl, ap, sym, ◌∙◌, subst, append-nil, arith}
 use Rattle.link_wire.specs.Device.{Input, Output}
-use Rattle.link_wire.specs.Source.{IsLive, IsOver, Takes, StopsAfter}
+use Rattle.link_wire.specs.Limits.{window_size}
+use Rattle.link_wire.specs.Source.{window_of, IsLive, IsOver, Takes, StopsAfter}
 use Rattle.link_wire.specs.declared.IoFault.{IoFault}
 use Rattle.link_wire.specs.declared.Source.{Source}
 use Rattle.link_io.proofs.Sources.{IsSourceAt-then}
@@ -68,20 +69,21 @@ module _ {R W E : Type 0} (in_look : R → Input) (out_look : W → Output) (rep
             → GivesStage in_look out_look report_look start options stage.Bundles old new before after packed history next
         goes_on after packed stage.Prelude same gives = absurd gives
         goes_on after packed stage.Bundles same gives =
-            record { given = run; some = λ may. some; size = size; count = takes.count; at = stands after packed same gives.0 gives.1 }
+            record { given = run; some = λ may. some; size = size; count = takes.count; window = takes.window.less some; at = stands after packed same gives.0 gives.1 }
         goes_on after packed (stage.Ended (Ok status)) same gives = absurd gives
         goes_on after packed (stage.Ended (Err fault)) same gives =
             record {
               given = run;
               size = size;
-              gave = writer_lost in_look out_look report_look (pack_tool options) start new before after (history ++ run) texts more _ fault mid (grown ∙ sym now_due) (inl refl) gives;
+              gave = writer_lost in_look out_look report_look (pack_tool options) start new before after (history ++ run) texts more _ fault mid (grown ∙ sym now_due) (inl refl) (takes.window.less some) gives;
             }
 
     -- ---- the run ends
 
     module _ (new : Source R) (run : List ℕ) (takes : Takes in_look old new run) (size : length run ≤ 4096) (more : Texts) (status : ℕ)
         (whole : texts then more ≡ (packing options (history ++ run)).texts) (ends : (packing options (history ++ run)).status ≡ status)
-        (shown : IsOver in_look new ⊎ ((texts then more ≡ packing_sofar options (history ++ run)) × ((rest : List ℕ) → packing options ((history ++ run) ++ rest) ≡ packing options (history ++ run)))) where
+        (shown : IsOver in_look new ⊎ ((texts then more ≡ packing_sofar options (history ++ run)) × ((rest : List ℕ) → packing options ((history ++ run) ++ rest) ≡ packing options (history ++ run))))
+        (few : length (window_of new) < window_size) where
       last : HasWritten in_look out_look report_look start (place_of new before) (history ++ run) texts
       last = written_given in_look out_look report_look start old new before history run texts at.written takes
 
@@ -97,15 +99,16 @@ module _ {R W E : Type 0} (in_look : R → Input) (out_look : W → Output) (rep
                 (written_as in_look out_look report_look (written_more in_look out_look report_look start new before after (history ++ run) texts more last gives.0) refl whole)
                 (sound_written in_look out_look report_look new before after more (sound_given in_look out_look report_look old new before run at.sound takes) gives.0)
                 (gives.1 ∙ sym ends)
-                (⊎_elim (λ over. inl (all_given in_look out_look report_look new after over)) (λ shows. inr shows.1) shown);
+                (⊎_elim (λ over. inl (all_given in_look out_look report_look new after over)) (λ shows. inr shows.1) shown)
+                few;
           }
       ended after packed (stage.Ended (Err fault)) gives =
           record {
             given = run;
             size = size;
             gave = ⊎_elim
-                (λ over. writer_lost in_look out_look report_look (pack_tool options) start new before after (history ++ run) texts more _ fault last refl (inr (all_given in_look out_look report_look new after over, whole)) gives)
-                (λ shows. writer_lost in_look out_look report_look (pack_tool options) start new before after (history ++ run) texts more _ fault last refl (inl shows.0) gives)
+                (λ over. writer_lost in_look out_look report_look (pack_tool options) start new before after (history ++ run) texts more _ fault last refl (inr (all_given in_look out_look report_look new after over, whole)) few gives)
+                (λ shows. writer_lost in_look out_look report_look (pack_tool options) start new before after (history ++ run) texts more _ fault last refl (inl shows.0) few gives)
                 shown;
           }
 

@@ -1,7 +1,7 @@
 -- Where a run of `pack` stands.
 use Rattle.std.specs.Prelude.{◌≡◌, ℕ, ◌+◌, ◌≤◌, Bool, true, false, not, List, [], ◌∷◌, ◌++◌, length, Option, Some, None, Result, Ok, Err}
 use Rattle.link_wire.specs.Device.{Input, Output}
-use Rattle.link_wire.specs.Source.{IsSourceAt, IsLive}
+use Rattle.link_wire.specs.Source.{window_of, IsSourceAt, IsLive}
 use Rattle.link_wire.specs.declared.IoFault.{IoFault}
 use Rattle.link_wire.specs.declared.IoFault.TheVariants as io
 use Rattle.link_wire.specs.declared.Source.{Source}
@@ -58,10 +58,11 @@ texts_of options bundles begun = record {
 }
 
 module _ {R W E : Type 0} (in_look : R → Input) (out_look : W → Output) (report_look : E → Output) (start : Devices R W E) where
-  -- a run that begins: nothing was given and nothing written
+  -- a run that begins: nothing was given or read, and nothing written
   pub record Begins (s : Source R) (w : Writers W E) (packer : Packer) (history : List ℕ) : Type 0 where
     pub nothing : history ≡ []
     pub source : IsSourceAt s []
+    pub unread : window_of s ≡ []
     pub live : IsLive in_look s
     pub holds : Holds packer [] []
     pub written : HasWritten in_look out_look report_look start (place_of s w) [] (record { output = []; report = [] })

@@ -1,9 +1,10 @@
 -- How a run ends that reports a fault, and one whose reader fails.
-use Rattle.std.proofs.Common.{◌≡◌, ℕ, ◌≤◌, ◌⊎◌, inl, inr, false, List, [], ◌++◌, length, Result, Ok, Err, ⊎_elim, refl, ap, sym, ◌∙◌, subst}
+use Rattle.std.proofs.Common.{◌≡◌, ℕ, ◌<◌, ◌≤◌, ◌⊎◌, inl, inr, true, false, List, [], ◌∷◌, ◌++◌, length, Result, Ok, Err, ⊎_elim, refl, ap, sym, ◌∙◌, subst, append-nil, arith}
 use Rattle.link_wire.specs.Device.{Input, Output}
-use Rattle.link_wire.specs.Source.{Takes, StopsAfter, IsOver}
-use Rattle.link_wire.specs.Stream.{End, Clean, Cut, Fault}
-use Rattle.link_wire.specs.Session.{IsLeft, IsUndecided}
+use Rattle.link_wire.specs.Limits.{window_size}
+use Rattle.link_wire.specs.Source.{window_of, Takes, StopsAfter, IsOver}
+use Rattle.link_wire.specs.Stream.{End, Clean, Cut, Fault, Reading, reading_of}
+use Rattle.link_wire.specs.Session.{IsLeft, IsUndecided, IsRead}
 use Rattle.link_wire.specs.declared.IoFault.{IoFault}
 use Rattle.link_wire.specs.declared.Source.{Source}
 use Rattle.link_wire.specs.declared.fault.WireFault.{WireFault}
@@ -15,7 +16,7 @@ use Rattle.link_run.specs.Run.{Texts, Tool, Devices, devices_at, NoneFailed, Has
 use Rattle.link_run.specs.Writers.{place_of, on_report, WritesPart, Reports, GivesReport}
 use Rattle.link_run.specs.declared.run.Status.{Status}
 use Rattle.link_run.specs.declared.writers.Writers.{Writers}
-use Rattle.link_run.proofs.Runs.{◌then◌, written_as, written_given, written_more, sound_given, sound_written, all_given, answered, writer_lost, reader_lost}
+use Rattle.link_run.proofs.Runs.{◌then◌, written_as, written_given, written_more, sound_given, sound_written, few_over, all_given, answered, writer_lost, reader_lost}
 
 -- ---- the line of the fault that ends a stream
 
@@ -49,6 +50,31 @@ pub lasting_as : (offset : ℕ) (fault : WireFault) → (fault ≡ wire.Truncate
 lasting_as offset wire.Truncated other = absurd (other refl)
 lasting_as offset fault other = refl
 
+lasting_shown : (fault : WireFault) → (fault ≡ wire.Truncated → ⊥) → is_lasting fault ≡ true
+lasting_shown wire.Truncated other = absurd (other refl)
+lasting_shown fault other = refl
+
+-- a fault that was not there before was shown by bytes
+shown_by : (history given : List ℕ) (offset : ℕ) (fault : WireFault) (reading : Reading) → (fault ≡ wire.Truncated → ⊥) → reading_of (history ++ given) ≡ reading
+    → reading.end ≡ Fault offset fault → is_shown (reading_of history).end ≡ false → 0 < length given
+shown_by history [] offset fault reading other is ends unshown =
+    let shown : is_shown (reading_of history).end ≡ true =
+    ap (λ bytes. is_shown (reading_of bytes).end) (sym (append-nil history)) ∙ ap (λ (r : Reading). is_shown r.end) is ∙ ap is_shown ends ∙ lasting_shown fault other
+    in absurd (cc)
+shown_by history (b ∷ given) offset fault reading other is ends unshown = omega arith
+
+-- a fault of the wire is shown by bytes that were given, or nothing is left of the input
+pub few_at_fault : {R : Type 0} (look : R → Input) (old new : Source R) (history given : List ℕ) (offset : ℕ) (fault : WireFault) (reading : Reading)
+    → Takes look old new given → IsRead look new (history ++ given) fault reading → reading.end ≡ Fault offset fault → is_shown (reading_of history).end ≡ false
+    → length (window_of new) < window_size
+few_at_fault look old new history given offset fault reading takes read ends unshown =
+    let here : (fault ≡ wire.Truncated → ⊥) → reading_of (history ++ given) ≡ reading =
+    λ other. ap reading_of (sym (append-nil (history ++ given))) ∙ read.all [] (λ is. absurd (other is)) in
+    ⊎_elim
+    (λ is. few_over look new (read.over is))
+    (λ is. takes.window.less (shown_by history given offset fault reading is.0 (here is.0) ends unshown))
+    (lasts offset fault)
+
 -- ---- the end of a run
 
 module _ {R W E : Type 0} (in_look : R → Input) (out_look : W → Output) (report_look : E → Output) (tool : Tool) (start : Devices R W E)
@@ -59,15 +85,16 @@ module _ {R W E : Type 0} (in_look : R → Input) (out_look : W → Output) (rep
   -- the line of a fault was written to the report
   module _ (line : List ℕ) (takes : Takes in_look old new given)
       (whole : texts then on_report line ≡ (tool.whole (history ++ given)).texts) (ends : (tool.whole (history ++ given)).status ≡ 3)
-      (shown : IsOver in_look new ⊎ ((texts then on_report line ≡ tool.sofar (history ++ given)) × ((more : List ℕ) → tool.whole ((history ++ given) ++ more) ≡ tool.whole (history ++ given)))) where
+      (shown : IsOver in_look new ⊎ ((texts then on_report line ≡ tool.sofar (history ++ given)) × ((more : List ℕ) → tool.whole ((history ++ given) ++ more) ≡ tool.whole (history ++ given))))
+      (few : length (window_of new) < window_size) where
     mid : HasWritten in_look out_look report_look start (place_of new before) (history ++ given) texts
     mid = written_given in_look out_look report_look start old new before history given texts written takes
 
     lost : (failure : IoFault) → WritesPart out_look report_look before after (on_report line) failure → Gave in_look out_look report_look tool start (devices_at (place_of new after)) (history ++ given) (Err failure)
     lost failure part =
         ⊎_elim
-        (λ over. writer_lost in_look out_look report_look tool start new before after (history ++ given) texts (on_report line) _ failure mid refl (inr (all_given in_look out_look report_look new after over, whole)) part)
-        (λ shows. writer_lost in_look out_look report_look tool start new before after (history ++ given) texts (on_report line) _ failure mid refl (inl shows.0) part)
+        (λ over. writer_lost in_look out_look report_look tool start new before after (history ++ given) texts (on_report line) _ failure mid refl (inr (all_given in_look out_look report_look new after over, whole)) few part)
+        (λ shows. writer_lost in_look out_look report_look tool start new before after (history ++ given) texts (on_report line) _ failure mid refl (inl shows.0) few part)
         shown
 
     done : (status : Status) → Reports out_look report_look before after line status → Gave in_look out_look report_look tool start (devices_at (place_of new after)) (history ++ given) (Ok status)
@@ -80,6 +107,7 @@ module _ {R W E : Type 0} (in_look : R → Input) (out_look : W → Output) (rep
         (λ over. inl (all_given in_look out_look report_look new after over))
         (λ shows. inr shows.1)
         shown)
+        few
 
     pub reported : (answer : Result Status IoFault) → GivesReport out_look report_look before after line answer → Ended in_look out_look report_look tool start (devices_at (place_of new after)) most history answer
     reported (Ok status) gives = record { given = given; size = size; gave = done status gives }

@@ -1,5 +1,5 @@
 -- What the steps of a run write in turn the run writes in all, and how a run ends.
-use Rattle.std.proofs.Common.{◌≡◌, ℕ, ◌+◌, ◌-◌, min, ◌≤◌, ◌⊎◌, false, List, [], ◌++◌, length, take, drop, Option, Some, None, Result, Err, refl, ap, sym, ◌∙◌, subst, length-append, append-nil, append_assoc, arith, length-take}
+use Rattle.std.proofs.Common.{◌≡◌, ℕ, ◌+◌, ◌-◌, min, ◌<◌, ◌⊎◌, false, List, [], ◌++◌, length, take, drop, Option, Some, None, Result, Err, refl, ap, sym, ◌∙◌, subst, length-append, append-nil, append_assoc, arith}
 use Rattle.std.proofs.Math.Nat.{min-le_right}
 use Rattle.std.proofs.Math.Seq.{take-append-add}
 use Rattle.std.proofs.lemmas.List.{take-append-le, take_min}
@@ -89,17 +89,15 @@ module _ {R W E : Type 0} (in_look : R → Input) (out_look : W → Output) (rep
       let S : Result Status IoFault → Type 0 = λ r. GivesAnswer in_look out_look report_look tool start now r in
       subst P same (subst Q (sym back) (subst S (sym is) (record { given = given; gave = gave })))
 
--- a window has at most so many bytes
-pub window_few : {R : Type 0} (s : Source R) → length (window_of s) ≤ window_size
-window_few s =
-    let room = s.room in
-    omega (arith, length-take (s.end - s.start) (drop s.start s.window))
-
 -- a source that has ended has given all that it read
 none_between : (window : List ℕ) (start end : ℕ) → start ≡ end → take (end - start) (drop start window) ≡ []
 none_between window start end same =
     let none : end - start ≡ 0 = omega arith in
     rw none refl
+
+-- nothing is left of an input that is over
+pub few_over : {R : Type 0} (look : R → Input) (s : Source R) → IsOver look s → length (window_of s) < window_size
+few_over look s over = let none = ap length (none_between s.window s.start s.end over.ended.1) in omega arith
 
 module _ {R W E : Type 0} (in_look : R → Input) (out_look : W → Output) (report_look : E → Output) where
   -- bytes were given, and nothing was written
@@ -149,10 +147,11 @@ module _ {R W E : Type 0} (in_look : R → Input) (out_look : W → Output) (rep
 
   -- the run has written all that there is
   pub answered : (tool : Tool) (start : Devices R W E) (s : Source R) (w : Writers W E) (given : List ℕ) (status : Status) → HasWritten in_look out_look report_look start (place_of s w) given (tool.whole given).texts → NoneFailed in_look out_look report_look (devices_at (place_of s w)) → status.0 ≡ (tool.whole given).status
-      → AllGiven in_look out_look report_look (devices_at (place_of s w)) (window_of s) ⊎ ((more : List ℕ) → tool.whole (given ++ more) ≡ tool.whole given) → GaveAnswer in_look out_look report_look tool start (devices_at (place_of s w)) given status
-  answered tool start s w given status written sound ends settled = record {
+      → AllGiven in_look out_look report_look (devices_at (place_of s w)) (window_of s) ⊎ ((more : List ℕ) → tool.whole (given ++ more) ≡ tool.whole given)
+      → length (window_of s) < window_size → GaveAnswer in_look out_look report_look tool start (devices_at (place_of s w)) given status
+  answered tool start s w given status written sound ends settled few = record {
     unread = window_of s;
-    few = window_few s;
+    few = few;
     written = written_left in_look out_look report_look start (place_of s w) given (tool.whole given).texts written;
     sound = sound;
     ends = ends;
@@ -163,8 +162,9 @@ module _ {R W E : Type 0} (in_look : R → Input) (out_look : W → Output) (rep
   pub writer_lost : (tool : Tool) (start : Devices R W E) (s : Source R) (old new : Writers W E) (given : List ℕ) (before texts due : Texts) (fault : IoFault)
       → HasWritten in_look out_look report_look start (place_of s old) given before → before then texts ≡ due
       → AreDue in_look out_look report_look tool (devices_at (place_of s new)) given (window_of s) due
+      → length (window_of s) < window_size
       → WritesPart out_look report_look old new texts fault → Gave in_look out_look report_look tool start (devices_at (place_of s new)) given (Err fault)
-  writer_lost tool start s old new given before texts due fault written same are_due part =
+  writer_lost tool start s old new given before texts due fault written same are_due few part =
       let last : Moves in_look out_look report_look (place_of s old) (place_of s new) [] (record { output = take part.output_count texts.output; report = take part.report_count texts.report }) = record {
         takes = Consumes-nil (ahead in_look s);
         count = omega arith;
@@ -180,7 +180,7 @@ module _ {R W E : Type 0} (in_look : R → Input) (out_look : W → Output) (rep
       let cut_off = written_as (written_then in_look out_look report_look start (place_of s old) (place_of s new) given [] before _ written last) (append-nil given) cut in
       rw part.kind (record {
         unread = window_of s;
-        few = window_few s;
+        few = few;
         due = due;
         are_due = are_due;
         output = output;

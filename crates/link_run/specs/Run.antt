@@ -3,7 +3,7 @@ use Rattle.std.specs.Prelude.{◌≡◌, ℕ, ◌+◌, ◌<◌, ◌≤◌, ◌�
 use Rattle.std.specs.Io.KnownBytes.{Consumes, Appends, IsAtEnd}
 use Rattle.link_wire.specs.Device.{Input, Output}
 use Rattle.link_wire.specs.Limits.{longest_input, window_size}
-use Rattle.link_wire.specs.Source.{reader_of, given_by, ahead}
+use Rattle.link_wire.specs.Source.{reader_of, given_by, window_of, ahead}
 use Rattle.link_wire.specs.declared.IoFault.{IoFault}
 use Rattle.link_wire.specs.declared.IoFault.TheVariants as io
 use Rattle.link_wire.specs.declared.Source.{Source}
@@ -80,10 +80,10 @@ module _ {R W E : Type 0} (in_look : R → Input) (out_look : W → Output) (rep
   AllGiven now unread = (unread ≡ []) × IsAtEnd (in_look now.reader).left
 
   -- The run has written what comes of the bytes that it was given. They are all of the input, or bytes that no others
-  -- after them change. At most a window of bytes was read and not given.
+  -- after them change. Nothing was read that was not needed: less than a window of bytes was read and not given.
   pub record GaveAnswer (tool : Tool) (start now : Devices R W E) (given : List ℕ) (status : Status) : Type 0 where
     pub unread : List ℕ
-    pub few : length unread ≤ window_size
+    pub few : length unread < window_size
     pub written : HandedBack start now (given ++ unread) (tool.whole given).texts
     pub sound : NoneFailed now
     pub ends : status.0 ≡ (tool.whole given).status
@@ -111,7 +111,7 @@ module _ {R W E : Type 0} (in_look : R → Input) (out_look : W → Output) (rep
   -- A writer failed: the texts are prefixes of those that the bytes given determine.
   pub record LostWriter (tool : Tool) (start now : Devices R W E) (given : List ℕ) : Type 0 where
     pub unread : List ℕ
-    pub few : length unread ≤ window_size
+    pub few : length unread < window_size
     pub due : Texts
     pub are_due : AreDue tool now given unread due
     pub output : ℕ
@@ -134,12 +134,14 @@ module _ {R W E : Type 0} (in_look : R → Input) (out_look : W → Output) (rep
     pub given : List ℕ
     pub gave : Gave tool start now given answer
 
-  -- a step went on: it was given at most so many bytes, some if it may be given any, and the run stands after them
+  -- A step went on: it was given at most so many bytes, some if it may be given any, and the run stands after them. No more
+  -- was read than is needed: less than a window lies ahead.
   pub record WentOn (old new : Place R W E) (stands : List ℕ → Type 0) (most : ℕ) (history : List ℕ) : Type 0 where
     pub given : List ℕ
     pub some : 0 < most → 0 < length given
     pub size : length given ≤ most
     pub count : given_by new.source ≡ given_by old.source + length given
+    pub window : length (window_of new.source) < window_size
     pub at : stands (history ++ given)
 
   -- a step was the last: it was given at most so many bytes

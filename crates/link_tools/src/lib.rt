@@ -3,9 +3,11 @@
 #![tactic(auto)]
 
 mod exit;
+mod options;
 
 pub use exit::run_exit;
 pub use link_list::{ListRun, list};
 pub use link_pack::{PackOptions, PackRun, pack};
 pub use link_run::{Progress, Run, RunEnd, Status};
 pub use link_unpack::{UnpackRun, Wanted, unpack};
+pub use options::{Options, run_tool};

@@ -101,6 +101,7 @@ module _ {R W E : Type 0} (in_look : R → Input) (out_look : W → Output) (rep
         → IsJoining in_look out_look report_look start last s after v history
     joining after v writes good joiner wanted total follows = record {
       session = at.session;
+      window = at.window;
       in_order = at.in_order;
       joiner = rw joiner at.joiner;
       transfer = new;
@@ -126,10 +127,10 @@ module _ {R W E : Type 0} (in_look : R → Input) (out_look : W → Output) (rep
         let more = on_report (line_of u.latest.wanted new at.transfers) in
         writer_lost in_look out_look report_look (unpack_tool u.latest.wanted) start (source_of s) w after history _ _ _ fault at.written
         (then_assoc (texts_of u.latest.wanted at.transfers) (on_report (last_lines u.latest.wanted at.transfers)) more ∙ ap (λ (t : Texts). t then more) mid_texts ∙ texts_closed u.latest.wanted new at.transfers is ∙ ap (texts_of u.latest.wanted) (sym at.are) ∙ sym sofar)
-        (inl refl) (part_of_more out_look report_look w after _ more fault part)
+        (inl refl) at.window (part_of_more out_look report_look w after _ more fault part)
     abandon_lost_by false is after fault part =
         writer_lost in_look out_look report_look (unpack_tool u.latest.wanted) start (source_of s) w after history _ _ _ fault at.written
-        (mid_texts ∙ sym (texts_open u.latest.wanted new at.transfers is) ∙ ap (texts_of u.latest.wanted) (sym at.are) ∙ sym sofar) (inl refl) part
+        (mid_texts ∙ sym (texts_open u.latest.wanted new at.transfers is) ∙ ap (texts_of u.latest.wanted) (sym at.are) ∙ sym sofar) (inl refl) at.window part
 
     pub abandon_lost : (after : Writers W E) (fault : IoFault) → WritesPart out_look report_look w after (on_report (last_lines u.latest.wanted at.transfers)) fault
         → Gave in_look out_look report_look (unpack_tool u.latest.wanted) start (devices_at (place_of (source_of s) after)) history (Err fault)

@@ -3,7 +3,7 @@ use Rattle.std.proofs.Common.{◌≡◌, ℕ, ◌+◌, ◌^◌, ◌<◌, ◌≤�
 use Rattle.std.proofs.lemmas.Bool.{ltb-true, ltb-false}
 use Rattle.link_wire.specs.Device.{Input, Output}
 use Rattle.link_wire.specs.Message.{data_length}
-use Rattle.link_wire.specs.Session.{source_of, left_of, joined, data_after, IsLeft, GaveBytes, GivesLoad}
+use Rattle.link_wire.specs.Session.{source_of, left_of, joined, data_after, IsLeft, GaveBytes, GaveLoad, GivesLoad}
 use Rattle.link_wire.specs.Stream.{Entry, End, Clean, Cut, Fault, ended, with_entry, Reading, reading_of}
 use Rattle.link_wire.specs.declared.IoFault.{IoFault}
 use Rattle.link_wire.specs.declared.fault.Stop.{Stop}
@@ -11,7 +11,8 @@ use Rattle.link_wire.specs.declared.fault.Stop.TheVariants as stop
 use Rattle.link_wire.specs.declared.message.Message.{Message}
 use Rattle.link_wire.specs.declared.message.SegmentHead.{SegmentHead}
 use Rattle.link_wire.specs.declared.session.Session.{Session}
-use Rattle.link_io.proofs.Sources.{Takes-then}
+use Rattle.link_wire.specs.Source.{Takes}
+use Rattle.link_io.proofs.Sources.{Readies-takes}
 use Rattle.link_transfer.specs.Order.{open_of}
 use Rattle.link_report.specs.Fault.{fault_text}
 use Rattle.link_report.specs.declared.fault.Fault.TheVariants.{Wire}
@@ -20,7 +21,7 @@ use Rattle.link_run.specs.Run.{Texts, Devices, devices_at, HasWritten, Gave}
 use Rattle.link_run.specs.Writers.{place_of, on_output, on_report, Writes, WritesPart}
 use Rattle.link_run.specs.declared.writers.Writers.{Writers}
 use Rattle.link_run.proofs.Ends.{standing_lines, standing_shown}
-use Rattle.link_run.proofs.Runs.{◌then◌, then_assoc, texts_as, written_as, written_given, written_more, sound_given, sound_written, writer_lost, part_of_more}
+use Rattle.link_run.proofs.Runs.{◌then◌, then_assoc, texts_as, written_as, written_given, written_more, sound_given, sound_written, few_over, writer_lost, part_of_more}
 use Rattle.link_unpack.specs.Transfers.{heads_of, Transfer, closes, continued, after_segment, after_message, transfers_of, settled}
 use Rattle.link_unpack.specs.Unpacking.{parts_of, part_of, line_of, lines_of, are_good, unpack_tool, unpacking_sofar}
 use Rattle.link_unpack.specs.TransferScan.{Follows, grown}
@@ -108,12 +109,14 @@ module _ {R W E : Type 0} (in_look : R → Input) (out_look : W → Output) (rep
     abbrev pub head : SegmentHead
     head = here.in_segment.head
 
-    module _ (mid new : Session R) (bytes : List ℕ) (ready : GaveBytes in_look old mid history []) (gave : GaveBytes in_look mid new history bytes) where
+    module _ (mid new : Session R) (bytes : List ℕ) (n : ℕ) (ready : GaveLoad in_look old mid history n) (gave : GaveBytes in_look mid new history bytes) (some : 0 < length bytes) where
+      takes : Takes in_look (source_of old) (source_of new) bytes
+      takes = Readies-takes in_look (source_of old) (source_of mid) (source_of new) bytes ready.readies gave.takes some
+
       pub room : u.latest.total + length bytes < 2 ^ 63
       room =
           let total = at.total in
-          let first = ready.takes.count in
-          let second = gave.takes.count in
+          let count = takes.count in
           let given = at.session.at.given in
           let within = (source_of new).within in
           omega arith
@@ -173,13 +176,14 @@ module _ {R W E : Type 0} (in_look : R → Input) (out_look : W → Output) (rep
             (append-nil (lines_of u.latest.wanted earlier))
 
         given_written : HasWritten in_look out_look report_look start (place_of (source_of new) before) (history ++ bytes) (texts_of u.latest.wanted transfers)
-        given_written = written_given in_look out_look report_look start (source_of old) (source_of new) before history bytes _ at.written (Takes-then in_look (source_of old) (source_of mid) (source_of new) [] bytes ready.takes gave.takes)
+        given_written = written_given in_look out_look report_look start (source_of old) (source_of new) before history bytes _ at.written takes
 
         pub grows : (written : Writers W E) (v : Unpacker) → Writes out_look report_look before written (on_output part) → Follows v.latest (grown transfer bytes closing) earlier
             → v.latest.wanted ≡ u.latest.wanted → v.latest.total ≤ u.latest.total + length bytes → v.joiner ≡ u.joiner → v.good ≡ u.good
             → IsJoining in_look out_look report_look start last new written v (history ++ bytes)
         grows written v writes follows wanted total joiner good = record {
           session = gave.at;
+          window = takes.window.less some;
           in_order = new_in_order;
           joiner = rw (joiner, same_messages) at.joiner;
           transfer = grown transfer bytes closing;
@@ -188,7 +192,7 @@ module _ {R W E : Type 0} (in_look : R → Input) (out_look : W → Output) (rep
           closed = refl;
           follows = follows;
           written = rw wanted (written_as in_look out_look report_look (written_more in_look out_look report_look start (source_of new) before written (history ++ bytes) _ _ given_written writes) refl part_texts);
-          sound = sound_written in_look out_look report_look (source_of new) before written _ (sound_given in_look out_look report_look (source_of old) (source_of new) before bytes at.sound (Takes-then in_look (source_of old) (source_of mid) (source_of new) [] bytes ready.takes gave.takes)) writes;
+          sound = sound_written in_look out_look report_look (source_of new) before written _ (sound_given in_look out_look report_look (source_of old) (source_of new) before bytes at.sound takes) writes;
           total = let was = at.total in omega (arith, length-append history bytes);
           good = good ∙ at.good ∙ ap (λ ts. are_good (settled ts)) here.goes.are ∙ ap are_good (settled_open transfer earlier here.goes.is_open);
           opened = ap (λ ms. is_some (open_of ms)) same_messages ∙ here.opened;
@@ -204,10 +208,10 @@ module _ {R W E : Type 0} (in_look : R → Input) (out_look : W → Output) (rep
             let more = on_report (line_of u.latest.wanted (grown transfer bytes closing) earlier) in
             writer_lost in_look out_look report_look (unpack_tool u.latest.wanted) start (source_of new) before written (history ++ bytes) _ _ _ fault given_written
             (then_assoc (texts_of u.latest.wanted transfers) (on_output part) more ∙ ap (λ (t : Texts). t then more) part_texts ∙ texts_closed u.latest.wanted (grown transfer bytes closing) earlier is ∙ sym sofar)
-            (inl refl) (part_of_more out_look report_look before written _ more fault lost)
+            (inl refl) (takes.window.less some) (part_of_more out_look report_look before written _ more fault lost)
         lost_by false is written fault lost =
             writer_lost in_look out_look report_look (unpack_tool u.latest.wanted) start (source_of new) before written (history ++ bytes) _ _ _ fault given_written
-            (part_texts ∙ sym (texts_open u.latest.wanted (grown transfer bytes closing) earlier is) ∙ sym sofar) (inl refl) lost
+            (part_texts ∙ sym (texts_open u.latest.wanted (grown transfer bytes closing) earlier is) ∙ sym sofar) (inl refl) (takes.window.less some) lost
 
         pub part_lost : (written : Writers W E) (fault : IoFault) → WritesPart out_look report_look before written (on_output part) fault
             → Gave in_look out_look report_look (unpack_tool u.latest.wanted) start (devices_at (place_of (source_of new) written)) (history ++ bytes) (Err fault)
@@ -224,7 +228,7 @@ module _ {R W E : Type 0} (in_look : R → Input) (out_look : W → Output) (rep
     data_ended new written (stop.Wire offset fault) (stage.Ended answer) got gives =
         fault_reported in_look out_look report_look start (stage.Data last) old new before written u.latest.wanted history [] transfers at.written at.sound (omega arith) offset fault (reading_of history) got.takes
         (record { over = λ is. got.over; all = λ more may. rw (may got.kind, append-nil, append-nil) refl }) at.in_order refl
-        (ap end_lines got.cut ∙ ap (λ f. fault_text (Wire offset f)) (sym got.kind)) (ap end_status got.cut) (λ other. absurd (other got.kind)) answer gives
+        (ap end_lines got.cut ∙ ap (λ f. fault_text (Wire offset f)) (sym got.kind)) (ap end_status got.cut) (λ other. absurd (other got.kind)) answer (few_over in_look (source_of new) got.over) gives
     data_ended new written (stop.Io fault) (stage.Ended answer) got gives =
         read_lost in_look out_look report_look start (stage.Data last) old new before written u.latest.wanted history [] transfers at.written at.sound (omega arith) fault answer (reading_of history) got.stops (ap reading_of (append-nil history))
         at.in_order refl (standing_lines old.offset old.left (reading_of history).end at.session.left)

@@ -1,9 +1,9 @@
-mod Parts
+pub mod Parts
 mod Judging
 mod Transfers
-mod Orders
-mod Heads
-mod Texts
+pub mod Orders
+pub mod Heads
+pub mod Texts
 mod Joins
 mod Begins
 mod Messages

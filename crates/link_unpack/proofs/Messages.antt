@@ -25,7 +25,7 @@ use Rattle.link_run.proofs.Runs.{texts_as, written_as, written_given, sound_give
 use Rattle.link_unpack.specs.Transfers.{heads_of, Transfer, closes, continued, after_message, transfers_of, settled}
 use Rattle.link_unpack.specs.Unpacking.{parts_of, part_of, is_selected, are_good}
 use Rattle.link_unpack.specs.TransferScan.{Follows, grown}
-use Rattle.link_unpack.specs.UnpackRun.{messages_of, AreInOrder, texts_of, GoesOn, IsOpen, IsInSegment, IsWaiting, IsAfter, Unpacks, IsJoining, IsBeginning}
+use Rattle.link_unpack.specs.UnpackRun.{messages_of, AreInOrder, texts_of, GoesOn, IsOpen, IsInSegment, IsWaiting, HasNoContent, IsAfter, Unpacks, IsJoining, IsBeginning}
 use Rattle.link_unpack.specs.declared.transfer.TransferScan.{TransferScan}
 use Rattle.link_unpack.specs.declared.unpacking.Stage.TheVariants as stage
 use Rattle.link_unpack.specs.declared.unpacking.Unpacker.{Unpacker}
@@ -46,6 +46,11 @@ after_head_by : (test : Bool) (offset : ℕ) (sent : Message) (last : Bool) (lef
     → IsAfter last left (if test then ended (Cut offset sent []) else with_entry (entry offset sent []) (ended Clean)).end
 after_head_by true offset sent last left test is in_segment = (let some : 0 < data_length sent = ltb-true 0 (data_length sent) test in omega arith, in_segment)
 after_head_by false offset sent last left test is in_segment = let none : data_length sent ≤ 0 = ltb-false 0 (data_length sent) test in omega arith
+
+-- none of its data has come
+alone_by : (test : Bool) (offset : ℕ) (sent : Message) → HasNoContent (if test then ended (Cut offset sent []) else with_entry (entry offset sent []) (ended Clean)).end
+alone_by true offset sent = refl
+alone_by false offset sent = tt
 
 -- an open transfer, after its last segment or another
 pub opened_by : (ends : Bool) (id : ℕ) → is_some (if ends then None else Some id) ≡ not ends
@@ -94,6 +99,9 @@ module _ {R W E : Type 0} (in_look : R → Input) (out_look : W → Output) (rep
     new_transfers : transfers_of (heads_of (reading_of (history ++ got.given))) ≡ after_message transfers sent []
     new_transfers = ap transfers_of new_heads ∙ transfers_push heads (entry offset sent [])
 
+    pub alone : HasNoContent (reading_of (history ++ got.given)).end
+    alone = let P : Reading → Type 0 = λ r. HasNoContent r.end in subst P (sym got.reading) (alone_by (nat_lt 0 (data_length sent)) offset sent)
+
     new_in_order : refusal (messages_of heads) (event_of sent) ≡ None → AreInOrder (heads_of (reading_of (history ++ got.given)))
     new_in_order may = let P : List Entry → Type 0 = AreInOrder in subst P (sym new_heads) (in_order_more heads (entry offset sent []) at.in_order may)
 
@@ -133,6 +141,7 @@ module _ {R W E : Type 0} (in_look : R → Input) (out_look : W → Output) (rep
           → IsBeginning in_look out_look report_look start (is_some abandoned) last new before (record { joiner = joiner; latest = u.latest; good = u.good }) buffer (history ++ got.given)
       beginning abandoned buffer joiner holds starts was may joins = record {
         session = got.at;
+        window = got.takes.window.less got.some;
         in_order = new_in_order may;
         joiner = new_joiner joiner joins;
         head = head;
@@ -160,6 +169,7 @@ module _ {R W E : Type 0} (in_look : R → Input) (out_look : W → Output) (rep
         pub continuing : IsJoining in_look out_look report_look start last new before (record { joiner = joiner; latest = u.latest; good = u.good }) (history ++ got.given)
         continuing = record {
           session = got.at;
+          window = got.takes.window.less got.some;
           in_order = new_in_order may;
           joiner = new_joiner joiner joins;
           transfer = grown going.transfer [] (last && (left_of new == 0));

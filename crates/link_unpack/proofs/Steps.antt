@@ -1,9 +1,11 @@
 -- What each call of a session lets a step of `unpack` give.
 use Rattle.std.proofs.Common.{◌≡◌, ℕ, ◌<◌, ◌≤◌, ◌⊎◌, inl, inr, Bool, true, false, is_some, List, [], ◌++◌, length, Some, Result, Ok, Err, if◌then◌else◌, ⊎_elim, refl, ap, sym, ◌∙◌, subst, append-nil, arith}
 use Rattle.link_wire.specs.Device.{Input, Output}
+use Rattle.link_wire.specs.Limits.{window_size}
+use Rattle.link_wire.proofs.Contacts.{reading-none}
 use Rattle.link_wire.specs.Getting.{MayFollow}
 use Rattle.link_wire.specs.Session.{source_of, joined, rest_after, IsUndecided, IsRead, GaveContact, GivesContact, GaveMessage, GaveEnd, GivesNext}
-use Rattle.link_wire.specs.Source.{Takes, StopsAfter, IsOver}
+use Rattle.link_wire.specs.Source.{window_of, Takes, StopsAfter, IsOver}
 use Rattle.link_wire.specs.Stream.{Entry, End, Clean, Cut, Fault, ended, Reading, reading_of}
 use Rattle.link_wire.specs.declared.IoFault.{IoFault}
 use Rattle.link_wire.specs.declared.fault.Stop.{Stop}
@@ -25,11 +27,11 @@ use Rattle.link_run.specs.Writers.{place_of, on_report, GivesReport}
 use Rattle.link_run.specs.declared.run.Progress.{Progress}
 use Rattle.link_run.specs.declared.run.Status.{Status}
 use Rattle.link_run.specs.declared.writers.Writers.{Writers}
-use Rattle.link_run.proofs.Ends.{undecided_lines, undecided_shown, lasts, lasting_as, reported, read_failed}
-use Rattle.link_run.proofs.Runs.{◌then◌, no_texts, then_none, texts_as, written_as, written_given, written_more, sound_given, sound_written, all_given, answered, writer_lost}
+use Rattle.link_run.proofs.Ends.{undecided_lines, undecided_shown, standing_shown, lasts, lasting_as, few_at_fault, reported, read_failed}
+use Rattle.link_run.proofs.Runs.{◌then◌, no_texts, then_none, texts_as, written_as, written_given, written_more, sound_given, sound_written, few_over, all_given, answered, writer_lost}
 use Rattle.link_unpack.specs.Transfers.{cut_heads, heads_of, Transfer, transfers_of}
 use Rattle.link_unpack.specs.Unpacking.{parts_of, lines_of, are_good, unpack_tool, unpacking, unpacking_by, unpacking_sofar}
-use Rattle.link_unpack.specs.UnpackRun.{most_given, progress_of, messages_of, AreInOrder, texts_of, last_lines, IsOpen, IsWaiting, Begins, Unpacks, IsUnpacking, GivesStage, StandsAfter, GivesFinish, GivesEnd}
+use Rattle.link_unpack.specs.UnpackRun.{most_given, progress_of, messages_of, AreInOrder, texts_of, last_lines, IsOpen, IsWaiting, IsWaitingAfter, Begins, Unpacks, IsUnpacking, GivesStage, StandsAfter, GivesFinish, GivesEnd}
 use Rattle.link_unpack.specs.declared.unpacking.Stage.{Stage}
 use Rattle.link_unpack.specs.declared.unpacking.Stage.TheVariants as stage
 use Rattle.link_unpack.specs.declared.unpacking.Unpacker.{Unpacker}
@@ -43,12 +45,12 @@ use Rattle.link_unpack.proofs.Outcomes.{whole_is, stopped, whole_at, sofar_at, o
 
 -- what stands at a stage, as its step gives it
 module _ {R W E : Type 0} (in_look : R → Input) (out_look : W → Output) (report_look : E → Output) (start : Devices R W E) where
-  pub stage_given : (wanted : Wanted) (now next : Stage) (old new : Session R) (before after : Writers W E) (u : Unpacker) (history given : List ℕ) → Takes in_look (source_of old) (source_of new) given → 0 < length given → length given ≤ most_given now
+  pub stage_given : (wanted : Wanted) (now next : Stage) (old new : Session R) (before after : Writers W E) (u : Unpacker) (history given : List ℕ) → Takes in_look (source_of old) (source_of new) given → 0 < length given → length given ≤ most_given now → IsWaitingAfter now (reading_of (history ++ given)).end
       → StandsAfter in_look out_look report_look start wanted next new after u (history ++ given) → GivesStage in_look out_look report_look start wanted now old new before after u history next
-  stage_given wanted now stage.Contact old new before after u history given takes some size stood = absurd stood
-  stage_given wanted now stage.Message old new before after u history given takes some size stood = record { given = given; some = λ may. some; size = size; count = takes.count; at = stood }
-  stage_given wanted now (stage.Data last) old new before after u history given takes some size stood = record { given = given; some = λ may. some; size = size; count = takes.count; at = stood }
-  stage_given wanted now (stage.Ended answer) old new before after u history given takes some size stood = record { given = given; size = size; gave = stood }
+  stage_given wanted now stage.Contact old new before after u history given takes some size waiting stood = absurd stood
+  stage_given wanted now stage.Message old new before after u history given takes some size waiting stood = record { given = given; some = λ may. some; size = size; count = takes.count; window = takes.window.less some; at = stood }
+  stage_given wanted now (stage.Data last) old new before after u history given takes some size waiting stood = record { given = given; some = λ may. some; size = size; count = takes.count; window = takes.window.less some; at = (stood, waiting) }
+  stage_given wanted now (stage.Ended answer) old new before after u history given takes some size waiting stood = record { given = given; size = size; gave = stood }
 
   -- a fault of the wire
   module _ (now : Stage) (old new : Session R) (before after : Writers W E) (wanted : Wanted) (history given : List ℕ) (transfers : List Transfer)
@@ -76,10 +78,10 @@ module _ {R W E : Type 0} (in_look : R → Input) (out_look : W → Output) (rep
           (λ is. inr (sym (sofar_at wanted _ reading transfers in_order are line here (lasting is.0)), λ more. whole_after more (λ e. absurd (is.0 e)) ∙ sym whole))
           (lasts offset fault)
 
-      pub fault_reported : (answer : Result Status IoFault) → GivesReport out_look report_look before after line answer → Ended in_look out_look report_look (unpack_tool wanted) start (devices_at (place_of (source_of new) after)) (most_given now) history answer
-      fault_reported answer gives =
+      pub fault_reported : (answer : Result Status IoFault) → length (window_of (source_of new)) < window_size → GivesReport out_look report_look before after line answer → Ended in_look out_look report_look (unpack_tool wanted) start (devices_at (place_of (source_of new) after)) (most_given now) history answer
+      fault_reported answer few gives =
           reported in_look out_look report_look (unpack_tool wanted) start (most_given now) (source_of old) (source_of new) before after history given (texts_of wanted transfers) written sound size line takes
-          (ap (λ (o : Outcome). o.texts) (sym whole)) (ap (λ (o : Outcome). o.status) whole) shown answer gives
+          (ap (λ (o : Outcome). o.texts) (sym whole)) (ap (λ (o : Outcome). o.status) whole) shown few answer gives
 
     -- a failed read: no head has come, and no fault is shown
     pub read_lost : (fault : IoFault) (answer : Result Status IoFault) (reading : Reading) → StopsAfter in_look (source_of old) (source_of new) given fault → reading_of (history ++ given) ≡ reading
@@ -137,13 +139,14 @@ module _ {R W E : Type 0} (in_look : R → Input) (out_look : W → Output) (rep
             (written_as in_look out_look report_look (written_more in_look out_look report_look start (source_of new) before after (history ++ []) _ _ mid gives.0) refl last_texts)
             (sound_written in_look out_look report_look (source_of new) before after _ (sound_given in_look out_look report_look (source_of old) (source_of new) before [] at.sound got.takes) gives.0)
             (gives.1 at.good ∙ sym (ap (λ (o : Outcome). o.status) whole_here))
-            (inl (all_given in_look out_look report_look (source_of new) after got.over));
+            (inl (all_given in_look out_look report_look (source_of new) after got.over))
+            (few_over in_look (source_of new) got.over);
       }
       finished after v (stage.Ended (Err fault)) gives = record {
         given = [];
         size = omega arith;
         gave = writer_lost in_look out_look report_look (unpack_tool u.latest.wanted) start (source_of new) before after (history ++ []) _ _ _ fault mid last_texts
-            (inr (all_given in_look out_look report_look (source_of new) after got.over, refl)) gives;
+            (inr (all_given in_look out_look report_look (source_of new) after got.over, refl)) (few_over in_look (source_of new) got.over) gives;
       }
 
     -- a fault of the wire, or a failure of the reader
@@ -159,7 +162,8 @@ module _ {R W E : Type 0} (in_look : R → Input) (out_look : W → Output) (rep
         let same = same_heads (reading_of history) reading clean (append-nil (reading_of history).entries) refl in
         let P : List Entry → Type 0 = AreInOrder in
         fault_reported in_look out_look report_look start stage.Message old new before after u.latest.wanted history got.given transfers at.written at.sound got.size offset fault reading got.takes got.is_read
-        (subst P (sym same) at.in_order) (ap transfers_of same) refl refl (λ other. lasting_as offset fault other) answer gives
+        (subst P (sym same) at.in_order) (ap transfers_of same) refl refl (λ other. lasting_as offset fault other) answer
+        (few_at_fault in_look (source_of old) (source_of new) history got.given offset fault reading got.takes got.is_read refl (standing_shown old.offset old.left _ at.session.left)) gives
     message_ended after (stop.Io fault) (stage.Ended answer) got gives =
         let size = got.size in
         let reading = reading_of (history ++ got.given) in
@@ -198,7 +202,7 @@ module _ {R W E : Type 0} (in_look : R → Input) (out_look : W → Output) (rep
       order_reported after answer gives =
           reported in_look out_look report_look (unpack_tool u.latest.wanted) start (most_given stage.Message) (source_of old) (source_of new) before after history got.given (texts_of u.latest.wanted transfers) at.written at.sound got.size order_line got.takes
           (ap (λ (o : Outcome). o.texts) (sym whole_now)) (ap (λ (o : Outcome). o.status) whole_now)
-          (inr (sym sofar_now, λ more. whole_order more ∙ sym whole_now)) answer gives
+          (inr (sym sofar_now, λ more. whole_order more ∙ sym whole_now)) (got.takes.window.less got.some) answer gives
 
 -- ---- the contact header
 
@@ -253,7 +257,7 @@ module _ {R W E : Type 0} (in_look : R → Input) (out_look : W → Output) (rep
       pub contact_step : WentOn in_look out_look report_look (place_of (source_of old) before) (place_of (source_of new) before) (Unpacks in_look out_look report_look start stage.Message new before u) 6 []
       contact_step =
           let size = got.size in
-          record { given = got.given; some = λ may. omega arith; size = omega arith; count = got.takes.count; at = contact_read }
+          record { given = got.given; some = λ may. omega arith; size = omega arith; count = got.takes.count; window = got.takes.window.less (omega arith); at = contact_read }
 
     pub contact_ended : (after : Writers W E) (why : Stop) (next : Stage) → GivesContact in_look old new (Err why) → GivesEnd out_look report_look why before after next → GivesStage in_look out_look report_look start u.latest.wanted stage.Contact old new before after u [] next
     contact_ended after (stop.Wire offset fault) stage.Contact got gives = absurd gives
@@ -265,7 +269,8 @@ module _ {R W E : Type 0} (in_look : R → Input) (out_look : W → Output) (rep
     contact_ended after (stop.Wire offset fault) (stage.Ended answer) got gives =
         let place : (let e : End = Fault 0 fault in e) ≡ Fault offset fault = ap (λ n. let e : End = Fault n fault in e) (sym got.place) in
         fault_reported in_look out_look report_look start stage.Contact old new before after u.latest.wanted [] got.given [] begun fresh.sound got.size offset fault _ got.takes got.is_read
-        in_order_none no_transfers (ap end_lines place) refl (λ other. ap lasting_lines place ∙ lasting_as offset fault other) answer gives
+        in_order_none no_transfers (ap end_lines place) refl (λ other. ap lasting_lines place ∙ lasting_as offset fault other) answer
+        (few_at_fault in_look (source_of old) (source_of new) [] got.given 0 fault _ got.takes got.is_read refl (ap (λ (r : Reading). is_shown r.end) reading-none)) gives
     contact_ended after (stop.Io fault) (stage.Ended answer) got gives =
         let size = got.size in
         read_lost in_look out_look report_look start stage.Contact old new before after u.latest.wanted [] got.given [] begun fresh.sound (omega arith) fault answer _ got.stops got.reading
@@ -279,7 +284,8 @@ module _ {R W E : Type 0} (in_look : R → Input) (out_look : W → Output) (rep
       → GivesStep in_look out_look report_look (unpack_tool wanted) start (place_of (source_of old) before) (place_of (source_of new) after) (IsUnpacking in_look out_look report_look start next new after u) (most_given now) history (progress_of next)
   stage_step wanted now stage.Contact old new before after u history gives = absurd gives
   stage_step wanted now stage.Message old new before after u history gives = gives
-  stage_step wanted now (stage.Data last) old new before after u history gives = gives
+  stage_step wanted now (stage.Data last) old new before after u history gives =
+      record { given = gives.given; some = gives.some; size = gives.size; count = gives.count; window = gives.window; at = gives.at.0 }
   stage_step wanted now (stage.Ended (Ok status)) old new before after u history gives = gives
   stage_step wanted now (stage.Ended (Err fault)) old new before after u history gives = gives
 

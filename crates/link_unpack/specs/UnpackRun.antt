@@ -2,8 +2,9 @@
 use Rattle.std.specs.Prelude.{◌≡◌, ℕ, ◌+◌, ◌<◌, ◌≤◌, ◌==◌, Bool, true, false, not, ◌&&◌, is_some, List, [], ◌∷◌, map, length, None, Result, Ok, Err, if◌then◌else◌}
 use Rattle.link_wire.specs.Device.{Input, Output}
 use Rattle.link_wire.specs.Codes.{is_start, is_end}
-use Rattle.link_wire.specs.Limits.{longest_head}
+use Rattle.link_wire.specs.Limits.{longest_head, window_size}
 use Rattle.link_wire.specs.MessageBuffer.{message_of}
+use Rattle.link_wire.specs.Source.{window_of}
 use Rattle.link_wire.specs.Session.{source_of, left_of, IsSessionAt, may_open, may_read, is_opened}
 use Rattle.link_wire.specs.Stream.{Entry, End, Clean, Cut, Fault, reading_of}
 use Rattle.link_wire.specs.declared.IoFault.{IoFault}
@@ -98,6 +99,19 @@ IsAfter last left Clean = left ≡ 0
 IsAfter last left (Cut offset message content) = (0 < left) × IsInSegment last message
 IsAfter last left (Fault offset fault) = ⊥
 
+-- of a segment that is open none of the data has come
+abbrev pub HasNoContent : End → Type 0
+HasNoContent Clean = Unit {0}
+HasNoContent (Cut offset message content) = content ≡ []
+HasNoContent (Fault offset fault) = Unit {0}
+
+-- how the reading ends where data waits after a step at this stage: the step at a message gives no data
+abbrev pub IsWaitingAfter : Stage → End → Type 0
+IsWaitingAfter stage.Contact end = Unit {0}
+IsWaitingAfter stage.Message end = HasNoContent end
+IsWaitingAfter (stage.Data last) end = Unit {0}
+IsWaitingAfter (stage.Ended answer) end = Unit {0}
+
 -- the line of a latest transfer that was abandoned
 abbrev pub last_lines : Wanted → List Transfer → List ℕ
 last_lines wanted [] = []
@@ -138,7 +152,7 @@ module _ {R W E : Type 0} (in_look : R → Input) (out_look : W → Output) (rep
   GivesStage wanted now old new before after unpacker history (stage.Ended answer) = Ended in_look out_look report_look (unpack_tool wanted) start (devices_at (place_of (source_of new) after)) (most_given now) history answer
   GivesStage wanted now old new before after unpacker history stage.Contact = ⊥
   GivesStage wanted now old new before after unpacker history stage.Message = WentOn in_look out_look report_look (place_of (source_of old) before) (place_of (source_of new) after) (Unpacks stage.Message new after unpacker) (most_given now) history
-  GivesStage wanted now old new before after unpacker history (stage.Data last) = WentOn in_look out_look report_look (place_of (source_of old) before) (place_of (source_of new) after) (Unpacks (stage.Data last) new after unpacker) (most_given now) history
+  GivesStage wanted now old new before after unpacker history (stage.Data last) = WentOn in_look out_look report_look (place_of (source_of old) before) (place_of (source_of new) after) (λ bytes. Unpacks (stage.Data last) new after unpacker bytes × IsWaitingAfter now (reading_of bytes).end) (most_given now) history
 
   -- what stands once these bytes were given, at the stage `next`
   abbrev pub StandsAfter : Wanted → (next : Stage) → Session R → Writers W E → Unpacker → (history : List ℕ) → Type 0
@@ -150,6 +164,7 @@ module _ {R W E : Type 0} (in_look : R → Input) (out_look : W → Output) (rep
   -- The head of a segment, or data of it, has come. All that is due of its transfer is written but for its line.
   pub record IsJoining (last : Bool) (s : Session R) (w : Writers W E) (u : Unpacker) (history : List ℕ) : Type 0 where
     pub session : IsSessionAt in_look s history
+    pub window : length (window_of (source_of s)) < window_size
     pub in_order : AreInOrder (heads_of (reading_of history))
     pub joiner : IsJoinerAt u.joiner (messages_of (heads_of (reading_of history)))
     pub transfer : Transfer
@@ -167,6 +182,7 @@ module _ {R W E : Type 0} (in_look : R → Input) (out_look : W → Output) (rep
   -- The head of a transfer's first segment has come. `transfers` are those before it, of which the latest is abandoned or none is open.
   pub record IsBeginning (abandoned last : Bool) (s : Session R) (w : Writers W E) (u : Unpacker) (message : MessageBuffer) (history : List ℕ) : Type 0 where
     pub session : IsSessionAt in_look s history
+    pub window : length (window_of (source_of s)) < window_size
     pub in_order : AreInOrder (heads_of (reading_of history))
     pub joiner : IsJoinerAt u.joiner (messages_of (heads_of (reading_of history)))
     pub head : SegmentHead

@@ -1,13 +1,13 @@
-mod FieldReads
+pub mod FieldReads
 mod Gettings
 mod Plains
 mod Appends
 mod Skips
 mod Items
-mod Shrinks
+pub mod Shrinks
 mod Within
 pub mod Contacts
-mod Streams
+pub mod Streams
 mod Rests
 mod Sessions
 pub mod Wholes

@@ -1,15 +1,15 @@
 -- What each call of a session does to where it stands.
-use Rattle.std.proofs.Common.{◌≡◌, ℕ, ◌+◌, true, eqb, eqb-true, List, [], ◌∷◌, ◌++◌, length, take, Some, Result, Ok, Err, arith, refl, ap, sym, ◌∙◌, subst, append_assoc, append-nil, length-append}
+use Rattle.std.proofs.Common.{◌≡◌, ℕ, ◌+◌, ◌<◌, true, eqb, eqb-true, List, [], ◌∷◌, ◌++◌, length, take, Some, Result, Ok, Err, arith, refl, ap, sym, ◌∙◌, subst, append_assoc, append-nil, length-append}
 use Rattle.std.specs.Prelude.{IsErrAnd}
 use Rattle.std.proofs.lemmas.List.{nil_from_length}
 use Rattle.link_io.specs.Device.{Input}
 use Rattle.link_wire.specs.Part.{number_at}
 use Rattle.link_wire.specs.Message.{contact_at, message_at, fields_at, data_length}
-use Rattle.link_io.specs.Source.{is_fresh, IsSourceAt, IsLive, Takes}
+use Rattle.link_io.specs.Source.{is_fresh, IsSourceAt, IsLive, Takes, Readies}
 use Rattle.link_wire.specs.Getting.{Needs, IsFault, GotPart, Gets, GotKind}
 use Rattle.link_wire.specs.Stream.{End, Clean, Cut, Fault, Stream, ended, stream_at, Reading, reading_of}
-use Rattle.link_wire.specs.Session.{joined, data_after, with_data, rest_after, IsLeft, IsUndecided, SameMessages, ShownLast, is_unopened, reads_next, may_open, may_read, left_of, HasStopped, IsSessionAt, GaveContact, GivesContact, GaveMessage, GivesNext, GaveBytes, GivesLoad, GivesData}
-use Rattle.link_io.proofs.Sources.{and_true, fresh_at, fresh_live, IsSourceAt-then, Takes-then, StopsAfter-then}
+use Rattle.link_wire.specs.Session.{joined, data_after, with_data, rest_after, IsLeft, IsUndecided, SameMessages, ShownLast, is_unopened, reads_next, may_open, may_read, left_of, HasStopped, IsSessionAt, GaveContact, GivesContact, GaveMessage, GivesNext, GaveBytes, GaveLoad, GivesLoad, GivesData}
+use Rattle.link_io.proofs.Sources.{and_true, fresh_at, fresh_live, IsSourceAt-then, Takes-then, Readies-takes, StopsAfter-then}
 use Rattle.link_wire.proofs.Gettings.{after, IsFault-then, cut_then}
 use Rattle.link_wire.proofs.FieldReads.{IsPart-byte}
 use Rattle.link_wire.proofs.Shrinks.{shrinks_message}
@@ -257,12 +257,23 @@ module _ {R : Type 0} {look : R → Input} where
     data_given = let stood = data_stands in record { takes = takes; left = left; reading = stood.0; at = stood.1 }
 
 module _ {R : Type 0} {look : R → Input} where
-  -- data was ready, and then given
-  pub gave_then : (old mid new : Session R) (history bytes : List ℕ) → GaveBytes look old mid history [] → GaveBytes look mid new history bytes → GaveBytes look old new history bytes
-  gave_then old mid new history bytes ready gave =
-      let first = ready.left in
-      let second = gave.left in
-      record { takes = Takes-then look old.source mid.source new.source [] bytes ready.takes gave.takes; left = omega arith; reading = gave.reading; at = gave.at }
+  -- data was made ready: the session stands where it stood
+  pub loaded_stands : (old new : Session R) (history : List ℕ) → IsSessionAt look old history → Readies look old.source new.source → IsLive look new.source
+      → new.phase ≡ old.phase → new.offset ≡ old.offset → new.left ≡ old.left → IsSessionAt look new history
+  loaded_stands old new history at ready live phase offset left = record {
+    at = record { bytes = at.at.bytes; given = ready.count ∙ at.at.given };
+    live = live;
+    going = phase ∙ at.going;
+    contact = at.contact;
+    has_contact = at.has_contact;
+    left = rw (offset, left) at.left;
+    goes_on = λ more. rw left (at.goes_on more);
+  }
+
+  -- data was ready, and some of it was given
+  pub gave_then : (old mid new : Session R) (history bytes : List ℕ) (n : ℕ) → GaveLoad look old mid history n → GaveBytes look mid new history bytes → 0 < length bytes → GaveBytes look old new history bytes
+  gave_then old mid new history bytes n ready gave some =
+      record { takes = Readies-takes look old.source mid.source new.source bytes ready.readies gave.takes some; left = sym ready.left ∙ gave.left; reading = gave.reading; at = gave.at }
 
 module _ {R : Type 0} (look : R → Input) where
   stopped_load : (old new : Session R) (history buffer : List ℕ) (why : Stop) → GivesLoad look old new history (Err why) → GivesData look old new history buffer (Err why)

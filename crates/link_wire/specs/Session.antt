@@ -4,7 +4,7 @@ use Rattle.link_io.specs.Device.{Input}
 use Rattle.link_wire.specs.Getting.{MayFollow}
 use Rattle.link_wire.specs.Limits.{longest_head}
 use Rattle.link_wire.specs.Message.{data_length}
-use Rattle.link_io.specs.Source.{IsSourceAt, IsLive, IsOver, HasEnded, Takes, StopsAfter, is_fresh, window_of}
+use Rattle.link_io.specs.Source.{IsSourceAt, IsLive, IsOver, HasEnded, Takes, Readies, StopsAfter, is_fresh, window_of}
 use Rattle.link_wire.specs.Stream.{End, Clean, Cut, Fault, Stream, ended, with_entry, stream_at, Reading, reading_of}
 use Rattle.link_io.specs.declared.fault.IoFault.{IoFault}
 use Rattle.link_wire.specs.declared.fault.Stop.{Stop}
@@ -232,9 +232,11 @@ module _ {R : Type 0} where
     pub gave : GaveBytes look old new history (take n buffer)
     pub some : 0 < left_of old → 0 < length buffer → 0 < n
 
-  -- data of the open segment lies in the window
+  -- data of the open segment lies in the window; nothing was given
   pub record GaveLoad (look : R → Input) (old new : Session R) (history : List ℕ) (n : ℕ) : Type 0 where
-    pub gave : GaveBytes look old new history []
+    pub readies : Readies look old.source new.source
+    pub left : left_of new ≡ left_of old
+    pub at : IsSessionAt look new history
     pub size : n ≡ length (data_in new)
     pub some : 0 < left_of old → 0 < n
 

@@ -7,6 +7,8 @@ use Rattle.link_wire.specs.declared.IoFault.{IoFault}
 use Rattle.link_wire.specs.declared.IoFault.TheVariants.{Write}
 use Rattle.link_run.specs.Run.{Outcome, Tool, Devices, AllGiven, GivesAnswer, Gave, GaveAnswer}
 use Rattle.link_run.specs.declared.run.Status.{Status}
+use Rattle.link_tools.specs.Options.{tool_of, GivesRun}
+use Rattle.link_tools.specs.declared.options.Options.{Options}
 use Rattle.tcpclkit.specs.Ending.{answer_after_flush}
 
 -- the choice that the result is not, is not taken
@@ -58,6 +60,12 @@ module _ {R W E : Type 0} (in_look : R → Input) (out_look : W → Output) (rep
       let of_given : HasRun (tool.whole gives.given) start now status =
       record { writes = gave.written.writes; reports = gave.written.reports; ends = gave.ends } in
       subst (λ outcome. HasRun outcome start now status) same of_given
+
+-- a run that returned a status had memory
+pub had_memory : {R W E : Type 0} (in_look : R → Input) (out_look : W → Output) (report_look : E → Output) (options : Options) (start now : Devices R W E) (answer : Result Status IoFault) (status : Status)
+    → answer ≡ Ok status → GivesRun in_look out_look report_look options start now answer → GivesAnswer in_look out_look report_look (tool_of options) start now answer
+had_memory in_look out_look report_look options start now answer status is (inl gives) = gives
+had_memory in_look out_look report_look options start now answer status is (inr lacks) = let none = lacks.1.is in cc
 
 -- what was written into an empty buffer, and handed on
 handed : (old before after new : Option (List ℕ)) (text : List ℕ)

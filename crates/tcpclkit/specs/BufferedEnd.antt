@@ -1,18 +1,9 @@
 -- What a run over buffered streams has written.
 use Rattle.std.specs.Prelude.{◌≡◌, ◌⊎◌, ℕ, false, List, Option, None, IfSome, IsSome}
 use Rattle.std.specs.Io.KnownBytes.{Appends}
-use Rattle.link_run.specs.Run.{Outcome, Tool}
-use Rattle.link_list.specs.Listing.{list_tool}
-use Rattle.link_unpack.specs.Unpacking.{unpack_tool}
+use Rattle.link_run.specs.Run.{Outcome}
 use Rattle.link_run.specs.declared.run.Status.{Status}
-use Rattle.tcpclkit.specs.declared.words.Command.{Command}
-use Rattle.tcpclkit.specs.declared.words.Command.TheVariants.{List as ListCommand, Unpack}
 use Rattle.tcpclkit.specs.declared.streams.BufferedEnd.{BufferedEnd}
-
--- the tool of a command; `unpack` writes all data of all transfers
-abbrev pub tool_of : Command → Tool
-tool_of ListCommand = list_tool
-tool_of Unpack = unpack_tool (record { only = None; payload = false })
 
 module _ {W E : Type 0} (written : W → Option (List ℕ)) (reported : E → Option (List ℕ)) where
   -- Each writer that was handed all of its text has gained it, and the status is that of the texts.

@@ -2,10 +2,11 @@
 use Rattle.std.specs.Prelude.{ℕ, Bool, true, false, ◌==◌, if◌then◌else◌, List, Result, Ok, Err, codes}
 use Rattle.link_wire.specs.declared.IoFault.{IoFault}
 use Rattle.link_wire.specs.declared.IoFault.TheVariants as io
+use Rattle.link_command.specs.Usage.{usage_status, usage_text}
 use Rattle.link_tools.specs.Exit.{status_of, exit_text}
 use Rattle.link_run.specs.declared.run.Status.{Status}
 use Rattle.tcpclkit.specs.declared.ending.Ending.{Ending}
-use Rattle.tcpclkit.specs.declared.ending.Ending.TheVariants.{Usage, Answer}
+use Rattle.tcpclkit.specs.declared.ending.Ending.TheVariants.{Usage, NotText, NoInput, Answer}
 
 -- The first fault decides. A run that a fault of its input stopped (status 3) or that failed keeps its answer,
 -- whether or not its texts were flushed; of any other run, a flush that fails makes a failed write.
@@ -16,10 +17,14 @@ answer_after_flush (Err fault) flushed = Err fault
 
 -- the exit status
 abbrev pub ending_status : Ending → ℕ
-ending_status Usage = 2
+ending_status (Usage fault) = usage_status fault
+ending_status NotText = 2
+ending_status NoInput = 4
 ending_status (Answer answer) = status_of answer
 
 -- what the program itself says on standard error, without the newline
 abbrev pub ending_text : Ending → List ℕ
-ending_text Usage = codes "usage: tcpclkit list|unpack < RECORDING"
+ending_text (Usage fault) = usage_text fault
+ending_text NotText = codes "tcpclkit: a word is not UTF-8"
+ending_text NoInput = codes "tcpclkit: cannot open the input"
 ending_text (Answer answer) = exit_text answer

@@ -3,14 +3,19 @@
 ghost use Rattle.std.specs.Prelude.{◌≡◌};
 ghost use Rattle.tcpclkit.specs.Ending.{answer_after_flush, ending_status, ending_text};
 
+use link_command::{UsageFault, usage_exit};
 use link_tools::{Status, run_exit};
 use link_wire::IoFault;
 
 /// How a call of the program ends.
-#[derive(Clone, Copy, Debug)]
+#[derive(Debug, Drop)]
 pub enum Ending {
-    /// The words are not a command of the program.
-    Usage,
+    /// The words ask for help, or for nothing that can be done.
+    Usage(UsageFault),
+    /// A word is not UTF-8.
+    NotText,
+    /// The file that is named cannot be opened.
+    NoInput,
     /// A run gave this answer.
     Answer(Result<Status, IoFault>),
 }
@@ -33,7 +38,9 @@ pub fn ending_exit(ending: &Ending) -> (u8, &'static str)
     ensures text { result.1.now ≡ ending_text ending.now }
 {
     match ending {
-        Ending::Usage => (2, "usage: tcpclkit list|unpack < RECORDING"),
+        Ending::Usage(fault) => usage_exit(fault),
+        Ending::NotText => (2, "tcpclkit: a word is not UTF-8"),
+        Ending::NoInput => (4, "tcpclkit: cannot open the input"),
         Ending::Answer(answer) => run_exit(answer),
     }
 }

@@ -1,47 +1,66 @@
 //! `tcpclkit`: what a recorded TCPCLv4 session (RFC 9174) carried.
 //!
-//! `tcpclkit list` reads a recording from standard input, and writes a line for each message to
-//! standard output and the line of a fault to standard error. `tcpclkit unpack` writes the data of
-//! its transfers to standard output, and a line for each transfer to standard error.
+//! `tcpclkit list` writes a line for each message of a recording, `tcpclkit unpack` the data of its transfers and a line for
+//! each, and `tcpclkit pack` makes of bundles the stream of a sender. Each reads a file, or standard input.
 #![tactic(auto)]
 
 mod ending;
 mod streams;
-mod words;
 
 use ending::{Ending, ending_exit};
+use link_command::{Invocation, UsageFault, options};
+use link_tools::Options;
 use link_wire::IoFault;
-use std::io::ErrorKind;
+use std::io::{ErrorKind, Read};
 use std::process::ExitCode;
-use std::{env, io};
+use std::{env, fs, io};
 use streams::run_buffered;
-use words::{Command, command_of};
 
 fn main(rt: HostRuntime) -> ExitCode {
-    let (status, message) = ending_exit(&run(&rt));
-    if !message.is_empty() {
-        let _ = eprintln!(rt; "{message}");
+    let ending = run(&rt);
+    let (status, message) = ending_exit(&ending);
+    let written = match &ending {
+        Ending::Usage(UsageFault::Help(text)) => print!(rt; "{text}"),
+        Ending::Usage(UsageFault::Words(text)) => eprint!(rt; "{text}"),
+        _ if message.is_empty() => Ok(()),
+        _ => eprintln!(rt; "{message}"),
+    };
+    if written.is_err() && status == 0 {
+        return ExitCode::from(4);
     }
     ExitCode::from(status)
 }
 
 /// Does what the words ask for.
 fn run(rt: &HostRuntime) -> Ending {
-    let command = match command(rt) {
-        Ok(Some(command)) => command,
-        Ok(None) => return Ending::Usage,
-        // A word that is not UTF-8 is no command.
-        Err(error) if error.kind() == ErrorKind::InvalidData => return Ending::Usage,
+    let words = match words(rt) {
+        Ok(words) => words,
+        Err(error) if error.kind() == ErrorKind::InvalidData => return Ending::NotText,
         Err(_) => return Ending::Answer(Err(IoFault::Memory)),
     };
-    match run_buffered(rt.alloc(), command, rt.stdin(), rt.stdout(), rt.stderr()) {
-        Ok(end) => Ending::Answer(end.answer),
-        Err(_) => Ending::Answer(Err(IoFault::Memory)),
+    let invocation = match options(rt.alloc(), words.as_slice()) {
+        Ok(invocation) => invocation,
+        Err(fault) => return Ending::Usage(fault),
+    };
+    let Invocation { options, file } = invocation;
+    let Some(name) = file else {
+        return run_over(rt, options, rt.stdin());
+    };
+    match fs::open(rt, name.as_str()) {
+        Ok(input) => run_over(rt, options, input),
+        Err(_) => Ending::NoInput,
     }
 }
 
-/// The command that the program's words ask for. An `Err` is a word that is not UTF-8, or want of memory.
-fn command(rt: &HostRuntime) -> io::Result<Option<Command>> {
-    let words: Vec<String> = env::args(rt)?.collect(rt.alloc())?;
-    Ok(command_of(words.as_slice()))
+/// The words of the call. An `Err` is a word that is not UTF-8, or want of memory.
+fn words(rt: &HostRuntime) -> io::Result<Vec<String>> {
+    Ok(env::args(rt)?.collect(rt.alloc())?)
+}
+
+/// Runs the tool over an input.
+fn run_over<R: Read + Drop>(rt: &HostRuntime, options: Options, input: R) -> Ending {
+    match run_buffered(rt.alloc(), options, input, rt.stdout(), rt.stderr()) {
+        Ok(end) => Ending::Answer(end.answer),
+        Err(_) => Ending::Answer(Err(IoFault::Memory)),
+    }
 }

@@ -4,14 +4,13 @@ ghost use Rattle.std.specs.Prelude.{◌≡◌, ℕ, false, List, IfOk, IfErr, If
 ghost use Rattle.std.specs.Io.Buffered.{writer_contents};
 ghost use Rattle.std.specs.Io.KnownBytes.{Keeps};
 ghost use Rattle.std.specs.IoError.{error_kind};
-ghost use Rattle.link_run.specs.Run.{GivesAnswer};
+ghost use Rattle.link_tools.specs.Options.{tool_of};
 ghost use Rattle.link_run.specs.declared.run.Status.{Status};
-ghost use Rattle.tcpclkit.specs.BufferedEnd.{tool_of, HasWritten, IsFlushed};
+ghost use Rattle.tcpclkit.specs.BufferedEnd.{HasWritten, IsFlushed};
 
 use crate::ending::after_flush;
-use crate::words::Command;
-use link_tools::{RunEnd, Status, Wanted, list, unpack};
-use link_wire::{InDevice, IoFault, OutDevice, Reader, Writer};
+use link_tools::{Options, Status, run_tool};
+use link_wire::{IoFault, Reader, Writer};
 use std::alloc::Global;
 use std::io;
 use std::io::{BufReader, BufWriter, ErrorKind, Read, Write};
@@ -33,7 +32,7 @@ pub struct BufferedEnd<W, E> {
     pub report: Option<E>,
 }
 
-/// Does what the command asks for, and hands both texts on to their writers.
+/// Runs the tool that the options are for, and hands both texts on to their writers.
 ///
 /// Where a device fails, nothing is said of how much of the texts has arrived.
 ///
@@ -42,14 +41,14 @@ pub struct BufferedEnd<W, E> {
 /// Want of memory for the buffers: nothing was read and nothing written.
 pub fn run_buffered<R: Read + Drop, W: Write + Drop, E: Write + Drop>(
     alloc: Global,
-    command: Command,
+    options: Options,
     input: R,
     output: W,
     report: E,
 ) -> io::Result<BufferedEnd<W, E>>
     ensures whole { IfOk result (λ end. (status : Status) (bytes : List ℕ)
         → end.answer ≡ Ok status → R.remaining input ≡ Some bytes
-        → HasWritten W.contents E.contents ((tool_of command).whole bytes) output report end status) }
+        → HasWritten W.contents E.contents ((tool_of options).whole bytes) output report end status) }
     ensures flushed { IfOk result (λ end. (status : Status)
         → end.answer ≡ Ok status → IsFlushed end status) }
     ensures err { IfErr result (λ error. error_kind error ≡ ErrorKind.OutOfMemory) }
@@ -57,8 +56,9 @@ pub fn run_buffered<R: Read + Drop, W: Write + Drop, E: Write + Drop>(
     let reader = BufReader::with_capacity(alloc, INPUT_BUFFER, input)?;
     let output = BufWriter::with_capacity(alloc, TEXT_BUFFER, output)?;
     let report = BufWriter::with_capacity(alloc, TEXT_BUFFER, report)?;
-    let end = run(
-        command,
+    let end = run_tool(
+        alloc,
+        options,
         Reader::new(reader),
         Writer::new(output),
         Writer::new(report),
@@ -70,33 +70,6 @@ pub fn run_buffered<R: Read + Drop, W: Write + Drop, E: Write + Drop>(
         output,
         report,
     })
-}
-
-/// The run of a command.
-fn run<R: InDevice, W: OutDevice, E: OutDevice>(
-    command: Command,
-    reader: R,
-    output: W,
-    report: E,
-) -> RunEnd<R, W, E>
-    requires reader { (R.state reader).failed ≡ false }
-    requires output { (W.state output).failed ≡ false }
-    requires report { (E.state report).failed ≡ false }
-    ensures { GivesAnswer R.state W.state E.state (tool_of command)
-        (record { reader = reader; output = output; report = report })
-        (record { reader = result.reader; output = result.output; report = result.report })
-        result.answer }
-{
-    match command {
-        Command::List => list(reader, output, report),
-        Command::Unpack => {
-            let all = Wanted {
-                only: None,
-                payload: false,
-            };
-            unpack(all, reader, output, report)
-        }
-    }
 }
 
 /// Hands on what the buffer holds. Returns the writer below it, or `None` where it failed.

@@ -2,6 +2,7 @@
 
 ghost use Rattle.std.specs.Prelude.{◌≡◌, ◌<◌, false};
 
+use crate::packings::{ANNOUNCED, IN_HALVES, PAST_LIMIT, Row};
 use crate::rows::{MESSAGES, TRANSFER};
 use crate::running::{End, Tool, alike, ended_over};
 use crate::stream::{
@@ -79,6 +80,7 @@ impl<'a> Trial<'a> {
     /// The whole call.
     fn run(&self, alloc: Global) -> End<'a> {
         self.tool.run(
+            alloc,
             self.reader(),
             self.writer(alloc, Device::Output),
             self.writer(alloc, Device::Report),
@@ -116,10 +118,17 @@ fn fails(
     Ok(true)
 }
 
+/// How lines end that only the end of the input determines.
+const AT_THE_END: [&[u8]; 3] = [
+    b": truncated\n",
+    b" abandoned\n",
+    b": B1 input ends inside a bundle\n",
+];
+
 /// A report less the line that only the end of the input determines.
 fn lasting(report: &[u8]) -> &[u8] {
     match report.split_inclusive(|byte| *byte == b'\n').last() {
-        Some(line) if line.ends_with(b": truncated\n") || line.ends_with(b" abandoned\n") => {
+        Some(line) if AT_THE_END.iter().any(|end| line.ends_with(end)) => {
             report.strip_suffix(line).unwrap_or(report)
         }
         _ => report,
@@ -308,14 +317,45 @@ fn long_list_byte_by_byte(rt: HostRuntime) -> Result<(), Fail> {
     each_fails(&rt, Tool::List, &long_list(rt.alloc())?, 1, 31)
 }
 
-/// What the bytes so far determine is written before any byte after them is taken: a line, or a byte of data.
+/// Each device fails in turn while a row's bundles are packed.
+fn each_fails_in_the_row(rt: &(impl Abort + AllocGlobal), row: &Row) -> Result<(), Fail> {
+    let input = joined(rt.alloc(), row.input)?;
+    each_fails_at_each_pace(rt, Tool::Pack(row.packing), &input)
+}
+
+#[test]
+fn two_bundles_packed(rt: HostRuntime) -> Result<(), Fail> {
+    each_fails_in_the_row(&rt, &IN_HALVES)
+}
+
+/// No segment is written before the bundle has ended.
+#[test]
+fn announced_bundle(rt: HostRuntime) -> Result<(), Fail> {
+    each_fails_in_the_row(&rt, &ANNOUNCED)
+}
+
+/// Segments without an END, and a fault.
+#[test]
+fn bundle_past_the_limit(rt: HostRuntime) -> Result<(), Fail> {
+    each_fails_in_the_row(&rt, &PAST_LIMIT)
+}
+
+/// What the bytes so far determine is written before any byte after them is taken: a line, a byte of data, or a segment
+/// after the session's beginning.
 #[test]
 fn reads_no_further_than_it_writes(rt: HostRuntime) -> Result<(), Fail> {
     let stream = joined(rt.alloc(), TRANSFER)?;
-    for (tool, calls) in [(Tool::List, 6), (Tool::Unpack(ALL), 61)] {
+    let bundles = joined(rt.alloc(), IN_HALVES.input)?;
+    let rows = [
+        (Tool::List, &stream, 0, 6),
+        (Tool::Unpack(ALL), &stream, 0, 61),
+        (Tool::Pack(IN_HALVES.packing), &bundles, 38, 17),
+    ];
+    for (tool, input, written, calls) in rows {
         let end = tool.run(
-            TestReader::new(&stream, 1, Failing::Never),
-            TestWriter::new(rt.alloc(), 1, Failing::Past(0)),
+            rt.alloc(),
+            TestReader::new(input, 1, Failing::Never),
+            TestWriter::new(rt.alloc(), 1, Failing::Past(written)),
             TestWriter::new(rt.alloc(), 1, Failing::Never),
         );
         assert_eq!(rt; run_exit(&end.answer), Device::Output.exit());

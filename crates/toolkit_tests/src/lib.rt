@@ -7,7 +7,13 @@ mod device;
 mod failures;
 #[cfg(test)]
 mod listings;
+#[cfg(test)]
+mod memory;
 mod pace;
+#[cfg(test)]
+mod packing;
+#[cfg(test)]
+mod packings;
 #[cfg(test)]
 mod rows;
 #[cfg(test)]

@@ -2,10 +2,12 @@
 
 ghost use Rattle.std.specs.Prelude.{◌≡◌, ◌<◌, false};
 
+use crate::packings::Packing;
 use crate::stream::text;
 use crate::{Failing, TestReader, TestWriter};
 use link_tools::{
-    ListRun, Progress, Run, RunEnd, Status, UnpackRun, Wanted, list, run_exit, unpack,
+    ListRun, PackRun, Progress, Run, RunEnd, Status, UnpackRun, Wanted, list, pack, run_exit,
+    unpack,
 };
 use link_wire::{InDevice, IoFault, OutDevice};
 use std::alloc::Global;
@@ -15,16 +17,23 @@ use std::test::Fail;
 /// A run over test devices that has ended.
 pub type End<'a> = RunEnd<TestReader<'a>, TestWriter, TestWriter>;
 
-/// A tool that reads a recorded stream.
+/// A tool, and what is asked of it.
 #[derive(Clone, Copy, Debug, PartialEq, Eq)]
 pub enum Tool {
     List,
     Unpack(Wanted),
+    Pack(Packing),
 }
 
 impl Tool {
     /// A whole run.
-    pub fn run<'a>(self, reader: TestReader<'a>, output: TestWriter, report: TestWriter) -> End<'a>
+    pub fn run<'a>(
+        self,
+        alloc: Global,
+        reader: TestReader<'a>,
+        output: TestWriter,
+        report: TestWriter,
+    ) -> End<'a>
         requires reader { (⟦<TestReader<'a> as InDevice>⟧.state reader).failed ≡ false }
         requires output { (⟦<TestWriter as OutDevice>⟧.state output).failed ≡ false }
         requires report { (⟦<TestWriter as OutDevice>⟧.state report).failed ≡ false }
@@ -32,13 +41,14 @@ impl Tool {
         match self {
             Tool::List => list(reader, output, report),
             Tool::Unpack(wanted) => unpack(wanted, reader, output, report),
+            Tool::Pack(packing) => pack(alloc, packing.options(), reader, output, report),
         }
     }
 
     /// A run in steps: at most that many to its end, and three more.
     pub fn step_through<'a>(
         self,
-        rt: &impl Abort,
+        rt: &(impl Abort + AllocGlobal),
         steps: usize,
         reader: TestReader<'a>,
         output: TestWriter,
@@ -52,6 +62,12 @@ impl Tool {
             Tool::List => ended(rt, ListRun::new(reader, output, report), steps),
             Tool::Unpack(wanted) => {
                 ended(rt, UnpackRun::new(wanted, reader, output, report), steps)
+            }
+            Tool::Pack(packing) => {
+                match PackRun::new(rt.alloc(), packing.options(), reader, output, report) {
+                    Ok(run) => ended(rt, run, steps),
+                    Err(end) => Ok(end),
+                }
             }
         }
     }
@@ -116,7 +132,7 @@ pub fn alike(rt: &impl Abort, first: &End<'_>, second: &End<'_>) -> Result<(), F
     Ok(())
 }
 
-/// What a tool must give for a stream.
+/// What a tool must give for an input.
 #[derive(Drop)]
 pub struct Expected<'a> {
     pub tool: Tool,
@@ -125,18 +141,19 @@ pub struct Expected<'a> {
     pub status: u8,
 }
 
-/// Runs a tool over a stream, and devices that move at most that many bytes a call and never fail.
+/// Runs a tool over an input, and devices that move at most that many bytes a call and never fail.
 pub fn ended_over<'a>(alloc: Global, tool: Tool, stream: &'a [u8], per_call: usize) -> End<'a>
     requires { 0 < per_call }
 {
     tool.run(
+        alloc,
         TestReader::new(stream, per_call, Failing::Never),
         TestWriter::new(alloc, per_call, Failing::Never),
         TestWriter::new(alloc, per_call, Failing::Never),
     )
 }
 
-/// Over devices that move at most that many bytes a call, the tool gives this for the stream.
+/// Over devices that move at most that many bytes a call, the tool gives this for the input.
 pub fn gives(
     rt: &(impl Abort + AllocGlobal),
     name: &str,
@@ -162,8 +179,28 @@ pub fn gives(
     Ok(())
 }
 
-/// The tool gives this whether the bytes are moved all at once, by sevens or one by one, and in steps too: each step
+/// Over devices that move at most that many bytes a call, the tool does in steps what the whole call does. Each step
 /// after the end returns the same, and does no I/O.
+pub fn steps_alike(
+    rt: &(impl Abort + AllocGlobal),
+    tool: Tool,
+    stream: &[u8],
+    per_call: usize,
+) -> Result<(), Fail>
+    requires { 0 < per_call }
+{
+    let whole = ended_over(rt.alloc(), tool, stream, per_call);
+    let in_steps = tool.step_through(
+        rt,
+        stream.len().saturating_add(2),
+        TestReader::new(stream, per_call, Failing::Never),
+        TestWriter::new(rt.alloc(), per_call, Failing::Never),
+        TestWriter::new(rt.alloc(), per_call, Failing::Never),
+    )?;
+    alike(rt, &in_steps, &whole)
+}
+
+/// The tool gives this whether the bytes are moved all at once, by sevens or one by one, and in steps too.
 pub fn gives_at_each_pace(
     rt: &(impl Abort + AllocGlobal),
     name: &str,
@@ -173,13 +210,5 @@ pub fn gives_at_each_pace(
     gives(rt, name, stream, usize::MAX, want)?;
     gives(rt, name, stream, 7, want)?;
     gives(rt, name, stream, 1, want)?;
-    let whole = ended_over(rt.alloc(), want.tool, stream, usize::MAX);
-    let in_steps = want.tool.step_through(
-        rt,
-        stream.len().saturating_add(2),
-        TestReader::new(stream, usize::MAX, Failing::Never),
-        TestWriter::new(rt.alloc(), usize::MAX, Failing::Never),
-        TestWriter::new(rt.alloc(), usize::MAX, Failing::Never),
-    )?;
-    alike(rt, &in_steps, &whole)
+    steps_alike(rt, want.tool, stream, usize::MAX)
 }

@@ -42,6 +42,9 @@ pub const BACK: &[u8] = b"\x00\x82\x00\x00\x00\x85\x01\x01\x00\x00\x45hello\xff"
 /// The bundle.
 pub const PLAIN: &[&[u8]] = &[FRONT, BACK];
 
+/// Its first 10 bytes.
+pub const FIRST_10: &[u8] = b"\x9f\x88\x07\x00\x00\x82\x02\x82\x02\x01";
+
 /// The back half with a CRC-16/X-25 in the payload block; then with the first byte of the payload changed.
 pub const CHECKED_BACK: &[u8] =
     b"\x00\x82\x00\x00\x00\x86\x01\x01\x00\x01\x45hello\x42\x4b\xf3\xff";

@@ -1,8 +1,8 @@
 //! Worked streams with transfers, and the texts and the status that unpacking them gives.
 
 use crate::stream::{
-    BACK, CONTACT, FIRST_SEGMENT, FRONT, LENGTH_17, LENGTH_34, NO_ITEMS, NODE, PARAMETERS, PLAIN,
-    Part, SESSION, WHOLE_TRANSFER,
+    BACK, CONTACT, FIRST_10, FIRST_SEGMENT, FRONT, LENGTH_17, LENGTH_34, NO_ITEMS, NODE,
+    PARAMETERS, PLAIN, Part, SESSION, WHOLE_TRANSFER,
 };
 use link_tools::Wanted;
 
@@ -31,6 +31,7 @@ const PAYLOAD_OF_1: Wanted = Wanted {
 };
 
 /// A recorded stream and what unpacking it gives.
+#[derive(Clone, Copy)]
 pub struct Row {
     pub name: &'static str,
     pub wanted: Wanted,
@@ -39,9 +40,6 @@ pub struct Row {
     pub report: &'static [&'static [u8]],
     pub status: u8,
 }
-
-/// The first 10 bytes of the bundle.
-const FIRST_10: &[u8] = b"\x9f\x88\x07\x00\x00\x82\x02\x82\x02\x01";
 
 /// The end of the line of a transfer that is the bundle.
 pub const GOOD: &[u8] = b" good source=ipn:1.1 time=0 sequence=0 destination=ipn:2.1 payload=5\n";

@@ -1,4 +1,4 @@
-use Rattle.std.proofs.Common.{◌≡◌, length, take, arith, length-take, append-nil}
+use Rattle.std.proofs.Common.{◌≡◌, length, take, arith, length-take}
 use Rattle.link_wire.specs.Session.{data_in}
 use Rattle.link_list.proofs.Lists.{inside, data_step, data_ended}
 use Rattle.link_list.proofs.listing.take_data.Goals as goal
@@ -6,12 +6,11 @@ use Rattle.link_list.proofs.listing.take_data.Goals as goal
 pub returns-in-Ok-clause-gives : goal.returns-in-Ok-clause-gives
 returns-in-Ok-clause-gives g c = λ start history at.
     let loaded = c.in-Ok.ensures.gives history at.session in
-    let ready = rw append-nil at loaded.gave.at in
-    let gave = c.pass.ensures.gives history ready in
+    let gave = c.pass.ensures.gives history loaded.at in
     let in_data = inside g.R.InDevice.state g.W.OutDevice.state g.E.OutDevice.state start c.args.session.now c.args.writers.now history at in
     let some = loaded.some in_data.left in
     let size : length (take c.min.result (data_in c.load.new.self)) ≡ c.min.result = omega (arith, loaded.size, c.min.ensures, length-take c.min.result (data_in c.load.new.self)) in
-    data_step g.R.InDevice.state g.W.OutDevice.state g.E.OutDevice.state start c.args.session.now c.args.writers.now history at c.load.new.self c.pass.new.self _ loaded.gave gave c.go_on.new.writers _ (omega (arith, size, c.min.ensures)) (omega (arith, size, c.min.ensures)) c.go_on.ensures.line
+    data_step g.R.InDevice.state g.W.OutDevice.state g.E.OutDevice.state start c.args.session.now c.args.writers.now history at c.load.new.self c.pass.new.self _ loaded.readies gave c.go_on.new.writers _ (omega (arith, size, c.min.ensures)) (omega (arith, size, c.min.ensures)) c.go_on.ensures.line
 
 pub returns-in-Err-clause-gives : goal.returns-in-Err-clause-gives
 returns-in-Err-clause-gives g c = λ start history at.

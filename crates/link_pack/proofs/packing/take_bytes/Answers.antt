@@ -1,8 +1,8 @@
-use Rattle.std.proofs.Common.{◌≡◌, ℕ, ◌+◌, ◌-◌, ◌^◌, ◌<◌, min, List, [], length, take, drop, ap, ◌∙◌, subst, length-take, arith}
+use Rattle.std.proofs.Common.{◌≡◌, ℕ, ◌+◌, ◌-◌, ◌^◌, ◌<◌, min, List, length, take, drop, ap, ◌∙◌, subst, length-take, arith}
 use Rattle.std.proofs.lemmas.Bool.Decides.{nat_tests}
 use Rattle.std.proofs.lemmas.List.{take-take}
 use Rattle.link_wire.specs.Source.{window_of}
-use Rattle.link_io.proofs.Sources.{Takes-then}
+use Rattle.link_io.proofs.Sources.{Readies-takes, Readies-over}
 use Rattle.link_pack.specs.Packer.{Took}
 use Rattle.link_pack.proofs.Founds.{came, finished}
 use Rattle.link_pack.proofs.Steps.{read_lost}
@@ -11,8 +11,9 @@ use Rattle.link_pack.proofs.packing.take_bytes.Goals as goal
 pub returns-in-Ok-eq0-clause-gives : goal.returns-in-Ok-eq0-clause-gives
 returns-in-Ok-eq0-clause-gives g c = λ start history at.
     let ready = c.in-Ok-eq0.ensures.gives at.live in
+    let over = ready.over (grind (arith, nat_tests)) in
     finished g.R.InDevice.state g.W.OutDevice.state g.E.OutDevice.state start c.args.source.now c.args.writers.now c.args.packer.now history at
-    c.ready.new.self ready.takes (ready.over (grind (arith, nat_tests))) c.finish.new.writers c.finish.result
+    c.ready.new.self (Readies-over g.R.InDevice.state c.args.source.now c.ready.new.self ready.readies over) over c.finish.new.writers c.finish.result
     (c.finish.ensures.gives at.begun at.holds.scanned at.holds.goes)
 
 pub returns-in-Err-clause-gives : goal.returns-in-Err-clause-gives
@@ -33,7 +34,7 @@ returns-clause-gives g c = λ start history at.
     let within = c.take-count.ensures.within in
     let few = at.few in
     let room = mid.within in
-    let given = ready.takes.count in
+    let given = ready.readies.count in
     let before = at.source.given in
     let ahead = length-take (mid.end - mid.start) (drop mid.start mid.window) in
     let bound : length at.begun + length (take most c.window.result.now) < 2 ^ 63 = omega (arith, piece, ahead) in
@@ -43,7 +44,7 @@ returns-clause-gives g c = λ start history at.
     let took = subst (λ (run : List ℕ). Took c.take-count.new.self at.begun run c.take-count.result.1) same (c.take-count.ensures.took at.bundles at.begun at.holds bound) in
     let numbered = c.take-count.ensures.number ∙ at.holds.number in
     came g.R.InDevice.state g.W.OutDevice.state g.E.OutDevice.state start c.args.source.now c.args.writers.now c.args.packer.now history at
-    c.give.new.self (take count window) (Takes-then g.R.InDevice.state c.args.source.now mid c.give.new.self [] (take count window) ready.takes c.give.ensures.takes)
+    c.give.new.self (take count window) (Readies-takes g.R.InDevice.state c.args.source.now mid c.give.new.self (take count window) ready.readies c.give.ensures.takes some)
     (c.give.ensures.live ready.live) some (omega (arith, size, piece, c.min-ready.ensures))
     c.take-count.new.self c.take-count.ensures.options c.take-count.ensures.number c.go_on.new.writers c.go_on.new.packer c.go_on.ensures.options c.go_on.result
     c.take-count.result.1 took

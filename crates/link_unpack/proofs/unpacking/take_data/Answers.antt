@@ -1,10 +1,10 @@
-use Rattle.std.proofs.Common.{◌≡◌, ◌++◌, ℕ, List, [], length, take, refl, sym, subst, arith, length-take, append-nil}
+use Rattle.std.proofs.Common.{◌≡◌, ◌<◌, ◌++◌, ℕ, List, length, take, refl, sym, subst, arith, length-take}
 use Rattle.link_wire.specs.Session.{data_in, GaveBytes}
 use Rattle.link_unpack.specs.UnpackRun.{StandsAfter}
 use Rattle.link_unpack.specs.declared.unpacking.Stage.TheVariants as stage
 use Rattle.link_unpack.specs.declared.unpacking.Unpacker.{Unpacker}
 use Rattle.link_unpack.specs.declared.wanted.Wanted.{Wanted}
-use Rattle.link_io.proofs.Sources.{Takes-then}
+use Rattle.link_io.proofs.Sources.{Readies-takes}
 use Rattle.link_wire.specs.Session.{source_of}
 use Rattle.link_unpack.proofs.Data.{data_ended, here, some_left, room, closing, grows, part_lost}
 use Rattle.link_unpack.proofs.Steps.{stage_given}
@@ -18,40 +18,41 @@ returns-in-Err-clause-gives g c = λ start history at.
 pub returns-in-Ok-written-clause-gives : goal.returns-in-Ok-written-clause-gives
 returns-in-Ok-written-clause-gives g c = λ start history at.
     let loaded = c.in-Ok.ensures.gives history at.session in
-    let ready = rw append-nil at loaded.gave.at in
     let bytes : List ℕ = take c.min-size.result c.loaded.result.now in
     let P : List ℕ → Type 0 = λ d. GaveBytes g.R.InDevice.state c.load.new.self c.pass.new.self history (take c.min-size.result d) in
-    let gave = subst P (sym c.loaded.ensures) (c.pass.ensures.gives history ready) in
+    let gave = subst P (sym c.loaded.ensures) (c.pass.ensures.gives history loaded.at) in
     let in_data = here g.R.InDevice.state g.W.OutDevice.state g.E.OutDevice.state start c.args.last c.args.session.now c.args.writers.now c.args.unpacker.now history at in
-    let bound = room g.R.InDevice.state g.W.OutDevice.state g.E.OutDevice.state start c.args.last c.args.session.now c.args.writers.now c.args.unpacker.now history at c.load.new.self c.pass.new.self bytes loaded.gave gave in
-    let closes = closing g.R.InDevice.state g.W.OutDevice.state g.E.OutDevice.state start c.args.last c.args.session.now c.args.writers.now c.args.unpacker.now history at c.load.new.self c.pass.new.self bytes loaded.gave gave in
+    let size : length bytes ≡ c.min-size.result = rw c.loaded.ensures (omega (arith, loaded.size, c.min-size.ensures, length-take c.min-size.result (data_in c.load.new.self))) in
+    let ready = loaded.some (some_left g.R.InDevice.state g.W.OutDevice.state g.E.OutDevice.state start c.args.last c.args.session.now c.args.writers.now c.args.unpacker.now history at) in
+    let some : 0 < length bytes = omega (arith, size, ready, c.min-size.ensures) in
+    let bound = room g.R.InDevice.state g.W.OutDevice.state g.E.OutDevice.state start c.args.last c.args.session.now c.args.writers.now c.args.unpacker.now history at c.load.new.self c.pass.new.self bytes _ loaded gave some in
+    let closes = closing g.R.InDevice.state g.W.OutDevice.state g.E.OutDevice.state start c.args.last c.args.session.now c.args.writers.now c.args.unpacker.now history at c.load.new.self c.pass.new.self bytes _ loaded gave some in
     let follows = c.take-part.ensures.follows in_data.goes.transfer closes in_data.goes.earlier bound in_data.goes.follows in
     let part = c.take-part.ensures.part in_data.goes.transfer closes in_data.goes.earlier bound in_data.goes.follows in
     let v : Unpacker = record { joiner = c.args.unpacker.now.joiner; latest = c.take-part.new.self; good = c.args.unpacker.now.good } in
-    let joins = grows g.R.InDevice.state g.W.OutDevice.state g.E.OutDevice.state start c.args.last c.args.session.now c.args.writers.now c.args.unpacker.now history at c.load.new.self c.pass.new.self bytes loaded.gave gave
+    let joins = grows g.R.InDevice.state g.W.OutDevice.state g.E.OutDevice.state start c.args.last c.args.session.now c.args.writers.now c.args.unpacker.now history at c.load.new.self c.pass.new.self bytes _ loaded gave some
     c.take-part.result.now part c.write_output-written.new.self v c.in-Ok-written.ensures.gives follows c.take-part.ensures.wanted c.take-part.ensures.total refl refl in
     let Q : Wanted → Type 0 = λ w. StandsAfter g.R.InDevice.state g.W.OutDevice.state g.E.OutDevice.state start w c.go_on.result c.pass.new.self c.go_on.new.writers c.go_on.new.unpacker (history ++ bytes) in
     let stood = subst Q c.take-part.ensures.wanted (c.go_on.ensures.gives start (history ++ bytes) joins) in
-    let some = loaded.some (some_left g.R.InDevice.state g.W.OutDevice.state g.E.OutDevice.state start c.args.last c.args.session.now c.args.writers.now c.args.unpacker.now history at) in
-    let size : length bytes ≡ c.min-size.result = rw c.loaded.ensures (omega (arith, loaded.size, c.min-size.ensures, length-take c.min-size.result (data_in c.load.new.self))) in
     stage_given g.R.InDevice.state g.W.OutDevice.state g.E.OutDevice.state start c.args.unpacker.now.latest.wanted (stage.Data c.args.last) c.go_on.result c.args.session.now c.pass.new.self c.args.writers.now c.go_on.new.writers c.go_on.new.unpacker history bytes
-    (Takes-then g.R.InDevice.state (source_of c.args.session.now) (source_of c.load.new.self) (source_of c.pass.new.self) [] bytes loaded.gave.takes gave.takes) (omega (arith, size, some, c.min-size.ensures)) (omega (arith, size, c.min-size.ensures)) stood
+    (Readies-takes g.R.InDevice.state (source_of c.args.session.now) (source_of c.load.new.self) (source_of c.pass.new.self) bytes loaded.readies gave.takes some) some (omega (arith, size, c.min-size.ensures)) tt stood
 
 pub returns-in-Err-written-clause-gives : goal.returns-in-Err-written-clause-gives
 returns-in-Err-written-clause-gives g c = λ start history at.
     let loaded = c.in-Ok.ensures.gives history at.session in
-    let ready = rw append-nil at loaded.gave.at in
     let bytes : List ℕ = take c.min-size.result c.loaded.result.now in
     let P : List ℕ → Type 0 = λ d. GaveBytes g.R.InDevice.state c.load.new.self c.pass.new.self history (take c.min-size.result d) in
-    let gave = subst P (sym c.loaded.ensures) (c.pass.ensures.gives history ready) in
+    let gave = subst P (sym c.loaded.ensures) (c.pass.ensures.gives history loaded.at) in
     let in_data = here g.R.InDevice.state g.W.OutDevice.state g.E.OutDevice.state start c.args.last c.args.session.now c.args.writers.now c.args.unpacker.now history at in
-    let bound = room g.R.InDevice.state g.W.OutDevice.state g.E.OutDevice.state start c.args.last c.args.session.now c.args.writers.now c.args.unpacker.now history at c.load.new.self c.pass.new.self bytes loaded.gave gave in
-    let closes = closing g.R.InDevice.state g.W.OutDevice.state g.E.OutDevice.state start c.args.last c.args.session.now c.args.writers.now c.args.unpacker.now history at c.load.new.self c.pass.new.self bytes loaded.gave gave in
-    let part = c.take-part.ensures.part in_data.goes.transfer closes in_data.goes.earlier bound in_data.goes.follows in
     let size : length bytes ≡ c.min-size.result = rw c.loaded.ensures (omega (arith, loaded.size, c.min-size.ensures, length-take c.min-size.result (data_in c.load.new.self))) in
+    let ready = loaded.some (some_left g.R.InDevice.state g.W.OutDevice.state g.E.OutDevice.state start c.args.last c.args.session.now c.args.writers.now c.args.unpacker.now history at) in
+    let some : 0 < length bytes = omega (arith, size, ready, c.min-size.ensures) in
+    let bound = room g.R.InDevice.state g.W.OutDevice.state g.E.OutDevice.state start c.args.last c.args.session.now c.args.writers.now c.args.unpacker.now history at c.load.new.self c.pass.new.self bytes _ loaded gave some in
+    let closes = closing g.R.InDevice.state g.W.OutDevice.state g.E.OutDevice.state start c.args.last c.args.session.now c.args.writers.now c.args.unpacker.now history at c.load.new.self c.pass.new.self bytes _ loaded gave some in
+    let part = c.take-part.ensures.part in_data.goes.transfer closes in_data.goes.earlier bound in_data.goes.follows in
     record {
       given = bytes;
       size = omega (arith, size, c.min-size.ensures);
-      gave = part_lost g.R.InDevice.state g.W.OutDevice.state g.E.OutDevice.state start c.args.last c.args.session.now c.args.writers.now c.args.unpacker.now history at c.load.new.self c.pass.new.self bytes loaded.gave gave
+      gave = part_lost g.R.InDevice.state g.W.OutDevice.state g.E.OutDevice.state start c.args.last c.args.session.now c.args.writers.now c.args.unpacker.now history at c.load.new.self c.pass.new.self bytes _ loaded gave some
           c.take-part.result.now part c.write_output-written.new.self c.in-Err-written.fault c.in-Err-written.ensures.gives;
     }

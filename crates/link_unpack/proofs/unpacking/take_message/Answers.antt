@@ -9,7 +9,7 @@ use Rattle.link_unpack.specs.UnpackRun.{messages_of, IsBeginning}
 use Rattle.link_unpack.specs.declared.unpacking.Stage.TheVariants as stage
 use Rattle.link_unpack.specs.declared.unpacking.Unpacker.{Unpacker}
 use Rattle.link_wire.specs.Stream.{reading_of}
-use Rattle.link_unpack.proofs.Messages.{between, beginning, continuing, passed, no_left}
+use Rattle.link_unpack.proofs.Messages.{between, alone, beginning, continuing, passed, no_left}
 use Rattle.link_unpack.proofs.Orders.{accepted, refused_for, begins, continues, no_segment, segment_of}
 use Rattle.link_unpack.proofs.Steps.{stage_given, finished, message_ended, order_reported}
 use Rattle.link_unpack.proofs.unpacking.take_message.Goals as goal
@@ -43,7 +43,7 @@ returns-in-Ok-Begin-clause-gives g c = λ start history at.
     let begun = beginning g.R.InDevice.state g.W.OutDevice.state g.E.OutDevice.state start c.args.session.now c.read_next.new.self c.args.writers.now c.args.unpacker.now history at c.in-Ok-Some.offset sent got
     segment.head segment.is c.in-Ok-Begin.last (turns.ends ∙ sym (ap is_end segment.has_flags)) c.in-Ok-Begin.abandoned c.read_next.new.message c.event.new.self refl (ap is_start segment.has_flags ∙ turns.starts) turns.abandons may.0 joins in
     stage_given g.R.InDevice.state g.W.OutDevice.state g.E.OutDevice.state start c.args.unpacker.now.latest.wanted stage.Message _ c.args.session.now c.read_next.new.self c.args.writers.now c.begin.new.writers c.begin.new.unpacker history got.given
-    got.takes got.some got.size (c.begin.ensures.gives start (history ++ got.given) (subst P (sym c.is_some.ensures) begun))
+    got.takes got.some got.size (alone g.R.InDevice.state g.W.OutDevice.state g.E.OutDevice.state start c.args.session.now c.read_next.new.self c.args.writers.now c.args.unpacker.now history at c.in-Ok-Some.offset sent got) (c.begin.ensures.gives start (history ++ got.given) (subst P (sym c.is_some.ensures) begun))
 
 pub returns-in-Ok-Continue-clause-gives : goal.returns-in-Ok-Continue-clause-gives
 returns-in-Ok-Continue-clause-gives g c = λ start history at.
@@ -60,7 +60,7 @@ returns-in-Ok-Continue-clause-gives g c = λ start history at.
     let went = continuing g.R.InDevice.state g.W.OutDevice.state g.E.OutDevice.state start c.args.session.now c.read_next.new.self c.args.writers.now c.args.unpacker.now history at c.in-Ok-Some.offset sent got
     segment.head segment.is c.in-Ok-Continue.last (turns.ends ∙ sym (ap is_end segment.has_flags)) c.event.new.self (ap is_start segment.has_flags ∙ turns.starts) may.0 joins in
     stage_given g.R.InDevice.state g.W.OutDevice.state g.E.OutDevice.state start c.args.unpacker.now.latest.wanted stage.Message _ c.args.session.now c.read_next.new.self c.args.writers.now c.go_on.new.writers c.go_on.new.unpacker history got.given
-    got.takes got.some got.size (c.go_on.ensures.gives start (history ++ got.given) went)
+    got.takes got.some got.size (alone g.R.InDevice.state g.W.OutDevice.state g.E.OutDevice.state start c.args.session.now c.read_next.new.self c.args.writers.now c.args.unpacker.now history at c.in-Ok-Some.offset sent got) (c.go_on.ensures.gives start (history ++ got.given) went)
 
 pub returns-in-Ok-Other-clause-gives : goal.returns-in-Ok-Other-clause-gives
 returns-in-Ok-Other-clause-gives g c = λ start history at.
@@ -76,7 +76,7 @@ returns-in-Ok-Other-clause-gives g c = λ start history at.
     let none = no_left g.R.InDevice.state g.W.OutDevice.state g.E.OutDevice.state start c.args.session.now c.read_next.new.self c.args.writers.now c.args.unpacker.now history at c.in-Ok-Some.offset sent got c.event.new.self other may.0 joins in
     let stood = passed g.R.InDevice.state g.W.OutDevice.state g.E.OutDevice.state start c.args.session.now c.read_next.new.self c.args.writers.now c.args.unpacker.now history at c.in-Ok-Some.offset sent got c.event.new.self other may.0 joins in
     let same = c.go_on-in-Ok-Other.ensures.other refl none in
-    rw (same.0, same.1, same.2) (record { given = got.given; some = λ may. got.some; size = got.size; count = got.takes.count; at = stood })
+    rw (same.0, same.1, same.2) (record { given = got.given; some = λ may. got.some; size = got.size; count = got.takes.count; window = got.takes.window.less got.some; at = stood })
 
 pub returns-in-Err-event-clause-gives : goal.returns-in-Err-event-clause-gives
 returns-in-Err-event-clause-gives g c = λ start history at.

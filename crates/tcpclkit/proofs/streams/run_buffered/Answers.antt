@@ -1,5 +1,5 @@
 use Rattle.std.proofs.Common.{ap, sym, ◌∙◌}
-use Rattle.tcpclkit.proofs.HandedOn.{answered, has_run, handed_on, buffered, unfilled}
+use Rattle.tcpclkit.proofs.HandedOn.{answered, has_run, had_memory, handed_on, buffered, unfilled}
 use Rattle.tcpclkit.proofs.streams.run_buffered.Goals as goal
 
 pub returns-clause-whole : goal.returns-clause-whole
@@ -11,7 +11,7 @@ returns-clause-whole g c status bytes is known =
     let report = c.in_ok-report.ensures in
     let left = buffered _ _ _ bytes reader.capacity reader.empty (ap g.R.Read.remaining reader.inner ∙ known) in
     let is_run = answered _ _ status (sym c.after_flush.ensures ∙ is) in
-    let run = has_run _ _ _ _ _ _ _ status bytes c.run-end.ensures is_run (ap (λ state. state.left) c.new.ensures ∙ left) in
+    let run = has_run _ _ _ _ _ _ _ status bytes (had_memory _ _ _ c.args.options _ _ _ status is_run c.run_tool-end.ensures) is_run (ap (λ state. state.left) c.new.ensures ∙ left) in
     let no_output = ap (λ state. state.written) c.new-2.ensures ∙ unfilled written _ _ c.args.output output.inner output.empty in
     let no_report = ap (λ state. state.written) c.new-3.ensures ∙ unfilled reported _ _ c.args.report report.inner report.empty in
     record {

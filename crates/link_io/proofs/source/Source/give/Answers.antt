@@ -1,8 +1,9 @@
-use Rattle.std.proofs.Common.{◌-◌, ◌≤◌, drop, refl, arith, length-take}
+use Rattle.std.proofs.Common.{◌-◌, ◌≤◌, length, drop, refl, arith, length-take}
 use Rattle.std.proofs.lemmas.List.Elements.{All-take}
 use Rattle.link_io.specs.Bytes.{IsByte}
+use Rattle.link_io.specs.Limits.{window_size}
 use Rattle.link_io.specs.Source.{window_of}
-use Rattle.link_io.proofs.Sources.{Consumes-window}
+use Rattle.link_io.proofs.Sources.{Consumes-window, WindowAfter-drop}
 use Rattle.link_io.proofs.Windows.{range_rest}
 use Rattle.link_io.proofs.source.Source.give.Goals as goal
 
@@ -11,11 +12,13 @@ returns-clause-takes g c =
     let s = c.args.self.now in
     let look = g.R.InDevice.state in
     let within : c.args.count ≤ s.end - s.start = omega (arith, c.requires, length-take (s.end - s.start) (drop s.start s.window)) in
+    let room : length (window_of s) ≤ window_size = let room = s.room in omega (arith, length-take (s.end - s.start) (drop s.start s.window)) in
     record {
       bytes_fit = All-take IsByte _ _ (rw c.window-window.ensures.window at c.window-window.ensures.bytes);
       next = rw (range_rest s.window s.start s.end c.args.count within) (Consumes-window (window_of s) (look s.reader).left c.args.count);
       count = omega (arith, c.requires, length-take c.args.count (window_of s));
       device = refl;
+      window = WindowAfter-drop s _ c.args.count (range_rest s.window s.start s.end c.args.count within) room;
     }
 
 pub returns-clause-rest : goal.returns-clause-rest

@@ -1,6 +1,7 @@
-use Rattle.std.proofs.Common.{◌≡◌, ◌++◌, [], length, take, drop, ap, sym, ◌∙◌, arith, length-append, length-take, length-drop}
+use Rattle.std.proofs.Common.{◌≡◌, ◌≢◌, ◌<◌, ◌++◌, length, take, drop, ap, sym, ◌∙◌, arith, length-append, length-take, length-drop}
 use Rattle.std.proofs.Math.Seq.{take-append_seam}
-use Rattle.link_io.proofs.Sources.{Takes-then}
+use Rattle.std.proofs.lemmas.Bool.Decides.{nat_tests}
+use Rattle.link_io.proofs.Sources.{Readies-takes}
 use Rattle.link_io.proofs.source.Source.some.Goals as goal
 
 pub returns-clause-gives : goal.returns-clause-gives
@@ -9,10 +10,11 @@ returns-clause-gives g c = λ live.
     let part = c.copy.new.part in
     let rest = drop c.min-count.result c.args.buffer.now in
     let size : length part ≡ c.min-count.result = omega (arith, c.copy.auto.part, length-take c.min-count.result c.args.buffer.now) in
+    let some : 0 < length part = let ready : c.in_ok-ready.ready ≢ 0 = c.if-ready-eq0.false in let room : 0 < length c.args.buffer.now = grind (arith, nat_tests, c.is_empty.ensures, c.if-is_empty.false) in omega (arith, size, c.min-count.ensures) in
     let given : take c.min-count.result (part ++ rest) ≡ part = ap (λ n. take n (part ++ rest)) (sym size) ∙ take-append_seam part rest in
     record {
       room = omega (arith, length-append part rest, size);
-      takes = rw given (Takes-then g.R.InDevice.state _ _ _ [] part ready.takes c.copy.ensures.takes);
+      takes = rw given (Readies-takes g.R.InDevice.state _ _ _ part ready.readies c.copy.ensures.takes some);
       live = c.copy.ensures.live ready.live;
       over = λ none some. absurd (c.if-ready-eq0.false (omega (arith, length-append part rest, size, length-drop c.min-count.result c.args.buffer.now)));
     }

@@ -1,6 +1,6 @@
-use Rattle.std.proofs.Common.{◌≢◌, [], refl, arith, length-take}
+use Rattle.std.proofs.Common.{◌≢◌, refl, arith, length-take}
 use Rattle.link_io.specs.Source.{window_of}
-use Rattle.link_wire.proofs.Sessions.{data_given}
+use Rattle.link_wire.proofs.Sessions.{loaded_stands}
 use Rattle.link_wire.proofs.session.Session.load.Goals as goal
 
 pub returns-in-Ok-clause-size : goal.returns-in-Ok-clause-size
@@ -11,7 +11,9 @@ returns-in-Ok-clause-gives g c = λ history at.
     let old = c.args.self.now in
     let ready = c.in-Ok.ensures.gives at.live in
     record {
-      gave = data_given old _ history [] at ready.takes ready.live at.going refl (omega arith);
+      readies = ready.readies;
+      left = refl;
+      at = loaded_stands old _ history at ready.readies ready.live refl refl refl;
       size = omega (arith, c.in-Ok.ensures.size, c.min.ensures, length-take old.left (window_of c.ready.new.self));
       some = λ left. let some : c.in-Ok.ready ≢ 0 = c.in-Ok.ready-test.1 in omega (arith, c.min.ensures);
     }

@@ -1,0 +1,3 @@
+mod Builds
+mod Numbers
+mod Taken

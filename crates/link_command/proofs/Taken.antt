@@ -1,0 +1,107 @@
+-- What is known of words in which `clap` finds nothing wrong.
+use Rattle.std.proofs.Common.{◌≡◌, ◌∙◌, ◌<◌, ℕ, Bool, true, false, true≢false, cond, List, [], ◌∷◌, Option, Some, None, inl, inr, ap, length, refl, subst, sym}
+use Rattle.std.specs.Prelude.{◌⊎◌, ◌&&◌, is_some, not, option_map}
+use Rattle.std.specs.List.{list_any}
+use Rattle.clap.specs.Words.{App, HasMatchesOf, IsAmong, Kinds, Row, Shape, Text, built, fault_of, is_simple_and_free, subcommand_of, subcommand_rows_of}
+use Rattle.clap.specs.Facts.{explicit_source}
+use Rattle.clap.specs.Walk.{Held, Names, answers_to, finished, nothing_held, settled, stop_after, walk, walk_from}
+use Rattle.clap.specs.Simple.{argument_words, built_leaf, entered, label_of, names_of, rows_at}
+use Rattle.clap.specs.Takes.{is_given}
+use Rattle.clap.specs.Kinds.{check_kinds, or_else}
+use Rattle.clap.specs.Faults.{built_fault, check_fault, defaults_fault, entered_fault, level_fault, settle_fault, walk_fault}
+use Rattle.clap.proofs.OnLiterals.{clap_on_literals}
+use Rattle.link_command.specs.Table.{list_words, pack_words, table, unpack_words}
+use Rattle.clap.specs.declared.parser.matches.ArgMatches.{ArgMatches}
+use Rattle.clap.specs.declared.error.kind.ErrorKind.{ErrorKind}
+use Rattle.clap.specs.declared.error.kind.ErrorKind.TheVariants.{OutOfMemory}
+use Rattle.clap.proofs.WalkLemmas.{both}
+use Rattle.link_command.specs.Usage.{AreTaken, IsFaultOf, is_request, node_of}
+use Rattle.link_command.specs.Reading.{IsToolFault, NamesTool, StandsFor}
+use Rattle.link_command.specs.declared.usage.UsageFault.{UsageFault}
+use Rattle.link_command.specs.declared.usage.UsageFault.TheVariants.{Help, Words, NodeTooLong, Memory}
+
+pub table_is_simple : is_simple_and_free table ≡ true
+unfolding clap_on_literals table list_words unpack_words pack_words
+table_is_simple = refl
+
+-- ---- a tool is named
+
+second_empty : (a b : Kinds) → or_else a b ≡ [] → b ≡ []
+second_empty [] b none = none
+second_empty (k ∷ ks) b none = cc
+
+required_is_there : (has wants_help required wants_argument : Bool) → required ≡ true → check_kinds (not has && wants_help) (not has && required) wants_argument ≡ [] → has ≡ true
+required_is_there true wants_help required wants_argument is none = refl
+required_is_there false true required wants_argument is none = cc
+required_is_there false false true wants_argument is none = cc
+required_is_there false false false wants_argument is none = absurd (true≢false (sym is))
+
+check_passes : (s : Shape) (rows : List Row) (has : Bool) → s.subcommand_required ≡ true → check_fault s rows has ≡ [] → has ≡ true
+check_passes s rows has required none = required_is_there has (s.arg_required_else_help && not (list_any (λ r. explicit_source r.source) rows)) s.subcommand_required
+    (not (s.subcommand_negates_reqs && has) && list_any (λ a. a.required && not (is_given a.id rows)) s.rules) required none
+
+level_checked : (s : Shape) (names : Names) (h : Held) (words : List Text) (has : Bool) (below : Kinds) → level_fault s names h words has below ≡ []
+    → check_fault s (finished s.rules (walk s.rules names h words).held) has ≡ []
+level_checked s names h words has below none =
+    let end = (walk s.rules names h words).held in
+    let more = second_empty (walk_fault s names (walk_from h) words) _ none in
+    let settle = second_empty below _ more in
+    let defaults = second_empty (settle_fault s.rules s.args_override_self end) _ settle in
+    second_empty (defaults_fault (settled s.rules end).rows s.rules) _ defaults
+
+-- where no subcommand of the three is met, no name is
+abbrev NamesOneOf : (a b c : Text) → Option (Text × List Row) → Type 0
+NamesOneOf a b c None = ⊥
+NamesOneOf a b c (Some tool) = (tool.0 ≡ a) ⊎ ((tool.0 ≡ b) ⊎ (tool.0 ≡ c))
+
+entered_name : (s₁ s₂ s₃ : Shape) (rest : List Text) (b₁ b₂ b₃ : Bool)
+    → is_some (option_map (λ s. rows_at s rest) (cond b₁ (Some s₁) (cond b₂ (Some s₂) (cond b₃ (Some s₃) None)))) ≡ true
+    → NamesOneOf s₁.name s₂.name s₃.name (option_map (λ s. rows_at s rest) (cond b₁ (Some s₁) (cond b₂ (Some s₂) (cond b₃ (Some s₃) None))))
+entered_name s₁ s₂ s₃ rest true b₂ b₃ some = inl refl
+entered_name s₁ s₂ s₃ rest false true b₃ some = inr (inl refl)
+entered_name s₁ s₂ s₃ rest false false true some = inr (inr refl)
+entered_name s₁ s₂ s₃ rest false false false some = absurd (true≢false (sym some))
+
+entered_one : (top s₁ s₂ s₃ : Shape) (stop : Option (Text × List Text)) → is_some (entered (record { top = top; subs = s₁ ∷ s₂ ∷ s₃ ∷ [] }) stop) ≡ true
+    → NamesOneOf s₁.name s₂.name s₃.name (entered (record { top = top; subs = s₁ ∷ s₂ ∷ s₃ ∷ [] }) stop)
+entered_one top s₁ s₂ s₃ None some = absurd (true≢false (sym some))
+entered_one top s₁ s₂ s₃ (Some p) some = entered_name s₁ s₂ s₃ p.1 (answers_to p.0 (label_of s₁)) (answers_to p.0 (label_of s₂)) (answers_to p.0 (label_of s₃)) some
+
+built_names : (top s₁ s₂ s₃ : Shape) (words : List Text) → top.subcommand_required ≡ true → built_fault (record { top = top; subs = s₁ ∷ s₂ ∷ s₃ ∷ [] }) nothing_held words ≡ []
+    → NamesOneOf s₁.name s₂.name s₃.name
+    (entered (record { top = top; subs = s₁ ∷ s₂ ∷ s₃ ∷ [] }) (stop_after top.rules (names_of (record { top = top; subs = s₁ ∷ s₂ ∷ s₃ ∷ [] })) words))
+built_names top s₁ s₂ s₃ words required none =
+    let app : App = record { top = top; subs = s₁ ∷ s₂ ∷ s₃ ∷ [] } in
+    let stop = stop_after top.rules (names_of app) words in
+    entered_one top s₁ s₂ s₃ stop
+    (check_passes top (finished top.rules (walk top.rules (names_of app) nothing_held words).held) (is_some (entered app stop)) required (level_checked top (names_of app) nothing_held words (is_some (entered app stop)) (entered_fault app stop) none))
+
+pub taken_names : (words : List Text) → AreTaken words → NamesTool (subcommand_of table words)
+unfolding table list_words unpack_words pack_words
+taken_names words taken = built_names (built table).top (built_leaf list_words) (built_leaf unpack_words) (built_leaf pack_words) (argument_words table words) refl taken
+
+-- ---- what a parse says, by the table
+
+module _ (a : App) (words : List Text) (is : a ≡ table) where
+  pub is_free : is_simple_and_free a ≡ true
+  is_free = ap is_simple_and_free is ∙ table_is_simple
+
+  pub are_taken : fault_of a words ≡ [] → AreTaken words
+  are_taken none = ap (λ x. fault_of x words) (sym is) ∙ none
+
+  pub found : (m : ArgMatches) → HasMatchesOf a words m → subcommand_rows_of m ≡ subcommand_of table words
+  found m has = (has (both _ _ is_free).0).1 ∙ ap (λ x. subcommand_of x words) is
+
+pub tool_fault : (words : List Text) (tool : Option (Text × List Row)) → tool ≡ subcommand_of table words → AreTaken words
+    → (fault : UsageFault) → IsToolFault tool fault → IsFaultOf words fault
+tool_fault words tool is taken fault (inl long) = subst (IsFaultOf words) (sym long.0) (taken, subst (λ t. 1024 < length (node_of t)) is long.1)
+tool_fault words tool is taken fault (inr memory) = subst (IsFaultOf words) (sym memory) tt
+
+pub clap_fault : (a : App) (words : List Text) (kind : ErrorKind) (fault : UsageFault) → a ≡ table → StandsFor kind fault
+    → (kind ≡ OutOfMemory) ⊎ IsAmong kind (fault_of a words) → IsFaultOf words fault
+clap_fault a words kind (Help text) is stands (inl memory) = absurd (true≢false (sym stands ∙ ap is_request memory))
+clap_fault a words kind (Help text) is stands (inr among) = (kind, subst (λ x. IsAmong kind (fault_of x words)) is among, stands)
+clap_fault a words kind (Words text) is stands (inl memory) = absurd (stands.1 memory)
+clap_fault a words kind (Words text) is stands (inr among) = (kind, subst (λ x. IsAmong kind (fault_of x words)) is among, stands.0)
+clap_fault a words kind NodeTooLong is stands among = absurd stands
+clap_fault a words kind Memory is stands among = tt

@@ -1,0 +1,21 @@
+-- What the functions that build the command make, and what they do to it.
+use Rattle.std.specs.Prelude.{◌≡◌, ℕ, false, List, fold}
+use Rattle.clap.specs.Words.{Rule, Shape, app_of, rule_of, shape_of, with_rule}
+use Rattle.clap.specs.declared.builder.arg.Arg.{Arg}
+use Rattle.clap.specs.declared.builder.command.Command.{Command}
+use Rattle.clap.specs.declared.builder.command.Command.TheViews.{out-Command as fields_of}
+
+-- the argument is read by this rule, and belongs to its own tool alone
+pub record HasRule (rule : Rule) (arg : Arg) : Type 0 where
+  pub read : rule_of arg ≡ rule
+  pub local : arg.global ≡ false
+
+-- `new` is `old` with more arguments, in their order
+pub record AddsRules (rules : List Rule) (old new : Command) : Type 0 where
+  pub app : app_of new ≡ fold with_rule (app_of old) rules
+  pub globals : (fields_of new).has_globals ≡ (fields_of old).has_globals
+
+-- the command is a tool with these words
+pub record IsTool (words : Shape) (command : Command) : Type 0 where
+  pub shape : shape_of command ≡ words
+  pub local : (fields_of command).has_globals ≡ false

@@ -1,0 +1,79 @@
+-- What the program is to do, by the matches that `clap` defines for the words.
+use Rattle.std.specs.Prelude.{◌≡◌, ◌&&◌, ◌^◌, ℕ, Bool, true, false, List, [], Option, Some, None, codes, length, max, min, nat_lt, option_and_then, option_map, string_bytes, unwrap_or, if◌then◌else◌}
+use Rattle.std.specs.List.{list_all}
+use Rattle.std.specs.Option.{option_map_or}
+use Rattle.std.specs.Str.{bytes_eq}
+use Rattle.std.specs.Str.Parse.{digits_value, without_leading_plus}
+use Rattle.std.specs.Char.{digit_value}
+use Rattle.clap.specs.Words.{Row, Text, first_of, one_of, subcommand_of}
+use Rattle.link_unpack.specs.declared.wanted.Wanted.{Wanted}
+use Rattle.link_pack.specs.declared.options.PackOptions.{PackOptions}
+use Rattle.link_command.specs.Table.{table}
+use Rattle.link_tools.specs.declared.options.Options.{Options}
+use Rattle.link_tools.specs.declared.options.Options.TheVariants as options
+use Rattle.link_command.specs.declared.invocation.Invocation.{Invocation}
+
+-- ---- what a tool's matches, `rows`, say under an argument's name
+
+-- a text of decimal digits, after at most one plus
+abbrev pub is_numeral : Text → Bool
+is_numeral text = nat_lt 0 (length (without_leading_plus text))
+    && list_all (λ digit. nat_lt (digit_value digit) 10) (without_leading_plus text)
+
+-- the number that a text of digits writes, where it is below the limit
+abbrev pub number_below : (limit : ℕ) → Text → Option ℕ
+number_below limit text =
+    if is_numeral text && nat_lt (digits_value 10 (without_leading_plus text)) limit
+    then Some (digits_value 10 (without_leading_plus text)) else None
+
+-- the number, if there is one
+unfoldable pub number_in : (limit : ℕ) → (name : Text) → List Row → Option ℕ
+number_in limit name rows = option_and_then (number_below limit) (one_of name rows)
+
+-- the number of an option that has a default; so 0 stands for none of the words that `clap` takes
+unfoldable pub number_of : (limit : ℕ) → (name : Text) → List Row → ℕ
+number_of limit name rows = unwrap_or (number_in limit name rows) 0
+
+-- whether the flag was given
+unfoldable pub is_set : (name : Text) → List Row → Bool
+is_set name rows = option_map_or (λ text. bytes_eq text (codes "true")) (first_of name rows) false
+
+-- the text of an option that is required
+unfoldable pub text_of : (name : Text) → List Row → Text
+text_of name rows = unwrap_or (first_of name rows) []
+
+-- ---- the invocation
+
+pub record IsWanted (rows : List Row) (wanted : Wanted) : Type 0 where
+  pub only : wanted.only ≡ number_in (2 ^ 64) (codes "transfer") rows
+  pub payload : wanted.payload ≡ is_set (codes "payload") rows
+
+-- `max` and `min` change no number that `clap` takes: the table has the same bounds.
+pub record IsPackOptions (rows : List Row) (o : PackOptions) : Type 0 where
+  pub node : o.node.items ≡ text_of (codes "node") rows
+  pub keepalive : o.keepalive ≡ number_of (2 ^ 16) (codes "keepalive") rows
+  pub segment_mru : o.segment_mru ≡ number_of (2 ^ 64) (codes "segment-mru") rows
+  pub transfer_mru : o.transfer_mru ≡ number_of (2 ^ 64) (codes "transfer-mru") rows
+  pub peer_segment : o.peer_segment ≡ max 1 (number_of (2 ^ 64) (codes "peer-segment") rows)
+  pub peer_transfer : o.peer_transfer ≡ number_of (2 ^ 64) (codes "peer-transfer") rows
+  pub announce : o.announce ≡ min 1048576 (number_of (2 ^ 64) (codes "announce") rows)
+  pub send_term : o.send_term ≡ is_set (codes "end") rows
+
+-- the options, by the name of the tool
+abbrev pub AreOptions : (name : Text) → List Row → Options → Type 0
+AreOptions name rows options.List = name ≡ codes "list"
+AreOptions name rows (options.Unpack wanted) = (name ≡ codes "unpack") × IsWanted rows wanted
+AreOptions name rows (options.Pack o) = (name ≡ codes "pack") × IsPackOptions rows o
+
+pub record IsInvokedBy (name : Text) (rows : List Row) (i : Invocation) : Type 0 where
+  pub options : AreOptions name rows i.options
+  pub file : option_map string_bytes i.file ≡ first_of (codes "file") rows
+
+-- the invocation by the name of a tool and its matches
+abbrev pub IsInvokedByTool : Option (Text × List Row) → Invocation → Type 0
+IsInvokedByTool None i = ⊥
+IsInvokedByTool (Some tool) i = IsInvokedBy tool.0 tool.1 i
+
+-- Each word is the text of one word of the command line; the first is the program's own name.
+abbrev pub IsInvoked : (words : List Text) → Invocation → Type 0
+IsInvoked words = IsInvokedByTool (subcommand_of table words)

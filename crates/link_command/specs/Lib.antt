@@ -1,0 +1,5 @@
+pub mod Table
+pub mod Invoked
+pub mod Usage
+pub mod Building
+pub mod Reading

@@ -1,0 +1,84 @@
+-- The words that the program takes, as a command of `clap`. docs/MANUAL.md has the same table in words.
+use Rattle.std.specs.Prelude.{ℕ, true, false, List, [], ◌∷◌, Some, codes, pos}
+use Rattle.clap.specs.Words.{App, Rule, Shape, Text, new_rule}
+use Rattle.clap.specs.Simple.{new_shape}
+use Rattle.clap.specs.declared.builder.action.ArgAction.TheVariants.{SetTrue}
+use Rattle.clap.specs.declared.builder.value_parser.ValueParser.{ValueParser}
+use Rattle.clap.specs.declared.builder.value_parser.ValueParser.TheVariants.{Signed, Unsigned}
+
+-- ---- ranges
+
+abbrev pub any_u16 : ValueParser
+any_u16 = Signed (pos 0) (pos 65535)
+
+abbrev pub any_u64 : ValueParser
+any_u64 = Unsigned 0 18446744073709551615
+
+abbrev pub one_or_more : ValueParser
+one_or_more = Unsigned 1 18446744073709551615
+
+abbrev pub up_to_1048576 : ValueParser
+up_to_1048576 = Unsigned 0 1048576
+
+-- ---- kinds of arguments
+
+-- `--NAME`
+abbrev pub flag : (name : Text) → Rule
+flag name = record (new_rule name) { long = Some name; action = Some SetTrue }
+
+-- `--NAME VALUE`
+abbrev pub option : (name : Text) → Rule
+option name = record (new_rule name) { long = Some name; value_names = 1 }
+
+-- `--NAME NUMBER`
+abbrev pub number : (name : Text) → (range : ValueParser) → Rule
+number name range = record (option name) { parser = Some range }
+
+-- the same with the number that it is where it is left out
+abbrev pub number_or : (name : Text) → (range : ValueParser) → (default : Text) → Rule
+number_or name range default = record (number name range) { defaults = default ∷ [] }
+
+-- `[FILE]`
+abbrev pub file : Rule
+file = record (new_rule (codes "file")) { value_names = 1 }
+
+-- ---- the tools
+
+abbrev pub tool : (name : Text) → List Rule → Shape
+tool name rules = record (new_shape name) { rules = rules }
+
+unfoldable pub list_words : Shape
+list_words = tool (codes "list") (file ∷ [])
+
+unfoldable pub unpack_words : Shape
+unpack_words = tool (codes "unpack") (
+    number (codes "transfer") any_u64
+    ∷ flag (codes "payload")
+    ∷ file
+    ∷ [])
+
+unfoldable pub pack_words : Shape
+pack_words = tool (codes "pack") (
+    record (option (codes "node")) { required = true }
+    ∷ number_or (codes "keepalive") any_u16 (codes "60")
+    ∷ number_or (codes "segment-mru") any_u64 (codes "65536")
+    ∷ number_or (codes "transfer-mru") any_u64 (codes "1048576")
+    ∷ number_or (codes "peer-segment") one_or_more (codes "65536")
+    ∷ number_or (codes "peer-transfer") any_u64 (codes "18446744073709551615")
+    ∷ number_or (codes "announce") up_to_1048576 (codes "0")
+    ∷ flag (codes "end")
+    ∷ file
+    ∷ [])
+
+-- ---- the program
+
+-- `--help` comes with the program and with each tool, and `--version` with the program.
+abbrev pub program : Shape
+program = record (new_shape (codes "tcpclkit")) {
+  disable_help_subcommand = true;
+  has_version = true;
+  subcommand_required = true;
+}
+
+unfoldable pub table : App
+table = record { top = record program { is_leaf = false }; subs = list_words ∷ unpack_words ∷ pack_words ∷ [] }

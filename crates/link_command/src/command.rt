@@ -1,0 +1,272 @@
+//! The command that `clap` reads the words by.
+
+ghost use Rattle.std.specs.Prelude.{◌≡◌, [], ◌∷◌, codes, IfOk, true};
+ghost use Rattle.clap.specs.Words.{app_of};
+ghost use Rattle.link_command.specs.Building.{AddsRules, HasRule, IsTool};
+ghost use Rattle.link_command.specs.Table.{any_u16, any_u64, file, flag, list_words, number, number_or, one_or_more, option, pack_words, program, table, tool, unpack_words, up_to_1048576};
+
+use clap::builder::ValueParser;
+use clap::{Arg, ArgAction, Command, value_parser};
+use std::alloc::{AllocError, Global};
+
+const ABOUT: &str = "Lists, unpacks and makes recorded sessions of TCPCLv4 (RFC 9174)";
+
+const HELP: &str = "Each command reads FILE, or standard input without it, and has its own --help.
+
+Exit status:
+  0  the input was read to its end, and nothing was wrong with it; or help was asked for
+  1  unpack: some transfer is not good
+  2  the words are not a command, or the node ID is too long
+  3  a fault of the input stopped the run
+  4  reading or writing failed, the file could not be opened, or there was no memory
+
+Example:
+  $ tcpclkit list session.tcpcl
+  0 contact version=4 flags=00
+  6 sess-init keepalive=60 segment-mru=65536 transfer-mru=1048576 node=ipn:1.0 items=0
+  38 xfer-segment flags=03 id=0 items=0 length=34";
+
+const LIST_ABOUT: &str = "Writes a line for the contact header and each message of a recording";
+
+const LIST_HELP: &str = "Exit status:
+  0  the recording was read to its end, and nothing was wrong with it
+  2  the words are not a command
+  3  a fault of the recording stopped the run
+  4  reading or writing failed, the file could not be opened, or there was no memory
+
+Example:
+  $ tcpclkit list session.tcpcl
+  0 contact version=4 flags=00
+  6 sess-init keepalive=60 segment-mru=65536 transfer-mru=1048576 node=ipn:1.0 items=0
+  38 xfer-segment flags=03 id=0 items=0 length=34";
+
+const UNPACK_ABOUT: &str =
+    "Writes the data of a recording's transfers, and a line for each on standard error";
+
+const UNPACK_HELP: &str = "Exit status:
+  0  each transfer is good, and nothing was wrong with the recording
+  1  the recording was read to its end, and some transfer is not good
+  2  the words are not a command
+  3  a fault of the recording stopped the run
+  4  reading or writing failed, the file could not be opened, or there was no memory
+
+Example:
+  $ tcpclkit unpack --payload session.tcpcl > payloads
+  transfer 0 start=0 written=5 length=34 good source=ipn:1.1 time=0 sequence=0 destination=ipn:2.1 payload=5";
+
+const PACK_ABOUT: &str =
+    "Writes bundles as the stream of a sender, and a line for each on standard error";
+
+const PACK_HELP: &str = "Exit status:
+  0  the bundles were read to their end, and all of them were packed
+  2  the words are not a command, or the node ID is too long
+  3  a bundle that is not whole, is bad or is too long for the peer stopped the run
+  4  reading or writing failed, the file could not be opened, or there was no memory
+
+Example:
+  $ tcpclkit pack --node ipn:1.0 --peer-segment 17 bundles > session.tcpcl
+  bundle 0 segments=2 length=34 source=ipn:1.1 time=0 sequence=0 destination=ipn:2.1 payload=5";
+
+/// `tcpclkit`, with its tools.
+pub(crate) fn tcpclkit<'a>(alloc: Global) -> Result<Command<'a>, AllocError>
+    ensures { IfOk result (λ command. app_of command ≡ table) }
+{
+    let list = list_command(alloc)?;
+    let unpack = unpack_command(alloc)?;
+    let pack = pack_command(alloc)?;
+    let top = program(alloc);
+    let one = top.subcommand(list)?;
+    let two = one.subcommand(unpack)?;
+    let all = two.subcommand(pack)?;
+    Ok(all)
+}
+
+/// `tcpclkit`, without its tools.
+fn program<'a>(alloc: Global) -> Command<'a>
+    ensures { app_of result ≡ record { top = program; subs = [] } }
+{
+    Command::new(alloc, "tcpclkit")
+        .version("0.1.0")
+        .about(ABOUT)
+        .after_help(HELP)
+        .disable_help_subcommand(true)
+        .subcommand_required(true)
+}
+
+/// `tcpclkit list`
+fn list_command<'a>(alloc: Global) -> Result<Command<'a>, AllocError>
+    ensures { IfOk result (IsTool list_words) }
+{
+    let tool = tool(alloc, "list", LIST_ABOUT, LIST_HELP);
+    let whole = tool.arg(file(alloc))?;
+    Ok(whole)
+}
+
+/// `tcpclkit unpack`
+fn unpack_command<'a>(alloc: Global) -> Result<Command<'a>, AllocError>
+    ensures { IfOk result (IsTool unpack_words) }
+{
+    let tool = tool(alloc, "unpack", UNPACK_ABOUT, UNPACK_HELP);
+    let transfer = number(
+        alloc,
+        "transfer",
+        value_parser!(u64),
+        "The ID of the transfers whose data is written, 0 to 18446744073709551615 [default: all]",
+    );
+    let payload = flag(alloc, "payload", "Write the payload of each bundle alone");
+    let one = tool.arg(transfer.value_name("ID"))?;
+    let two = one.arg(payload)?;
+    let whole = two.arg(file(alloc))?;
+    Ok(whole)
+}
+
+/// `tcpclkit pack`
+fn pack_command<'a>(alloc: Global) -> Result<Command<'a>, AllocError>
+    ensures { IfOk result (IsTool pack_words) }
+{
+    let tool = tool(alloc, "pack", PACK_ABOUT, PACK_HELP);
+    let one = with_sender(alloc, tool)?;
+    let two = with_limits(alloc, one)?;
+    let whole = with_form(alloc, two)?;
+    Ok(whole)
+}
+
+/// What `pack` says of the sender.
+fn with_sender<'a>(alloc: Global, tool: Command<'a>) -> Result<Command<'a>, AllocError>
+    ensures { IfOk result (AddsRules (
+        record (option (codes "node")) { required = true }
+        ∷ number_or (codes "keepalive") any_u16 (codes "60")
+        ∷ number_or (codes "segment-mru") any_u64 (codes "65536")
+        ∷ []) tool.entry) }
+{
+    let node = option(
+        alloc,
+        "node",
+        "TEXT",
+        "The sender's node ID, of at most 1024 bytes",
+    );
+    let keepalive = number(
+        alloc,
+        "keepalive",
+        value_parser!(u16),
+        "The keepalive interval in seconds, 0 to 65535",
+    );
+    let segment_mru = number(
+        alloc,
+        "segment-mru",
+        value_parser!(u64),
+        "The longest segment that the sender takes, 0 to 18446744073709551615 bytes",
+    );
+    let one = tool.arg(node.required(true))?;
+    let two = one.arg(keepalive.default_value("60"))?;
+    let three = two.arg(segment_mru.default_value("65536"))?;
+    Ok(three)
+}
+
+/// The limits of the transfers that `pack` knows.
+fn with_limits<'a>(alloc: Global, tool: Command<'a>) -> Result<Command<'a>, AllocError>
+    ensures { IfOk result (AddsRules (
+        number_or (codes "transfer-mru") any_u64 (codes "1048576")
+        ∷ number_or (codes "peer-segment") one_or_more (codes "65536")
+        ∷ number_or (codes "peer-transfer") any_u64 (codes "18446744073709551615")
+        ∷ []) tool.entry) }
+{
+    let transfer_mru = number(
+        alloc,
+        "transfer-mru",
+        value_parser!(u64),
+        "The longest transfer that the sender takes, 0 to 18446744073709551615 bytes",
+    );
+    let peer_segment = number(
+        alloc,
+        "peer-segment",
+        one_or_more(),
+        "The longest segment that the peer takes, 1 to 18446744073709551615 bytes; none has more than 65536",
+    );
+    let peer_transfer = number(
+        alloc,
+        "peer-transfer",
+        value_parser!(u64),
+        "The longest transfer that the peer takes, 0 to 18446744073709551615 bytes",
+    );
+    let one = tool.arg(transfer_mru.default_value("1048576"))?;
+    let two = one.arg(peer_segment.default_value("65536"))?;
+    let three = two.arg(peer_transfer.default_value("18446744073709551615"))?;
+    Ok(three)
+}
+
+/// What else `pack` writes, and its input.
+fn with_form<'a>(alloc: Global, tool: Command<'a>) -> Result<Command<'a>, AllocError>
+    ensures { IfOk result (AddsRules (
+        number_or (codes "announce") up_to_1048576 (codes "0")
+        ∷ flag (codes "end")
+        ∷ file
+        ∷ []) tool.entry) }
+{
+    let announce = number(
+        alloc,
+        "announce",
+        up_to_1048576(),
+        "Announce the length of bundles of more than one segment and at most N bytes, 0 to 1048576",
+    );
+    let end = flag(alloc, "end", "End the stream with SESS_TERM");
+    let one = tool.arg(announce.default_value("0"))?;
+    let two = one.arg(end)?;
+    let three = two.arg(file(alloc))?;
+    Ok(three)
+}
+
+/// A tool without its arguments.
+fn tool<'a>(alloc: Global, name: &'a str, about: &'a str, help: &'a str) -> Command<'a>
+    ensures { IsTool (tool name.entry.now []) result }
+{
+    Command::new(alloc, name).about(about).after_help(help)
+}
+
+/// `[FILE]`
+fn file<'a>(alloc: Global) -> Arg<'a>
+    ensures { HasRule file result }
+{
+    Arg::new(alloc, "file")
+        .value_name("FILE")
+        .help("The file that is read; standard input without it")
+}
+
+/// `--NAME`
+fn flag<'a>(alloc: Global, name: &'a str, help: &'a str) -> Arg<'a>
+    ensures { HasRule (flag name.entry.now) result }
+{
+    Arg::new(alloc, name)
+        .long(name)
+        .action(ArgAction::SetTrue)
+        .help(help)
+}
+
+/// `--NAME VALUE`
+fn option<'a>(alloc: Global, name: &'a str, value: &'a str, help: &'a str) -> Arg<'a>
+    ensures { HasRule (option name.entry.now) result }
+{
+    Arg::new(alloc, name)
+        .long(name)
+        .value_name(value)
+        .help(help)
+}
+
+/// `--NAME NUMBER`
+fn number<'a>(alloc: Global, name: &'a str, range: ValueParser<'a>, help: &'a str) -> Arg<'a>
+    ensures { HasRule (number name.entry.now range.entry) result }
+{
+    option(alloc, name, "N", help).value_parser(range)
+}
+
+fn one_or_more<'a>() -> ValueParser<'a>
+    ensures { result ≡ one_or_more }
+{
+    value_parser!(u64).range(1..)
+}
+
+fn up_to_1048576<'a>() -> ValueParser<'a>
+    ensures { result ≡ up_to_1048576 }
+{
+    value_parser!(u64).range(0..1_048_577)
+}

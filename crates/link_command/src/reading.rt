@@ -1,0 +1,181 @@
+//! The words, read by the command.
+
+ghost use Rattle.std.specs.Prelude.{◌≡◌, ◌^◌, ◌<◌, ◌⊎◌, codes, length, map, option_map, string_bytes, true, IfErr, IfNone, IfOk, IfSome, Some};
+ghost use Rattle.clap.specs.Words.{first_of, found_of, kind_of, rows_of, subcommand_rows_of, takes};
+ghost use Rattle.link_command.specs.Table.{table};
+ghost use Rattle.link_command.specs.Invoked.{AreOptions, IsInvoked, IsInvokedBy, IsInvokedByTool, IsPackOptions, IsWanted, is_set, number_in, number_of, text_of};
+ghost use Rattle.link_command.specs.Usage.{AreTaken, IsFaultOf};
+ghost use Rattle.link_command.specs.Reading.{IsToolFault, IsToolName, NamesTool, StandsFor};
+
+use crate::command::tcpclkit;
+use crate::invocation::Invocation;
+use crate::usage::UsageFault;
+use clap::error::ErrorKind;
+use clap::{ArgMatches, Error};
+use link_tools::{Options, PackOptions, Wanted};
+use link_wire::NodeId;
+use std::alloc::{AllocError, Global};
+
+/// What the words ask for. The first is the program's own name.
+///
+/// # Errors
+///
+/// `clap` refuses the words or finds a request for help in them; or the node ID is too long; or a
+/// request for memory was refused. `clap`'s own definition decides what it takes.
+pub fn options(alloc: Global, words: &[String]) -> Result<Invocation, UsageFault>
+    ensures ok { IfOk result (IsInvoked (map string_bytes words.now)) }
+    ensures taken { IfOk result (λ _. AreTaken (map string_bytes words.now)) }
+    ensures err { IfErr result (IsFaultOf (map string_bytes words.now)) }
+    ensures passes { takes table (map string_bytes words.now) ≡ true
+        → IfErr result (λ fault. (fault ≡ UsageFault.NodeTooLong) ⊎ (fault ≡ UsageFault.Memory)) }
+{
+    let command = match tcpclkit(alloc) {
+        Ok(command) => command,
+        Err(_) => return Err(UsageFault::Memory),
+    };
+    match command.try_get_matches_from(words) {
+        Ok(matches) => invocation(alloc, &matches),
+        Err(error) => Err(usage_fault(alloc, &error)),
+    }
+}
+
+/// What the matches of the program ask for.
+fn invocation(alloc: Global, matches: &ArgMatches<'_>) -> Result<Invocation, UsageFault>
+    requires { NamesTool (subcommand_rows_of matches.now) }
+    ensures ok { IfOk result (IsInvokedByTool (subcommand_rows_of matches.now)) }
+    ensures err { IfErr result (IsToolFault (subcommand_rows_of matches.now)) }
+{
+    match matches.subcommand() {
+        Some((name, tool)) => invocation_of(alloc, name, tool),
+        None => Err(UsageFault::Memory),
+    }
+}
+
+/// What the matches of a tool ask for.
+fn invocation_of(alloc: Global, name: &str, tool: &ArgMatches<'_>) -> Result<Invocation, UsageFault>
+    requires { IsToolName name.now }
+    ensures ok { IfOk result (IsInvokedBy name.now (rows_of (found_of tool.now))) }
+    ensures err { IfErr result (IsToolFault (Some (name.now, rows_of (found_of tool.now)))) }
+{
+    let Some(options) = options_of(name, tool) else {
+        return Err(UsageFault::NodeTooLong);
+    };
+    match file(alloc, tool) {
+        Ok(file) => Ok(Invocation { options, file }),
+        Err(_) => Err(UsageFault::Memory),
+    }
+}
+
+/// The tool of this name, with its options; `None`: its node ID is too long.
+fn options_of(name: &str, tool: &ArgMatches<'_>) -> Option<Options>
+    requires { IsToolName name.now }
+    ensures some { IfSome result (AreOptions name.now (rows_of (found_of tool.now))) }
+    ensures none { IfNone result (1024 < length (text_of (codes "node") (rows_of (found_of tool.now)))) }
+{
+    match name {
+        "unpack" => Some(Options::Unpack(wanted(tool))),
+        "pack" => Some(Options::Pack(pack_options(tool)?)),
+        _ => Some(Options::List),
+    }
+}
+
+/// The file that is named.
+fn file(alloc: Global, tool: &ArgMatches<'_>) -> Result<Option<String>, AllocError>
+    ensures { IfOk result (λ file. option_map string_bytes file ≡ first_of (codes "file") (rows_of (found_of tool.now))) }
+{
+    match text(tool, "file") {
+        Some(name) => Ok(Some(String::from_str(alloc, name)?)),
+        None => Ok(None),
+    }
+}
+
+/// The options of `unpack`.
+fn wanted(tool: &ArgMatches<'_>) -> Wanted
+    ensures { IsWanted (rows_of (found_of tool.now)) result }
+{
+    Wanted {
+        only: number_in(tool, "transfer"),
+        payload: is_set(tool, "payload"),
+    }
+}
+
+/// The options of `pack`; `None`: the node ID is too long.
+fn pack_options(tool: &ArgMatches<'_>) -> Option<PackOptions>
+    ensures some { IfSome result (IsPackOptions (rows_of (found_of tool.now))) }
+    ensures none { IfNone result (1024 < length (text_of (codes "node") (rows_of (found_of tool.now)))) }
+{
+    let node = NodeId::try_from(node(tool).as_bytes()).ok()?;
+    Some(PackOptions {
+        node,
+        keepalive: keepalive(tool),
+        segment_mru: number_of(tool, "segment-mru"),
+        transfer_mru: number_of(tool, "transfer-mru"),
+        peer_segment: number_of(tool, "peer-segment").max(1),
+        peer_transfer: number_of(tool, "peer-transfer"),
+        announce: number_of(tool, "announce").min(1_048_576),
+        send_term: is_set(tool, "end"),
+    })
+}
+
+/// The text of the node ID.
+#[tactic(auto, unfolding(crate::specs::Invoked::text_of))]
+fn node<'a>(tool: &ArgMatches<'a>) -> &'a str
+    ensures { result.now ≡ text_of (codes "node") (rows_of (found_of tool.now)) }
+{
+    text(tool, "node").unwrap_or("")
+}
+
+/// The keepalive interval.
+fn keepalive(tool: &ArgMatches<'_>) -> u16
+    ensures { result ≡ number_of (2 ^ 16) (codes "keepalive") (rows_of (found_of tool.now)) }
+{
+    tool.get_one::<u16>("keepalive").unwrap_or(0)
+}
+
+/// The number of an option that has a default.
+#[tactic(auto, unfolding(crate::specs::Invoked::number_of))]
+fn number_of(tool: &ArgMatches<'_>, name: &str) -> u64
+    ensures { result ≡ number_of (2 ^ 64) name.now (rows_of (found_of tool.now)) }
+{
+    number_in(tool, name).unwrap_or(0)
+}
+
+/// The number of an option, if there is one.
+fn number_in(tool: &ArgMatches<'_>, name: &str) -> Option<u64>
+    ensures { result ≡ number_in (2 ^ 64) name.now (rows_of (found_of tool.now)) }
+{
+    tool.get_one::<u64>(name)
+}
+
+/// Whether a flag was given.
+#[tactic(auto, unfolding(crate::specs::Invoked::is_set))]
+fn is_set(tool: &ArgMatches<'_>, name: &str) -> bool
+    ensures { result ≡ is_set name.now (rows_of (found_of tool.now)) }
+{
+    match text(tool, name) {
+        Some(text) => text == "true",
+        None => false,
+    }
+}
+
+/// The text of an argument, if there is one.
+fn text<'a>(tool: &ArgMatches<'a>, name: &str) -> Option<&'a str>
+    ensures { option_map (λ text. text.now) result ≡ first_of name.now (rows_of (found_of tool.now)) }
+{
+    tool.get_str(name)
+}
+
+/// Why `clap` gave no matches.
+fn usage_fault(alloc: Global, error: &Error) -> UsageFault
+    ensures kind { StandsFor (kind_of error.now) result }
+    ensures memory { kind_of error.now ≡ ErrorKind.OutOfMemory → result ≡ UsageFault.Memory }
+{
+    let Ok(text) = format!(in alloc; "{error}") else {
+        return UsageFault::Memory;
+    };
+    match error.kind() {
+        ErrorKind::DisplayHelp | ErrorKind::DisplayVersion => UsageFault::Help(text),
+        ErrorKind::OutOfMemory => UsageFault::Memory,
+        _ => UsageFault::Words(text),
+    }
+}

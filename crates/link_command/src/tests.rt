@@ -1,0 +1,376 @@
+//! The command line on tables of words.
+
+use crate::{Invocation, UsageFault, options, usage_exit};
+use link_tools::{Options, PackOptions, Wanted};
+use link_wire::NodeId;
+use std::alloc::{AllocError, Global};
+use std::process::Abort;
+use std::test::Fail;
+
+/// The words of a call, of which the first is the program's name.
+fn words_of(alloc: Global, line: &[&str]) -> Result<Vec<String>, AllocError> {
+    let mut words = Vec::new(alloc);
+    words.push(String::from_str(alloc, "tcpclkit")?)?;
+    for word in line {
+        words.push(String::from_str(alloc, word)?)?;
+    }
+    Ok(words)
+}
+
+fn name_of(outcome: &Result<Invocation, UsageFault>) -> &'static str {
+    match outcome {
+        Ok(_) => "taken",
+        Err(UsageFault::Help(_)) => "help",
+        Err(UsageFault::Words(_)) => "words",
+        Err(UsageFault::NodeTooLong) => "node too long",
+        Err(UsageFault::Memory) => "memory",
+    }
+}
+
+/// What each call comes to.
+fn all_come_to(
+    rt: &impl Abort,
+    alloc: Global,
+    expected: &str,
+    lines: &[&[&str]],
+) -> Result<(), Fail> {
+    for line in lines {
+        let words = words_of(alloc, line)?;
+        let outcome = options(alloc, words.as_slice());
+        assert!(rt;
+            name_of(&outcome) == expected,
+            "{line:?} is {}",
+            name_of(&outcome)
+        );
+    }
+    Ok(())
+}
+
+/// What the words ask for, which `clap` takes.
+fn taken(alloc: Global, line: &[&str]) -> Result<Invocation, Fail> {
+    let words = words_of(alloc, line)?;
+    match options(alloc, words.as_slice()) {
+        Ok(invocation) => Ok(invocation),
+        Err(fault) => Err(Fail::from(name_of(&Err(fault)))),
+    }
+}
+
+/// The text that the words are answered with.
+fn text_of(alloc: Global, line: &[&str]) -> Result<String, Fail> {
+    let words = words_of(alloc, line)?;
+    match options(alloc, words.as_slice()) {
+        Err(UsageFault::Help(text) | UsageFault::Words(text)) => Ok(text),
+        other => Err(Fail::from(name_of(&other))),
+    }
+}
+
+/// The options of `pack` that are not given.
+fn pack_defaults(node: &str) -> Result<PackOptions, Fail> {
+    Ok(PackOptions {
+        node: NodeId::try_from(node.as_bytes())?,
+        keepalive: 60,
+        segment_mru: 65536,
+        transfer_mru: 1048576,
+        peer_segment: 65536,
+        peer_transfer: 18446744073709551615,
+        announce: 0,
+        send_term: false,
+    })
+}
+
+#[test]
+fn wrong_words(rt: HostRuntime) -> Result<(), Fail> {
+    all_come_to(
+        &rt,
+        rt.alloc(),
+        "words",
+        &[
+            &[],
+            &["help"],
+            &["lists"],
+            &["pack"],
+            &["list", "a", "b"],
+            &["list", "--payload"],
+            &["unpack", "--transfer", "18446744073709551616"],
+            &["unpack", "--transfer", "-1"],
+            &["unpack", "--transfer"],
+            &["unpack", "--transfer", ""],
+            &["unpack", "--transfer", "1", "--transfer", "1"],
+            &["unpack", "--payload", "--payload"],
+            &["unpack", "--payload=true"],
+            &["unpack", "--end"],
+            &["unpack", "a", "b"],
+            &["pack", "--node", "x", "--peer-segment", "0"],
+            &["pack", "--node", "ipn:1.0", "--announce", "1048577"],
+            &["pack", "--node", "x", "--keepalive", "65536"],
+            &["pack", "--node", "x", "--keepalive", "six"],
+            &["pack", "--node", "x", "--node", "x"],
+            &["pack", "--node", "-x"],
+            &["pack", "--node", "x", "--unknown"],
+            &["pack", "--node", "x", "a", "b"],
+        ],
+    )
+}
+
+#[test]
+fn requests_for_help(rt: HostRuntime) -> Result<(), Fail> {
+    all_come_to(
+        &rt,
+        rt.alloc(),
+        "help",
+        &[
+            &["--help"],
+            &["-h"],
+            &["--version"],
+            &["-V"],
+            &["list", "--help"],
+            &["unpack", "--help"],
+            &["pack", "--help"],
+            &["pack", "-h"],
+        ],
+    )
+}
+
+#[test]
+fn list_has_no_options(rt: HostRuntime) -> Result<(), Fail> {
+    let alloc = rt.alloc();
+    let invocation = taken(alloc, &["list"])?;
+    assert!(rt; invocation.options == Options::List && invocation.file.is_none());
+    Ok(())
+}
+
+#[test]
+fn options_of_unpack(rt: HostRuntime) -> Result<(), Fail> {
+    let alloc = rt.alloc();
+    let all = Wanted {
+        only: None,
+        payload: false,
+    };
+    let of_seven = Wanted {
+        only: Some(7),
+        payload: true,
+    };
+    let of_last = Wanted {
+        only: Some(u64::MAX),
+        payload: false,
+    };
+    let lines: [(&[&str], Wanted); 6] = [
+        (&["unpack"], all),
+        (&["unpack", "--payload", "--transfer", "7", "f"], of_seven),
+        (&["unpack", "f", "--transfer=7", "--payload"], of_seven),
+        (&["unpack", "--transfer", "+07", "--payload"], of_seven),
+        (&["unpack", "--transfer", "18446744073709551615"], of_last),
+        (&["unpack", "--", "--payload"], all),
+    ];
+    for (line, wanted) in lines {
+        let invocation = taken(alloc, line)?;
+        assert!(rt; invocation.options == Options::Unpack(wanted), "{line:?}");
+    }
+    Ok(())
+}
+
+#[test]
+fn options_of_pack(rt: HostRuntime) -> Result<(), Fail> {
+    let alloc = rt.alloc();
+    let invocation = taken(alloc, &["pack", "--node", "ipn:1.0"])?;
+    assert!(rt; invocation.options == Options::Pack(pack_defaults("ipn:1.0")?));
+    assert!(rt; invocation.file.is_none());
+    let invocation = taken(alloc, &["pack", "--node", ""])?;
+    assert!(rt; invocation.options == Options::Pack(pack_defaults("")?));
+    let invocation = taken(
+        alloc,
+        &[
+            "pack",
+            "--keepalive",
+            "1",
+            "--segment-mru",
+            "2",
+            "--transfer-mru",
+            "3",
+            "--peer-segment",
+            "4",
+            "--peer-transfer",
+            "5",
+            "--announce",
+            "6",
+            "--end",
+            "--node=-é",
+            "f",
+        ],
+    )?;
+    let expected = PackOptions {
+        node: NodeId::try_from("-é".as_bytes())?,
+        keepalive: 1,
+        segment_mru: 2,
+        transfer_mru: 3,
+        peer_segment: 4,
+        peer_transfer: 5,
+        announce: 6,
+        send_term: true,
+    };
+    assert!(rt; invocation.options == Options::Pack(expected));
+    assert!(rt; invocation.file.as_deref() == Some("f"));
+    Ok(())
+}
+
+#[test]
+fn ends_of_ranges(rt: HostRuntime) -> Result<(), Fail> {
+    all_come_to(
+        &rt,
+        rt.alloc(),
+        "taken",
+        &[
+            &["pack", "--node", "x", "--keepalive", "0"],
+            &["pack", "--node", "x", "--keepalive", "65535"],
+            &["pack", "--node", "x", "--segment-mru", "0"],
+            &[
+                "pack",
+                "--node",
+                "x",
+                "--segment-mru",
+                "18446744073709551615",
+            ],
+            &["pack", "--node", "x", "--transfer-mru", "0"],
+            &[
+                "pack",
+                "--node",
+                "x",
+                "--transfer-mru",
+                "18446744073709551615",
+            ],
+            &["pack", "--node", "x", "--peer-segment", "1"],
+            &[
+                "pack",
+                "--node",
+                "x",
+                "--peer-segment",
+                "18446744073709551615",
+            ],
+            &["pack", "--node", "x", "--peer-transfer", "0"],
+            &["pack", "--node", "x", "--announce", "1048576"],
+        ],
+    )
+}
+
+#[test]
+fn files(rt: HostRuntime) -> Result<(), Fail> {
+    let lines: [(&[&str], &str); 5] = [
+        (&["list", "f"], "f"),
+        (&["list", ""], ""),
+        (&["list", "--", "-x"], "-x"),
+        (&["unpack", "--payload", "--", "--payload"], "--payload"),
+        (&["list", "list"], "list"),
+    ];
+    for (line, file) in lines {
+        let invocation = taken(rt.alloc(), line)?;
+        assert!(rt; invocation.file.as_deref() == Some(file), "{line:?}");
+    }
+    Ok(())
+}
+
+#[test]
+fn node_ids(rt: HostRuntime) -> Result<(), Fail> {
+    let alloc = rt.alloc();
+    for (size, expected) in [
+        (1023, "taken"),
+        (1024, "node too long"),
+        (2000, "node too long"),
+    ] {
+        let mut node = String::new(alloc);
+        node.push_str("é")?;
+        for _ in 1..size {
+            node.push_str("n")?;
+        }
+        all_come_to(&rt, alloc, expected, &[&["pack", "--node", node.as_str()]])?;
+    }
+    Ok(())
+}
+
+/// Each help has what the tool does, its options with ranges and defaults, its statuses and an example.
+#[test]
+fn texts_of_help(rt: HostRuntime) -> Result<(), Fail> {
+    let lines: [(&[&str], &[&str]); 5] = [
+        (
+            &["--help"],
+            &[
+                "Usage: tcpclkit <COMMAND>",
+                "unpack",
+                "Exit status:",
+                "Example:",
+            ],
+        ),
+        (
+            &["list", "--help"],
+            &["Usage: tcpclkit list [FILE]", "Exit status:", "Example:"],
+        ),
+        (
+            &["unpack", "--help"],
+            &["--transfer <ID>", "--payload", "Exit status:", "Example:"],
+        ),
+        (
+            &["pack", "--help"],
+            &[
+                "--node <TEXT>",
+                "0 to 65535 [default: 60]",
+                "[default: 65536]",
+                "[default: 1048576]",
+                "[default: 18446744073709551615]",
+                "0 to 1048576 [default: 0]",
+                "--end",
+                "Exit status:",
+                "Example:",
+            ],
+        ),
+        (&["--version"], &["tcpclkit 0.1.0\n"]),
+    ];
+    for (line, parts) in lines {
+        let text = text_of(rt.alloc(), line)?;
+        for part in parts {
+            assert!(rt;
+                text.as_str().contains(part),
+                "{line:?} without {part:?}: {text}"
+            );
+        }
+    }
+    Ok(())
+}
+
+/// A wrong word is answered with what is wrong and the usage.
+#[test]
+fn texts_of_wrong_words(rt: HostRuntime) -> Result<(), Fail> {
+    let lines: [(&[&str], &str, &str); 4] = [
+        (&[], "requires a subcommand", "Usage: tcpclkit <COMMAND>"),
+        (&["pack"], "--node <TEXT>", "Usage: tcpclkit pack"),
+        (
+            &["pack", "--node", "x", "--announce", "1048577"],
+            "0..=1048576",
+            "For more information",
+        ),
+        (
+            &["list", "--payload"],
+            "unexpected argument",
+            "Usage: tcpclkit list",
+        ),
+    ];
+    for (line, wrong, usage) in lines {
+        let text = text_of(rt.alloc(), line)?;
+        assert!(rt;
+            text.as_str().contains(wrong) && text.as_str().contains(usage),
+            "{line:?}: {text}"
+        );
+    }
+    Ok(())
+}
+
+#[test]
+fn ends_of_the_program(rt: HostRuntime) -> Result<(), Fail> {
+    let text = String::new(rt.alloc());
+    assert!(rt; usage_exit(&UsageFault::Help(text)) == (0, ""));
+    let text = String::new(rt.alloc());
+    assert!(rt; usage_exit(&UsageFault::Words(text)) == (2, ""));
+    assert!(rt;
+        usage_exit(&UsageFault::NodeTooLong) == (2, "tcpclkit: node id longer than 1024 bytes")
+    );
+    assert!(rt; usage_exit(&UsageFault::Memory) == (4, "tcpclkit: out of memory"));
+    Ok(())
+}

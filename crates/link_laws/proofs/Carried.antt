@@ -1,0 +1,148 @@
+-- The messages of a packed stream are in order, and its transfers are the bundles.
+use Rattle.std.proofs.Common.{◌≡◌, ℕ, zero, suc, ◌+◌, ◌-◌, ◌*◌, ◌<◌, ◌≤◌, Bool, true, false, ◌&&◌, List, [], ◌∷◌, ◌++◌, length, take, Option, Some, None, refl, ap, sym, ◌∙◌, subst, append-nil, append_assoc, ⊎_elim, arith}
+use Rattle.std.specs.Prelude.{◌==◌}
+use Rattle.std.proofs.lemmas.Bool.{eq-eqb, cases_lt}
+use Rattle.std.proofs.lemmas.List.{take_all}
+use Rattle.link_wire.specs.Stream.{Entry}
+use Rattle.link_transfer.specs.Chunks.{chunk_count}
+use Rattle.link_transfer.specs.Cutting.{due, due_of}
+use Rattle.link_transfer.specs.declared.event.Event.TheVariants.{SessInit, SessTerm}
+use Rattle.link_transfer.proofs.Due.{chunk_left, given_within, fits_back}
+use Rattle.link_unpack.specs.Transfers.{Transfer, transfers_of}
+use Rattle.link_unpack.specs.UnpackRun.{AreInOrder}
+use Rattle.link_pack.specs.Bundles.{Packed, Rest, Divided}
+use Rattle.link_pack.specs.Packing.{segment_size, sending}
+use Rattle.link_pack.specs.Segments.{Sending, cutting_of, segments_of}
+use Rattle.link_pack.specs.declared.options.PackOptions.{PackOptions}
+use Rattle.link_laws.proofs.Divided.{AreBundles}
+use Rattle.link_laws.proofs.Entries.{due_entries, init_bytes, init_entry, bundle_entries, rest_entries, term_entries, end_entries, packed_entries, some_size}
+use Rattle.link_laws.proofs.Segments.{segment_entries}
+use Rattle.link_laws.proofs.Sendings.{sent_all}
+use Rattle.link_laws.proofs.Sent.{open_by, sent, head_of, last_at}
+use Rattle.link_laws.proofs.Standing.{Stands, fresh, carrying, stands_none, stands_more}
+
+-- ---- counts of chunks
+
+-- all chunks have all bytes
+all_bytes : (segment size : ℕ) → 0 < segment → size ≤ chunk_count segment size * segment
+all_bytes segment size some = ⊎_elim
+    (λ (fewer : chunk_count segment size * segment < size). absurd (omega (arith, chunk_left segment (chunk_count segment size) size some fewer)))
+    (λ (enough : size ≤ chunk_count segment size * segment). enough)
+    (cases_lt (chunk_count segment size * segment) size)
+
+some_chunk : (segment size : ℕ) → 0 < segment → 0 < size → 0 < chunk_count segment size
+some_chunk segment size some byte = chunk_left segment 0 size some (omega arith)
+
+-- those that are due of a bundle that goes on are chunks of it
+pub due_within : (segment hold count size : ℕ) → 0 < segment → count ≤ due_of false segment hold size → count ≤ chunk_count segment size
+due_within segment hold count size some few =
+    let within = given_within segment hold count size some few in
+    fits_back segment count (size + (segment - 1)) some (omega arith)
+
+-- ---- the transfers
+
+-- so many chunks of a bundle that goes on
+abbrev pub partly : (id : ℕ) → Sending → (count : ℕ) → List Transfer → List Transfer
+partly id sending zero earlier = earlier
+partly id sending (suc count) earlier = sent id sending (suc count) false ∷ earlier
+
+module _ (options : PackOptions) where
+  abbrev pub transfer_of : (number : ℕ) → Packed → Transfer
+  transfer_of number bundle = record { first = head_of number (sending options true bundle.bytes) 0; content = bundle.bytes; closed = true }
+
+  -- those of bundles, the latest first
+  unfoldable pub onto : (number : ℕ) → List Packed → List Transfer → List Transfer
+  onto number [] earlier = earlier
+  onto number (bundle ∷ more) earlier = onto (suc number) more (transfer_of number bundle ∷ earlier)
+
+  abbrev pub rest_onto : (number : ℕ) → Option Rest → List Transfer → List Transfer
+  rest_onto number None earlier = earlier
+  rest_onto number (Some rest) earlier = let part = sending options false rest.accepted in partly number part (due (cutting_of part)) earlier
+
+  abbrev pub packed_transfers : Divided → List Transfer
+  packed_transfers input = rest_onto (length input.bundles) input.rest (onto 0 input.bundles [])
+
+  -- ---- in order
+
+  stands_init : Stands (init_entry options ∷ []) (carrying None) []
+  stands_init = stands_more [] fresh [] (init_entry options) SessInit refl refl stands_none
+
+  whole_by : (number count : ℕ) (bundle : Packed) (heads : List Entry) (earlier : List Transfer) (offset : ℕ) → 0 < count → count ≡ chunk_count (segment_size options) (length bundle.bytes)
+      → Stands heads (carrying None) earlier
+      → Stands (heads ++ segment_entries number (sending options true bundle.bytes) 0 count offset) (carrying None) (transfer_of number bundle ∷ earlier)
+  whole_by number zero bundle heads earlier offset some all at = absurd (omega arith)
+  whole_by number (suc count) bundle heads earlier offset some all at =
+      let whole = sending options true bundle.bytes in
+      let entries = heads ++ segment_entries number whole 0 (suc count) offset in
+      let first = head_of number whole 0 in
+      let last : last_at number whole count ≡ true = eq-eqb (count + 1) (chunk_count (segment_size options) (length bundle.bytes)) (omega (arith, all)) in
+      let taken : take (suc count * segment_size options) bundle.bytes ≡ bundle.bytes =
+      take_all (suc count * segment_size options) bundle.bytes (rw all (all_bytes (segment_size options) (length bundle.bytes) (some_size options))) in
+      subst (λ (content : List ℕ). Stands entries (carrying None) (record { first = first; content = content; closed = true } ∷ earlier)) taken
+      (subst (λ (closed : Bool). Stands entries (carrying (open_by number closed)) (sent number whole (suc count) closed ∷ earlier)) last
+      (sent_all number whole earlier count heads offset (omega (arith, all)) at))
+
+  stands_bundle : (number : ℕ) (bundle : Packed) (heads : List Entry) (earlier : List Transfer) (offset : ℕ) → 0 < length bundle.bytes
+      → Stands heads (carrying None) earlier
+      → Stands (heads ++ due_entries number (sending options true bundle.bytes) offset) (carrying None) (transfer_of number bundle ∷ earlier)
+  unfolding due
+  stands_bundle number bundle heads earlier offset some at =
+      whole_by number (chunk_count (segment_size options) (length bundle.bytes)) bundle heads earlier offset
+      (some_chunk (segment_size options) (length bundle.bytes) (some_size options) some) refl at
+
+  stands_bundles : (number : ℕ) (bundles : List Packed) (heads : List Entry) (earlier : List Transfer) (offset : ℕ) → AreBundles options.peer_transfer bundles
+      → Stands heads (carrying None) earlier
+      → Stands (heads ++ bundle_entries options number bundles offset) (carrying None) (onto number bundles earlier)
+  unfolding onto bundle_entries
+  stands_bundles number [] heads earlier offset are at = subst (λ all. Stands all (carrying None) earlier) (sym (append-nil heads)) at
+  stands_bundles number (bundle ∷ more) heads earlier offset are at =
+      let whole = sending options true bundle.bytes in
+      let after = offset + length (segments_of number whole) in
+      let front = due_entries number whole offset in
+      let rest = bundle_entries options (suc number) more after in
+      subst (λ all. Stands all (carrying None) (onto (suc number) more (transfer_of number bundle ∷ earlier))) (append_assoc heads front rest)
+      (stands_bundles (suc number) more (heads ++ front) (transfer_of number bundle ∷ earlier) after are.1
+      (stands_bundle number bundle heads earlier offset are.0.some at))
+
+  -- ---- to the end
+
+  -- all heads are in order, and make these transfers
+  pub record AreCarried (heads : List Entry) (transfers : List Transfer) : Type 0 where
+    pub in_order : AreInOrder heads
+    pub makes : transfers_of heads ≡ transfers
+
+  carried_as : {joiner : _} (heads others : List Entry) (transfers : List Transfer) → heads ≡ others → Stands heads joiner transfers → AreCarried others transfers
+  carried_as heads others transfers same at =
+      subst (λ all. AreCarried all transfers) same (record { in_order = at.in_order; makes = at.makes })
+
+  carried_term : (asked : Bool) (heads : List Entry) (earlier : List Transfer) (offset : ℕ) → Stands heads (carrying None) earlier → AreCarried (heads ++ [] ++ term_entries options asked offset) earlier
+  carried_term true heads earlier offset at =
+      carried_as (heads ++ _) (heads ++ [] ++ _) earlier (ap (λ all. all ++ term_entries options true offset) (sym (append-nil heads)))
+      (stands_more heads (carrying None) earlier _ SessTerm refl refl at)
+  carried_term false heads earlier offset at = carried_as heads (heads ++ [] ++ []) earlier (sym (append-nil heads) ∙ sym (append-nil (heads ++ []))) at
+
+  part_by : (number count : ℕ) (part : Sending) (heads : List Entry) (earlier : List Transfer) (offset : ℕ) → part.whole ≡ false → count ≤ chunk_count part.segment (length part.bundle)
+      → Stands heads (carrying None) earlier → AreCarried (heads ++ segment_entries number part 0 count offset ++ []) (partly number part count earlier)
+  unfolding segment_entries
+  part_by number zero part heads earlier offset goes few at = carried_as heads (heads ++ [] ++ []) earlier (sym (append-nil heads) ∙ sym (append-nil (heads ++ []))) at
+  part_by number (suc count) part heads earlier offset goes few at =
+      let going : last_at number part count ≡ false = ap (λ whole. whole && (count + 1 == chunk_count part.segment (length part.bundle))) goes in
+      let entries = heads ++ segment_entries number part 0 (suc count) offset in
+      carried_as entries (entries ++ []) (sent number part (suc count) false ∷ earlier) (sym (append-nil entries))
+      (subst (λ (closed : Bool). Stands entries (carrying (open_by number closed)) (sent number part (suc count) closed ∷ earlier)) going
+      (sent_all number part earlier count heads offset few at))
+
+  carried_rest : (number : ℕ) (rest : Option Rest) (heads : List Entry) (earlier : List Transfer) (offset after : ℕ) → Stands heads (carrying None) earlier
+      → AreCarried (heads ++ rest_entries options number rest offset ++ end_entries options rest after) (rest_onto number rest earlier)
+  unfolding due
+  carried_rest number None heads earlier offset after at = carried_term options.send_term heads earlier after at
+  carried_rest number (Some rest) heads earlier offset after at =
+      let part = sending options false rest.accepted in
+      let count = due_of false (segment_size options) options.announce (length rest.accepted) in
+      part_by number count part heads earlier offset refl (due_within (segment_size options) options.announce count (length rest.accepted) (some_size options) (omega arith)) at
+
+  -- the messages of a packed stream
+  pub packed_carried : (input : Divided) → AreBundles options.peer_transfer input.bundles → AreCarried (packed_entries options input) (packed_transfers input)
+  packed_carried input are =
+      carried_rest (length input.bundles) input.rest _ (onto 0 input.bundles []) _ _
+      (stands_bundles 0 input.bundles (init_entry options ∷ []) [] (6 + length (init_bytes options)) are stands_init)

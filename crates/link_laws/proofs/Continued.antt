@@ -1,0 +1,128 @@
+-- How the reading of a stream goes on, with more bytes after it.
+use Rattle.std.proofs.Common.{◌≡◌, ℕ, zero, suc, ◌+◌, ◌-◌, ◌<◌, ◌≤◌, ◌⊎◌, inl, inr, Bool, true, false, nat_lt, List, [], ◌∷◌, ◌++◌, length, take, drop, None, Result, Ok, Err, if◌then◌else◌, refl, ap, ⊎_elim, length-append, length-drop, arith}
+use Rattle.std.proofs.lemmas.Bool.{cases_lt, lt-ltb, le-ltb}
+use Rattle.std.proofs.lemmas.List.{take-append-le, drop-append-le}
+use Rattle.link_wire.specs.Message.{contact_at, message_at, data_length}
+use Rattle.link_wire.specs.Stream.{Entry, End, Clean, Cut, Fault, Stream, ended, with_entry, with_data_of, stream_at, Reading, reading_by, reading_of}
+use Rattle.link_wire.specs.declared.fault.WireFault.{WireFault}
+use Rattle.link_wire.specs.declared.message.Contact.{Contact}
+use Rattle.link_wire.specs.declared.message.Message.{Message}
+use Rattle.link_wire.proofs.Shrinks.{shrinks_message}
+use Rattle.link_wire.proofs.Streams.{stream_at-nil, stream_at-message, stream_at-fault}
+use Rattle.link_run.specs.Ends.{is_lasting}
+use Rattle.link_unpack.specs.Transfers.{cut_heads}
+use Rattle.link_unpack.proofs.Heads.{entry}
+use Rattle.link_laws.proofs.Fronts.{take-append}
+use Rattle.link_laws.proofs.Lasting.{lasts_contact, lasts_message}
+
+-- the data of a segment goes on that is cut
+pub record GrowsFirst (offset : ℕ) (message : Message) (content : List ℕ) (rest : Stream) : Type 0 where
+  pub short : length content < data_length message
+  pub piece : List ℕ
+  pub others : List Entry
+  pub heads : rest.entries ++ cut_heads rest.end ≡ entry offset message (content ++ piece) ∷ others
+
+-- what may come behind whole messages, where they ended so
+abbrev pub IsBehind : End → Stream → Type 0
+IsBehind Clean rest = Unit {0}
+IsBehind (Cut offset message content) rest = GrowsFirst offset message content rest
+IsBehind (Fault offset fault) rest = is_lasting fault ≡ true → rest ≡ ended (Fault offset fault)
+
+pub record GoesOn (before after : Stream) : Type 0 where
+  pub rest : Stream
+  pub are : after ≡ record { entries = before.entries ++ rest.entries; end = rest.end }
+  pub behind : IsBehind before.end rest
+
+goes_on_entry : (first : Entry) (before after : Stream) → GoesOn before after → GoesOn (with_entry first before) (with_entry first after)
+goes_on_entry first before after on = record { rest = on.rest; are = ap (with_entry first) on.are; behind = on.behind }
+
+-- ---- the data of a segment
+
+module _ (offset : ℕ) (message : Message) (bytes more : List ℕ) where
+  grows_by : (test : Bool) (count : ℕ) (later : Stream) → length bytes < data_length message → take count (bytes ++ more) ≡ bytes ++ take (count - length bytes) more
+      → GrowsFirst offset message bytes (if test then ended (Cut offset message (bytes ++ more)) else with_entry (entry offset message (take count (bytes ++ more))) later)
+  grows_by true count later short is = record { short = short; piece = more; others = []; heads = refl }
+  grows_by false count later short is = record { short = short; piece = take (count - length bytes) more; others = later.entries ++ cut_heads later.end; heads = ap (λ (xs : List ℕ). entry offset message xs ∷ later.entries ++ cut_heads later.end) is }
+
+  -- it is cut
+  cut_on : (before after : Stream) → length bytes < data_length message → GoesOn (with_data_of offset message bytes before) (with_data_of offset message (bytes ++ more) after)
+  cut_on before after short =
+      rw (lt-ltb (length bytes) (data_length message) short) (record {
+        rest = with_data_of offset message (bytes ++ more) after;
+        are = refl;
+        behind = grows_by (nat_lt (length (bytes ++ more)) (data_length message)) (data_length message) after short (take-append (data_length message) bytes more (omega arith));
+      })
+
+  -- it is whole
+  whole_on : (before after : Stream) → data_length message ≤ length bytes → GoesOn before after → GoesOn (with_data_of offset message bytes before) (with_data_of offset message (bytes ++ more) after)
+  whole_on before after whole on =
+      rw (le-ltb (length bytes) (data_length message) whole, le-ltb (length (bytes ++ more)) (data_length message) (omega (arith, length-append bytes more)), take-append-le (data_length message) bytes more whole)
+      (goes_on_entry (entry offset message (take (data_length message) bytes)) before after on)
+
+-- ---- messages
+
+-- a fault stays, if it lasts
+fault_on : (offset byte : ℕ) (bytes more : List ℕ) (fault : WireFault) → message_at (byte ∷ bytes) ≡ Err fault → GoesOn (stream_at offset (byte ∷ bytes)) (stream_at offset ((byte ∷ bytes) ++ more))
+fault_on offset byte bytes more fault is =
+    rw (stream_at-fault offset byte bytes fault is) (record {
+      rest = stream_at offset ((byte ∷ bytes) ++ more);
+      are = refl;
+      behind = λ stays. stream_at-fault offset byte (bytes ++ more) fault (lasts_message.shown (byte ∷ bytes) more fault stays is);
+    })
+
+module _ (count : ℕ) (more : List ℕ) (later : (offset : ℕ) (bytes : List ℕ) → length bytes ≤ count → GoesOn (stream_at offset bytes) (stream_at offset (bytes ++ more))) where
+  message_on : (offset : ℕ) (bytes : List ℕ) (message : Message) (rest : List ℕ) → length bytes ≤ suc count → message_at bytes ≡ Ok (message, rest) → GoesOn (stream_at offset bytes) (stream_at offset (bytes ++ more))
+  message_on offset bytes message rest fewer is =
+      let size = data_length message in
+      let place = offset + (length bytes - length rest) + size in
+      let shorter = shrinks_message.by bytes message rest is in
+      let same : offset + (length (bytes ++ more) - length (rest ++ more)) + size ≡ place = omega (arith, length-append bytes more, length-append rest more) in
+      rw (stream_at-message offset bytes message rest is, stream_at-message offset (bytes ++ more) message (rest ++ more) (lasts_message.read bytes more message rest is), same)
+      (⊎_elim
+      (λ short. cut_on offset message rest more _ _ short)
+      (λ whole. whole_on offset message rest more _ _ whole
+      (rw (drop-append-le size rest more whole) (later place (drop size rest) (omega (arith, length-drop size rest)))))
+      (cases_lt (length rest) size))
+
+  read_on : (offset byte : ℕ) (bytes : List ℕ) (read : Result (Message × List ℕ) WireFault) → length bytes ≤ count → message_at (byte ∷ bytes) ≡ read
+      → GoesOn (stream_at offset (byte ∷ bytes)) (stream_at offset ((byte ∷ bytes) ++ more))
+  read_on offset byte bytes (Ok (message, rest)) fewer is = message_on offset (byte ∷ bytes) message rest (omega arith) is
+  read_on offset byte bytes (Err fault) fewer is = fault_on offset byte bytes more fault is
+
+none_on : (offset : ℕ) (more : List ℕ) → GoesOn (stream_at offset []) (stream_at offset more)
+none_on offset more = rw stream_at-nil (record { rest = stream_at offset more; are = refl; behind = tt })
+
+stream_on_upto : (count : ℕ) (more : List ℕ) (offset : ℕ) (bytes : List ℕ) → length bytes ≤ count → GoesOn (stream_at offset bytes) (stream_at offset (bytes ++ more))
+stream_on_upto count more offset [] fewer = none_on offset more
+stream_on_upto zero more offset (byte ∷ bytes) fewer = absurd (omega arith)
+stream_on_upto (suc count) more offset (byte ∷ bytes) fewer =
+    read_on count more (stream_on_upto count more) offset byte bytes (message_at (byte ∷ bytes)) (omega arith) refl
+
+pub stream_on : (offset : ℕ) (bytes more : List ℕ) → GoesOn (stream_at offset bytes) (stream_at offset (bytes ++ more))
+stream_on offset bytes more = stream_on_upto (length bytes) more offset bytes (omega arith)
+
+-- ---- a stream with its contact header
+
+abbrev pub stream_of : Reading → Stream
+stream_of reading = record { entries = reading.entries; end = reading.end }
+
+pub record ReadingGoesOn (before after : Reading) : Type 0 where
+  -- the contact header stays, or none of it was read yet
+  pub contact : (after.contact ≡ before.contact) ⊎ ((before.contact ≡ None) × (before.entries ≡ []))
+  pub messages : GoesOn (stream_of before) (stream_of after)
+
+reading_on_by : (bytes more : List ℕ) (read : Result (Contact × List ℕ) WireFault) → contact_at bytes ≡ read → ReadingGoesOn (reading_by read) (reading_by (contact_at (bytes ++ more)))
+reading_on_by bytes more (Ok (contact, rest)) is =
+    rw (lasts_contact.read bytes more contact rest is) (record { contact = inl refl; messages = stream_on 6 rest more })
+reading_on_by bytes more (Err fault) is = record {
+  contact = inr (refl, refl);
+  messages = record {
+    rest = stream_of (reading_by (contact_at (bytes ++ more)));
+    are = refl;
+    behind = λ stays. ap (λ read. stream_of (reading_by read)) (lasts_contact.shown bytes more fault stays is);
+  };
+}
+
+pub reading_on : (bytes more : List ℕ) → ReadingGoesOn (reading_of bytes) (reading_of (bytes ++ more))
+unfolding reading_of
+reading_on bytes more = reading_on_by bytes more (contact_at bytes) refl

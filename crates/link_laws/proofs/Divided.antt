@@ -1,0 +1,131 @@
+-- What an input is divided into: bundles that the peer takes, and what follows them.
+use Rattle.std.proofs.Common.{◌≡◌, ℕ, zero, suc, ◌-◌, ◌<◌, ◌≤◌, Bool, true, false, nat_lt, List, [], ◌∷◌, ◌++◌, length, take, drop, None, Result, Ok, Err, if◌then◌else◌, refl, ap, sym, ◌∙◌, subst, length-take, length-drop, arith}
+use Rattle.std.specs.Prelude.{IfSome}
+use Rattle.std.proofs.lemmas.Bool.{false≢true, ltb-false}
+use Rattle.std.proofs.lemmas.List.{take-append-drop}
+use Rattle.std.proofs.lemmas.List.Elements.{All-take, All-drop}
+use Rattle.link_cbor.specs.PieceLaws.{takes_shortest}
+use Rattle.link_wire.specs.Bytes.{IsByte, AreBytes}
+use Rattle.link_bundle_types.specs.Faults.{lasts}
+use Rattle.link_bundle_types.specs.declared.fault.BundleFault.{BundleFault}
+use Rattle.link_bundle_types.specs.declared.info.BundleInfo.{BundleInfo}
+use Rattle.link_bundle.specs.Bundle.{verdict, bundle_goes}
+use Rattle.link_pack.specs.Bundles.{Packed, Refusal, Longer, Faulty, Rest, Divided, front_of, refused_by, judged_front, accepted_by, divided_by, divided_in, divided}
+use Rattle.link_pack.proofs.Dividing.{whole_stops, none_goes}
+
+-- a bundle that the peer takes
+pub record IsBundle (limit : ℕ) (bundle : Packed) : Type 0 where
+  pub some : 0 < length bundle.bytes
+  pub within : length bundle.bytes ≤ limit
+  pub are : AreBytes bundle.bytes
+  pub is : verdict bundle.bytes ≡ Ok bundle.info
+
+abbrev pub AreBundles : (limit : ℕ) → List Packed → Type 0
+AreBundles limit [] = Unit {0}
+AreBundles limit (bundle ∷ more) = IsBundle limit bundle × AreBundles limit more
+
+-- the bytes of all of them
+abbrev pub contents : List Packed → List ℕ
+contents [] = []
+contents (bundle ∷ more) = bundle.bytes ++ contents more
+
+-- what is accepted of one that the peer does not take
+pub record IsRest (limit : ℕ) (rest : Rest) : Type 0 where
+  pub within : length rest.accepted ≤ limit
+  pub are : AreBytes rest.accepted
+
+pub record IsDivided (limit : ℕ) (bytes : List ℕ) (input : Divided) : Type 0 where
+  pub bundles : AreBundles limit input.bundles
+  pub few : length input.bundles ≤ length bytes
+  pub rest : IfSome input.rest (IsRest limit)
+  pub whole : input.rest ≡ None → contents input.bundles ≡ bytes
+
+-- ---- a front judged
+
+some_bundle : (front : List ℕ) (info : BundleInfo) → verdict front ≡ Ok info → 0 < length front
+some_bundle [] info is = absurd (false≢true (sym (whole_stops [] info is) ∙ none_goes))
+some_bundle (byte ∷ bytes) info is = omega arith
+
+taken_by : (beyond : Bool) (limit : ℕ) (front : List ℕ) (said : Result BundleInfo (BundleFault × ℕ)) (info : BundleInfo) → nat_lt limit (length front) ≡ beyond
+    → (if beyond then Err (Longer limit) else refused_by said) ≡ Ok info → (length front ≤ limit) × (said ≡ Ok info)
+taken_by true limit front said info test is = absurd (cc)
+taken_by false limit front (Ok other) info test is = (ltb-false limit (length front) test, cc)
+taken_by false limit front (Err (fault, place)) info test is = absurd (cc)
+
+taken_whole : (limit : ℕ) (front : List ℕ) (info : BundleInfo) → judged_front limit front ≡ Ok info → (length front ≤ limit) × (verdict front ≡ Ok info)
+taken_whole limit front info is = taken_by (nat_lt limit (length front)) limit front (verdict front) info refl is
+
+accepted_faulty : (stays : Bool) (limit : ℕ) (front : List ℕ) → length front ≤ limit → length (if stays then take (length front - 1) front else front) ≤ limit
+accepted_faulty true limit front within = omega (arith, length-take (length front - 1) front)
+accepted_faulty false limit front within = within
+
+accepted_within : (beyond : Bool) (limit : ℕ) (front : List ℕ) (said : Result BundleInfo (BundleFault × ℕ)) (refusal : Refusal) → nat_lt limit (length front) ≡ beyond
+    → (if beyond then Err (Longer limit) else refused_by said) ≡ Err refusal → length (accepted_by refusal front) ≤ limit
+accepted_within true limit front said refusal test is =
+    let same : Longer limit ≡ refusal = cc in
+    subst (λ why. length (accepted_by why front) ≤ limit) same (omega (arith, length-take limit front))
+accepted_within false limit front (Ok info) refusal test is = absurd (cc)
+accepted_within false limit front (Err (fault, place)) refusal test is =
+    let same : Faulty fault place ≡ refusal = cc in
+    subst (λ why. length (accepted_by why front) ≤ limit) same (accepted_faulty (lasts fault) limit front (ltb-false limit (length front) test))
+
+faulty_bytes : (stays : Bool) (front : List ℕ) → AreBytes front → AreBytes (if stays then take (length front - 1) front else front)
+faulty_bytes true front are = All-take IsByte (length front - 1) front are
+faulty_bytes false front are = are
+
+accepted_bytes : (refusal : Refusal) (front : List ℕ) → AreBytes front → AreBytes (accepted_by refusal front)
+accepted_bytes (Longer limit) front are = All-take IsByte limit front are
+accepted_bytes (Faulty fault place) front are = faulty_bytes (lasts fault) front are
+
+-- ---- all bytes
+
+front_first : (bytes : List ℕ) → front_of bytes ≡ take (length (front_of bytes)) bytes
+front_first bytes = ((takes_shortest bundle_goes [] bytes (front_of bytes)).1 refl).is_front
+
+front_bytes : (bytes : List ℕ) → AreBytes bytes → AreBytes (front_of bytes)
+front_bytes bytes are = subst AreBytes (sym (front_first bytes)) (All-take IsByte (length (front_of bytes)) bytes are)
+
+module _ (limit : ℕ) (next : List ℕ → Divided) (bytes : List ℕ) (are : AreBytes bytes) where
+  abbrev front : List ℕ
+  front = front_of bytes
+
+  abbrev left : List ℕ
+  left = drop (length (front_of bytes)) bytes
+
+  divides : (said : Result BundleInfo Refusal) → judged_front limit (front_of bytes) ≡ said → (length left < length bytes → IsDivided limit left (next left)) → 0 < length bytes
+      → IsDivided limit bytes (divided_by next (front_of bytes) bytes said)
+  divides (Ok info) is later there =
+      let taken = taken_whole limit front info is in
+      let some = some_bundle front info taken.1 in
+      let size = length-drop (length front) bytes in
+      let after = later (omega arith) in
+      record {
+        bundles = (record { some = some; within = taken.0; are = front_bytes bytes are; is = taken.1 }, after.bundles);
+        few = let few = after.few in omega arith;
+        rest = after.rest;
+        whole = λ none. ap (λ rest. front ++ rest) (after.whole none) ∙ ap (λ first. first ++ left) (front_first bytes) ∙ take-append-drop (length front) bytes;
+      }
+  divides (Err refusal) is later there = record {
+    bundles = tt;
+    few = omega arith;
+    rest = record {
+      within = accepted_within (nat_lt limit (length front)) limit front (verdict front) refusal refl is;
+      are = accepted_bytes refusal front (front_bytes bytes are);
+    };
+    whole = λ none. absurd (cc);
+  }
+
+divided_so : (count limit : ℕ) (bytes : List ℕ) → AreBytes bytes → length bytes ≤ count → IsDivided limit bytes (divided_in count limit bytes)
+unfolding divided_in
+divided_so count limit [] are few = record { bundles = tt; few = omega arith; rest = tt; whole = λ none. refl }
+divided_so zero limit (byte ∷ bytes) are few = absurd (omega arith)
+divided_so (suc count) limit (byte ∷ bytes) are few =
+    let all = byte ∷ bytes in
+    divides limit (divided_in count limit) all are (judged_front limit (front_of all)) refl
+    (λ fewer. divided_so count limit (drop (length (front_of all)) all) (All-drop IsByte (length (front_of all)) all are) (omega arith))
+    (omega arith)
+
+-- how an input is divided
+pub is_divided : (limit : ℕ) (bytes : List ℕ) → AreBytes bytes → IsDivided limit bytes (divided limit bytes)
+unfolding divided
+is_divided limit bytes are = divided_so (length bytes) limit bytes are (omega arith)

@@ -1,0 +1,136 @@
+-- What is packed is given back.
+use Rattle.std.proofs.Common.{◌≡◌, ℕ, suc, ◌+◌, inl, inr, ◌⊎◌, true, false, ◌&&◌, List, [], ◌∷◌, ◌++◌, length, Result, Ok, if◌then◌else◌, refl, ap, ap₂, sym, ◌∙◌, append-nil, append_assoc, length-append}
+use Rattle.std.proofs.lemmas.Bool.{eq-eqb}
+use Rattle.link_bundle.specs.Bundle.{verdict}
+use Rattle.link_bundle_types.specs.declared.fault.BundleFault.{BundleFault}
+use Rattle.link_bundle_types.specs.declared.info.BundleInfo.{BundleInfo}
+use Rattle.link_wire.specs.SpelledStream.{IsReading}
+use Rattle.link_wire.specs.Spelling.{announced}
+use Rattle.link_wire.specs.Stream.{Entry, Reading, reading_of}
+use Rattle.link_report.specs.Judgement.{judged}
+use Rattle.link_report.specs.Transfer.{transfer_text}
+use Rattle.link_report.specs.declared.judgement.Judgement.TheVariants.{Good}
+use Rattle.link_run.specs.Run.{Outcome}
+use Rattle.link_transfer.specs.Announced.{announced_of}
+use Rattle.link_transfer.specs.Cutting.{announcement}
+use Rattle.link_transfer.specs.declared.announcement.Announced.{Announced}
+use Rattle.link_transfer.specs.declared.announcement.Announced.TheVariants.{Absent, Total}
+use Rattle.link_unpack.specs.Transfers.{Transfer, ordered}
+use Rattle.link_unpack.specs.Unpacking.{parts_of, line_of, lines_of, judgement_of, is_good, are_good, unpacking, unpacking_by}
+use Rattle.link_unpack.specs.declared.wanted.Wanted.{Wanted}
+use Rattle.link_unpack.proofs.Texts.{parts_more, lines_more, good_more}
+use Rattle.link_pack.specs.Bundles.{Packed, divided}
+use Rattle.link_pack.specs.Packing.{packing, sending}
+use Rattle.link_pack.specs.Segments.{cutting_of}
+use Rattle.link_pack.specs.declared.options.PackOptions.{PackOptions}
+use Rattle.link_laws.specs.Ranges.{OptionsFit, InputFits}
+use Rattle.link_laws.specs.RoundTrip.{all, good_lines, GivesBack}
+use Rattle.link_laws.proofs.Carried.{AreCarried, onto, rest_onto, transfer_of}
+use Rattle.link_laws.proofs.Divided.{AreBundles, contents}
+use Rattle.link_laws.proofs.Limits.{announces}
+use Rattle.link_laws.proofs.Readings.{IsPackedSo, divides, packed_so, carried, nothing_left}
+
+-- ---- a bundle
+
+good_by : (told : Announced) (size : ℕ) (said : Result BundleInfo (BundleFault × ℕ)) (info : BundleInfo) → said ≡ Ok info → (told ≡ Absent) ⊎ ((true ≡ true) × (told ≡ Total size))
+    → judged false told size said ≡ Good info
+good_by told size said info is (inl absent) = rw (absent, is) refl
+good_by told size said info is (inr total) = rw (total.1, is, eq-eqb size size refl) refl
+
+module _ (options : PackOptions) where
+  judged_good : (number : ℕ) (bundle : Packed) → verdict bundle.bytes ≡ Ok bundle.info → judgement_of (transfer_of options number bundle) ≡ Good bundle.info
+  judged_good number bundle is =
+      let whole = cutting_of (sending options true bundle.bytes) in
+      good_by (announced_of (announced (announcement whole))) (length bundle.bytes) (verdict bundle.bytes) bundle.info is (announces whole)
+
+  -- ---- all bundles
+
+  parts_onto : (number : ℕ) (bundles : List Packed) (earlier : List Transfer) → parts_of all (onto options number bundles earlier) ≡ parts_of all earlier ++ contents bundles
+  unfolding onto
+  parts_onto number [] earlier = sym (append-nil (parts_of all earlier))
+  parts_onto number (bundle ∷ more) earlier =
+      let latest = transfer_of options number bundle in
+      parts_onto (suc number) more (latest ∷ earlier)
+      ∙ ap (λ parts. parts ++ contents more) (parts_more all latest earlier)
+      ∙ append_assoc (parts_of all earlier) bundle.bytes (contents more)
+
+  parts_length : (number : ℕ) (bundle : Packed) (earlier : List Transfer) → length (parts_of all (transfer_of options number bundle ∷ earlier)) ≡ length (parts_of all earlier) + length bundle.bytes
+  parts_length number bundle earlier = ap length (parts_more all (transfer_of options number bundle) earlier) ∙ length-append (parts_of all earlier) bundle.bytes
+
+  lines_onto : (number : ℕ) (bundles : List Packed) (earlier : List Transfer) → AreBundles options.peer_transfer bundles
+      → lines_of all (onto options number bundles earlier) ≡ lines_of all earlier ++ good_lines number (length (parts_of all earlier)) bundles
+  unfolding onto good_lines
+  lines_onto number [] earlier are = sym (append-nil (lines_of all earlier))
+  lines_onto number (bundle ∷ more) earlier are =
+      let latest = transfer_of options number bundle in
+      let start = length (parts_of all earlier) in
+      let size = length bundle.bytes in
+      let good = judged_good number bundle are.0.is in
+      let rest = good_lines (suc number) (start + size) more in
+      lines_onto (suc number) more (latest ∷ earlier) are.1
+      ∙ ap₂ (λ (lines : List ℕ) (n : ℕ). lines ++ good_lines (suc number) n more) (lines_more all latest earlier) (parts_length number bundle earlier)
+      ∙ append_assoc (lines_of all earlier) (line_of all latest earlier) rest
+      ∙ ap (λ j. lines_of all earlier ++ (transfer_text (record { id = number; start = start; written = size; length = size; judgement = j }) ++ rest)) good
+
+  good_onto : (number : ℕ) (bundles : List Packed) (earlier : List Transfer) → AreBundles options.peer_transfer bundles → are_good earlier ≡ true → are_good (onto options number bundles earlier) ≡ true
+  unfolding onto
+  good_onto number [] earlier are good = good
+  good_onto number (bundle ∷ more) earlier are good =
+      let latest = transfer_of options number bundle in
+      let one : is_good (judgement_of latest) ≡ true = ap is_good (judged_good number bundle are.0.is) in
+      good_onto (suc number) more (latest ∷ earlier) are.1 (good_more latest earlier ∙ ap₂ (λ a b. a && b) one good)
+
+-- ---- a stream
+
+none_good : are_good [] ≡ true
+unfolding are_good
+none_good = refl
+
+none_parts : parts_of all [] ≡ []
+unfolding parts_of
+none_parts = refl
+
+none_lines : lines_of all [] ≡ []
+unfolding lines_of
+none_lines = refl
+
+abbrev over_clean : Wanted → List Transfer → Outcome
+over_clean wanted transfers = record {
+  texts = record { output = parts_of wanted transfers; report = lines_of wanted transfers ++ [] };
+  status = if are_good transfers then 0 else 1;
+}
+
+-- what comes of a stream whose messages are these
+unpacked_so : (options : PackOptions) (wanted : Wanted) (stream : List ℕ) (entries : List Entry) (transfers : List Transfer) → IsPackedSo entries stream → AreCarried options entries transfers
+    → unpacking wanted stream ≡ over_clean wanted transfers
+unfolding unpacking
+unpacked_so options wanted stream entries transfers so carries =
+    ap₂ (unpacking_by wanted) so.clean (ap ordered so.heads ∙ carries.in_order) ∙ ap (over_clean wanted) carries.makes
+
+-- ---- the whole
+
+module _ (options : PackOptions) (bytes : List ℕ) (fit : OptionsFit options) (fits : InputFits bytes)
+    (only : (stream : List ℕ) (reading : Reading) → IsReading stream reading → reading ≡ reading_of stream) where
+  abbrev stream : List ℕ
+  stream = (packing options bytes).texts.output
+
+  abbrev bundles : List Packed
+  bundles = (divided options.peer_transfer bytes).bundles
+
+  unpacked : (packing options bytes).status ≡ 0 → unpacking all stream ≡ over_clean all (onto options 0 bundles [])
+  unpacked is =
+      unpacked_so options all stream _ _ (packed_so options bytes fit fits only) (carried options bytes fit fits only)
+      ∙ ap (λ rest. over_clean all (rest_onto options (length bundles) rest (onto options 0 bundles []))) (nothing_left options bytes is)
+
+  pub gives_back : (packing options bytes).status ≡ 0 → GivesBack options bytes stream
+  gives_back is =
+      let so = divides options bytes fit fits only in
+      let none = nothing_left options bytes is in
+      let starts = ap length none_parts in
+      record {
+        output = ap (λ (o : Outcome). o.texts.output) (unpacked is) ∙ parts_onto options 0 bundles []
+            ∙ ap (λ parts. parts ++ contents bundles) none_parts ∙ so.whole none;
+        report = ap (λ (o : Outcome). o.texts.report) (unpacked is) ∙ append-nil (lines_of all (onto options 0 bundles []))
+            ∙ lines_onto options 0 bundles [] so.bundles ∙ ap₂ (λ (lines : List ℕ) (start : ℕ). lines ++ good_lines 0 start bundles) none_lines starts;
+        status = ap (λ (o : Outcome). o.status) (unpacked is) ∙ ap (λ good. if good then 0 else 1) (good_onto options 0 bundles [] so.bundles none_good);
+      }

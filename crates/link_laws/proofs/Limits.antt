@@ -1,0 +1,146 @@
+-- A packed stream keeps the limits of the peer.
+use Rattle.std.proofs.Common.{◌≡◌, ℕ, zero, suc, ◌+◌, ◌*◌, ◌≤◌, inl, inr, ◌⊎◌, Bool, true, false, ◌&&◌, nat_lt, nat_le, List, [], ◌∷◌, ◌++◌, length, Option, Some, None, if◌then◌else◌, refl, ap, sym, ◌∙◌, subst, length-take, arith}
+use Rattle.std.specs.Prelude.{IfSome}
+use Rattle.std.specs.List.{All}
+use Rattle.std.proofs.lemmas.List.Elements.{All-nil, All-cons, All-append}
+use Rattle.link_wire.specs.SpelledStream.{IsReading}
+use Rattle.link_wire.specs.Spelling.{announced}
+use Rattle.link_wire.specs.Stream.{Entry, Reading, reading_of}
+use Rattle.link_run.specs.Ends.{end_status}
+use Rattle.link_list.specs.Listing.{listing}
+use Rattle.link_transfer.specs.Announced.{announced_of}
+use Rattle.link_transfer.specs.Chunks.{chunk_count}
+use Rattle.link_transfer.specs.Cutting.{Cutting, announcement, due, due_of}
+use Rattle.link_transfer.specs.declared.announcement.Announced.TheVariants.{Absent, Total}
+use Rattle.link_unpack.specs.Transfers.{Transfer, ordered, transfers_of}
+use Rattle.link_pack.specs.Bundles.{Packed, Rest, Divided}
+use Rattle.link_pack.specs.Packing.{packing, segment_size, sending}
+use Rattle.link_pack.specs.Segments.{cutting_of, segments_of}
+use Rattle.link_pack.specs.declared.options.PackOptions.{PackOptions}
+use Rattle.link_laws.specs.PackedStream.{SegmentFits, TransferFits, KeepsLimits}
+use Rattle.link_laws.specs.Ranges.{OptionsFit, InputFits}
+use Rattle.link_laws.proofs.Carried.{onto, rest_onto, partly, transfer_of, due_within}
+use Rattle.link_laws.proofs.Divided.{AreBundles, IsRest}
+use Rattle.link_laws.proofs.Entries.{bundle_entries, due_entries, rest_entries, term_entries, end_entries, init_bytes, bundles_bytes, rest_bytes, first_entries, more_entries, last_entries, packed_entries, init_entry, some_size}
+use Rattle.link_laws.proofs.Readings.{divides, packed_so, carried, input}
+use Rattle.link_laws.proofs.Segments.{segment_entries}
+use Rattle.link_laws.proofs.Sendings.{segments_fit}
+
+-- ---- segments
+
+module _ (options : PackOptions) where
+  abbrev Fits : Entry → Type 0
+  Fits head = SegmentFits options head.message
+
+  due_fit : (number count : ℕ) (whole : Bool) (bytes : List ℕ) (offset : ℕ) → count ≤ chunk_count (segment_size options) (length bytes)
+      → All Fits (segment_entries number (sending options whole bytes) 0 count offset)
+  due_fit number count whole bytes offset few =
+      segments_fit number (sending options whole bytes) options (some_size options) (omega arith) (omega arith) 0 count offset (omega arith)
+
+  bundles_fit : (number : ℕ) (bundles : List Packed) (offset : ℕ) → All Fits (bundle_entries options number bundles offset)
+  unfolding bundle_entries due
+  bundles_fit number [] offset = All-nil Fits
+  bundles_fit number (bundle ∷ more) offset =
+      let whole = sending options true bundle.bytes in
+      let after = offset + length (segments_of number whole) in
+      All-append Fits (due_entries number whole offset) (bundle_entries options (suc number) more after)
+      (due_fit number (chunk_count (segment_size options) (length bundle.bytes)) true bundle.bytes offset (omega arith))
+      (bundles_fit (suc number) more after)
+
+  rest_fit : (number : ℕ) (rest : Option Rest) (offset : ℕ) → All Fits (rest_entries options number rest offset)
+  unfolding due
+  rest_fit number None offset = All-nil Fits
+  rest_fit number (Some rest) offset =
+      let count = due_of false (segment_size options) options.announce (length rest.accepted) in
+      due_fit number count false rest.accepted offset
+      (due_within (segment_size options) options.announce count (length rest.accepted) (some_size options) (omega arith))
+
+  term_fits : (asked : Bool) (offset : ℕ) → All Fits (term_entries options asked offset)
+  term_fits true offset = All-cons Fits _ [] tt (All-nil Fits)
+  term_fits false offset = All-nil Fits
+
+  end_fits : (rest : Option Rest) (offset : ℕ) → All Fits (end_entries options rest offset)
+  end_fits None offset = term_fits options.send_term offset
+  end_fits (Some rest) offset = All-nil Fits
+
+  packed_fits : (divided : Divided) → All Fits (packed_entries options divided)
+  packed_fits divided =
+      All-append Fits (first_entries options divided ++ more_entries options divided) (last_entries options divided)
+      (All-append Fits (first_entries options divided) (more_entries options divided)
+      (All-cons Fits (init_entry options) (bundle_entries options 0 divided.bundles (6 + length (init_bytes options))) tt (bundles_fit 0 divided.bundles (6 + length (init_bytes options))))
+      (rest_fit (length divided.bundles) divided.rest (6 + length (bundles_bytes options divided))))
+      (end_fits divided.rest (6 + length (rest_bytes options divided)))
+
+-- ---- transfers
+
+-- what is announced is the length of a whole bundle
+abbrev pub Announces : (whole : Bool) (size : ℕ) → Option ℕ → Type 0
+Announces whole size announce = (announced_of (announced announce) ≡ Absent) ⊎ ((whole ≡ true) × (announced_of (announced announce) ≡ Total size))
+
+none_announced : announced_of [] ≡ Absent
+unfolding announced_of
+none_announced = refl
+
+total_announced : (total : ℕ) → announced_of (announced (Some total)) ≡ Total total
+unfolding announced_of
+total_announced total = refl
+
+announces_by : (whole test : Bool) (size : ℕ) → Announces whole size (if whole && test then Some size else None)
+announces_by true true size = inr (refl, total_announced size)
+announces_by true false size = inl none_announced
+announces_by false test size = inl none_announced
+
+pub announces : (so_far : Cutting) → Announces so_far.whole (length so_far.bundle) (announcement so_far)
+unfolding announcement
+announces so_far = announces_by so_far.whole (nat_lt so_far.segment (length so_far.bundle) && nat_le (length so_far.bundle) so_far.hold) (length so_far.bundle)
+
+module _ (options : PackOptions) where
+  bundle_kept : (number : ℕ) (bundle : Packed) → length bundle.bytes ≤ options.peer_transfer → TransferFits options (transfer_of options number bundle)
+  bundle_kept number bundle within = (within, announces (cutting_of (sending options true bundle.bytes)))
+
+  bundles_kept : (number : ℕ) (bundles : List Packed) (earlier : List Transfer) → AreBundles options.peer_transfer bundles → All (TransferFits options) earlier
+      → All (TransferFits options) (onto options number bundles earlier)
+  unfolding onto
+  bundles_kept number [] earlier are kept = kept
+  bundles_kept number (bundle ∷ more) earlier are kept =
+      bundles_kept (suc number) more (transfer_of options number bundle ∷ earlier) are.1
+      (All-cons (TransferFits options) (transfer_of options number bundle) earlier (bundle_kept number bundle are.0.within) kept)
+
+  unannounced : (size : ℕ) (announce : Option ℕ) → Announces false size announce → announced_of (announced announce) ≡ Absent
+  unannounced size announce (inl absent) = absent
+  unannounced size announce (inr never) = let not = never.0 in absurd (cc)
+
+  part_kept : (number count : ℕ) (part : List ℕ) (earlier : List Transfer) → length part ≤ options.peer_transfer → All (TransferFits options) earlier
+      → All (TransferFits options) (partly number (sending options false part) count earlier)
+  part_kept number zero part earlier within kept = kept
+  part_kept number (suc count) part earlier within kept =
+      let size = length-take (suc count * segment_size options) part in
+      let open_part = cutting_of (sending options false part) in
+      All-cons (TransferFits options) _ earlier (omega arith, inl (unannounced (length part) (announcement open_part) (announces open_part))) kept
+
+  rest_kept : (number : ℕ) (rest : Option Rest) (earlier : List Transfer) → IfSome rest (IsRest options.peer_transfer) → All (TransferFits options) earlier
+      → All (TransferFits options) (rest_onto options number rest earlier)
+  rest_kept number None earlier is kept = kept
+  rest_kept number (Some rest) earlier is kept = part_kept number (due (cutting_of (sending options false rest.accepted))) rest.accepted earlier is.within kept
+
+-- ---- the whole
+
+listing_status : (stream : List ℕ) → (listing stream).status ≡ end_status (reading_of stream).end
+unfolding listing
+listing_status stream = refl
+
+module _ (options : PackOptions) (bytes : List ℕ) (fit : OptionsFit options) (fits : InputFits bytes)
+    (only : (stream : List ℕ) (reading : Reading) → IsReading stream reading → reading ≡ reading_of stream) where
+  pub keeps : KeepsLimits options (packing options bytes).texts.output
+  keeps =
+      let so = packed_so options bytes fit fits only in
+      let is = divides options bytes fit fits only in
+      let runs = carried options bytes fit fits only in
+      let whole = input options bytes fit fits only in
+      record {
+        clean = listing_status _ ∙ ap end_status so.clean;
+        in_order = subst (λ heads. ordered heads ≡ record { heads = heads; refused = None }) (sym so.heads) runs.in_order;
+        segments = subst (All (λ (head : Entry). SegmentFits options head.message)) (sym so.entries) (packed_fits options whole);
+        transfers = subst (All (TransferFits options)) (sym (ap transfers_of so.heads ∙ runs.makes))
+            (rest_kept options (length whole.bundles) whole.rest _ is.rest (bundles_kept options 0 whole.bundles [] is.bundles (All-nil (TransferFits options))));
+      }

@@ -1,0 +1,138 @@
+-- What is packed is listed as it was cut.
+use Rattle.std.proofs.Common.{◌≡◌, ℕ, zero, suc, ◌+◌, Bool, true, false, List, [], ◌∷◌, ◌++◌, length, Option, Some, None, refl, ap, ap₂, sym, ◌∙◌, append-nil, append_assoc, length-append, arith}
+use Rattle.link_wire.specs.Codes.{is_start}
+use Rattle.link_wire.specs.SpelledStream.{IsReading}
+use Rattle.link_wire.specs.Spelled.{be}
+use Rattle.link_wire.specs.Spelling.{announce_bytes, total_bytes, list_bytes, list_size, segment_head_bytes, segment_head_size, sess_init_bytes}
+use Rattle.link_wire.specs.Stream.{Entry, Reading, reading_of}
+use Rattle.link_transfer.specs.Cutting.{due}
+use Rattle.link_report.specs.Message.{contact_text, message_text}
+use Rattle.link_run.specs.Run.{Outcome}
+use Rattle.link_list.specs.Listing.{listing, listing_by, message_lines}
+use Rattle.link_pack.specs.Bundles.{Packed, divided}
+use Rattle.link_pack.specs.Packing.{packing, sending, transfers_of}
+use Rattle.link_pack.specs.Segments.{Sending, cut_at, segment_bytes, segments_from}
+use Rattle.link_pack.specs.declared.options.PackOptions.{PackOptions}
+use Rattle.link_laws.specs.Listed.{flags_at, length_at, segment_line, segment_span, segment_lines, segments_span, chunks_of, term_line, bundle_lines, IsListed}
+use Rattle.link_laws.specs.Ranges.{OptionsFit, InputFits}
+use Rattle.link_laws.proofs.Entries.{init_bytes, init_entry, bundle_entries, term_entries, packed_entries, packed_reading}
+use Rattle.link_laws.proofs.Readings.{packed_reads, nothing_left}
+use Rattle.link_laws.proofs.Segments.{chunk_of, segment_entries}
+
+-- ---- sizes
+
+length-list : (start : Bool) (announce : Option ℕ) → length (list_bytes start announce) ≡ list_size start announce
+unfolding announce_bytes total_bytes
+length-list true None = refl
+length-list true (Some total) = refl
+length-list false announce = refl
+
+length-head : (flags id size : ℕ) (announce : Option ℕ) → length (segment_head_bytes flags id size announce) ≡ segment_head_size flags announce
+unfolding segment_head_bytes
+length-head flags id size announce =
+    let list = list_bytes (is_start flags) announce in
+    omega (arith, length-append (be 1 1 ++ be 1 flags ++ be 8 id ++ list) (be 8 size), length-append (be 1 1 ++ be 1 flags ++ be 8 id) list, length-list (is_start flags) announce)
+
+length-init : (interval segment_mru transfer_mru : ℕ) (node : List ℕ) → length (sess_init_bytes interval segment_mru transfer_mru node) ≡ 25 + length node
+unfolding sess_init_bytes
+length-init interval segment_mru transfer_mru node =
+    let front = be 1 7 ++ be 2 interval ++ be 8 segment_mru ++ be 8 transfer_mru in
+    let text = be 2 (length node) ++ node in
+    omega (arith, length-append (front ++ text) (be 4 0), length-append front text, length-append (be 2 (length node)) node)
+
+module _ (id : ℕ) (sending : Sending) where
+  length-segment : (k : ℕ) → length (segment_bytes id (cut_at sending k) (chunk_of sending k)) ≡ segment_span sending k
+  length-segment k =
+      let head = segment_head_bytes (flags_at sending k) id (length_at sending k) (cut_at sending k).announce in
+      length-append head (chunk_of sending k)
+      ∙ ap (λ n. n + length_at sending k) (length-head (flags_at sending k) id (length_at sending k) (cut_at sending k).announce)
+
+  length-segments : (k count : ℕ) → length (segments_from id sending k count) ≡ segments_span sending k count
+  unfolding segments_from segments_span
+  length-segments k zero = refl
+  length-segments k (suc count) =
+      length-append (segment_bytes id (cut_at sending k) (chunk_of sending k)) (segments_from id sending (suc k) count)
+      ∙ ap₂ (λ a b. a + b) (length-segment k) (length-segments (suc k) count)
+
+  -- ---- lines
+
+  segments_listed : (k count offset : ℕ) → message_lines (segment_entries id sending k count offset) ≡ segment_lines id sending k count offset
+  unfolding message_lines segment_entries segment_lines
+  segments_listed k zero offset = refl
+  segments_listed k (suc count) offset =
+      ap (λ lines. segment_line id sending k offset ++ lines)
+      (segments_listed (suc k) count (offset + length (segment_bytes id (cut_at sending k) (chunk_of sending k)))
+      ∙ ap (λ n. segment_lines id sending (suc k) count (offset + n)) (length-segment k))
+
+lines_then : (entries more : List Entry) → message_lines (entries ++ more) ≡ message_lines entries ++ message_lines more
+unfolding message_lines
+lines_then [] more = refl
+lines_then (head ∷ entries) more =
+    ap (λ lines. message_text head.offset head.message ++ lines) (lines_then entries more)
+    ∙ sym (append_assoc (message_text head.offset head.message) (message_lines entries) (message_lines more))
+
+one_listed : (head : Entry) → message_lines (head ∷ []) ≡ message_text head.offset head.message
+unfolding message_lines
+one_listed head = append-nil (message_text head.offset head.message)
+
+module _ (options : PackOptions) where
+  term_listed : (asked : Bool) (offset : ℕ) → message_lines (term_entries options asked offset) ≡ term_line asked offset
+  unfolding message_lines
+  term_listed true offset = append-nil _
+  term_listed false offset = refl
+
+  bundles_listed : (number : ℕ) (bundles : List Packed) (offset after : ℕ) → after ≡ offset + length (transfers_of options number bundles)
+      → message_lines (bundle_entries options number bundles offset ++ term_entries options options.send_term after) ≡ bundle_lines options number offset bundles
+  unfolding bundle_entries bundle_lines transfers_of due
+  bundles_listed number [] offset after at = term_listed options.send_term after ∙ ap (term_line options.send_term) (omega (arith, at))
+  bundles_listed number (bundle ∷ more) offset after at =
+      let whole = sending options true bundle.bytes in
+      let count = chunks_of options bundle in
+      let front = segment_entries number whole 0 count offset in
+      let next = offset + length (segments_from number whole 0 count) in
+      let rest = bundle_entries options (suc number) more next in
+      let term = term_entries options options.send_term after in
+      let behind : after ≡ next + length (transfers_of options (suc number) more) =
+      omega (arith, at, length-append (segments_from number whole 0 count) (transfers_of options (suc number) more)) in
+      ap message_lines (append_assoc front rest term) ∙ lines_then front (rest ++ term)
+      ∙ ap₂ (λ (a b : List ℕ). a ++ b) (segments_listed number whole 0 count offset)
+      (bundles_listed (suc number) more next after behind ∙ ap (λ n. bundle_lines options (suc number) (offset + n) more) (length-segments number whole 0 count))
+
+  messages_listed : (bundles : List Packed)
+      → message_lines (packed_entries options (record { bundles = bundles; rest = None }))
+      ≡ message_text 6 (init_entry options).message ++ bundle_lines options 0 (31 + length options.node.items) bundles
+  messages_listed bundles =
+      let init = init_bytes options in
+      let segments = transfers_of options 0 bundles in
+      let size = length-init options.keepalive options.segment_mru options.transfer_mru options.node.items in
+      let after = 6 + length (init ++ segments ++ []) in
+      let term = term_entries options options.send_term after in
+      let rest = bundle_entries options 0 bundles (6 + length init) in
+      let at : after ≡ 6 + length init + length segments = omega (arith, length-append (init ++ segments) [], length-append init segments) in
+      ap (λ entries. message_lines (entries ++ term)) (append-nil (init_entry options ∷ rest))
+      ∙ lines_then (init_entry options ∷ []) (rest ++ term)
+      ∙ ap₂ (λ (a b : List ℕ). a ++ b) (one_listed (init_entry options))
+      (bundles_listed 0 bundles (6 + length init) after at ∙ ap (λ n. bundle_lines options 0 n bundles) (omega (arith, size)))
+
+listing_of : (stream : List ℕ) → listing stream ≡ listing_by (reading_of stream)
+unfolding listing
+listing_of stream = refl
+
+module _ (options : PackOptions) (bytes : List ℕ) (fit : OptionsFit options) (fits : InputFits bytes)
+    (only : (stream : List ℕ) (reading : Reading) → IsReading stream reading → reading ≡ reading_of stream) where
+  abbrev bundles : List Packed
+  bundles = (divided options.peer_transfer bytes).bundles
+
+  listing_is : (packing options bytes).status ≡ 0 → listing (packing options bytes).texts.output ≡ listing_by (packed_reading options (record { bundles = bundles; rest = None }))
+  listing_is is =
+      listing_of _ ∙ ap listing_by (sym (packed_reads options bytes fit fits only))
+      ∙ ap (λ rest. listing_by (packed_reading options (record { bundles = bundles; rest = rest }))) (nothing_left options bytes is)
+
+  pub listed : (packing options bytes).status ≡ 0 → IsListed options bytes (packing options bytes).texts.output
+  listed is = record {
+    output = ap (λ (o : Outcome). o.texts.output) (listing_is is)
+        ∙ ap (λ lines. contact_text (record { flags = 0 }) ++ lines) (messages_listed options bundles)
+        ∙ sym (append_assoc (contact_text (record { flags = 0 })) (message_text 6 (init_entry options).message) _);
+    report = ap (λ (o : Outcome). o.texts.report) (listing_is is);
+    status = ap (λ (o : Outcome). o.status) (listing_is is);
+  }

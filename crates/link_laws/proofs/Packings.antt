@@ -1,0 +1,156 @@
+-- What is packed of an input is where that of any longer one begins.
+use Rattle.std.proofs.Common.{◌≡◌, ℕ, suc, ◌+◌, ◌-◌, ◌<◌, ◌≤◌, Bool, true, false, List, [], ◌∷◌, ◌++◌, length, take, Result, Ok, Err, if◌then◌else◌, refl, ap, sym, ◌∙◌, subst, ⊎_elim, append-nil, append_assoc, add-zero, length-append, arith}
+use Rattle.std.proofs.lemmas.Bool.{cases_lt, false≢true}
+use Rattle.link_cbor.specs.Pieces.{taken}
+use Rattle.link_bundle_types.specs.Faults.{lasts}
+use Rattle.link_bundle_types.specs.declared.fault.BundleFault.{BundleFault}
+use Rattle.link_bundle_types.specs.declared.info.BundleInfo.{BundleInfo}
+use Rattle.link_bundle.specs.Bundle.{verdict, bundle_goes}
+use Rattle.link_pack.specs.Bundles.{Packed, Refusal, Longer, Faulty, Divided, front_of, refused_by, with_bundle, divided_by, divided, joined}
+use Rattle.link_pack.specs.Packing.{prelude_bytes, segment_size, sending, transfers_of, rest_segments, bundles_output, end_bytes, lines_of, line_of, pack_tool}
+use Rattle.link_pack.specs.Segments.{segments_of}
+use Rattle.link_pack.specs.declared.options.PackOptions.{PackOptions}
+use Rattle.link_pack.proofs.Dividing.{front_more, whole_stops, faulty_stops, within_limit, beyond_limit, divided_front}
+use Rattle.link_pack.proofs.Outcomes.{whole_as, sofar_going, sofar_refused, whole_refused}
+use Rattle.link_pack.proofs.Sending.{segments_grow, segments_none}
+use Rattle.link_laws.specs.Prefix.{IsFrontOf, IsPrefixed}
+use Rattle.link_laws.proofs.Divisions.{IsRefused, IsOpen, refused_so, is_divided}
+use Rattle.link_laws.proofs.Fronts.{front_same, front_then, front_after, front_first, front_none, take-append}
+
+-- where bytes go on that are needed, and then are not, some come
+some_come : (begun run : List ℕ) → bundle_goes begun ≡ true → bundle_goes (begun ++ run) ≡ false → 0 < length run
+some_come begun [] goes stops = absurd (false≢true (sym stops ∙ ap bundle_goes (append-nil begun) ∙ goes))
+some_come begun (byte ∷ bytes) goes stops = omega arith
+
+module _ (options : PackOptions) where
+  -- ---- of some bundles and others
+
+  transfers_of-append : (number : ℕ) (bundles more : List Packed) → transfers_of options number (bundles ++ more) ≡ transfers_of options number bundles ++ transfers_of options (number + length bundles) more
+  unfolding transfers_of
+  transfers_of-append number [] more = ap (λ n. transfers_of options n more) (sym (add-zero number))
+  transfers_of-append number (bundle ∷ bundles) more =
+      ap (λ (xs : List ℕ). segments_of number (sending options true bundle.bytes) ++ xs)
+      (transfers_of-append (suc number) bundles more ∙ ap (λ n. transfers_of options (suc number) bundles ++ transfers_of options n more) {y = number + suc (length bundles)} (omega arith))
+      ∙ sym (append_assoc (segments_of number (sending options true bundle.bytes)) (transfers_of options (suc number) bundles) _)
+
+  lines_of-append : (number : ℕ) (bundles more : List Packed) → lines_of options number (bundles ++ more) ≡ lines_of options number bundles ++ lines_of options (number + length bundles) more
+  unfolding lines_of
+  lines_of-append number [] more = ap (λ n. lines_of options n more) (sym (add-zero number))
+  lines_of-append number (bundle ∷ bundles) more =
+      ap (λ (xs : List ℕ). line_of options number bundle ++ xs)
+      (lines_of-append (suc number) bundles more ∙ ap (λ n. lines_of options (suc number) bundles ++ lines_of options n more) {y = number + suc (length bundles)} (omega arith))
+      ∙ sym (append_assoc (line_of options number bundle) (lines_of options (suc number) bundles) _)
+
+  -- ---- of a bundle that has begun
+
+  -- the segments of all that is divided
+  abbrev segments : (number : ℕ) → Divided → List ℕ
+  segments number input = transfers_of options number input.bundles ++ rest_segments options (number + length input.bundles) input.rest
+
+  abbrev begun_segments : (number : ℕ) → List ℕ → List ℕ
+  begun_segments number begun = segments_of number (sending options false begun)
+
+  some_segment : 0 < segment_size options
+  some_segment = let some = options.some in omega arith
+
+  module _ (number : ℕ) (begun : List ℕ) where
+    grown : (run : List ℕ) (whole : Bool) → 0 < length run → IsFrontOf (begun_segments number begun) (segments_of number (sending options whole (begun ++ run)))
+    grown run whole some = (_, sym (segments_grow number (segment_size options) options.announce begun run whole some_segment some))
+
+    grown_any : (run : List ℕ) → IsFrontOf (begun_segments number begun) (begun_segments number (begun ++ run))
+    grown_any [] = front_same _ _ (ap (begun_segments number) (sym (append-nil begun)))
+    grown_any (byte ∷ bytes) = grown (byte ∷ bytes) false (omega arith)
+
+    -- it has become whole
+    whole_front : (run : List ℕ) (info : BundleInfo) (later : Divided) → 0 < length run
+        → IsFrontOf (begun_segments number begun) (segments number (with_bundle (record { bytes = begun ++ run; info = info }) later))
+    unfolding transfers_of
+    whole_front run info later some = front_then _ _ _ (front_then _ _ _ (grown run true some))
+
+    -- it is refused, or goes on
+    rest_front : (run accepted : List ℕ) (refusal : Refusal) → accepted ≡ begun ++ run → IsFrontOf (begun_segments number begun) (segments number (refused_so [] refusal accepted))
+    unfolding transfers_of
+    rest_front run accepted refusal is = rw (is, add-zero) (grown_any run)
+
+    module _ (run : List ℕ) (goes : bundle_goes begun ≡ true) (next : List ℕ → Divided) (bytes : List ℕ) where
+      -- more bytes than the peer takes
+      longer_front : (limit : ℕ) → length begun ≤ limit → IsFrontOf (begun_segments number begun) (segments number (divided_by next (begun ++ run) bytes (Err (Longer limit))))
+      longer_front limit within = rest_front (take (limit - length begun) run) _ (Longer limit) (take-append limit begun run within)
+
+      faulty_front : (stays : Bool) (fault : BundleFault) (place : ℕ) → lasts fault ≡ stays → verdict (begun ++ run) ≡ Err (fault, place)
+          → IsFrontOf (begun_segments number begun) (segments number (divided_by next (begun ++ run) bytes (Err (Faulty fault place))))
+      faulty_front true fault place stays is =
+          let some = some_come begun run goes (faulty_stops (begun ++ run) fault place is stays) in
+          let size = length-append begun run in
+          rest_front (take (length (begun ++ run) - 1 - length begun) run) _ (Faulty fault place)
+          (ap (λ (test : Bool). if test then take (length (begun ++ run) - 1) (begun ++ run) else begun ++ run) stays
+          ∙ take-append (length (begun ++ run) - 1) begun run (omega arith))
+      faulty_front false fault place stays is =
+          rest_front run _ (Faulty fault place)
+          (ap (λ (test : Bool). if test then take (length (begun ++ run) - 1) (begun ++ run) else begun ++ run) stays)
+
+      judged_front : (said : Result BundleInfo (BundleFault × ℕ)) → verdict (begun ++ run) ≡ said
+          → IsFrontOf (begun_segments number begun) (segments number (divided_by next (begun ++ run) bytes (refused_by said)))
+      judged_front (Ok info) is = whole_front run info _ (some_come begun run goes (whole_stops (begun ++ run) info is))
+      judged_front (Err (fault, place)) is = faulty_front (lasts fault) fault place refl is
+
+  begun_front : (limit number : ℕ) (begun more : List ℕ) → front_of begun ≡ begun → bundle_goes begun ≡ true → length begun ≤ limit
+      → IsFrontOf (begun_segments number begun) (segments number (divided limit (begun ++ more)))
+  begun_front limit number [] more front goes within = rw (segments_none number (segment_size options) options.announce) (front_none _)
+  begun_front limit number (byte ∷ bytes) more front goes within =
+      let begun = byte ∷ bytes in
+      let run = taken bundle_goes begun more in
+      let next = divided limit in
+      let P : Divided → Type 0 = λ input. IsFrontOf (begun_segments number begun) (segments number input) in
+      subst P (sym (divided_front limit (begun ++ run) (begun ++ more) (omega (arith, length-append begun more)) (front_more begun more front)))
+      (⊎_elim
+      (λ beyond. subst P (ap (divided_by next (begun ++ run) (begun ++ more)) (sym (beyond_limit limit (begun ++ run) beyond)))
+      (longer_front number begun run goes next (begun ++ more) limit within))
+      (λ inside. subst P (ap (divided_by next (begun ++ run) (begun ++ more)) (sym (within_limit limit (begun ++ run) inside)))
+      (judged_front number begun run goes next (begun ++ more) (verdict (begun ++ run)) refl))
+      (cases_lt limit (length (begun ++ run))))
+
+  -- ---- of an input
+
+  -- what stands behind some bundles
+  output_front : (bundles : List Packed) (begun : List ℕ) (input : Divided) → IsFrontOf (begun_segments (length bundles) begun) (segments (length bundles) input)
+      → IsFrontOf (prelude_bytes options ++ transfers_of options 0 bundles ++ begun_segments (length bundles) begun) (bundles_output options (joined bundles input) ++ end_bytes options input.rest)
+  output_front bundles begun input front =
+      let from : 0 + length bundles ≡ length bundles = omega arith in
+      let before = prelude_bytes options ++ transfers_of options 0 bundles in
+      let all : bundles_output options (joined bundles input) ≡ before ++ segments (length bundles) input =
+      rw (transfers_of-append 0 bundles input.bundles, length-append bundles input.bundles, from)
+      (ap (λ (xs : List ℕ). xs ++ rest_segments options (length bundles + length input.bundles) input.rest) (sym (append_assoc (prelude_bytes options) (transfers_of options 0 bundles) (transfers_of options (length bundles) input.bundles)))
+      ∙ append_assoc before (transfers_of options (length bundles) input.bundles) _) in
+      front_then (before ++ begun_segments (length bundles) begun) (bundles_output options (joined bundles input)) (end_bytes options input.rest)
+      (rw all (front_after before _ _ front))
+
+  report_front : (bundles : List Packed) (input : Divided) (line : List ℕ) → IsFrontOf (lines_of options 0 bundles) (lines_of options 0 (bundles ++ input.bundles) ++ line)
+  report_front bundles input line = front_then _ _ line (rw (lines_of-append 0 bundles input.bundles) (front_first _ _))
+
+  module _ (bytes more : List ℕ) where
+    -- it goes on from a bundle that has begun
+    open_prefix : IsOpen options.peer_transfer bytes → IsPrefixed (pack_tool options) bytes more
+    open_prefix opened =
+        let input = divided options.peer_transfer (opened.begun ++ more) in
+        let here = ap (divided options.peer_transfer) (sym (append-nil bytes)) ∙ opened.divides [] ∙ ap (λ (begun : List ℕ). joined opened.bundles (divided options.peer_transfer begun)) (append-nil opened.begun) in
+        let sofar = sofar_going options bytes opened.bundles opened.begun opened.front opened.goes opened.within here in
+        let whole = whole_as options (bytes ++ more) (joined opened.bundles input) (opened.divides more) in
+        record {
+          output = rw (sofar, whole) (output_front opened.bundles opened.begun input (begun_front options.peer_transfer (length opened.bundles) opened.begun more opened.front opened.goes opened.within));
+          report = rw (sofar, whole) (report_front opened.bundles input _);
+        }
+
+    -- all of it stays
+    refused_prefix : IsRefused options.peer_transfer bytes → IsPrefixed (pack_tool options) bytes more
+    refused_prefix refused =
+        let here = ap (divided options.peer_transfer) (sym (append-nil bytes)) ∙ refused.divides [] in
+        let sofar = sofar_refused options bytes refused.bundles refused.accepted refused.refusal refused.shown here in
+        let whole = whole_refused options (bytes ++ more) refused.bundles refused.accepted refused.refusal refused.shown (refused.divides more) in
+        record {
+          output = rw (sofar, whole) (front_same _ _ refl);
+          report = rw (sofar, whole) (front_same _ _ refl);
+        }
+
+    pub pack_prefix : IsPrefixed (pack_tool options) bytes more
+    pack_prefix = ⊎_elim refused_prefix open_prefix (is_divided options.peer_transfer bytes)

@@ -1,0 +1,77 @@
+-- The segments of a transfer, as messages of a stream.
+use Rattle.std.proofs.Common.{◌≡◌, ℕ, zero, suc, ◌+◌, ◌*◌, ◌^◌, ◌<◌, ◌≤◌, Bool, true, false, ◌&&◌, nat_lt, nat_le, List, [], ◌∷◌, length, drop, Option, Some, None, if◌then◌else◌, refl, length-take, arith}
+use Rattle.std.specs.Prelude.{IfSome}
+use Rattle.std.proofs.lemmas.Bool.Decides.{nat_tests}
+use Rattle.std.proofs.lemmas.List.Elements.{All-take, All-drop}
+use Rattle.link_wire.specs.Bytes.{IsByte, AreBytes}
+use Rattle.link_wire.specs.Spelled.{HeadSpelled}
+use Rattle.link_wire.specs.SpelledStream.{IsStream}
+use Rattle.link_wire.specs.Spelling.{segment_head_bytes, segment_with}
+use Rattle.link_wire.specs.Stream.{Entry, Clean}
+use Rattle.link_wire.specs.declared.message.Message.{Message}
+use Rattle.link_wire.proofs.Spellings.{segment_spelled}
+use Rattle.link_transfer.specs.Chunks.{chunk_at}
+use Rattle.link_transfer.specs.Cutting.{Cutting, announcement}
+use Rattle.link_pack.specs.Segments.{Sending, cutting_of, cut_at, flags_of, segment_bytes, segments_from}
+use Rattle.link_unpack.proofs.Heads.{entry}
+use Rattle.link_laws.proofs.Streams.{stream_then, stream_one}
+
+-- chunk number `k`, and the message that it is the data of
+abbrev pub chunk_of : Sending → (k : ℕ) → List ℕ
+chunk_of sending k = chunk_at sending.segment k sending.bundle
+
+abbrev pub message_of : (id : ℕ) → Sending → (k : ℕ) → Message
+message_of id sending k = segment_with (flags_of (cut_at sending k).first (cut_at sending k).last) id (length (chunk_of sending k)) (cut_at sending k).announce
+
+-- the messages of `count` segments from number `k` on
+unfoldable pub segment_entries : (id : ℕ) → Sending → (k count offset : ℕ) → List Entry
+segment_entries id sending k zero offset = []
+segment_entries id sending k (suc count) offset =
+    entry offset (message_of id sending k) (chunk_of sending k)
+    ∷ segment_entries id sending (suc k) count (offset + length (segment_bytes id (cut_at sending k) (chunk_of sending k)))
+
+-- what the segments can be made of
+pub record SendingFits (sending : Sending) : Type 0 where
+  pub some : 0 < sending.segment
+  pub small : sending.segment ≤ 65536
+  pub hold : sending.hold ≤ 1048576
+  pub are : AreBytes sending.bundle
+
+-- what is announced fits its field
+fits_by : (test : Bool) (size : ℕ) → (test ≡ true → size ≤ 1048576) → IfSome (if test then Some size else None) (λ total. total < 2 ^ 64)
+fits_by true size most = let small = most refl in omega arith
+fits_by false size most = tt
+
+announcement_fits : (so_far : Cutting) → so_far.hold ≤ 1048576 → IfSome (announcement so_far) (λ total. total < 2 ^ 64)
+unfolding announcement
+announcement_fits so_far small =
+    fits_by (so_far.whole && (nat_lt so_far.segment (length so_far.bundle) && nat_le (length so_far.bundle) so_far.hold)) (length so_far.bundle) (λ held. grind (arith, nat_tests))
+
+-- the head of a segment, which announces with the first chunk alone
+head_spelled : (first last : Bool) (id size : ℕ) (announce : Option ℕ) → id < 2 ^ 64 → size < 2 ^ 64 → IfSome announce (λ total. total < 2 ^ 64)
+    → (let told = if first then announce else None in HeadSpelled (segment_with (flags_of first last) id size told) (segment_head_bytes (flags_of first last) id size told))
+head_spelled true true id size announce id_fits size_fits fits = segment_spelled 3 id size announce (omega arith) id_fits size_fits fits (λ some. refl)
+head_spelled true false id size announce id_fits size_fits fits = segment_spelled 2 id size announce (omega arith) id_fits size_fits fits (λ some. refl)
+head_spelled false true id size announce id_fits size_fits fits = segment_spelled 1 id size None (omega arith) id_fits size_fits tt (λ some. absurd (cc))
+head_spelled false false id size announce id_fits size_fits fits = segment_spelled 0 id size None (omega arith) id_fits size_fits tt (λ some. absurd (cc))
+
+module _ (id : ℕ) (sending : Sending) (fits : SendingFits sending) (id_fits : id < 2 ^ 64) where
+  small_chunk : (k : ℕ) → length (chunk_of sending k) < 2 ^ 64
+  small_chunk k =
+      let small = fits.small in
+      omega (arith, length-take sending.segment (drop (k * sending.segment) sending.bundle))
+
+  -- the segments are these messages
+  pub segments_stream : (k count offset : ℕ) → IsStream (segment_entries id sending k count offset) Clean offset (segments_from id sending k count)
+  unfolding segments_from segment_entries
+  segments_stream k zero offset = refl
+  segments_stream k (suc count) offset =
+      let cut = cut_at sending k in
+      let chunk = chunk_of sending k in
+      let front = segment_bytes id cut chunk in
+      stream_then (entry offset (message_of id sending k) chunk ∷ []) (segment_entries id sending (suc k) count (offset + length front)) Clean offset front (segments_from id sending (suc k) count)
+      (stream_one offset (message_of id sending k) (segment_head_bytes (flags_of cut.first cut.last) id (length chunk) cut.announce) chunk
+      (head_spelled cut.first cut.last id (length chunk) (announcement (cutting_of sending)) id_fits (small_chunk k) (announcement_fits (cutting_of sending) fits.hold))
+      refl
+      (All-take IsByte sending.segment (drop (k * sending.segment) sending.bundle) (All-drop IsByte (k * sending.segment) sending.bundle fits.are)))
+      (segments_stream (suc k) count (offset + length front))

@@ -1,0 +1,78 @@
+-- All segments of a transfer that are due.
+use Rattle.std.proofs.Common.{◌≡◌, ℕ, zero, suc, ◌+◌, ◌*◌, ◌<◌, ◌≤◌, Bool, true, false, ◌&&◌, List, [], ◌∷◌, ◌++◌, length, drop, None, refl, sym, subst, append-nil, append_assoc, length-take, length-drop, arith}
+use Rattle.std.specs.Prelude.{◌==◌}
+use Rattle.std.specs.List.{All}
+use Rattle.std.proofs.lemmas.Bool.{ne_eqb}
+use Rattle.std.proofs.lemmas.List.Elements.{All-nil, All-cons}
+use Rattle.link_wire.specs.Stream.{Entry}
+use Rattle.link_transfer.specs.Chunks.{chunk_count}
+use Rattle.link_transfer.proofs.Due.{byte_left}
+use Rattle.link_unpack.specs.Transfers.{Transfer}
+use Rattle.link_pack.specs.Segments.{Sending, cut_at, segment_bytes}
+use Rattle.link_pack.specs.declared.options.PackOptions.{PackOptions}
+use Rattle.link_laws.specs.PackedStream.{SegmentFits}
+use Rattle.link_laws.proofs.Segments.{chunk_of, segment_entries}
+use Rattle.link_laws.proofs.Sent.{open_by, sent, last_at, segment_at, stands_first, stands_next}
+use Rattle.link_laws.proofs.Standing.{Stands, carrying}
+
+not_last : (whole : Bool) (count all : ℕ) → count < all → (whole && (count == all)) ≡ false
+not_last true count all below = ne_eqb count all (λ same. absurd (omega arith))
+not_last false count all below = refl
+
+module _ (id : ℕ) (sending : Sending) where
+  abbrev pub chunks_of : ℕ
+  chunks_of = chunk_count sending.segment (length sending.bundle)
+
+  -- ---- in order
+
+  -- so many chunks were sent, one at least
+  abbrev pub SentSo : (earlier : List Transfer) → (count : ℕ) → List Entry → Type 0
+  SentSo earlier count heads = Stands heads (carrying (open_by id (last_at id sending count))) (sent id sending (suc count) (last_at id sending count) ∷ earlier)
+
+  module _ (earlier : List Transfer) where
+    sent_as : (count other : ℕ) (heads others : List Entry) → heads ≡ others → count ≡ other → SentSo earlier count heads → SentSo earlier other others
+    sent_as count other heads others same equal at =
+        subst (λ n. SentSo earlier n others) equal (subst (SentSo earlier count) same at)
+
+    sent_one : (count : ℕ) (heads : List Entry) (offset : ℕ) → suc count < chunks_of → SentSo earlier count heads → SentSo earlier (suc count) (heads ++ segment_at id sending (suc count) offset ∷ [])
+    sent_one count heads offset below at =
+        let going : last_at id sending count ≡ false = not_last sending.whole (count + 1) chunks_of (omega arith) in
+        stands_next id sending (suc count) (last_at id sending count) heads earlier offset (ne_eqb (suc count) 0 (λ same. absurd (omega arith)))
+        (subst (λ last. Stands heads (carrying (open_by id last)) (sent id sending (suc count) (last_at id sending count) ∷ earlier)) going at)
+
+    sent_more : (count more : ℕ) (heads : List Entry) (offset : ℕ) → suc count + more ≤ chunks_of → SentSo earlier count heads
+        → SentSo earlier (count + more) (heads ++ segment_entries id sending (suc count) more offset)
+    unfolding segment_entries
+    sent_more count zero heads offset within at = sent_as count (count + 0) heads (heads ++ []) (sym (append-nil heads)) (omega arith) at
+    sent_more count (suc more) heads offset within at =
+        let one = segment_at id sending (suc count) offset in
+        let after = offset + length (segment_bytes id (cut_at sending (suc count)) (chunk_of sending (suc count))) in
+        let rest = segment_entries id sending (suc (suc count)) more after in
+        sent_as (suc count + more) (count + suc more) ((heads ++ one ∷ []) ++ rest) (heads ++ one ∷ rest) (append_assoc heads (one ∷ []) rest) (omega arith)
+        (sent_more (suc count) more (heads ++ one ∷ []) after (omega arith) (sent_one count heads offset (omega arith) at))
+
+    pub sent_all : (count : ℕ) (heads : List Entry) (offset : ℕ) → suc count ≤ chunks_of → Stands heads (carrying None) earlier
+        → SentSo earlier count (heads ++ segment_entries id sending 0 (suc count) offset)
+    unfolding segment_entries
+    sent_all count heads offset within at =
+        let one = segment_at id sending 0 offset in
+        let after = offset + length (segment_bytes id (cut_at sending 0) (chunk_of sending 0)) in
+        let rest = segment_entries id sending 1 count after in
+        sent_as (0 + count) count ((heads ++ one ∷ []) ++ rest) (heads ++ one ∷ rest) (append_assoc heads (one ∷ []) rest) (omega arith)
+        (sent_more 0 count (heads ++ one ∷ []) after (omega arith) (stands_first id sending heads earlier offset at))
+
+  -- ---- within the limits
+
+  module _ (options : PackOptions) (some : 0 < sending.segment) (taken : sending.segment ≤ options.peer_segment) (small : sending.segment ≤ 65536) where
+    pub segments_fit : (k count offset : ℕ) → k + count ≤ chunks_of → All (λ (head : Entry). SegmentFits options head.message) (segment_entries id sending k count offset)
+    unfolding segment_entries
+    segments_fit k zero offset within = All-nil (λ (head : Entry). SegmentFits options head.message)
+    segments_fit k (suc count) offset within =
+        let rest = drop (k * sending.segment) sending.bundle in
+        let left = byte_left sending.segment k (length sending.bundle) some (omega arith) in
+        let size = length-take sending.segment rest in
+        let there = length-drop (k * sending.segment) sending.bundle in
+        let after = offset + length (segment_bytes id (cut_at sending k) (chunk_of sending k)) in
+        All-cons (λ (head : Entry). SegmentFits options head.message) (segment_at id sending k offset) (segment_entries id sending (suc k) count after)
+        (omega arith, omega arith, omega arith)
+        (segments_fit (suc k) count after (omega arith))

@@ -1,0 +1,45 @@
+-- Heads that are in order, and the transfers that they make, one head further.
+use Rattle.std.proofs.Common.{◌≡◌, ℕ, true, false, List, [], ◌∷◌, ◌++◌, Option, None, ap, sym, ◌∙◌, subst}
+use Rattle.link_wire.specs.Stream.{Entry}
+use Rattle.link_wire.specs.declared.message.Message.{Message}
+use Rattle.link_transfer.specs.Event.{event_of}
+use Rattle.link_transfer.specs.Joiner.{IsJoinerAt, joiner_after}
+use Rattle.link_transfer.specs.Order.{refusal, refusal_by}
+use Rattle.link_transfer.specs.declared.event.Event.{Event}
+use Rattle.link_transfer.specs.declared.joiner.Joiner.{Joiner}
+use Rattle.link_transfer.proofs.Joining.{IsJoinerAt-none, IsJoinerAt-then}
+use Rattle.link_unpack.specs.Transfers.{Transfer, after_message, transfers_of}
+use Rattle.link_unpack.specs.UnpackRun.{messages_of, AreInOrder}
+use Rattle.link_unpack.proofs.Heads.{messages_push, no_transfers, transfers_push}
+use Rattle.link_unpack.proofs.Orders.{in_order_none, in_order_more}
+
+-- these heads are in order, and make these transfers; a joiner that accepted their messages is here
+pub record Stands (heads : List Entry) (joiner : Joiner) (transfers : List Transfer) : Type 0 where
+  pub in_order : AreInOrder heads
+  pub joins : IsJoinerAt joiner (messages_of heads)
+  pub makes : transfers_of heads ≡ transfers
+
+-- before the first message
+abbrev pub fresh : Joiner
+fresh = record { initiated = false; terminated = false; transfer = None }
+
+-- between SESS_INIT and SESS_TERM, where this transfer is open
+abbrev pub carrying : Option ℕ → Joiner
+carrying transfer = record { initiated = true; terminated = false; transfer = transfer }
+
+pub stands_none : Stands [] fresh []
+stands_none = record { in_order = in_order_none; joins = IsJoinerAt-none; makes = no_transfers }
+
+may_come : (joiner : Joiner) (before : List Message) (event : Event) → IsJoinerAt joiner before → refusal_by joiner.initiated joiner.terminated joiner.transfer event ≡ None → refusal before event ≡ None
+unfolding refusal
+may_come joiner before event at may = rw (sym at.initiated, sym at.terminated, sym at.transfer) may
+
+-- one head that may come
+pub stands_more : (heads : List Entry) (joiner : Joiner) (transfers : List Transfer) (head : Entry) (event : Event) → event_of head.message ≡ event
+    → refusal_by joiner.initiated joiner.terminated joiner.transfer event ≡ None → Stands heads joiner transfers
+    → Stands (heads ++ head ∷ []) (joiner_after joiner event) (after_message transfers head.message head.content)
+stands_more heads joiner transfers head event is may at = record {
+  in_order = in_order_more heads head at.in_order (ap (refusal (messages_of heads)) is ∙ may_come joiner (messages_of heads) event at.joins may);
+  joins = subst (IsJoinerAt (joiner_after joiner event)) (sym (messages_push heads head)) (IsJoinerAt-then joiner (messages_of heads) head.message event is at.joins);
+  makes = transfers_push heads head ∙ ap (λ ts. after_message ts head.message head.content) at.makes;
+}

@@ -1,0 +1,5 @@
+pub mod Prefix
+pub mod PackedStream
+pub mod Ranges
+pub mod RoundTrip
+pub mod Listed

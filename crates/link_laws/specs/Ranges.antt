@@ -1,0 +1,18 @@
+-- What the types of the options and of the input say of their numbers.
+use Rattle.std.specs.Prelude.{ℕ, ◌^◌, ◌<◌, ◌≤◌, List, length}
+use Rattle.link_wire.specs.Bytes.{AreBytes}
+use Rattle.link_wire.specs.Limits.{longest_node}
+use Rattle.link_pack.specs.declared.options.PackOptions.{PackOptions}
+
+-- each number fits its field
+pub record OptionsFit (options : PackOptions) : Type 0 where
+  pub keepalive : options.keepalive < 2 ^ 16
+  pub segment_mru : options.segment_mru < 2 ^ 64
+  pub transfer_mru : options.transfer_mru < 2 ^ 64
+  pub node : AreBytes options.node.items
+  pub short : length options.node.items ≤ longest_node
+
+-- the input is bytes, and fewer than IDs
+pub record InputFits (bytes : List ℕ) : Type 0 where
+  pub are : AreBytes bytes
+  pub few : length bytes < 2 ^ 64

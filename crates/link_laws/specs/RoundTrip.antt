@@ -1,0 +1,25 @@
+-- What comes of a packed stream that is unpacked.
+use Rattle.std.specs.Prelude.{◌≡◌, ℕ, suc, ◌+◌, false, List, [], ◌∷◌, ◌++◌, length, None}
+use Rattle.link_report.specs.Transfer.{transfer_text}
+use Rattle.link_report.specs.declared.judgement.Judgement.TheVariants.{Good}
+use Rattle.link_unpack.specs.Unpacking.{unpacking}
+use Rattle.link_unpack.specs.declared.wanted.Wanted.{Wanted}
+use Rattle.link_pack.specs.Bundles.{Packed, divided}
+use Rattle.link_pack.specs.declared.options.PackOptions.{PackOptions}
+
+-- all data of all transfers
+abbrev pub all : Wanted
+all = record { only = None; payload = false }
+
+-- a line for each bundle: its number, where it begins in the output, and that it is good
+unfoldable pub good_lines : (number start : ℕ) → List Packed → List ℕ
+good_lines number start [] = []
+good_lines number start (bundle ∷ more) =
+    transfer_text (record { id = number; start = start; written = length bundle.bytes; length = length bundle.bytes; judgement = Good bundle.info })
+    ++ good_lines (suc number) (start + length bundle.bytes) more
+
+-- unpacking the stream gives the bundles back, each good
+pub record GivesBack (options : PackOptions) (bytes stream : List ℕ) : Type 0 where
+  pub output : (unpacking all stream).texts.output ≡ bytes
+  pub report : (unpacking all stream).texts.report ≡ good_lines 0 0 (divided options.peer_transfer bytes).bundles
+  pub status : (unpacking all stream).status ≡ 0

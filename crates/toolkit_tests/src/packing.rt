@@ -1,0 +1,210 @@
+//! Worked bundles are packed as their rows say, however the devices move the bytes, and step by step.
+
+use crate::packings::{
+    ANNOUNCED, DEFAULTS, FAULTS, HELD, IN_HALVES, NOT_HELD, PAST_LIMIT, Packing, Row, WHOLE,
+};
+use crate::running::{Expected, Tool, ended_over, gives_at_each_pace, steps_alike};
+use crate::stream::{CONTACT_LINE, PLAIN, SESSION, SESSION_LINE, built, joined, put_segment, text};
+use crate::transfers::{ALL, EMPTY_END, WHOLE_BUNDLES};
+use crate::{Failing, TestReader, TestWriter};
+use link_tools::{PackRun, Progress, Run, Status};
+use std::alloc::Global;
+use std::process::Abort;
+use std::test::Fail;
+
+/// Packing the input gives this at each pace, and in steps at each pace.
+fn gives_in_steps(
+    rt: &(impl Abort + AllocGlobal),
+    name: &str,
+    input: &[u8],
+    want: &Expected<'_>,
+) -> Result<(), Fail> {
+    gives_at_each_pace(rt, name, input, want)?;
+    steps_alike(rt, want.tool, input, 7)?;
+    steps_alike(rt, want.tool, input, 1)
+}
+
+/// Packs each row's input.
+fn all_given(rt: &(impl Abort + AllocGlobal), rows: &[Row]) -> Result<(), Fail> {
+    for row in rows {
+        let input = joined(rt.alloc(), row.input)?;
+        let output = built(rt.alloc(), row.output)?;
+        let report = joined(rt.alloc(), row.report)?;
+        let want = Expected {
+            tool: Tool::Pack(row.packing),
+            output: &output,
+            report: &report,
+            status: row.status,
+        };
+        gives_in_steps(rt, row.name, &input, &want)?;
+    }
+    Ok(())
+}
+
+#[test]
+fn whole_bundles(rt: HostRuntime) -> Result<(), Fail> {
+    all_given(&rt, &WHOLE)
+}
+
+#[test]
+fn faults(rt: HostRuntime) -> Result<(), Fail> {
+    all_given(&rt, &FAULTS)
+}
+
+/// A bundle that is cut at each of its bytes.
+#[test]
+fn every_prefix(rt: HostRuntime) -> Result<(), Fail> {
+    let bundle = joined(rt.alloc(), PLAIN)?;
+    let session = joined(rt.alloc(), SESSION)?;
+    for size in 1..=33 {
+        let prefix = bundle.get(..size).ok_or("more than the bundle")?;
+        let report = format!(in rt.alloc();
+            "tcpclkit: bundle 0 byte {size}: B1 input ends inside a bundle\n"
+        )?;
+        let want = Expected {
+            tool: Tool::Pack(DEFAULTS),
+            output: &session,
+            report: report.as_bytes(),
+            status: 3,
+        };
+        gives_in_steps(&rt, "a prefix of a bundle", prefix, &want)?;
+    }
+    Ok(())
+}
+
+/// Packs a row's input over a reader of a byte a call. Each entry is a number of steps, and how many bytes of the output
+/// and lines of the report are written after each of them; the step after all of these is the last.
+fn byte_by_byte(
+    rt: &(impl Abort + AllocGlobal),
+    row: &Row,
+    written: &[(usize, usize, usize)],
+) -> Result<(), Fail> {
+    let input = joined(rt.alloc(), row.input)?;
+    let output = built(rt.alloc(), row.output)?;
+    let run = PackRun::new(
+        rt.alloc(),
+        row.packing.options(),
+        TestReader::new(&input, 1, Failing::Never),
+        TestWriter::new(rt.alloc(), usize::MAX, Failing::Never),
+        TestWriter::new(rt.alloc(), usize::MAX, Failing::Never),
+    );
+    let mut run = run.ok().ok_or("no memory")?;
+    for (steps, size, lines) in written {
+        let report = row.report.get(..*lines).ok_or("more than the report")?;
+        let report = joined(rt.alloc(), report)?;
+        for _ in 0..*steps {
+            assert_eq!(rt; run.step(), Ok(Progress::More));
+            assert!(rt; Some(run.output().written()) == output.get(..*size));
+            assert_eq!(rt; text(run.report().written())?, text(&report)?);
+        }
+    }
+    assert_eq!(rt; run.step(), Ok(Progress::Done(Status(row.status))));
+    Ok(())
+}
+
+/// A chunk is written in the step that takes its last byte, and a bundle's line in the same step as its last chunk.
+#[test]
+fn two_bundles_step_by_step(rt: HostRuntime) -> Result<(), Fail> {
+    let written = [
+        (17, 38, 0),
+        (17, 77, 0),
+        (17, 112, 1),
+        (17, 151, 1),
+        (1, 186, 2),
+    ];
+    byte_by_byte(&rt, &IN_HALVES, &written)
+}
+
+/// A bundle whose length may yet be announced is written at its end.
+#[test]
+fn announced_step_by_step(rt: HostRuntime) -> Result<(), Fail> {
+    byte_by_byte(&rt, &ANNOUNCED, &[(34, 38, 0), (1, 125, 1)])
+}
+
+/// The chunks of one whose length is announced no more are written in the step that takes the byte past it; and those of
+/// one that is never announced, as they are full.
+#[test]
+fn past_the_limit_step_by_step(rt: HostRuntime) -> Result<(), Fail> {
+    byte_by_byte(&rt, &HELD, &[(34, 38, 0)])?;
+    byte_by_byte(&rt, &NOT_HELD, &[(33, 38, 0), (1, 126, 0)])?;
+    let written = [(10, 38, 0), (10, 70, 0), (10, 98, 0), (4, 126, 0)];
+    byte_by_byte(&rt, &PAST_LIMIT, &written)
+}
+
+/// The stream that a row's input is packed into.
+fn packed(alloc: Global, row: &Row) -> Result<Vec<u8>, Fail> {
+    let input = joined(alloc, row.input)?;
+    let end = ended_over(alloc, Tool::Pack(row.packing), &input, usize::MAX);
+    joined(alloc, &[end.output.written()])
+}
+
+/// Unpacking what was packed gives the bundles again, with these lines.
+fn comes_back(rt: &(impl Abort + AllocGlobal), row: &Row, report: &[&[u8]]) -> Result<(), Fail> {
+    let input = joined(rt.alloc(), row.input)?;
+    let report = joined(rt.alloc(), report)?;
+    let want = Expected {
+        tool: Tool::Unpack(ALL),
+        output: &input,
+        report: &report,
+        status: 0,
+    };
+    gives_at_each_pace(rt, row.name, &packed(rt.alloc(), row)?, &want)
+}
+
+#[test]
+fn unpacked_again(rt: HostRuntime) -> Result<(), Fail> {
+    comes_back(&rt, &IN_HALVES, WHOLE_BUNDLES.report)?;
+    comes_back(&rt, &ANNOUNCED, EMPTY_END.report)
+}
+
+#[test]
+fn announced_length_listed(rt: HostRuntime) -> Result<(), Fail> {
+    let lines: &[&[u8]] = &[
+        CONTACT_LINE,
+        SESSION_LINE,
+        b"38 xfer-segment flags=02 id=0 items=1 item=00:0001:8 length=17\n",
+        b"90 xfer-segment flags=01 id=0 length=17\n",
+    ];
+    let lines = joined(rt.alloc(), lines)?;
+    let want = Expected {
+        tool: Tool::List,
+        output: &lines,
+        report: b"",
+        status: 0,
+    };
+    let stream = packed(rt.alloc(), &ANNOUNCED)?;
+    gives_at_each_pace(&rt, "an announced length", &stream, &want)
+}
+
+/// A bundle of 70,033 bytes, whose payload is zeros.
+fn long_bundle(alloc: Global) -> Result<Vec<u8>, Fail> {
+    let mut bundle = joined(alloc, PLAIN)?;
+    bundle.truncate(27);
+    bundle.extend_from_slice(b"\x5a\x00\x01\x11\x70")?;
+    bundle.resize(70_032, 0)?;
+    bundle.push(0xff)?;
+    Ok(bundle)
+}
+
+/// No segment has more than 65,536 bytes of data, whatever the peer takes.
+#[test]
+fn longest_segment(rt: HostRuntime) -> Result<(), Fail> {
+    let bundle = long_bundle(rt.alloc())?;
+    let (first, last) = bundle
+        .split_at_checked(65_536)
+        .ok_or("less than a segment")?;
+    let mut output = joined(rt.alloc(), SESSION)?;
+    put_segment(&mut output, 2, 0, &[first])?;
+    put_segment(&mut output, 1, 0, &[last])?;
+    let packing = Packing {
+        peer_segment: u64::MAX,
+        ..DEFAULTS
+    };
+    let want = Expected {
+        tool: Tool::Pack(packing),
+        output: &output,
+        report: b"bundle 0 segments=2 length=70033 source=ipn:1.1 time=0 sequence=0 destination=ipn:2.1 payload=70000\n",
+        status: 0,
+    };
+    gives_at_each_pace(&rt, "a long bundle", &bundle, &want)
+}

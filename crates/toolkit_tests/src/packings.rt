@@ -1,0 +1,372 @@
+//! Worked inputs of bundles, and the stream, the report and the status that packing them gives.
+
+use crate::stream::{
+    BACK, CONTACT, FIRST_10, FIRST_SEGMENT, FRONT, LENGTH_17, NO_ITEMS, PLAIN, Part, SESSION,
+};
+use crate::transfers::TWO_BUNDLES;
+use link_tools::PackOptions;
+use link_wire::NodeId;
+
+/// The options of a run, in numbers and bytes.
+#[derive(Clone, Copy, Debug, PartialEq, Eq)]
+pub struct Packing {
+    pub node: &'static [u8],
+    pub keepalive: u16,
+    pub segment_mru: u64,
+    pub transfer_mru: u64,
+    pub peer_segment: u64,
+    pub peer_transfer: u64,
+    pub announce: u64,
+    pub send_term: bool,
+}
+
+impl Packing {
+    /// The options of a run. No row asks for what they cannot hold: a node ID of more than 1,024 bytes, segments without
+    /// data, or announced lengths above 1,048,576.
+    pub fn options(&self) -> PackOptions {
+        PackOptions {
+            node: NodeId::try_from(self.node).unwrap_or_default(),
+            keepalive: self.keepalive,
+            segment_mru: self.segment_mru,
+            transfer_mru: self.transfer_mru,
+            peer_segment: self.peer_segment.max(1),
+            peer_transfer: self.peer_transfer,
+            announce: self.announce.min(1_048_576),
+            send_term: self.send_term,
+        }
+    }
+}
+
+/// A sender that says of itself what SESSION does, and a peer without limits.
+pub const DEFAULTS: Packing = Packing {
+    node: b"ipn:1.0",
+    keepalive: 60,
+    segment_mru: 65_536,
+    transfer_mru: 1_048_576,
+    peer_segment: 65_536,
+    peer_transfer: u64::MAX,
+    announce: 0,
+    send_term: false,
+};
+
+/// Segments of 17 bytes, half the bundle.
+const HALVES: Packing = Packing {
+    peer_segment: 17,
+    ..DEFAULTS
+};
+
+/// Segments of 10 bytes, and transfers of one byte less than the bundle has.
+const TENS: Packing = Packing {
+    peer_segment: 10,
+    peer_transfer: 33,
+    ..DEFAULTS
+};
+
+/// Bundles, one after another, and what packing them gives.
+#[derive(Clone, Copy)]
+pub struct Row {
+    pub name: &'static str,
+    pub packing: Packing,
+    pub input: &'static [&'static [u8]],
+    pub output: &'static [Part],
+    /// A line each.
+    pub report: &'static [&'static [u8]],
+    pub status: u8,
+}
+
+/// The bundle's bytes after the first 10.
+const SECOND_10: &[u8] = b"\x82\x02\x82\x01\x01\x82\x01\x00\x82\x00";
+
+const THIRD_10: &[u8] = b"\x00\x00\x85\x01\x01\x00\x00\x45he";
+
+const LAST_4: &[u8] = b"llo\xff";
+
+/// The second half of the bundle without its last byte; then with another in its place.
+const CUT_BACK: &[u8] = b"\x00\x82\x00\x00\x00\x85\x01\x01\x00\x00\x45hello";
+
+const UNENDED_BACK: &[u8] = b"\x00\x82\x00\x00\x00\x85\x01\x01\x00\x00\x45hello\x00";
+
+/// The first half of the bundle with bytes in place of its flags.
+const WRONG_FRONT: &[u8] = b"\x9f\x88\x07\x40\x00\x82\x02\x82\x02\x01\x82\x02\x82\x01\x01\x82\x01";
+
+/// The line of a first bundle in one segment, in two and in four, and that of a second one in two.
+const IN_ONE: &[u8] =
+    b"bundle 0 segments=1 length=34 source=ipn:1.1 time=0 sequence=0 destination=ipn:2.1 payload=5\n";
+
+const IN_TWO: &[u8] =
+    b"bundle 0 segments=2 length=34 source=ipn:1.1 time=0 sequence=0 destination=ipn:2.1 payload=5\n";
+
+const IN_FOUR: &[u8] =
+    b"bundle 0 segments=4 length=34 source=ipn:1.1 time=0 sequence=0 destination=ipn:2.1 payload=5\n";
+
+const SECOND_IN_TWO: &[u8] =
+    b"bundle 1 segments=2 length=34 source=ipn:1.1 time=0 sequence=0 destination=ipn:2.1 payload=5\n";
+
+/// The line of a first bundle that has more than 33 bytes, where the peer takes no more.
+const PAST_33: &[u8] = b"tcpclkit: bundle 0 byte 33: P1 longer than the peer's transfer limit\n";
+
+/// What is written before the bundles.
+const BEGUN: &[Part] = &[Part::Bytes(SESSION)];
+
+/// The bundle in one segment.
+const ONE_SEGMENT: &[Part] = &[Part::Bytes(SESSION), Part::Segment(3, 0, PLAIN)];
+
+/// The bundle in two segments.
+const TWO_SEGMENTS: &[Part] = &[
+    Part::Bytes(SESSION),
+    Part::Segment(2, 0, &[FRONT]),
+    Part::Segment(1, 0, &[BACK]),
+];
+
+/// The first three of the bundle's four segments of 10 bytes.
+const THREE_SEGMENTS: &[Part] = &[
+    Part::Bytes(SESSION),
+    Part::Segment(2, 0, &[FIRST_10]),
+    Part::Segment(0, 0, &[SECOND_10]),
+    Part::Segment(0, 0, &[THIRD_10]),
+];
+
+/// Two bundles of two segments each.
+pub const IN_HALVES: Row = Row {
+    name: "two bundles in halves",
+    packing: HALVES,
+    input: &[FRONT, BACK, FRONT, BACK],
+    output: TWO_BUNDLES,
+    report: &[IN_TWO, SECOND_IN_TWO],
+    status: 0,
+};
+
+/// A bundle of just the length up to which lengths are announced: 125 bytes.
+pub const ANNOUNCED: Row = Row {
+    name: "an announced length",
+    packing: Packing {
+        announce: 34,
+        ..HALVES
+    },
+    input: PLAIN,
+    output: &[
+        Part::Bytes(SESSION),
+        Part::Bytes(&[
+            FIRST_SEGMENT,
+            b"\x00\x00\x00\x0d\x00\x00\x01\x00\x08\x00\x00\x00\x00\x00\x00\x00\x22",
+            LENGTH_17,
+            FRONT,
+        ]),
+        Part::Segment(1, 0, &[BACK]),
+    ],
+    report: &[IN_TWO],
+    status: 0,
+};
+
+/// A bundle that is longer than the peer takes, by one byte.
+pub const PAST_LIMIT: Row = Row {
+    name: "a byte past the peer's limit",
+    packing: TENS,
+    input: PLAIN,
+    output: THREE_SEGMENTS,
+    report: &[PAST_33],
+    status: 3,
+};
+
+/// Its length might yet be announced where the peer's limit is met.
+pub const HELD: Row = Row {
+    name: "a byte past the limit and past what is announced",
+    packing: Packing {
+        announce: 33,
+        ..TENS
+    },
+    input: PLAIN,
+    output: BEGUN,
+    report: &[PAST_33],
+    status: 3,
+};
+
+/// Its length is announced no more where the peer's limit is met.
+pub const NOT_HELD: Row = Row {
+    name: "a byte past the limit, and two past what is announced",
+    packing: Packing {
+        announce: 32,
+        ..TENS
+    },
+    input: PLAIN,
+    output: THREE_SEGMENTS,
+    report: &[PAST_33],
+    status: 3,
+};
+
+/// Inputs of nothing but whole bundles.
+pub const WHOLE: [Row; 9] = [
+    Row {
+        name: "nothing",
+        packing: DEFAULTS,
+        input: &[],
+        output: BEGUN,
+        report: &[],
+        status: 0,
+    },
+    Row {
+        name: "nothing, and SESS_TERM",
+        packing: Packing {
+            send_term: true,
+            ..DEFAULTS
+        },
+        input: &[],
+        output: &[Part::Bytes(SESSION), Part::Bytes(&[b"\x05\x00\x00"])],
+        report: &[],
+        status: 0,
+    },
+    Row {
+        name: "a bundle, and SESS_TERM",
+        packing: Packing {
+            send_term: true,
+            ..DEFAULTS
+        },
+        input: PLAIN,
+        output: &[
+            Part::Bytes(SESSION),
+            Part::Segment(3, 0, PLAIN),
+            Part::Bytes(&[b"\x05\x00\x00"]),
+        ],
+        report: &[IN_ONE],
+        status: 0,
+    },
+    Row {
+        name: "another sender",
+        packing: Packing {
+            node: b"",
+            keepalive: 0x0102,
+            segment_mru: 0x0304_0506_0708_090a,
+            transfer_mru: u64::MAX,
+            ..DEFAULTS
+        },
+        input: PLAIN,
+        output: &[
+            Part::Bytes(&[
+                CONTACT,
+                b"\x07\x01\x02\x03\x04\x05\x06\x07\x08\x09\x0a\xff\xff\xff\xff\xff\xff\xff\xff",
+                b"\x00\x00",
+                NO_ITEMS,
+            ]),
+            Part::Segment(3, 0, PLAIN),
+        ],
+        report: &[IN_ONE],
+        status: 0,
+    },
+    IN_HALVES,
+    Row {
+        name: "a bundle of just the peer's limit",
+        packing: Packing {
+            peer_transfer: 34,
+            ..TENS
+        },
+        input: PLAIN,
+        output: &[
+            Part::Bytes(SESSION),
+            Part::Segment(2, 0, &[FIRST_10]),
+            Part::Segment(0, 0, &[SECOND_10]),
+            Part::Segment(0, 0, &[THIRD_10]),
+            Part::Segment(1, 0, &[LAST_4]),
+        ],
+        report: &[IN_FOUR],
+        status: 0,
+    },
+    ANNOUNCED,
+    Row {
+        name: "a bundle longer than is announced",
+        packing: Packing {
+            announce: 33,
+            ..HALVES
+        },
+        input: PLAIN,
+        output: TWO_SEGMENTS,
+        report: &[IN_TWO],
+        status: 0,
+    },
+    Row {
+        name: "a bundle of one segment is not announced",
+        packing: Packing {
+            peer_segment: 34,
+            announce: 100,
+            ..DEFAULTS
+        },
+        input: PLAIN,
+        output: ONE_SEGMENT,
+        report: &[IN_ONE],
+        status: 0,
+    },
+];
+
+/// Inputs with a fault.
+pub const FAULTS: [Row; 10] = [
+    PAST_LIMIT,
+    Row {
+        name: "a segment's data past the peer's limit",
+        packing: Packing {
+            peer_transfer: 10,
+            ..DEFAULTS
+        },
+        input: &[FIRST_10, SECOND_10],
+        output: BEGUN,
+        report: &[b"tcpclkit: bundle 0 byte 10: P1 longer than the peer's transfer limit\n"],
+        status: 3,
+    },
+    Row {
+        name: "a peer that takes nothing",
+        packing: Packing {
+            peer_transfer: 0,
+            ..DEFAULTS
+        },
+        input: PLAIN,
+        output: BEGUN,
+        report: &[b"tcpclkit: bundle 0 byte 0: P1 longer than the peer's transfer limit\n"],
+        status: 3,
+    },
+    Row {
+        name: "an input that ends at the peer's limit",
+        packing: TENS,
+        input: &[FRONT, CUT_BACK],
+        output: THREE_SEGMENTS,
+        report: &[b"tcpclkit: bundle 0 byte 33: B1 input ends inside a bundle\n"],
+        status: 3,
+    },
+    Row {
+        name: "a second bundle with a fault",
+        packing: DEFAULTS,
+        input: &[FRONT, BACK, WRONG_FRONT, BACK],
+        output: ONE_SEGMENT,
+        report: &[
+            IN_ONE,
+            b"tcpclkit: bundle 1 byte 3: B5 wrong kind of item\n",
+        ],
+        status: 3,
+    },
+    Row {
+        name: "a cut bundle",
+        packing: DEFAULTS,
+        input: &[FRONT, CUT_BACK],
+        output: BEGUN,
+        report: &[b"tcpclkit: bundle 0 byte 33: B1 input ends inside a bundle\n"],
+        status: 3,
+    },
+    Row {
+        name: "the byte that shows a fault fills no segment",
+        packing: HALVES,
+        input: &[FRONT, UNENDED_BACK],
+        output: &[Part::Bytes(SESSION), Part::Segment(2, 0, &[FRONT])],
+        report: &[b"tcpclkit: bundle 0 byte 33: B17 no payload block at the end\n"],
+        status: 3,
+    },
+    Row {
+        name: "no SESS_TERM after a fault",
+        packing: Packing {
+            send_term: true,
+            ..DEFAULTS
+        },
+        input: &[FRONT, BACK, b"\x00"],
+        output: ONE_SEGMENT,
+        report: &[IN_ONE, b"tcpclkit: bundle 1 byte 0: B3 not a bundle\n"],
+        status: 3,
+    },
+    HELD,
+    NOT_HELD,
+];
