@@ -1,12 +1,12 @@
 -- The number that a getter of `clap`'s matches reads, by the rows.
-use Rattle.std.proofs.Common.{◌≡◌, ◌∙◌, ℕ, Bool, true, false, List, [], ◌∷◌, Option, Some, None, Result, Ok, Err, ap, refl, sym, length}
+use Rattle.std.proofs.Common.{◌≡◌, ◌∙◌, ℕ, Bool, true, false, [], ◌∷◌, Option, Some, None, Result, ap, refl, length}
 use Rattle.std.proofs.lemmas.Bool.{lt-ltb, ltb-true}
-use Rattle.std.specs.Prelude.{◌&&◌, ◌^◌, if◌then◌else◌, nat_lt, option_and_then}
+use Rattle.std.specs.Prelude.{◌&&◌, ◌^◌, nat_lt, option_and_then}
 use Rattle.std.specs.List.{list_all}
 use Rattle.std.specs.Char.{digit_value}
 use Rattle.std.specs.Str.Parse.{AllDigits, ExplainsUnsignedError, HasUnsignedDigitsIfOk, ParsesUnsigned, digits_value, without_leading_plus}
 use Rattle.std.specs.declared.num.ParseIntError.{ParseIntError}
-use Rattle.clap.specs.Words.{ReadsOne, Text, one_of, one_text, rows_of}
+use Rattle.clap.specs.Words.{ReadsOne, Text, one_text, rows_of}
 use Rattle.clap.specs.declared.parser.matches.Found.{Found}
 use Rattle.clap.proofs.WalkLemmas.{both, one_text-rows}
 use Rattle.link_command.specs.Invoked.{is_numeral, number_below, number_in}

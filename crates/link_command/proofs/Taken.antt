@@ -1,5 +1,5 @@
 -- What is known of words in which `clap` finds nothing wrong.
-use Rattle.std.proofs.Common.{◌≡◌, ◌∙◌, ◌<◌, ℕ, Bool, true, false, true≢false, cond, List, [], ◌∷◌, Option, Some, None, inl, inr, ap, length, refl, subst, sym}
+use Rattle.std.proofs.Common.{◌≡◌, ◌∙◌, ◌<◌, Bool, true, false, true≢false, cond, List, [], ◌∷◌, Option, Some, None, inl, inr, ap, length, refl, subst, sym}
 use Rattle.std.specs.Prelude.{◌⊎◌, ◌&&◌, is_some, not, option_map}
 use Rattle.std.specs.List.{list_any}
 use Rattle.clap.specs.Words.{App, HasMatchesOf, IsAmong, Kinds, Row, Shape, Text, built, fault_of, is_simple_and_free, subcommand_of, subcommand_rows_of}

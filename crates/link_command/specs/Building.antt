@@ -1,5 +1,5 @@
 -- What the functions that build the command make, and what they do to it.
-use Rattle.std.specs.Prelude.{◌≡◌, ℕ, false, List, fold}
+use Rattle.std.specs.Prelude.{◌≡◌, false, List, fold}
 use Rattle.clap.specs.Words.{Rule, Shape, app_of, rule_of, shape_of, with_rule}
 use Rattle.clap.specs.declared.builder.arg.Arg.{Arg}
 use Rattle.clap.specs.declared.builder.command.Command.{Command}

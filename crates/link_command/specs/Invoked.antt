@@ -1,5 +1,5 @@
 -- What the program is to do, by the matches that `clap` defines for the words.
-use Rattle.std.specs.Prelude.{◌≡◌, ◌&&◌, ◌^◌, ℕ, Bool, true, false, List, [], Option, Some, None, codes, length, max, min, nat_lt, option_and_then, option_map, string_bytes, unwrap_or, if◌then◌else◌}
+use Rattle.std.specs.Prelude.{◌≡◌, ◌&&◌, ◌^◌, ℕ, Bool, false, List, [], Option, Some, None, codes, length, max, min, nat_lt, option_and_then, option_map, string_bytes, unwrap_or, if◌then◌else◌}
 use Rattle.std.specs.List.{list_all}
 use Rattle.std.specs.Option.{option_map_or}
 use Rattle.std.specs.Str.{bytes_eq}

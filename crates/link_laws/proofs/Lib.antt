@@ -20,3 +20,5 @@ mod Payloads
 mod Transfers
 mod Heads
 mod Unpackings
+mod EveryByte
+mod Cut

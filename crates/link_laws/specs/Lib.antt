@@ -3,3 +3,4 @@ pub mod PackedStream
 pub mod Ranges
 pub mod RoundTrip
 pub mod Listed
+pub mod Cuts

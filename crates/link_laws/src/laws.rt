@@ -8,6 +8,7 @@ ghost use Rattle.link_unpack.specs.Unpacking.{unpack_tool};
 ghost use Rattle.link_unpack.specs.declared.wanted.Wanted.{Wanted};
 ghost use Rattle.link_pack.specs.Packing.{packing, pack_tool};
 ghost use Rattle.link_pack.specs.declared.options.PackOptions.{PackOptions};
+ghost use Rattle.link_laws.specs.Cuts.{HasEveryByte, CutsOutput};
 ghost use Rattle.link_laws.specs.Listed.{IsListed};
 ghost use Rattle.link_laws.specs.PackedStream.{KeepsLimits};
 ghost use Rattle.link_laws.specs.Prefix.{IsPrefixed};
@@ -57,6 +58,18 @@ pub fn list_of_pack(options: &PackOptions, bytes: &[u8])
     input_fits(bytes);
     exactly_one_reading();
 }
+
+/// Nothing is lost and nothing doubled: for all transfers, without payload, the output of `unpack` is the data of the
+/// segments that were accepted, in order.
+pub fn every_byte_once()
+    ensures { (bytes : List ℕ) → HasEveryByte bytes }
+{}
+
+/// The report of `unpack` cuts its output: each line's transfer begins in the output where those before it end, and what
+/// is left behind the last is that of a transfer that a fault left open.
+pub fn report_cuts_output()
+    ensures { (wanted : Wanted) (bytes : List ℕ) → CutsOutput wanted bytes }
+{}
 
 // ---- what the types say
 

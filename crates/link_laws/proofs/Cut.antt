@@ -1,0 +1,82 @@
+-- The report of `unpack` cuts its output.
+use Rattle.std.proofs.Common.{◌≡◌, ℕ, ◌+◌, ◌≤◌, Bool, true, false, List, [], ◌∷◌, ◌++◌, length, Option, Some, None, if◌then◌else◌, refl, ap, ◌∙◌, length-append, arith}
+use Rattle.std.specs.List.{flat_map}
+use Rattle.std.proofs.lemmas.List.{flat_map_more}
+use Rattle.link_wire.specs.Stream.{End, Clean, Cut, Fault, reading_of}
+use Rattle.link_transfer.specs.declared.fault.OrderFault.{OrderFault}
+use Rattle.link_report.specs.Transfer.{transfer_text}
+use Rattle.link_report.specs.declared.transfer.TransferEntry.{TransferEntry}
+use Rattle.link_unpack.specs.Transfers.{Transfer, transfers_of, settled}
+use Rattle.link_unpack.specs.Unpacking.{part_of, parts_of, entry_of, line_of, lines_of, over, stop_lines, unpacking}
+use Rattle.link_unpack.specs.declared.wanted.Wanted.{Wanted}
+use Rattle.link_laws.specs.Cuts.{order_of, entries_of, Follow, written_by, reported, CutsOutput}
+
+-- ---- one entry more
+
+written_push : (entries : List TransferEntry) (last : TransferEntry) → written_by (entries ++ last ∷ []) ≡ written_by entries + last.written
+unfolding written_by
+written_push [] last = omega arith
+written_push (entry ∷ more) last = let later = written_push more last in omega arith
+
+follow_push : (start : ℕ) (entries : List TransferEntry) (last : TransferEntry) → Follow start entries → last.start ≡ start + written_by entries → Follow start (entries ++ last ∷ [])
+unfolding Follow written_by
+follow_push start [] last follow is = (omega arith, tt)
+follow_push start (entry ∷ more) last follow is = (follow.0, follow_push (start + entry.written) more last follow.1 (omega arith))
+
+module _ (wanted : Wanted) where
+  -- ---- the entries of transfers
+
+  lines_are : (transfers : List Transfer) → lines_of wanted transfers ≡ flat_map transfer_text (entries_of wanted transfers)
+  unfolding lines_of entries_of
+  lines_are [] = refl
+  lines_are (latest ∷ earlier) =
+      ap (λ (lines : List ℕ). lines ++ line_of wanted latest earlier) (lines_are earlier)
+      ∙ flat_map_more transfer_text [] (entries_of wanted earlier) (entry_of wanted latest (length (parts_of wanted earlier)))
+
+  all_written : (transfers : List Transfer) → length (parts_of wanted transfers) ≡ written_by (entries_of wanted transfers)
+  unfolding parts_of entries_of written_by
+  all_written [] = refl
+  all_written (latest ∷ earlier) =
+      let before = all_written earlier in
+      let pushed = written_push (entries_of wanted earlier) (entry_of wanted latest (length (parts_of wanted earlier))) in
+      omega (arith, length-append (parts_of wanted earlier) (part_of wanted latest))
+
+  follows : (transfers : List Transfer) → Follow 0 (entries_of wanted transfers)
+  unfolding entries_of Follow
+  follows [] = tt
+  follows (latest ∷ earlier) =
+      let before = all_written earlier in
+      follow_push 0 (entries_of wanted earlier) (entry_of wanted latest (length (parts_of wanted earlier))) (follows earlier) (omega arith)
+
+-- ---- the transfer that has no line
+
+unlined_by : (closed : Bool) (latest : Transfer) (earlier : List Transfer) → closed ≡ latest.closed
+    → (left : List Transfer) × (length left ≤ 1) × (latest ∷ earlier ≡ left ++ (if closed then latest ∷ earlier else earlier))
+unlined_by true latest earlier is = ([], omega arith, refl)
+unlined_by false latest earlier is = (latest ∷ [], omega arith, refl)
+
+unlined_settled : (transfers : List Transfer) → (left : List Transfer) × (length left ≤ 1) × (transfers ≡ left ++ settled transfers)
+unlined_settled [] = ([], omega arith, refl)
+unlined_settled (latest ∷ earlier) = unlined_by latest.closed latest earlier refl
+
+unlined_over : (refused : Option (ℕ × OrderFault)) (end : End) (transfers : List Transfer) → (left : List Transfer) × (length left ≤ 1) × (transfers ≡ left ++ over refused end transfers)
+unlined_over (Some refused) end transfers = unlined_settled transfers
+unlined_over None Clean transfers = ([], omega arith, refl)
+unlined_over None (Cut offset message content) transfers = unlined_settled transfers
+unlined_over None (Fault offset fault) transfers = unlined_settled transfers
+
+-- the report of any stream
+pub cuts : (wanted : Wanted) (bytes : List ℕ) → CutsOutput wanted bytes
+unfolding unpacking
+cuts wanted bytes =
+    let order = order_of bytes in
+    let end = (reading_of bytes).end in
+    let left = unlined_over order.refused end (transfers_of order.heads) in
+    record {
+      lines = ap (λ (lines : List ℕ). lines ++ stop_lines order.refused end) (lines_are wanted (reported bytes));
+      follow = follows wanted (reported bytes);
+      left = left.0;
+      one = left.1;
+      whole = ap (parts_of wanted) left.2;
+      size = all_written wanted (reported bytes);
+    }

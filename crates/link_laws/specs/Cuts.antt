@@ -1,0 +1,54 @@
+-- How the output of `unpack` is made of the stream's data, and how its report cuts it.
+use Rattle.std.specs.Prelude.{◌≡◌, ℕ, ◌+◌, ◌≤◌, false, List, [], ◌∷◌, ◌++◌, length, None}
+use Rattle.std.specs.List.{flat_map}
+use Rattle.link_wire.specs.Stream.{Entry, reading_of}
+use Rattle.link_report.specs.Transfer.{transfer_text}
+use Rattle.link_report.specs.declared.transfer.TransferEntry.{TransferEntry}
+use Rattle.link_unpack.specs.Transfers.{Transfer, Ordered, ordered, heads_of, transfers_of}
+use Rattle.link_unpack.specs.Unpacking.{parts_of, entry_of, over, stop_lines, unpacking}
+use Rattle.link_unpack.specs.declared.wanted.Wanted.{Wanted}
+
+-- ---- the output
+
+-- the data of a segment that is there
+abbrev pub data_of : Entry → List ℕ
+data_of head = head.content
+
+-- the heads of a stream that are in order, and the first that is not
+abbrev pub order_of : List ℕ → Ordered
+order_of bytes = ordered (heads_of (reading_of bytes))
+
+-- of all transfers, without payload, the output is the data of the segments that were accepted, in order
+abbrev pub HasEveryByte : List ℕ → Type 0
+HasEveryByte bytes = (unpacking (record { only = None; payload = false }) bytes).texts.output ≡ flat_map data_of (order_of bytes).heads
+
+-- ---- the report
+
+-- what the lines of these transfers say, the latest of which is the first here and the last there
+unfoldable pub entries_of : Wanted → List Transfer → List TransferEntry
+entries_of wanted [] = []
+entries_of wanted (latest ∷ earlier) = entries_of wanted earlier ++ entry_of wanted latest (length (parts_of wanted earlier)) ∷ []
+
+-- each begins where the ones before it end
+unfoldable pub Follow : (start : ℕ) → List TransferEntry → Type 0
+Follow start [] = Unit {0}
+Follow start (entry ∷ more) = (entry.start ≡ start) × Follow (start + entry.written) more
+
+unfoldable pub written_by : List TransferEntry → ℕ
+written_by [] = 0
+written_by (entry ∷ more) = entry.written + written_by more
+
+-- the transfers that have a line
+abbrev pub reported : List ℕ → List Transfer
+reported bytes = over (order_of bytes).refused (reading_of bytes).end (transfers_of (order_of bytes).heads)
+
+-- The report is the lines of these transfers and then that of the fault. What they say was written follows one another from
+-- the beginning of the output, and what is left of the output is that of the transfer that has no line.
+pub record CutsOutput (wanted : Wanted) (bytes : List ℕ) : Type 0 where
+  pub lines : (unpacking wanted bytes).texts.report ≡ flat_map transfer_text (entries_of wanted (reported bytes)) ++ stop_lines (order_of bytes).refused (reading_of bytes).end
+  pub follow : Follow 0 (entries_of wanted (reported bytes))
+  -- a transfer that has no line is the latest, and stands last in the output
+  pub left : List Transfer
+  pub one : length left ≤ 1
+  pub whole : (unpacking wanted bytes).texts.output ≡ parts_of wanted (left ++ reported bytes)
+  pub size : length (parts_of wanted (reported bytes)) ≡ written_by (entries_of wanted (reported bytes))
