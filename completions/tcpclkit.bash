@@ -1,0 +1,36 @@
+# Completions of tcpclkit for bash.
+
+_tcpclkit() {
+  local word=${COMP_WORDS[COMP_CWORD]} before=${COMP_WORDS[COMP_CWORD - 1]} given option words='' values='' flags='-h --help'
+  COMPREPLY=()
+  if ((COMP_CWORD == 1)); then
+    words='list unpack pack'
+    [[ $word != -* ]] || words="$flags -V --version"
+    mapfile -t COMPREPLY < <(compgen -W "$words" -- "$word")
+    return
+  fi
+  case ${COMP_WORDS[1]} in
+    list) ;;
+    unpack) values='--transfer' flags+=' --payload' ;;
+    pack)
+      values='--node --keepalive --segment-mru --transfer-mru --peer-segment --peer-transfer --announce'
+      flags+=' --end'
+      ;;
+    *) return ;;
+  esac
+  # The value of an option is not known. bash cuts it at `=` and `:`.
+  [[ " $values = : " != *" $before "* ]] || return
+  given=" ${COMP_WORDS[*]:2:COMP_CWORD - 2} "
+  if [[ $word != -* || $given == *' -- '* ]]; then
+    compopt -o filenames 2> /dev/null
+    mapfile -t COMPREPLY < <(compgen -f -- "$word")
+    return
+  fi
+  # An option is given once.
+  for option in $values $flags; do
+    [[ $given == *" $option "* ]] || words+=" $option"
+  done
+  mapfile -t COMPREPLY < <(compgen -W "$words" -- "$word")
+}
+
+complete -F _tcpclkit tcpclkit

@@ -1,0 +1,34 @@
+# Completions of tcpclkit for fish.
+
+# Whether the first word is the tool, and the option was not given after it. Where its VALUE is typed, it is not yet given.
+function __tcpclkit_takes -a tool option value
+    set -l words (commandline -opc)
+    test -n "$value" -a "$words[-1]" = --$option; and set -e words[-1]
+    test "$words[2]" = $tool; and not string match -qr -- "^--$option(=|\$)" $words
+end
+
+# Whether there is no tool yet.
+function __tcpclkit_begins
+    test (count (commandline -opc)) -eq 1
+end
+
+complete -c tcpclkit -f
+complete -c tcpclkit -s h -l help -d 'Print help'
+complete -c tcpclkit -n __tcpclkit_begins -s V -l version -d 'Print version'
+complete -c tcpclkit -n __tcpclkit_begins -a list -d 'Writes a line for the contact header and each message of a recording'
+complete -c tcpclkit -n __tcpclkit_begins -a unpack -d "Writes the data of a recording's transfers"
+complete -c tcpclkit -n __tcpclkit_begins -a pack -d 'Writes bundles as the stream of a sender'
+
+complete -c tcpclkit -n 'not __tcpclkit_begins' -F
+
+complete -c tcpclkit -n '__tcpclkit_takes unpack transfer VALUE' -x -l transfer -d 'The ID of the transfers whose data is written'
+complete -c tcpclkit -n '__tcpclkit_takes unpack payload' -l payload -d 'Write the payload of each bundle alone'
+
+complete -c tcpclkit -n '__tcpclkit_takes pack node VALUE' -x -l node -d "The sender's node ID"
+complete -c tcpclkit -n '__tcpclkit_takes pack keepalive VALUE' -x -l keepalive -d 'The keepalive interval in seconds'
+complete -c tcpclkit -n '__tcpclkit_takes pack segment-mru VALUE' -x -l segment-mru -d 'The longest segment that the sender takes'
+complete -c tcpclkit -n '__tcpclkit_takes pack transfer-mru VALUE' -x -l transfer-mru -d 'The longest transfer that the sender takes'
+complete -c tcpclkit -n '__tcpclkit_takes pack peer-segment VALUE' -x -l peer-segment -d 'The longest segment that the peer takes'
+complete -c tcpclkit -n '__tcpclkit_takes pack peer-transfer VALUE' -x -l peer-transfer -d 'The longest transfer that the peer takes'
+complete -c tcpclkit -n '__tcpclkit_takes pack announce VALUE' -x -l announce -d 'Announce the length of bundles of more than one segment and at most N bytes'
+complete -c tcpclkit -n '__tcpclkit_takes pack end' -l end -d 'End the stream with SESS_TERM'
