@@ -1,5 +1,5 @@
 #!/usr/bin/env python3
-"""Makes the recordings of this folder, and the bundles for `pack`: `python3 make.py [FOLDER]`.
+"""Makes the recordings of this folder, the bundles for `pack`, and a capture of a session: `python3 make.py [FOLDER]`.
 
 Each recording is what one entity sent in a TCPCLv4 session (RFC 9174): a contact header, then messages. Numbers on the
 wire are unsigned and big-endian. Only python's standard library is used.
@@ -8,6 +8,8 @@ wire are unsigned and big-endian. Only python's standard library is used.
 import struct
 import sys
 from pathlib import Path
+
+from capture import pcap, stream
 
 # RFC 9174 section 4.2: `dtn!`, version 4, flags 00
 CONTACT = b"dtn!" + bytes([4, 0x00])
@@ -33,10 +35,9 @@ def length_item(total):
     return item(0x00, 0x0001, struct.pack(">Q", total))
 
 
-def sess_init(*items):
-    """SESS_INIT (section 4.6): keepalive of 60 s, MRUs of 64 KiB and 1 MiB, node ID `ipn:1.0`."""
-    node = b"ipn:1.0"
-    return struct.pack(">BHQQH", 0x07, 60, 65536, 1048576, len(node)) + node + extensions(*items)
+def sess_init(*items, keepalive=60, node=b"ipn:1.0"):
+    """SESS_INIT (section 4.6), with MRUs of 64 KiB and 1 MiB."""
+    return struct.pack(">BHQQH", 0x07, keepalive, 65536, 1048576, len(node)) + node + extensions(*items)
 
 
 def xfer_segment(flags, transfer, data, *items):
@@ -128,11 +129,54 @@ TRANSFERS = b"".join(
 CHECKED = DAMAGED.replace(b"iello", b"hello")
 TWO_BUNDLES = BUNDLE + CHECKED
 
+# A fragment (RFC 9171 section 4.3.1: flag 01, and two elements more) from ipn:2.1 to ipn:1.1: `world`, from byte 7 on of
+# 12. It was made on 2026-01-01 at 00:00 UTC, 820,540,800,000 ms after 2000-01-01, and lives for an hour. 48 bytes.
+FRAGMENT = bytes.fromhex(
+    "9f"
+    "8a 07 01 00 82 02 82 01 01 82 02 82 02 01 82 01 00 82 1b 00 00 00 bf 0c 0a fc 00 00 1a 00 36 ee 80 07 0c"
+    "85 01 01 00 00 45 77 6f 72 6c 64"
+    "ff"
+)
+
+# Both sides of a session, packet by packet: who sends it, what, and how many times the capture has it. `a` connects, as
+# ipn:1.0, and sends five transfers; `b` accepts, as ipn:2.0, refuses three of them, and sends one. The second segment of
+# transfer 0 is seen twice, head and data of transfer 1 are in two packets, and a KEEPALIVE and a segment are in one.
+ONE_SEGMENT = xfer_segment(START | END, 1, DAMAGED)
+SESSION = [
+    ("a", CONTACT, 1),
+    ("b", CONTACT, 1),
+    ("a", sess_init(), 1),
+    ("b", sess_init(keepalive=30, node=b"ipn:2.0"), 1),
+    ("a", xfer_segment(START, 0, BUNDLE[:17], length_item(len(BUNDLE))), 1),
+    ("b", xfer_ack(START, 0, 17), 1),
+    ("a", xfer_segment(END, 0, BUNDLE[17:]), 2),
+    ("b", xfer_ack(END, 0, 34), 1),
+    ("a", ONE_SEGMENT[:-37], 1),
+    ("a", ONE_SEGMENT[-37:], 1),
+    ("b", xfer_ack(START | END, 1, 37), 1),
+    ("a", xfer_segment(START, 2, BUNDLE[:17]), 1),
+    ("b", xfer_refuse(0x02, 2), 1),
+    ("a", xfer_segment(START | END, 3, BUNDLE, length_item(34), length_item(34)), 1),
+    ("b", xfer_refuse(0x05, 3), 1),
+    ("a", xfer_segment(START | END, 4, BUNDLE, length_item(35)), 1),
+    ("b", xfer_refuse(0x04, 4), 1),
+    ("a", KEEPALIVE, 1),
+    ("b", KEEPALIVE + xfer_segment(START | END, 0, FRAGMENT), 1),
+    ("a", xfer_ack(START | END, 0, 48), 1),
+    ("a", xfer_ack(END, 9, 5), 1),
+    ("b", msg_reject(0x03, 0x02), 1),
+    ("a", sess_term(0x00, 0x01), 1),
+    ("b", sess_term(0x01, 0x01), 1),
+]
+
 FILES = {
     "prelude-and-transfer.tcpcl": PRELUDE_AND_TRANSFER,
     "every-message.tcpcl": EVERY_MESSAGE,
     "transfers.tcpcl": TRANSFERS,
     "two.bundles": TWO_BUNDLES,
+    "session.pcap": pcap(SESSION),
+    "session-a.tcpcl": stream(SESSION, "a"),
+    "session-b.tcpcl": stream(SESSION, "b"),
 }
 
 
