@@ -1,0 +1,194 @@
+"""Counts and sizes at their limits and one past them, and every byte where a byte is shown or judged alone."""
+
+import struct
+
+from .lengths import CHECKED
+from .prefixes import LISTS, PACKS, UNPACKS
+from .spelling import (
+    CONTACT, END, START, array, canonical, carried, item, laid, primary, segment, sess_init, spelled, total, unsigned,
+)
+
+STREAM_RUNS = LISTS + UNPACKS[::2]
+LONG_PACKS = [("pack", {"node": "", **it}) for it in [
+    {}, {"peer_segment": 2**64 - 1, "announce": 65537}, {"peer_segment": 30000, "announce": 1048576},
+    {"peer_segment": 32768, "announce": 65536, "peer_transfer": 65536},
+]]
+
+
+def stream(*pieces):
+    """The bytes of a stream that begins with a contact header and a SESS_INIT."""
+    return laid([CONTACT, *sess_init(), *[it for piece in pieces for it in piece]])[0]
+
+
+def items_of(count, length):
+    """That many extension items of values of that length."""
+    return [item("session", 0xFF, 0xFFFF, bytes(length)) for _ in range(count)]
+
+
+def item_counts():
+    """Lists of 63 to 66 items, in both kinds of list; and cut and overrun after 64 items, where the 65th is judged."""
+    for count in (63, 64, 65, 66):
+        for length in (0, 1, 1019, 1020):
+            yield laid([CONTACT, *sess_init(items=items_of(count, length)), b"\x04"])[0], STREAM_RUNS
+            yield stream(segment(START | END, 0, b"", items_of(count, length)), [b"\x04"]), STREAM_RUNS
+    before = laid([CONTACT, *sess_init()])[0][:-4]
+    listed = b"".join(struct.pack(">BHHB", 0, 2, 1, 7) for _ in range(64))
+    for left in range(8):
+        for item_head in (b"\x00\x00\x02\x00\x01\x07", b"\x00\x00\x02\x00\x03\x07", b"\x00\x00\x02\xff\xff\x07"):
+            for there in range(len(item_head) + 1):
+                yield before + struct.pack(">I", 384 + left) + listed + item_head[:there], STREAM_RUNS
+
+
+def length_items():
+    """Transfers that announce their length, in items of each length and number, in the first segment and in a second."""
+    sizes = [(), (7,), (8,), (9,), (0,), (8, 8), (8, 7), (0, 8), (8, 8, 8)]
+    for announced in (4, 5, 2**64 - 1):
+        for lengths in sizes:
+            value = struct.pack(">Q", announced)
+            items = [item("transfer", 0x00, 0x0001, (value + b"\x00")[:length]) for length in lengths]
+            items.insert(1, item("transfer", 0x01, 0x0100, value))
+            for flags in (START, START | END):
+                rest = [] if flags & END else segment(END, 0, b"o")
+                yield stream(segment(flags, 0, b"hell" if rest else b"hello", items), rest), STREAM_RUNS
+    yield stream(segment(START | END, 0, b"hello", [item("transfer", 0xFE, 0x0001, struct.pack(">Q", 6))])), STREAM_RUNS
+    yield laid([CONTACT, *sess_init(items=[total(3), total(4), item("session", 0, 1, b"")])])[0], STREAM_RUNS
+
+
+def longest_lines():
+    """The longest lines: a node ID of 1,024 bytes and 64 items; and names of 1,024 and 1,025 bytes in a bundle."""
+    node, number = b"\x00" * 1024, 2**64 - 1
+    yield laid([CONTACT, *sess_init(node, items_of(64, 1019))])[0], STREAM_RUNS
+    for lengths in ((1024, 1024), (1025, 1024), (1024, 1025)):
+        names = [b"\xff" * length for length in lengths]
+        for fragment in ((), (number, number)):
+            block = primary(*names, names[0], flags=number if fragment else number - 1, stamp=(number, number), fragment=fragment)
+            content, _ = spelled([block, canonical(1, 1, b"x")])
+            yield content, PACKS
+            yield carried(content), UNPACKS
+
+
+def block_counts():
+    """Bundles of 63 to 66 canonical blocks, and with each other head in place of the 65th."""
+    for count in (63, 64, 65, 66):
+        blocks = [canonical(7, number, b"", kind=number % 3) for number in range(2, count + 1)]
+        yield from both(spelled([primary(None, None, None), *blocks, canonical(1, 1, b"")])[0])
+        yield from both(spelled([primary(None, None, None), *blocks, canonical(7, count + 1, b"")])[0])
+    blocks = [canonical(7, number, b"") for number in range(2, 66)]
+    before = spelled([primary(None, None, None), *blocks])[0][:-1]
+    for other in ("", "ff", "00", "80", "84", "85", "86", "87", "98", "9805", "9806", "9807", "9f", "1c", "5f", "c085"):
+        yield from both(before + bytes.fromhex(other))
+
+
+def both(content):
+    """A bundle packed, and as the data of a transfer."""
+    yield content, PACKS[:1]
+    yield carried(content), UNPACKS[::2]
+
+
+def block_numbers():
+    """Two extension blocks and a payload block of every pair of numbers, and types against numbers."""
+    numbers, begin, end = (0, 1, 2, 3, 2**64 - 1), primary(None, None, None), canonical(1, 1, b"")
+    for first in numbers:
+        for second in numbers:
+            yield from both(spelled([begin, canonical(7, first, b""), canonical(8, second, b""), end])[0])
+            yield from both(spelled([begin, canonical(first, second, b""), end])[0])
+
+
+def block_shapes():
+    """Primary blocks of each count with each check type and with and without the flag of a fragment; canonical ones too."""
+    for count in range(7, 13):
+        for kind in (0, 1, 2, 3):
+            for flags in (0, 1, 2, 3):
+                block = primary(None, (1, 1), None, kind=kind % 3, flags=flags, fragment=(1, 2) if flags & 1 else ())
+                block[0], block[3] = array(count), unsigned(kind)
+                yield from both(spelled([block, canonical(1, 1, b"x")])[0])
+    for count in range(4, 8):
+        for kind in (0, 1, 2, 3):
+            block = canonical(1, 1, b"x", kind % 3)
+            block[0], block[4] = array(count), unsigned(kind)
+            yield from both(spelled([primary(None, None, None), block])[0])
+
+
+def damaged():
+    """A bundle with each of its bytes changed in its lowest and its highest bit: packed byte by byte, and carried."""
+    whole, runs = spelled(CHECKED)[0], [("pack", {"node": "", "peer_segment": 1})]
+    for at, byte in enumerate(whole):
+        for bit in (0x01, 0x80):
+            changed = whole[:at] + bytes([byte ^ bit]) + whole[at + 1:]
+            yield changed, runs
+            yield carried(changed), UNPACKS[::2]
+
+
+def order():
+    """Every two of the messages that the order of messages is about, and a few after them."""
+    whole, _ = spelled([primary((2, 1), (1, 1), None), canonical(1, 1, b"x")])
+    messages = [laid(it)[0] for it in [
+        sess_init(), [b"\x05\x00\x00"], [b"\x04"], segment(START | END, 0, whole), segment(START, 0, whole[:9]),
+        segment(START, 1, b""), segment(0, 0, b""), segment(END, 0, whole[9:]), segment(END, 1, whole),
+        segment(START | END, 1, whole)[:-1] + [struct.pack(">Q", 99) + whole], segment(END, 0, b"")[:-1] + [struct.pack(">Q", 9)],
+    ]]
+    for first in messages:
+        yield CONTACT + first, UNPACKS
+        for second in messages:
+            for last in (b"", messages[3], messages[5], messages[7]):
+                yield CONTACT + messages[0] + first + second + last, UNPACKS[:3]
+
+
+def refused_and_cut():
+    """Messages that are refused for their order, cut at each byte; and with a head that has a fault of its own."""
+    begun, late = CONTACT + laid(sess_init())[0], b"\x05\x00\x00"
+    opened = laid(segment(START, 0, b"\x9f\x88"))[0]
+    start, rest = laid(segment(START | END, 0, b"\x9f\x88", [total(2)]))[0], laid(segment(END, 1, b"\x07\x00"))[0]
+    for before, it in [
+        (begun, laid(sess_init(items=items_of(1, 2)))[0]), (CONTACT, start), (CONTACT, rest), (begun + opened, start),
+        (begun + opened, rest), (begun + late, start), (begun + opened + late, start), (begun + start, rest),
+    ]:
+        for length in range(len(it) + 1):
+            yield before + it[:length], UNPACKS[::2]
+        for at in range(len(it)):
+            yield before + it[:at] + b"\xff" * 4 + it[at + 4:], UNPACKS[::2]
+
+
+def every_byte():
+    """Every byte as a version, a flag, a message type, a reason, a byte of a node ID and of a dtn name."""
+    runs = LISTS + UNPACKS[:1]
+    for byte in range(256):
+        it = bytes([byte])
+        yield b"dtn!" + it + b"\x00", runs
+        yield CONTACT[:5] + it, runs
+        yield stream([it + bytes(40)]), runs
+        yield stream([b"\x03" + it + bytes(8), b"\x05\x00" + it, b"\x06" + it + it, b"\x05" + it, b"\x00"]), LISTS
+        yield stream([b"\x02" + it + bytes(16)], segment(byte, 5, b"x")), runs
+        yield laid([CONTACT, *sess_init(node=b"a" + it)])[0], LISTS
+    names = bytes(range(256))
+    yield from both(spelled([primary(names, names[::-1], None), canonical(1, 1, b"")])[0])
+
+
+def long_bundles():
+    """Bundles of lengths around 65,536 bytes, which is the longest chunk, and twice that; whole and cut."""
+    for length in (65535, 65536, 65537, 131072, 131073):
+        short = len(spelled([primary(None, None, None), canonical(1, 1, b"")], widths=lambda value: 8)[0])
+        content = spelled([primary(None, None, None), canonical(1, 1, bytes(length - short))], widths=lambda value: 8)[0]
+        yield content, LONG_PACKS
+        yield content[:-1], LONG_PACKS
+        yield content[:-1] + b"\x00", LONG_PACKS
+
+
+def cut_chunks():
+    """Two bundles that are cut, or that end at a fault, at every byte, in chunks of each length and with each hold."""
+    whole, _ = spelled([primary((2, 1), (1, 1), None), canonical(1, 1, b"hello")])
+    sizes, holds = (1, 10, 17, 34), (0, 10, 20, 33, 34)
+    runs = [("pack", {"node": "", "peer_segment": size, "announce": hold}) for size in sizes for hold in holds]
+    for length in range(len(whole) + 1):
+        yield whole[:length], runs
+        yield whole[:length] + b"\x1c", runs[::3]
+    for most in range(len(whole) + 2):
+        for content in (whole, whole + whole, whole[:-1], whole[:20] + b"\x1c"):
+            yield content, [("pack", {"node": "n", "peer_transfer": most, "peer_segment": 10, "announce": 30, "end": True})]
+
+
+def groups():
+    """The groups of this file."""
+    for make in (item_counts, length_items, longest_lines, block_counts, block_numbers, block_shapes, damaged, order,
+                 refused_and_cut, every_byte, long_bundles, cut_chunks):
+        yield f"limits: {make.__name__.replace('_', ' ')}", make

@@ -1,0 +1,55 @@
+"""Every prefix of each recording and bundle under examples/, through the three tools."""
+
+import ast
+import os
+
+from .spelling import carried
+
+EXAMPLES = f"{os.path.dirname(os.path.realpath(__file__))}/../../examples"
+
+RECORDING = ".tcpcl"
+
+LISTS = [("list", {})]
+UNPACKS = [("unpack", it) for it in [{}, {"transfer": 0}, {"payload": True}, {"transfer": 0, "payload": True}]]
+PACKS = [("pack", it) for it in [
+    {"node": "ipn:1.0"},
+    {"node": "", "peer_segment": 1, "peer_transfer": 36, "end": True},
+    {"node": "ipn:1.0", "peer_segment": 20, "announce": 34, "end": True, "keepalive": 0, "transfer_mru": 0},
+    {"node": "dtn://a b\\é/", "peer_segment": 17, "announce": 40, "peer_transfer": 37, "segment_mru": 2**64 - 1},
+]]
+
+
+def prefixes(content):
+    """Every prefix of some bytes, all of them included."""
+    return [content[:length] for length in range(len(content) + 1)]
+
+
+def of_file(name):
+    """The prefixes of an example, through all tools, with all options of those that are for it."""
+    runs = LISTS + UNPACKS + PACKS[:1] if name.endswith(RECORDING) else LISTS + UNPACKS[:1] + PACKS
+    with open(f"{EXAMPLES}/{name}", "rb") as it:
+        for prefix in prefixes(it.read()):
+            yield prefix, runs
+
+
+def bundles():
+    """The bundles of another encoder, by their names; the long one, which is written with a repetition, is left out."""
+    with open(f"{EXAMPLES}/bundles/bundles.txt", encoding="utf-8") as it:
+        lines = it.read().splitlines()
+    for said, spelling in zip(lines[0::3], lines[1::3]):
+        if "times" not in spelling:
+            yield ast.literal_eval(said)["name"], bytes.fromhex(spelling)
+
+
+def of_bundle(bundle):
+    """The prefixes of a bundle: packed, and as the data of a transfer."""
+    for prefix in prefixes(bundle):
+        yield prefix, PACKS
+        yield carried(prefix), UNPACKS[::2]
+
+
+def groups():
+    """The groups of this file."""
+    files = sorted(it for it in os.listdir(EXAMPLES) if it.endswith((RECORDING, ".bundles")))
+    whole = [(f"prefixes: {name}", lambda name=name: of_file(name)) for name in files]
+    return whole + [(f"prefixes: bundle, {name}", lambda it=it: of_bundle(it)) for name, it in bundles()]

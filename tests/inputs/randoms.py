@@ -1,0 +1,161 @@
+"""Random streams and bundles: well formed, with heads and fields changed, and with bytes changed, dropped and repeated."""
+
+import random
+import struct
+
+from .lengths import KINDS
+from .spelling import CONTACT, END, START, canonical, head, item, laid, primary, segment, sess_init, spelled, total
+
+NUMBERS = [0, 1, 2, 3, 5, 23, 24, 255, 256, 1024, 65535, 65536, 2**32 - 1, 2**32, 2**63, 2**64 - 1]
+
+
+def any_bytes(rng, length):
+    """That many bytes."""
+    return bytes(rng.choices(range(256), k=length))
+
+
+def some_bytes(rng, most):
+    """At most that many bytes."""
+    return any_bytes(rng, rng.randint(0, most))
+
+
+def endpoint(rng):
+    """An endpoint ID of each form."""
+    numbers = [rng.choice(NUMBERS) for _ in range(rng.choice((2, 2, 3)))]
+    return rng.choice([None, some_bytes(rng, 20), numbers, numbers])
+
+
+def width_of(rng):
+    """Spells heads as short as they go, or each in some spelling that holds its value."""
+    if rng.random() < 0.5:
+        return lambda value: None
+    return lambda value: rng.choice([it for it in (0, 1, 2, 4, 8) if value < (1 << 8 * it if it else 24)])
+
+
+def blocks_of(rng):
+    """The blocks of a bundle, with numbers that are mostly distinct."""
+    flags = rng.choice((0, 0, 0, 4, 1, 1, rng.choice(NUMBERS)))
+    fragment = [rng.choice(NUMBERS), rng.choice(NUMBERS)] if flags & 1 else []
+    stamp = rng.choice(NUMBERS), rng.choice(NUMBERS)
+    names = [endpoint(rng) for _ in range(3)]
+    blocks = [primary(*names, rng.randint(0, 2), flags, stamp, rng.choice(NUMBERS), fragment)]
+    for number in range(2, 2 + rng.choice((0, 0, 1, 2, 5))):
+        number = rng.randint(0, 4) if rng.random() < 0.1 else number
+        blocks.append(canonical(rng.choice((0, 2, 7, 192, 2**64 - 1)), number, some_bytes(rng, 30), rng.randint(0, 2)))
+    longest = rng.choice((0, 10, 100, 100, 1000, 9000))
+    return blocks + [canonical(1, 1, some_bytes(rng, longest), rng.randint(0, 2))]
+
+
+def bundle(rng):
+    """A bundle, in some cases with one head that is another."""
+    blocks, widths = blocks_of(rng), width_of(rng)
+    if rng.random() < 0.7:
+        return spelled(blocks, widths=widths)[0]
+    number = rng.randrange(sum(map(len, blocks)))
+    it = [each for block in blocks for each in block][number]
+    other = rng.choice(KINDS + 3 * [head(it.major, rng.choice(NUMBERS + 5 * [it.value]))])
+    return spelled(blocks, number, other, widths=widths)[0]
+
+
+def damage(rng, content):
+    """The bytes with a few of them changed, dropped, repeated or put in, or cut."""
+    for _ in range(rng.choice((1, 1, 2, 4))):
+        at, end = sorted((rng.randint(0, len(content)), rng.randint(0, len(content))))
+        end = min(end, at + rng.choice((1, 2, 9, 400)))
+        content = rng.choice((
+            lambda: content[:at] + any_bytes(rng, end - at) + content[end:],
+            lambda: content[:at] + bytes([rng.choice((0, 1, 7, 0xFF))]) + content[at + 1:],
+            lambda: content[:at] + content[end:],
+            lambda: content[:end] + content[at:],
+            lambda: content[:at] + some_bytes(rng, 9) + content[at:],
+            lambda: content[:at],
+        ))()
+    return content
+
+
+def bundles(rng):
+    """Bundles one after another, damaged in some cases."""
+    content = b"".join(bundle(rng) for _ in range(rng.choice((1, 1, 2, 3))))
+    return damage(rng, content) if rng.random() < 0.4 else content
+
+
+def items(rng, length):
+    """Extension items, in some cases with a Transfer Length item or more."""
+    listed = [total(it) for it in rng.choice(5 * [[], [length]] + [[length + 1], [length, length], [2**64 - 1]])]
+    for _ in range(rng.choice((0, 0, 0, 1, 3))):
+        listed.append(item("any", rng.choice((0, 1, 255)), rng.choice((0, 2, 3, 4, 5, 0xFFFF, 1)), some_bytes(rng, 12)))
+    rng.shuffle(listed)
+    return listed
+
+
+def other_message(rng):
+    """A message that is no segment."""
+    any_byte, number = any_bytes(rng, 1), struct.pack(">Q", rng.choice(NUMBERS))
+    few = bytes([rng.randint(0, 8)])
+    return rng.choice([
+        [b"\x02" + any_byte + number + number], [b"\x03" + few + number], [b"\x04"], [b"\x04"], [b"\x06" + few + any_byte],
+    ])
+
+
+def transfer(rng, number):
+    """The messages of a transfer, in segments of random lengths with other messages between; it may lack its end."""
+    data = bundle(rng) if rng.random() < 0.8 else damage(rng, bundle(rng))
+    cuts = sorted(rng.randint(0, len(data)) for _ in range(rng.choice((0, 0, 1, 2, 5))))
+    chunks = [data[begin:end] for begin, end in zip([0] + cuts, cuts + [len(data)])]
+    for index, chunk in enumerate(chunks):
+        flags = (START if index == 0 else 0) | (END if index + 1 == len(chunks) else 0) | (rng.choice((0, 0, 0x80, 0x7C)))
+        yield segment(flags, number, chunk, items(rng, len(data)) if index == 0 else ())
+        if rng.random() < 0.2:
+            yield other_message(rng)
+
+
+def stream(rng):
+    """A stream of a few transfers, with messages out of order in some cases, and damaged in some."""
+    node = rng.choice([b"ipn:1.0", some_bytes(rng, 40)])
+    messages = [sess_init(node, items(rng, 9))] if rng.random() < 0.95 else []
+    for number in range(rng.choice((0, 1, 2, 3, 6))):
+        sent = list(transfer(rng, number if rng.random() < 0.9 else rng.randint(0, 3)))
+        messages += sent[:-1] if rng.random() < 0.1 else sent
+    for late in ([b"\x05\x01\x03"], sess_init(), segment(0, 0, b"x"), segment(START, 1, b"")):
+        if rng.random() < 0.08:
+            messages.insert(rng.randint(0, len(messages)), late)
+    content = laid([CONTACT, *[piece for message in messages for piece in message]])[0]
+    return damage(rng, content) if rng.random() < 0.3 else content
+
+
+def pack_options(rng, length):
+    """Options of `pack` around the length of an input."""
+    options = {"node": rng.choice(("", "ipn:1.0", "dtn://größe/\\"))}
+    sizes = (1, 7, 64, max(1, length // 2), max(1, length), length + 1, 65536, 2**64 - 1)
+    for name, values in [
+        ("keepalive", (0, 65535)), ("segment_mru", NUMBERS), ("transfer_mru", NUMBERS), ("peer_segment", sizes),
+        ("peer_segment", sizes), ("peer_transfer", (0, *sizes)), ("announce", (0, *[it for it in sizes if it <= 1048576])),
+        ("announce", (length,)), ("end", (True,)),
+    ]:
+        if rng.random() < 0.4:
+            options[name] = rng.choice(values)
+    return options
+
+
+def run_of_stream(rng):
+    """A random stream, through a tool that reads streams."""
+    options = rng.choice([{"payload": True}, {"transfer": rng.randint(0, 3)}, {"transfer": rng.randint(0, 3), "payload": True}])
+    return stream(rng), [("list", {}), ("unpack", {}), ("unpack", options)]
+
+
+def run_of_bundles(rng):
+    """Random bundles, packed with random options."""
+    content = bundles(rng)
+    return content, [("pack", pack_options(rng, len(content))) for _ in range(3)]
+
+
+def group(seed, runs, make):
+    """Inputs of some seed, each made of its own random numbers."""
+    for number in range(runs // 3):
+        yield make(random.Random(f"{seed} {number}"))
+
+
+def groups(seed, runs):
+    """About that many runs in all."""
+    yield f"random {seed}: streams", lambda: group(seed, runs // 2, run_of_stream)
+    yield f"random {seed}: bundles", lambda: group(seed, runs // 2, run_of_bundles)

@@ -1,0 +1,222 @@
+"""The judgement of a bundle (RFC 9171 section 4): "CBOR heads", "Bundles" and "Check fields"."""
+
+from typing import NamedTuple, Optional
+
+from .check import WIDTH, check
+
+UNSIGNED, BYTES, TEXT, ARRAY = 0, 2, 3, 4
+MAX_NAME = 1024
+MAX_BLOCKS = 64
+
+
+class Identity(NamedTuple):
+    """What a line says of a bundle. An endpoint ID is None, the bytes of a dtn name, or a tuple of ipn numbers."""
+    source: object
+    time: int
+    sequence: int
+    destination: object
+    payload: int
+    fragment: Optional[tuple]
+
+
+class Judgement(NamedTuple):
+    """What some bytes are: a fault (code, place), or a bundle at their beginning, of `length` bytes.
+
+    `length` is at a fault the number of the bytes before the one that shows it: of B1, of all bytes.
+    `payload` is where the payload's data begins and how long it is to be, where its head was good."""
+    fault: Optional[tuple]
+    identity: Optional[Identity]
+    length: int
+    payload: Optional[tuple]
+
+
+class Fault(Exception):
+    """A code, the place of the fault, and the number of the bytes before the one that shows it."""
+
+
+class Scan:
+    """The bytes of a bundle, the number of those that were judged, and the place of the last head."""
+
+    def __init__(self, content):
+        self.content, self.at, self.place, self.payload = content, 0, 0, None
+
+    def fault(self, code):
+        """A fault of the last head, which the last byte judged shows."""
+        raise Fault(code, self.place, self.at - 1)
+
+    def take(self, count):
+        """The next bytes, if that many are there."""
+        if count > len(self.content) - self.at:
+            raise Fault("B1", len(self.content), len(self.content))
+        self.at += count
+        return self.content[self.at - count:self.at]
+
+    def head(self):
+        """The next head as (major type, value), the value of an indefinite length and of the break being None.
+
+        RFC 8949 sections 3 and 3.3."""
+        self.place = self.at
+        first = self.take(1)[0]
+        major, information = first >> 5, first & 0x1F
+        if information in (28, 29, 30) or information == 31 and major in (0, 1, 6):
+            self.fault("B4")
+        if information == 31:
+            return major, None
+        if information < 24:
+            return major, information
+        value = int.from_bytes(self.take(1 << information - 24), "big")
+        if major == 7 and information == 24 and value < 0x20:
+            self.fault("B4")
+        return major, value
+
+    def unsigned(self):
+        """The value of an unsigned number."""
+        major, value = self.head()
+        if major != UNSIGNED:
+            self.fault("B5")
+        return value
+
+    def array(self, counts):
+        """The count of an array, which is one of `counts`."""
+        return self.counted(self.head(), counts)
+
+    def counted(self, head, counts):
+        """The same of a head that was read."""
+        major, value = head
+        if major != ARRAY or value is None:
+            self.fault("B5")
+        if value not in counts:
+            self.fault("B6")
+        return value
+
+    def length(self):
+        """The length of a byte string."""
+        major, value = self.head()
+        if major != BYTES or value is None:
+            self.fault("B5")
+        return value
+
+    def check_type(self, count, without):
+        """A check type (section 4.2.1), in a block of `count` elements that has `without` where it has no check field."""
+        kind = self.unsigned()
+        if kind > 2:
+            self.fault("B8")
+        if count != without + (kind > 0):
+            self.fault("B6")
+        return kind
+
+    def check_field(self, start, kind):
+        """The check field of a block that begins at `start`, if it has one (section 4.2.1)."""
+        if kind == 0:
+            return
+        width = WIDTH[kind]
+        if self.length() != width:
+            self.fault("B12")
+        stands = self.take(width)
+        if stands != check(kind, self.content[start:self.at - width] + bytes(width)):
+            self.fault("B13")
+
+    def endpoint(self):
+        """An endpoint ID (section 4.2.5.1)."""
+        self.array([2])
+        scheme = self.unsigned()
+        if scheme not in (1, 2):
+            self.fault("B9")
+        return self.dtn() if scheme == 1 else self.ipn()
+
+    def dtn(self):
+        """The specific part of a dtn endpoint ID (section 4.2.5.1.1)."""
+        head = self.head()
+        if head == (UNSIGNED, 0):
+            return None
+        major, value = head
+        if major != TEXT or value is None:
+            self.fault("B10")
+        if value > MAX_NAME:
+            self.fault("B11")
+        return self.take(value)
+
+    def ipn(self):
+        """The specific part of an ipn endpoint ID (section 4.2.5.1.2), of two numbers or three."""
+        major, value = self.head()
+        if major != ARRAY or value is None:
+            self.fault("B10")
+        return tuple(self.unsigned() for _ in range(self.counted((major, value), (2, 3))))
+
+    def primary(self):
+        """The primary block (section 4.3.1), as a bundle's identity that has no payload yet."""
+        start = self.at
+        count = self.array(range(8, 12))
+        if self.unsigned() != 7:
+            self.fault("B7")
+        is_fragment = self.unsigned() & 1
+        kind = self.check_type(count, 10 if is_fragment else 8)
+        destination, source, _ = self.endpoint(), self.endpoint(), self.endpoint()
+        self.array([2])
+        time, sequence, _ = self.unsigned(), self.unsigned(), self.unsigned()
+        fragment = (self.unsigned(), self.unsigned()) if is_fragment else None
+        self.check_field(start, kind)
+        return Identity(source, time, sequence, destination, 0, fragment)
+
+    def number(self, kind, earlier):
+        """The number of a canonical block of type `kind`, after blocks of the numbers `earlier` (section 4.1)."""
+        number = self.unsigned()
+        if number == 0 or (number == 1) != (kind == 1):
+            self.fault("B14")
+        if number in earlier:
+            self.fault("B15")
+        return number
+
+    def canonical(self, start, count, earlier):
+        """A canonical block after its first head (section 4.3.2): its number."""
+        kind = self.unsigned()
+        number = self.number(kind, earlier)
+        self.unsigned()
+        check_kind = self.check_type(count, 5)
+        length = self.length()
+        if number == 1:
+            self.payload = self.at, length
+        self.take(length)
+        self.check_field(start, check_kind)
+        return number
+
+    def canonicals(self):
+        """The canonical blocks, of which the last, and no other, is the payload block, and the break (section 4.1)."""
+        numbers = []
+        while 1 not in numbers:
+            start, head = self.at, self.head()
+            if head == (7, None):
+                self.fault("B17")
+            count = self.counted(head, (5, 6))
+            if len(numbers) == MAX_BLOCKS:
+                self.fault("B16")
+            numbers.append(self.canonical(start, count, numbers))
+        if self.head() != (7, None):
+            self.fault("B17")
+
+    def bundle(self):
+        """A bundle (section 4.1)."""
+        if self.take(1) != b"\x9f":
+            self.fault("B3")
+        identity = self.primary()
+        self.canonicals()
+        return identity._replace(payload=self.payload[1])
+
+
+def first(content):
+    """The judgement of the bundle at the beginning of some bytes, whatever comes after it."""
+    scan = Scan(content)
+    try:
+        identity = scan.bundle()
+    except Fault as fault:
+        code, place, before = fault.args
+        return Judgement((code, place), None, before, scan.payload)
+    return Judgement(None, identity, scan.at, scan.payload)
+
+
+def whole(content):
+    """The judgement of some bytes that are to be one bundle: a byte after it is B2."""
+    judgement = first(content)
+    if judgement.fault is None and judgement.length < len(content):
+        return judgement._replace(fault=("B2", judgement.length), identity=None)
+    return judgement

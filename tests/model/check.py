@@ -1,0 +1,34 @@
+"""The two check values of bundles (RFC 9171 section 4.2.1): "Check fields".
+
+Both registers go right, least significant bit first, so each polynomial stands with its bits in reverse.
+"""
+
+
+def table(polynomial):
+    """What eight steps of the register make of each byte."""
+    register = list(range(256))
+    for _ in range(8):
+        register = [value >> 1 ^ (polynomial if value & 1 else 0) for value in register]
+    return register
+
+
+def value(polynomial, ones, content):
+    """The check value of some bytes, whose register starts as all ones and is inverted at the end."""
+    steps, register = TABLES[polynomial], ones
+    for byte in content:
+        register = register >> 8 ^ steps[(register ^ byte) & 0xFF]
+    return register ^ ones
+
+
+X25, CASTAGNOLI = 0x8408, 0x82F63B78
+TABLES = {X25: table(X25), CASTAGNOLI: table(CASTAGNOLI)}
+
+# The bytes of a check field by check type.
+WIDTH = {1: 2, 2: 4}
+
+
+def check(kind, content):
+    """The content of a check field of that type over some bytes."""
+    if kind == 1:
+        return value(X25, 0xFFFF, content).to_bytes(2, "big")
+    return value(CASTAGNOLI, 0xFFFFFFFF, content).to_bytes(4, "big")

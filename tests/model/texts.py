@@ -1,0 +1,92 @@
+"""The words and lines of the report and of `list`: "Report lines", "Fault lines", "Unpacking" and "Packing"."""
+
+from . import wire
+
+# RFC 9174 sections 5.2.4, 6.1 and 5.1.2
+REFUSE = ["unknown", "completed", "no-resources", "retransmit", "not-acceptable", "extension-failure", "session-terminating"]
+TERM = ["unknown", "idle-timeout", "version-mismatch", "busy", "contact-failure", "resource-exhaustion"]
+REJECT = ["?", "message-type-unknown", "message-unsupported", "message-unexpected"]
+
+# The faults of bundles, and the one of `pack`.
+FAULTS = {
+    "B1": "input ends inside a bundle",
+    "B3": "not a bundle",
+    "B4": "ill-formed head",
+    "B5": "wrong kind of item",
+    "B6": "wrong number of elements",
+    "B7": "unsupported bundle version",
+    "B8": "unknown check type",
+    "B9": "unknown endpoint scheme",
+    "B10": "wrong scheme-specific part",
+    "B11": "endpoint id too long",
+    "B12": "wrong check length",
+    "B13": "check differs",
+    "B14": "wrong block number",
+    "B15": "repeated block number",
+    "B16": "too many blocks",
+    "B17": "no payload block at the end",
+    "P1": "longer than the peer's transfer limit",
+}
+
+
+def escaped(content):
+    """Bytes as escaped text."""
+    return "".join(chr(byte) if 0x21 <= byte <= 0x7E and byte != 0x5C else f"\\x{byte:02x}" for byte in content)
+
+
+def reason(names, code):
+    """A reason code and its name."""
+    return f"reason={code:02x}/{names[code] if code < len(names) else '?'}"
+
+
+def items(listed):
+    """ITEMS: how many extension items there are, and each."""
+    return f"items={len(listed)}" + "".join(f" item={it.flags:02x}:{it.kind:04x}:{len(it.value)}" for it in listed)
+
+
+def message(it):
+    """The line of a message after its offset."""
+    if isinstance(it, wire.SessInit):
+        numbers = f"keepalive={it.keepalive} segment-mru={it.segment_mru} transfer-mru={it.transfer_mru}"
+        return f"sess-init {numbers} node={escaped(it.node)} {items(it.items)}"
+    if isinstance(it, wire.Segment):
+        listed = "" if it.items is None else f" {items(it.items)}"
+        return f"xfer-segment flags={it.flags:02x} id={it.id}{listed} length={it.length}"
+    if isinstance(it, wire.Ack):
+        return f"xfer-ack flags={it.flags:02x} id={it.id} length={it.length}"
+    if isinstance(it, wire.Refuse):
+        return f"xfer-refuse {reason(REFUSE, it.reason)} id={it.id}"
+    if isinstance(it, wire.SessTerm):
+        return f"sess-term flags={it.flags:02x} {reason(TERM, it.reason)}"
+    if isinstance(it, wire.Reject):
+        return f"msg-reject {reason(REJECT, it.reason)} header={it.header:02x}"
+    return "keepalive"
+
+
+def endpoint(it):
+    """EID: an endpoint ID."""
+    if it is None:
+        return "dtn:none"
+    return f"dtn:{escaped(it)}" if isinstance(it, bytes) else "ipn:" + ".".join(map(str, it))
+
+
+def identity(it):
+    """IDENTITY: what a line says of a bundle."""
+    text = f"source={endpoint(it.source)} time={it.time} sequence={it.sequence}"
+    text += f" destination={endpoint(it.destination)} payload={it.payload}"
+    return text + (f" fragment={it.fragment[0]}/{it.fragment[1]}" if it.fragment else "")
+
+
+def wire_fault(fault):
+    """The line of a fault of the wire or of the order of messages, if there is one."""
+    return [] if fault is None else [f"tcpclkit: byte {fault[0]}: {fault[1]}"]
+
+
+def bundle_fault(number, code, place):
+    """The line of a fault of a bundle that was to be packed."""
+    return f"tcpclkit: bundle {number} byte {place}: {code} {FAULTS[code]}"
+
+
+def lines(them):
+    """Lines as bytes, each ended by one byte 0a."""
+    return "".join(f"{line}\n" for line in them).encode()

@@ -1,0 +1,170 @@
+"""The three tools: each gives for an input and its options (output, report, status).
+
+Options have the names and defaults of docs/MANUAL.md, with `_` for `-`.
+"""
+
+import struct
+
+from . import bundle, texts, wire
+
+# The extension type of a Transfer Length item (RFC 9174 section 5.2.5.1)
+TRANSFER_LENGTH = 0x0001
+MAX_CHUNK = 65536
+
+
+def listing(stream):
+    """`list`: "Report lines" and "Fault lines"."""
+    read = wire.reading(stream)
+    header = [] if read.contact is None else [f"0 contact version=4 flags={read.contact:02x}"]
+    shown = [f"{at} {texts.message(it)}" for at, it in read.messages if not wire.is_cut(it)]
+    return texts.lines(header + shown), texts.lines(texts.wire_fault(read.fault)), 3 if read.fault else 0
+
+
+def refusal(before, it):
+    """Why a message is refused after those before it, if it is: the first reason of "Transfers" that holds."""
+    segments = [each for each in before if isinstance(each, wire.Segment)]
+    last_open = segments[-1].id if segments and not segments[-1].flags & wire.END else None
+    has_begun = any(isinstance(each, wire.SessInit) for each in before)
+    if isinstance(it, wire.SessInit):
+        return "second session initiation" if has_begun else None
+    if not isinstance(it, wire.Segment):
+        return None
+    if not has_begun:
+        return "segment before session initiation"
+    if not it.flags & wire.START:
+        return None if it.id == last_open else "no such open transfer"
+    if it.id == last_open:
+        return "start repeats the open transfer"
+    return "start after session termination" if any(isinstance(each, wire.SessTerm) for each in before) else None
+
+
+def accepted(read):
+    """The messages up to the first that is refused, and the fault that ends the stream, if there is one."""
+    messages = [it for _, it in read.messages]
+    for index, (at, it) in enumerate(read.messages):
+        why = refusal(messages[:index], it)
+        if why:
+            return messages[:index], (at, why)
+    return messages, read.fault
+
+
+def transfers_of(messages):
+    """The segments of each transfer: one with START, and those after it up to the next."""
+    transfers = []
+    for it in messages:
+        if isinstance(it, wire.Segment) and it.flags & wire.START:
+            transfers.append([it])
+        elif isinstance(it, wire.Segment):
+            transfers[-1].append(it)
+    return transfers
+
+
+def is_closed(segments):
+    """Whether a transfer's last segment has END and is whole."""
+    return bool(segments[-1].flags & wire.END) and not wire.is_cut(segments[-1])
+
+
+def length_differs(items, length):
+    """What the Transfer Length items of a transfer (section 5.2.5.1) say against its length, if they do."""
+    announced = [it.value for it in items if it.kind == TRANSFER_LENGTH]
+    if len(announced) > 1 or any(len(value) != 8 for value in announced):
+        return "bad-length-item"
+    total = int.from_bytes(announced[0], "big") if announced else length
+    return None if total == length else f"length-differs announced={total}"
+
+
+def judgement_of(segments, data, judged):
+    """JUDGEMENT: the first that holds."""
+    if not is_closed(segments):
+        return "abandoned"
+    differs = length_differs(segments[0].items, len(data))
+    if differs:
+        return differs
+    if judged.fault:
+        return f"bad={judged.fault[0]} byte={judged.fault[1]}"
+    return f"good {texts.identity(judged.identity)}"
+
+
+def part_of(data, judged, payload):
+    """The part of a selected transfer: its data, or its bundle's payload, as far as it is there."""
+    if not payload:
+        return data
+    start, length = judged.payload or (0, 0)
+    return data[start:start + length]
+
+
+def unpacking(stream, transfer=None, payload=False):
+    """`unpack`: "Unpacking"."""
+    messages, fault = accepted(wire.reading(stream))
+    transfers, output, report, is_good = transfers_of(messages), b"", [], True
+    for index, segments in enumerate(transfers):
+        data = b"".join(it.data for it in segments)
+        judged, number = bundle.whole(data), segments[0].id
+        part = part_of(data, judged, payload) if transfer in (None, number) else b""
+        is_over = is_closed(segments) or index + 1 < len(transfers) or fault is None
+        if is_over:
+            judgement = judgement_of(segments, data, judged)
+            is_good = is_good and judgement.startswith("good ")
+            report.append(f"transfer {number} start={len(output)} written={len(part)} length={len(data)} {judgement}")
+        output += part
+    status = 3 if fault else 0 if is_good else 1
+    return output, texts.lines(report + texts.wire_fault(fault)), status
+
+
+def session_head(node, keepalive, segment_mru, transfer_mru):
+    """A contact header without flags and a SESS_INIT of no items: "Written heads"."""
+    numbers = struct.pack(">BHQQH", 0x07, keepalive, segment_mru, transfer_mru, len(node))
+    return b"dtn!\x04\x00" + numbers + node + bytes(4)
+
+
+def segment(flags, number, data, announced):
+    """XFER_SEGMENT with its data; with START its list is empty or announces a length: "Written heads"."""
+    listed = b""
+    if flags & wire.START:
+        item = b"" if announced is None else struct.pack(">BHHQ", 0x00, TRANSFER_LENGTH, 8, announced)
+        listed = struct.pack(">I", len(item)) + item
+    return struct.pack(">BBQ", 0x01, flags, number) + listed + struct.pack(">Q", len(data)) + data
+
+
+def chunks_of(content, size, hold, is_whole):
+    """The chunks of a bundle, or of the accepted bytes of one that has a fault: those that are full and past the hold."""
+    if is_whole:
+        return [content[at:at + size] for at in range(0, len(content), size)]
+    if len(content) <= hold:
+        return []
+    return [content[at:at + size] for at in range(0, len(content) - size + 1, size)]
+
+
+def segments_of(number, chunks, announced, is_whole):
+    """The segments that carry the chunks of a bundle: START on the first, and END on the last of a whole bundle."""
+    sent = b""
+    for index, chunk in enumerate(chunks):
+        flags = (wire.START if index == 0 else 0) | (wire.END if is_whole and index + 1 == len(chunks) else 0)
+        sent += segment(flags, number, chunk, announced)
+    return sent
+
+
+def limited(judged, most):
+    """The judgement of a bundle for a peer that takes at most `most` bytes: the byte after those is one too many."""
+    needs = judged.length if judged.fault is None or judged.fault[0] == "B1" else judged.length + 1
+    if needs > most:
+        return bundle.Judgement(("P1", most), None, most, None)
+    return judged
+
+
+def packing(content, node, keepalive=60, segment_mru=65536, transfer_mru=1048576, peer_segment=65536,
+            peer_transfer=2**64 - 1, announce=0, end=False):
+    """`pack`: "Packing"."""
+    output, report = session_head(node.encode(), keepalive, segment_mru, transfer_mru), []
+    size, number = min(peer_segment, MAX_CHUNK), 0
+    while content:
+        judged = limited(bundle.first(content), peer_transfer)
+        taken, is_whole = content[:judged.length], judged.fault is None
+        chunks = chunks_of(taken, size, announce, is_whole)
+        announced = len(taken) if is_whole and len(chunks) > 1 and len(taken) <= announce else None
+        output += segments_of(number, chunks, announced, is_whole)
+        if not is_whole:
+            return output, texts.lines(report + [texts.bundle_fault(number, *judged.fault)]), 3
+        report.append(f"bundle {number} segments={len(chunks)} length={len(taken)} {texts.identity(judged.identity)}")
+        content, number = content[judged.length:], number + 1
+    return output + (b"\x05\x00\x00" if end else b""), texts.lines(report), 0
