@@ -1,10 +1,10 @@
 //! Where bytes come from and go to: two traits, and devices made of std's readers and writers.
 
 ghost use Rattle.std.specs.Prelude.{◌≡◌, ◌<◌, ◌≤◌, true, false, length, IfOk, MatchResult};
-ghost use Rattle.std.specs.Io.KnownBytes.{ReadConsumes, WriteAppends};
+ghost use Rattle.std.specs.Io.KnownBytes.{Keeps, ReadConsumes, WriteAppends};
 ghost use Rattle.link_io.specs.Device.{Input, Output};
 
-use std::io::{Read, Write};
+use std::io::{BufReader, Read, Write};
 use thiserror::Error;
 
 /// A device has failed. What it has read or written before stays as it was.
@@ -29,6 +29,11 @@ pub trait InDevice {
     /// Whether a read has failed.
     fn failed(&self) -> bool
         ensures { result ≡ (state self.now).failed };
+
+    /// Whether the next read may have to wait for bytes to come. It does not where the device holds some.
+    fn may_wait(&self) -> bool {
+        true
+    }
 }
 
 /// Where bytes go to.
@@ -49,6 +54,16 @@ pub trait OutDevice {
     /// Whether a write has failed.
     fn failed(&self) -> bool
         ensures { result ≡ (state self.now).failed };
+
+    /// Hands on what the device holds back of the bytes written.
+    fn settle(&mut self) -> Result<(), DeviceFault>
+        ensures bytes { Keeps (state self.old).written (state self.new).written }
+        ensures failed { MatchResult result
+            (λ _. (state self.new).failed ≡ (state self.old).failed)
+            (λ _. (state self.new).failed ≡ true) }
+    {
+        Ok(())
+    }
 }
 
 /// A device made of a reader of std. Each of its errors, `Interrupted` too, is a fault.
@@ -98,6 +113,43 @@ impl<R: Read> InDevice for Reader<R> {
     }
 }
 
+/// A device made of a buffered reader of std, as [`Reader`] makes it. While the buffer has bytes, a read does not wait.
+#[derive(Drop)]
+pub struct BufferedReader<R: Read> {
+    buffered: Reader<BufReader<R>>,
+}
+
+impl<R: Read> BufferedReader<R> {
+    ghost use Rattle.link_io.specs.Device.{Input};
+    ghost use Rattle.std.specs.Io.Buffered.{reader_remaining};
+
+    /// A device that has not failed.
+    pub fn new(inner: BufReader<R>) -> Self
+        ensures { ⟦<BufferedReader<R> as InDevice>⟧.state result ≡ record { left = reader_remaining R.remaining inner; failed = false } }
+    {
+        BufferedReader {
+            buffered: Reader::new(inner),
+        }
+    }
+}
+
+impl<R: Read> InDevice for BufferedReader<R> {
+    ghost state = { λ r. ⟦<Reader<BufReader<R>> as InDevice>⟧.state r.buffered };
+
+    fn read(&mut self, buffer: &mut [u8]) -> Result<usize, DeviceFault> {
+        self.buffered.read(buffer)
+    }
+
+    fn failed(&self) -> bool {
+        self.buffered.failed()
+    }
+
+    #[inline(always)]
+    fn may_wait(&self) -> bool {
+        self.buffered.inner.buffer().is_empty()
+    }
+}
+
 /// A device made of a writer of std. Each of its errors, and a write of no byte of a nonempty slice,
 /// is a fault.
 #[derive(Drop)]
@@ -141,5 +193,15 @@ impl<W: Write> OutDevice for Writer<W> {
 
     fn failed(&self) -> bool {
         self.failed
+    }
+
+    fn settle(&mut self) -> Result<(), DeviceFault> {
+        match self.inner.flush() {
+            Ok(()) => Ok(()),
+            Err(_) => {
+                self.failed = true;
+                Err(DeviceFault)
+            }
+        }
     }
 }

@@ -19,7 +19,7 @@ mod fault;
 mod source;
 mod writing;
 
-pub use device::{DeviceFault, InDevice, OutDevice, Reader, Writer};
+pub use device::{BufferedReader, DeviceFault, InDevice, OutDevice, Reader, Writer};
 pub use fault::IoFault;
 pub use source::{Filled, INPUT_LIMIT, Source, WINDOW};
 pub use writing::write_whole;

@@ -51,6 +51,7 @@ pub struct Source<R> {
 
 impl<R: InDevice> Source<R> {
     ghost use Rattle.std.specs.Prelude.{◌≡◌, ◌+◌, ◌-◌, ◌<◌, ◌≤◌, ◌==◌, true, false, [], length, take, drop, IfOk, IfErr, OnOk, MatchResult, IsTrue};
+    ghost use Rattle.link_io.specs.Limits.{window_size};
     ghost use Rattle.link_io.specs.Source.{IsSourceAt, is_fresh, reader_of, given_by, taken_by, window_of, ahead, IsLive, IsOver, HasEnded, HasFailed, Takes, StopsAfter, GivesReady, GivesSome, GivesFill, filled_at_end};
 
     /// A source that has taken nothing.
@@ -99,6 +100,17 @@ impl<R: InDevice> Source<R> {
         ensures lag { result ≤ given_by self.now + WINDOW }
     {
         self.given + (self.end - self.start) as u64
+    }
+
+    /// Whether a call that needs more bytes than the window has may have to wait for the reader.
+    #[inline(always)]
+    pub fn may_wait(&self) -> bool
+        ensures { IsTrue result → length (window_of self.now) < window_size }
+    {
+        if self.end - self.start >= WINDOW {
+            return false;
+        }
+        self.reader.may_wait()
     }
 
     /// The bytes that were taken and not given.

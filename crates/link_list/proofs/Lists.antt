@@ -22,7 +22,7 @@ use Rattle.link_report.specs.Message.{contact_text, message_text}
 use Rattle.link_report.specs.Fault.{fault_text}
 use Rattle.link_report.specs.declared.fault.Fault.TheVariants.{Wire}
 use Rattle.link_run.specs.Ends.{end_lines, end_status, lasting_lines, is_shown}
-use Rattle.link_run.specs.Run.{Texts, Outcome, Devices, devices_at, NoneFailed, HasWritten, Ended, WentOn, GivesStep}
+use Rattle.link_run.specs.Run.{Texts, Outcome, Devices, devices_at, NoneFailed, HasWritten, Ended, WentOn, Gave, GivesStep}
 use Rattle.link_run.specs.Writers.{place_of, on_output, on_report, Writes, WritesPart, GivesReport}
 use Rattle.link_list.specs.Listing.{contact_lines, message_lines, lines_of, listing, listing_by, listing_sofar, listing_sofar_by, listing_shows, list_tool}
 use Rattle.link_list.specs.ListRun.{most_given, IsWaiting, HasNoContent, IsWaitingAfter, progress_of, Begins, Lists, IsListing, GivesStage, GivesLine, GoesOn, GivesEnd}
@@ -31,7 +31,7 @@ use Rattle.link_list.specs.declared.listing.Stage.TheVariants as stage
 use Rattle.link_run.specs.declared.run.Progress.{Progress}
 use Rattle.link_run.specs.declared.run.Status.{Status}
 use Rattle.link_run.specs.declared.writers.Writers.{Writers}
-use Rattle.link_run.proofs.Runs.{◌then◌, no_texts, texts_as, written_as, written_given, written_more, sound_given, sound_written, few_over, all_given, answered, writer_lost}
+use Rattle.link_run.proofs.Runs.{◌then◌, no_texts, texts_as, then_none, written_as, written_given, written_more, sound_given, sound_written, few_over, all_given, answered, writer_lost, settle_lost, settle_kept}
 use Rattle.link_run.proofs.Ends.{undecided_lines, undecided_shown, standing_lines, standing_shown, lasts, lasting_as, few_at_fault, reported, read_failed}
 
 -- ---- the texts that bytes determine
@@ -390,3 +390,43 @@ module _ {R W E : Type 0} (in_look : R → Input) (out_look : W → Output) (rep
   pub step_gives : (now next : Stage) (old new : Session R) (before after : Writers W E) (history : List ℕ) (result : Result Progress IoFault) → GivesStage in_look out_look report_look start now old new before after history next → result ≡ progress_of next
       → GivesStep in_look out_look report_look list_tool start (place_of (source_of old) before) (place_of (source_of new) after) (IsListing in_look out_look report_look start next new after) (most_given now) history result
   step_gives now next old new before after history result gives is = rw is (stage_step now next old new before after history gives)
+
+-- ---- what was written is handed on
+
+module _ {R W E : Type 0} (in_look : R → Input) (out_look : W → Output) (report_look : E → Output) (start : Devices R W E)
+    (s : Session R) (old new : Writers W E) (history : List ℕ) where
+  lists_on : (now : Stage) → Writes out_look report_look old new no_texts → new.line.items ≡ old.line.items
+      → Lists in_look out_look report_look start now s old history → Lists in_look out_look report_look start now s new history
+  lists_on now writes kept at =
+      let P : List ℕ → Type 0 = λ items. IsWaiting now items (reading_of history).end in
+      record {
+        session = at.session;
+        written = settle_kept out_look report_look in_look start (source_of s) old new history (listing_sofar history) at.written writes;
+        sound = sound_written in_look out_look report_look (source_of s) old new no_texts at.sound writes;
+        waits = subst P (sym kept) at.waits;
+      }
+
+  -- the run stands where it stood
+  pub settled : (now : Stage) → Writes out_look report_look old new no_texts → new.line.items ≡ old.line.items
+      → IsListing in_look out_look report_look start now s old history → IsListing in_look out_look report_look start now s new history
+  settled stage.Contact writes kept at = record {
+    nothing = at.nothing;
+    opens = at.opens;
+    written = settle_kept out_look report_look in_look start (source_of s) old new [] no_texts at.written writes;
+    sound = sound_written in_look out_look report_look (source_of s) old new no_texts at.sound writes;
+  }
+  settled stage.Message writes kept at = lists_on stage.Message writes kept at
+  settled stage.Data writes kept at = lists_on stage.Data writes kept at
+  settled (stage.Ended answer) writes kept at = absurd at
+
+  -- a writer failed in it
+  pub settle_failed : (now : Stage) (fault : IoFault) → WritesPart out_look report_look old new no_texts fault → length (window_of (source_of s)) < window_size
+      → IsListing in_look out_look report_look start now s old history → Gave in_look out_look report_look list_tool start (devices_at (place_of (source_of s) new)) history (Err fault)
+  settle_failed stage.Contact fault part few at =
+      settle_lost out_look report_look in_look list_tool start (source_of s) old new history no_texts (listing_sofar history) fault
+      (written_as in_look out_look report_look at.written (sym at.nothing) refl) refl few part
+  settle_failed stage.Message fault part few at =
+      settle_lost out_look report_look in_look list_tool start (source_of s) old new history (listing_sofar history) no_texts fault at.written (then_none (listing_sofar history)) few part
+  settle_failed stage.Data fault part few at =
+      settle_lost out_look report_look in_look list_tool start (source_of s) old new history (listing_sofar history) no_texts fault at.written (then_none (listing_sofar history)) few part
+  settle_failed (stage.Ended answer) fault part few at = absurd at

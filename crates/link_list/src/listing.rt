@@ -1,7 +1,9 @@
 //! `list`: a line for the contact header and for each message of a recorded stream.
 
-ghost use Rattle.std.specs.Prelude.{◌≡◌, false, true, IsTrue, List, ℕ};
-ghost use Rattle.link_wire.specs.Session.{may_open, may_read, is_opened, left_of};
+ghost use Rattle.std.specs.Prelude.{◌≡◌, ◌<◌, false, true, IsTrue, List, ℕ, length};
+ghost use Rattle.link_wire.specs.Limits.{window_size};
+ghost use Rattle.link_wire.specs.Source.{window_of};
+ghost use Rattle.link_wire.specs.Session.{source_of, may_open, may_read, is_opened, left_of};
 ghost use Rattle.link_run.specs.Run.{Devices, GivesAnswer};
 ghost use Rattle.link_list.specs.Listing.{list_tool};
 ghost use Rattle.link_list.specs.ListRun.{may_go_on, IsListing, GivesStage, GivesLine, GoesOn, GivesEnd};
@@ -172,6 +174,17 @@ fn end<W: OutDevice, E: OutDevice>(writers: &mut Writers<W, E>, stop: Stop) -> S
     }
 }
 
+/// Whether the step at this stage may have to wait for input.
+fn may_wait<R: InDevice>(stage: Stage, session: &Session<R>) -> bool
+    ensures few { IsTrue result → length (window_of (source_of session.now)) < window_size }
+    ensures ended { (answer : _) → stage ≡ Stage.Ended answer → result ≡ false }
+{
+    match stage {
+        Stage::Ended(_) => false,
+        _ => session.may_wait(),
+    }
+}
+
 impl<R: InDevice, W: OutDevice, E: OutDevice> ListRun<R, W, E> {
     ghost use Rattle.std.specs.Prelude.{◌≡◌, [], false};
     ghost use Rattle.link_run.specs.Run.{devices_at};
@@ -231,6 +244,17 @@ impl<R: InDevice, W: OutDevice, E: OutDevice> Run<R, W, E> for ListRun<R, W, E> 
         );
         self.stage = next;
         next.progress()
+    }
+
+    fn settle(&mut self) -> Result<(), IoFault> {
+        if !may_wait(self.stage, &self.session) {
+            return Ok(());
+        }
+        let settled = self.writers.settle();
+        if let Err(fault) = settled {
+            self.stage = Stage::Ended(Err(fault));
+        }
+        settled
     }
 
     fn into_parts(self) -> (R, W, E) {

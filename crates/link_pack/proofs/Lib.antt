@@ -9,3 +9,4 @@ mod Steps
 mod Founds
 mod Goings
 mod Preludes
+mod Settling

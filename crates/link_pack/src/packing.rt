@@ -1,6 +1,8 @@
 //! `pack`: bundles as the stream of a sender, and a line for each bundle.
 
 ghost use Rattle.std.specs.Prelude.{◌≡◌, ◌+◌, ◌^◌, ◌<◌, IsTrue, false, true, [], List, ℕ, length, ◌⊎◌, None, Ok};
+ghost use Rattle.link_wire.specs.Limits.{window_size};
+ghost use Rattle.link_wire.specs.Source.{window_of};
 ghost use Rattle.link_run.specs.Run.{Devices, GivesAnswer};
 ghost use Rattle.link_run.specs.Writers.{GivesTexts, on_output, on_report};
 ghost use Rattle.link_bundle.specs.Bundle.{verdict, bundle_goes};
@@ -224,6 +226,17 @@ pub struct PackRun<R, W, E> {
     ghost fits: { IsTrue (may_go_on stage packer) },
 }
 
+/// Whether the step at this stage may have to wait for input.
+fn may_wait<R: InDevice>(stage: Stage, source: &Source<R>) -> bool
+    ensures few { IsTrue result → length (window_of source.now) < window_size }
+    ensures ended { (answer : _) → stage ≡ Stage.Ended answer → result ≡ false }
+{
+    match stage {
+        Stage::Bundles => source.window().is_empty() && source.may_wait(),
+        Stage::Prelude | Stage::Ended(_) => false,
+    }
+}
+
 impl<R: InDevice, W: OutDevice, E: OutDevice> PackRun<R, W, E> {
     ghost use Rattle.std.specs.Prelude.{◌≡◌, [], false, IfOk, IfErr};
     ghost use Rattle.link_run.specs.Run.{devices_at};
@@ -306,6 +319,17 @@ impl<R: InDevice, W: OutDevice, E: OutDevice> Run<R, W, E> for PackRun<R, W, E> 
         );
         self.stage = next;
         next.progress()
+    }
+
+    fn settle(&mut self) -> Result<(), IoFault> {
+        if !may_wait(self.stage, &self.source) {
+            return Ok(());
+        }
+        let settled = self.writers.settle();
+        if let Err(fault) = settled {
+            self.stage = Stage::Ended(Err(fault));
+        }
+        settled
     }
 
     fn into_parts(self) -> (R, W, E) {

@@ -1,5 +1,5 @@
 -- What the steps of a run write in turn the run writes in all, and how a run ends.
-use Rattle.std.proofs.Common.{◌≡◌, ℕ, ◌+◌, ◌-◌, min, ◌<◌, ◌⊎◌, false, List, [], ◌++◌, length, take, drop, Option, Some, None, Result, Err, refl, ap, sym, ◌∙◌, subst, length-append, append-nil, append_assoc, arith}
+use Rattle.std.proofs.Common.{◌≡◌, ℕ, ◌+◌, ◌-◌, min, ◌<◌, ◌⊎◌, inl, false, List, [], ◌++◌, length, take, drop, Option, Some, None, Result, Err, refl, ap, sym, ◌∙◌, subst, length-append, append-nil, append_assoc, arith}
 use Rattle.std.proofs.Math.Nat.{min-le_right}
 use Rattle.std.proofs.Math.Seq.{take-append-add}
 use Rattle.std.proofs.lemmas.List.{take-append-le, take_min}
@@ -263,3 +263,16 @@ module _ {W E : Type 0} (out_look : W → Output) (report_look : E → Output) w
     report = rw take-append-add (Appends-trans (report_look old.report).written (report_look mid.report).written (report_look new.report).written first.report (take part.report_count second.report) one.report part.report);
     failed = part.failed;
   }
+
+  -- a writer failed when what was written was handed on
+  pub settle_lost : {R : Type 0} (in_look : R → Input) (tool : Tool) (start : Devices R W E) (s : Source R) (old new : Writers W E) (given : List ℕ) (before rest : Texts) (fault : IoFault)
+      → HasWritten in_look out_look report_look start (place_of s old) given before → before then rest ≡ tool.sofar given → length (window_of s) < window_size
+      → WritesPart out_look report_look old new no_texts fault → Gave in_look out_look report_look tool start (devices_at (place_of s new)) given (Err fault)
+  settle_lost in_look tool start s old new given before rest fault written due few part =
+      writer_lost in_look out_look report_look tool start s old new given before rest (tool.sofar given) fault written due (inl refl) few (part_of_more old new no_texts rest fault part)
+
+  -- what was written was handed on: it is written still
+  pub settle_kept : {R : Type 0} (in_look : R → Input) (start : Devices R W E) (s : Source R) (old new : Writers W E) (history : List ℕ) (texts : Texts)
+      → HasWritten in_look out_look report_look start (place_of s old) history texts → Writes out_look report_look old new no_texts → HasWritten in_look out_look report_look start (place_of s new) history texts
+  settle_kept in_look start s old new history texts written writes =
+      written_as in_look out_look report_look (written_more in_look out_look report_look start s old new history texts no_texts written writes) refl (then_none texts)

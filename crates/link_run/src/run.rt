@@ -1,8 +1,8 @@
 //! What every run of a tool is: steps, and the whole of them.
 
-ghost use Rattle.std.specs.Prelude.{◌≡◌, ℕ, List, [], Result};
+ghost use Rattle.std.specs.Prelude.{◌≡◌, ℕ, List, [], Result, Err, IfErr, OnOk, IsOk};
 ghost use Rattle.link_wire.specs.declared.IoFault.{IoFault};
-ghost use Rattle.link_run.specs.Run.{Tool, Devices, Place, devices_at, GivesStep, GivesAnswer, IsEnd};
+ghost use Rattle.link_run.specs.Run.{Tool, Devices, Place, devices_at, GivesStep, GivesSettled, GivesAnswer, IsEnd};
 ghost use Rattle.link_run.specs.declared.run.Progress.{Progress};
 
 use link_wire::{InDevice, IoFault, OutDevice};
@@ -69,6 +69,16 @@ pub trait Run<R: InDevice, W: OutDevice, E: OutDevice>: Sized {
         ensures ends { IsEnd result → has_ended self.new result }
         ensures again { (answer : _) → has_ended self.old answer → (self.new ≡ self.old) × (result ≡ answer) };
 
+    /// Where the next step may have to wait for input, hands on what was written: so a reader of the texts sees all that the
+    /// bytes so far determine. A failure ends the run, as that of a step does. After the end it does nothing.
+    fn settle(&mut self) -> Result<(), IoFault>
+        ensures tool { tool self.new ≡ tool self.old }
+        ensures most { OnOk result (most self.new ≡ most self.old) }
+        ensures gives { (start : Devices R W E) (history : List ℕ) → stands self.old start history →
+            GivesSettled R.state W.state E.state (tool self.old) start (place self.old) (place self.new) (stands self.new start) history result }
+        ensures ends { IfErr result (λ fault. has_ended self.new (Err fault)) }
+        ensures again { (answer : _) → has_ended self.old answer → (self.new ≡ self.old) × (IsOk result) };
+
     /// The reader, the output and the report, as they stand.
     fn into_parts(self) -> (R, W, E)
         ensures { record { reader = result.0; output = result.1; report = result.2 } ≡ devices_at (place self) };
@@ -81,6 +91,10 @@ pub trait Run<R: InDevice, W: OutDevice, E: OutDevice>: Sized {
     {
         let mut run = self;
         'steps: loop {
+            match run.settle() {
+                Ok(()) => {}
+                Err(failure) => return end(run, Err(failure)),
+            }
             match run.step() {
                 Ok(Progress::More) => {}
                 Ok(Progress::Done(status)) => return end(run, Ok(status)),

@@ -56,6 +56,20 @@ impl<W: OutDevice, E: OutDevice> Writers<W, E> {
         write_whole(&mut self.report, self.line.as_slice())
     }
 
+    /// Hands on what the writers hold back of what was written.
+    pub fn settle(&mut self) -> Result<(), IoFault>
+        ensures gives { GivesTexts W.state E.state self.old self.new (on_output []) result }
+        ensures line { self.new.line ≡ self.old.line }
+    {
+        if self.output.settle().is_err() {
+            return Err(IoFault::Write);
+        }
+        if self.report.settle().is_err() {
+            return Err(IoFault::Write);
+        }
+        Ok(())
+    }
+
     /// Writes the line of a fault to the report, and returns the status with which the run ends.
     #[cold]
     pub fn report_fault(&mut self, fault: &Fault) -> Result<Status, IoFault>

@@ -1,7 +1,9 @@
 //! `unpack`: the data of the transfers of a recorded stream, and a line for each transfer.
 
-ghost use Rattle.std.specs.Prelude.{◌≡◌, ◌+◌, ◌&&◌, true, false, not, is_some, if◌then◌else◌, IsTrue, List, length, ℕ};
-ghost use Rattle.link_wire.specs.Session.{may_open, may_read, is_opened, left_of};
+ghost use Rattle.std.specs.Prelude.{◌≡◌, ◌+◌, ◌<◌, ◌&&◌, true, false, not, is_some, if◌then◌else◌, IsTrue, List, length, ℕ};
+ghost use Rattle.link_wire.specs.Limits.{window_size};
+ghost use Rattle.link_wire.specs.Source.{window_of};
+ghost use Rattle.link_wire.specs.Session.{source_of, may_open, may_read, is_opened, left_of};
 ghost use Rattle.link_run.specs.Run.{Devices, GivesAnswer};
 ghost use Rattle.link_run.specs.Writers.{GivesTexts, on_report};
 ghost use Rattle.link_wire.specs.Codes.{is_start};
@@ -339,6 +341,17 @@ pub struct UnpackRun<R, W, E> {
     ghost fits: { IsTrue (may_go_on stage session) },
 }
 
+/// Whether the step at this stage may have to wait for input.
+fn may_wait<R: InDevice>(stage: Stage, session: &Session<R>) -> bool
+    ensures few { IsTrue result → length (window_of (source_of session.now)) < window_size }
+    ensures ended { (answer : _) → stage ≡ Stage.Ended answer → result ≡ false }
+{
+    match stage {
+        Stage::Ended(_) => false,
+        _ => session.may_wait(),
+    }
+}
+
 impl<R: InDevice, W: OutDevice, E: OutDevice> UnpackRun<R, W, E> {
     ghost use Rattle.std.specs.Prelude.{◌≡◌, [], false};
     ghost use Rattle.link_run.specs.Run.{devices_at};
@@ -411,6 +424,17 @@ impl<R: InDevice, W: OutDevice, E: OutDevice> Run<R, W, E> for UnpackRun<R, W, E
         );
         self.stage = next;
         next.progress()
+    }
+
+    fn settle(&mut self) -> Result<(), IoFault> {
+        if !may_wait(self.stage, &self.session) {
+            return Ok(());
+        }
+        let settled = self.writers.settle();
+        if let Err(fault) = settled {
+            self.stage = Stage::Ended(Err(fault));
+        }
+        settled
     }
 
     fn into_parts(self) -> (R, W, E) {

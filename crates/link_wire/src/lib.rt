@@ -32,8 +32,8 @@ mod tests;
 pub use codes::{END, START};
 pub use fault::{Stop, WireFault};
 pub use link_io::{
-    DeviceFault, Filled, INPUT_LIMIT, InDevice, IoFault, OutDevice, Reader, Source, WINDOW, Writer,
-    write_whole,
+    BufferedReader, DeviceFault, Filled, INPUT_LIMIT, InDevice, IoFault, OutDevice, Reader, Source,
+    WINDOW, Writer, write_whole,
 };
 pub use message::{
     Contact, Fields, Item, Items, ListOf, MAX_ITEMS, MAX_LIST_LENGTH, MAX_NODE_ID, Message,

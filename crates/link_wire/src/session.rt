@@ -30,8 +30,9 @@ pub struct Session<R> {
 }
 
 impl<R: InDevice> Session<R> {
-    ghost use Rattle.std.specs.Prelude.{◌≡◌, true, false, [], ℕ, List, IfOk, IfErr, IfSome, Some, None, Ok, Err, IsTrue};
+    ghost use Rattle.std.specs.Prelude.{◌≡◌, ◌<◌, true, false, [], ℕ, List, length, IfOk, IfErr, IfSome, Some, None, Ok, Err, IsTrue};
     ghost use Rattle.link_wire.specs.Halt.{stop_at};
+    ghost use Rattle.link_io.specs.Limits.{window_size};
     ghost use Rattle.link_io.specs.Source.{is_fresh, window_of};
     ghost use Rattle.link_wire.specs.Plain.{IsHead};
     ghost use Rattle.link_wire.specs.Message.{MessageHasTotals};
@@ -74,6 +75,21 @@ impl<R: InDevice> Session<R> {
         ensures may_read { IsTrue (is_opened self.now) → result ≡ 0 → IsTrue (may_read self.now) }
     {
         self.left
+    }
+
+    /// Whether the next call may have to wait for the reader: it needs more than lies in the window.
+    #[inline(always)]
+    pub fn may_wait(&self) -> bool
+        ensures { IsTrue result → length (window_of (source_of self.now)) < window_size }
+    {
+        if !self.source.may_wait() {
+            return false;
+        }
+        let window = self.source.window();
+        if self.left > 0 {
+            return window.is_empty();
+        }
+        plain(window).is_none()
     }
 
     /// Reads the contact header: once, before all else.

@@ -10,7 +10,7 @@ ghost use Rattle.tcpclkit.specs.BufferedEnd.{HasWritten, IsFlushed};
 
 use crate::ending::after_flush;
 use link_tools::{Options, Status, run_tool};
-use link_wire::{IoFault, Reader, Writer};
+use link_wire::{BufferedReader, IoFault, Writer};
 use std::alloc::Global;
 use std::io;
 use std::io::{BufReader, BufWriter, ErrorKind, Read, Write};
@@ -59,7 +59,7 @@ pub fn run_buffered<R: Read + Drop, W: Write + Drop, E: Write + Drop>(
     let end = run_tool(
         alloc,
         options,
-        Reader::new(reader),
+        BufferedReader::new(reader),
         Writer::new(output),
         Writer::new(report),
     );

@@ -1,0 +1,55 @@
+-- What was written is handed on before a step of `pack` that may have to wait.
+use Rattle.std.proofs.Common.{◌≡◌, ℕ, ◌<◌, List, [], length, Err, refl, sym, ◌∙◌}
+use Rattle.link_wire.specs.Device.{Input, Output}
+use Rattle.link_wire.specs.Limits.{window_size}
+use Rattle.link_wire.specs.Source.{window_of}
+use Rattle.link_wire.specs.declared.IoFault.{IoFault}
+use Rattle.link_wire.specs.declared.Source.{Source}
+use Rattle.link_run.specs.Run.{Devices, devices_at, Gave}
+use Rattle.link_run.specs.Writers.{place_of, Writes, WritesPart}
+use Rattle.link_run.specs.declared.writers.Writers.{Writers}
+use Rattle.link_run.proofs.Runs.{no_texts, then_none, written_as, sound_written, settle_lost, settle_kept}
+use Rattle.link_pack.specs.Packing.{pack_tool, packing_sofar}
+use Rattle.link_pack.specs.PackRun.{texts_of, Begins, Packs, IsPacking}
+use Rattle.link_pack.specs.declared.packer.Packer.{Packer}
+use Rattle.link_pack.specs.declared.packing.Stage.{Stage}
+use Rattle.link_pack.specs.declared.packing.Stage.TheVariants as stage
+use Rattle.link_pack.proofs.Steps.{due}
+
+module _ {R W E : Type 0} (in_look : R → Input) (out_look : W → Output) (report_look : E → Output) (start : Devices R W E)
+    (s : Source R) (old new : Writers W E) (packer : Packer) (history : List ℕ) where
+  -- the run stands where it stood
+  pub settled : (now : Stage) → Writes out_look report_look old new no_texts
+      → IsPacking in_look out_look report_look start now s old packer history → IsPacking in_look out_look report_look start now s new packer history
+  settled stage.Prelude writes at = record {
+    nothing = at.nothing;
+    source = at.source;
+    unread = at.unread;
+    live = at.live;
+    holds = at.holds;
+    written = settle_kept out_look report_look in_look start s old new [] no_texts at.written writes;
+    sound = sound_written in_look out_look report_look s old new no_texts at.sound writes;
+  }
+  settled stage.Bundles writes at = record {
+    source = at.source;
+    live = at.live;
+    bundles = at.bundles;
+    begun = at.begun;
+    holds = at.holds;
+    divides = at.divides;
+    few = at.few;
+    written = settle_kept out_look report_look in_look start s old new history (texts_of packer.options at.bundles at.begun) at.written writes;
+    sound = sound_written in_look out_look report_look s old new no_texts at.sound writes;
+  }
+  settled (stage.Ended answer) writes at = absurd at
+
+  -- a writer failed in it
+  pub settle_failed : (now : Stage) (fault : IoFault) → WritesPart out_look report_look old new no_texts fault → length (window_of s) < window_size
+      → IsPacking in_look out_look report_look start now s old packer history → Gave in_look out_look report_look (pack_tool packer.options) start (devices_at (place_of s new)) history (Err fault)
+  settle_failed stage.Prelude fault part few at =
+      settle_lost out_look report_look in_look (pack_tool packer.options) start s old new history no_texts (packing_sofar packer.options history) fault
+      (written_as in_look out_look report_look at.written (sym at.nothing) refl) refl few part
+  settle_failed stage.Bundles fault part few at =
+      settle_lost out_look report_look in_look (pack_tool packer.options) start s old new history (texts_of packer.options at.bundles at.begun) no_texts fault at.written
+      (then_none _ ∙ sym (due in_look out_look report_look start s old packer history at)) few part
+  settle_failed (stage.Ended answer) fault part few at = absurd at
