@@ -1,0 +1,8 @@
+//! How the libraries are called: the functions that docs/LIBRARIES.md shows, word for word.
+#![tactic(auto)]
+
+pub mod cutting;
+pub mod reading;
+pub mod scanning;
+#[cfg(test)]
+mod tests;

@@ -1,0 +1,142 @@
+//! The examples on worked bytes: those of examples/README.md, and rows of docs/FORMATS.md.
+
+use crate::cutting::put_transfer;
+use crate::reading::copy_data;
+use crate::scanning::{Found, scan_piece};
+use link_bundle::{BundleFault, BundleScan};
+use link_transfer::Cutter;
+use link_wire::{Stop, WireFault};
+use std::io::Read;
+use std::test::Fail;
+
+/// The bundle of 34 bytes.
+const BUNDLE: &[u8] =
+    b"\x9f\x88\x07\x00\x00\x82\x02\x82\x02\x01\x82\x02\x82\x01\x01\x82\x01\x00\x82\x00\x00\x00\x85\x01\x01\x00\x00\x45hello\xff";
+
+/// The bundle of 37 bytes, with a check.
+const CHECKED: &[u8] =
+    b"\x9f\x88\x07\x00\x00\x82\x02\x82\x02\x01\x82\x02\x82\x01\x01\x82\x01\x00\x82\x00\x00\x00\x86\x01\x01\x00\x01\x45hello\x42\x4b\xf3\xff";
+
+/// Pieces given to one scan, one after another, and what is found in each.
+const PIECES: [(&[u8], Found); 8] = [
+    // A primary block, with the sequence number 7.
+    (
+        b"\x9f\x88\x07\x00\x00\x82\x02\x82\x02\x01\x82\x02\x82\x01\x01\x82\x01\x00\x82\x00\x07\x00",
+        Found::Part(None),
+    ),
+    // A payload block of 5 bytes, of which 2 have come.
+    (b"\x85\x01\x01\x00\x00\x45he", Found::Part(Some((28, 2)))),
+    // The rest of it, the break, and the first byte of another bundle.
+    (
+        b"llo\xff\x9f",
+        Found::Bundle {
+            sequence: 7,
+            payload: 5,
+            taken: 4,
+        },
+    ),
+    (b"\x9f\x88", Found::Part(None)),
+    // Version 6.
+    (b"\x06", Found::Fault(BundleFault::BadVersion, 2)),
+    (
+        CHECKED,
+        Found::Bundle {
+            sequence: 0,
+            payload: 5,
+            taken: 37,
+        },
+    ),
+    // The check of `hello`, and other data.
+    (
+        b"\x9f\x88\x07\x00\x00\x82\x02\x82\x02\x01\x82\x02\x82\x01\x01\x82\x01\x00\x82\x00\x00\x00\x86\x01\x01\x00\x01\x45iello\x42\x4b\xf3\xff",
+        Found::Fault(BundleFault::CheckDiffers, 33),
+    ),
+    (b"\x9f\x88", Found::Part(None)),
+];
+
+#[test]
+fn bundles_in_pieces(rt: HostRuntime) {
+    let mut scan = BundleScan::new();
+    for (piece, found) in PIECES {
+        assert_eq!(rt; scan_piece(&mut scan, piece), found);
+    }
+    // Here the input ends, two bytes after the last bundle.
+    assert_eq!(rt; scan.finish(), Err((BundleFault::Cut, 2)));
+}
+
+/// A stream, what is returned of it, and how many bytes of the bundle are written.
+type Recorded = (&'static [u8], Result<u64, Stop>, usize);
+
+const RECORDED: [Recorded; 5] = [
+    // A contact header, a SESS_INIT, and the bundle in one segment.
+    (
+        b"dtn!\x04\x00\x07\x00\x3c\x00\x00\x00\x00\x00\x01\x00\x00\x00\x00\x00\x00\x00\x10\x00\x00\x00\x07ipn:1.0\x00\x00\x00\x00\x01\x03\x00\x00\x00\x00\x00\x00\x00\x00\x00\x00\x00\x00\x00\x00\x00\x00\x00\x00\x00\x22\x9f\x88\x07\x00\x00\x82\x02\x82\x02\x01\x82\x02\x82\x01\x01\x82\x01\x00\x82\x00\x00\x00\x85\x01\x01\x00\x00\x45hello\xff",
+        Ok(1),
+        34,
+    ),
+    // The same, cut after 70 bytes: the segment at 38 has 10 of its bytes.
+    (
+        b"dtn!\x04\x00\x07\x00\x3c\x00\x00\x00\x00\x00\x01\x00\x00\x00\x00\x00\x00\x00\x10\x00\x00\x00\x07ipn:1.0\x00\x00\x00\x00\x01\x03\x00\x00\x00\x00\x00\x00\x00\x00\x00\x00\x00\x00\x00\x00\x00\x00\x00\x00\x00\x22\x9f\x88\x07\x00\x00\x82\x02\x82\x02\x01",
+        Err(Stop::Wire(38, WireFault::Truncated)),
+        10,
+    ),
+    // Two segments of 17 bytes, a KEEPALIVE between them, and a SESS_TERM.
+    (
+        b"dtn!\x04\x00\x01\x02\x00\x00\x00\x00\x00\x00\x00\x00\x00\x00\x00\x00\x00\x00\x00\x00\x00\x00\x00\x11\x9f\x88\x07\x00\x00\x82\x02\x82\x02\x01\x82\x02\x82\x01\x01\x82\x01\x04\x01\x01\x00\x00\x00\x00\x00\x00\x00\x00\x00\x00\x00\x00\x00\x00\x00\x11\x00\x82\x00\x00\x00\x85\x01\x01\x00\x00\x45hello\xff\x05\x00\x00",
+        Ok(2),
+        34,
+    ),
+    (b"dtn!\x04\x00", Ok(0), 0),
+    (b"dtn?\x04\x00", Err(Stop::Wire(0, WireFault::BadMagic)), 0),
+];
+
+/// Each stream is read in two pieces, cut at every offset.
+#[test]
+fn sessions_in_two_pieces(rt: HostRuntime) -> Result<(), Fail> {
+    for (stream, copied, size) in RECORDED {
+        for cut in 0..=stream.len() {
+            let (front, back) = stream.split_at(cut);
+            let mut output = Vec::new(rt.alloc());
+            assert_eq!(rt;
+                copy_data(front.chain(back), &mut output),
+                copied,
+                "cut at {cut}"
+            );
+            assert_eq!(rt; Some(output.as_slice()), BUNDLE.get(..size), "cut at {cut}");
+        }
+    }
+    Ok(())
+}
+
+/// A bundle, and its segments of at most 20 bytes, where the length of one of at most 34 bytes is announced.
+const CUT: [(&[u8], &[u8]); 4] = [
+    // 34 bytes: two segments, of which the first announces 34.
+    (
+        BUNDLE,
+        b"\x01\x02\x00\x00\x00\x00\x00\x00\x00\x00\x00\x00\x00\x0d\x00\x00\x01\x00\x08\x00\x00\x00\x00\x00\x00\x00\x22\x00\x00\x00\x00\x00\x00\x00\x14\x9f\x88\x07\x00\x00\x82\x02\x82\x02\x01\x82\x02\x82\x01\x01\x82\x01\x00\x82\x00\x01\x01\x00\x00\x00\x00\x00\x00\x00\x00\x00\x00\x00\x00\x00\x00\x00\x0e\x00\x00\x85\x01\x01\x00\x00\x45hello\xff",
+    ),
+    // 37 bytes: two segments, and no announcement.
+    (
+        CHECKED,
+        b"\x01\x02\x00\x00\x00\x00\x00\x00\x00\x01\x00\x00\x00\x00\x00\x00\x00\x00\x00\x00\x00\x14\x9f\x88\x07\x00\x00\x82\x02\x82\x02\x01\x82\x02\x82\x01\x01\x82\x01\x00\x82\x00\x01\x01\x00\x00\x00\x00\x00\x00\x00\x01\x00\x00\x00\x00\x00\x00\x00\x11\x00\x00\x86\x01\x01\x00\x01\x45hello\x42\x4b\xf3\xff",
+    ),
+    // One segment, whose length says it all.
+    (
+        b"hello",
+        b"\x01\x03\x00\x00\x00\x00\x00\x00\x00\x02\x00\x00\x00\x00\x00\x00\x00\x00\x00\x00\x00\x05hello",
+    ),
+    // No byte has no segment.
+    (b"", b""),
+];
+
+/// One cutter serves all, and they are the transfers 0 to 3.
+#[test]
+fn bundles_as_segments(rt: HostRuntime) -> Result<(), Fail> {
+    let mut cutter = Cutter::new(rt.alloc(), 20, 34)?;
+    for (id, (bundle, segments)) in CUT.iter().enumerate() {
+        let mut stream = Vec::new(rt.alloc());
+        put_transfer(&mut stream, &mut cutter, id as u64, bundle)?;
+        assert_eq!(rt; stream.as_slice(), *segments);
+    }
+    Ok(())
+}
