@@ -78,6 +78,40 @@ fn pack_defaults(node: &str) -> Result<PackOptions, Fail> {
     })
 }
 
+/// A call of `pack` with all options.
+const ALL_OF_PACK: &[&str] = &[
+    "pack",
+    "--keepalive",
+    "1",
+    "--segment-mru",
+    "2",
+    "--transfer-mru",
+    "3",
+    "--peer-segment",
+    "4",
+    "--peer-transfer",
+    "5",
+    "--announce",
+    "6",
+    "--end",
+    "--node=-é",
+    "f",
+];
+
+/// What it asks for.
+fn all_of_pack() -> Result<PackOptions, Fail> {
+    Ok(PackOptions {
+        node: NodeId::try_from("-é".as_bytes())?,
+        keepalive: 1,
+        segment_mru: 2,
+        transfer_mru: 3,
+        peer_segment: 4,
+        peer_transfer: 5,
+        announce: 6,
+        send_term: true,
+    })
+}
+
 #[test]
 fn wrong_words(rt: HostRuntime) -> Result<(), Fail> {
     all_come_to(
@@ -177,38 +211,8 @@ fn options_of_pack(rt: HostRuntime) -> Result<(), Fail> {
     assert!(rt; invocation.file.is_none());
     let invocation = taken(alloc, &["pack", "--node", ""])?;
     assert!(rt; invocation.options == Options::Pack(pack_defaults("")?));
-    let invocation = taken(
-        alloc,
-        &[
-            "pack",
-            "--keepalive",
-            "1",
-            "--segment-mru",
-            "2",
-            "--transfer-mru",
-            "3",
-            "--peer-segment",
-            "4",
-            "--peer-transfer",
-            "5",
-            "--announce",
-            "6",
-            "--end",
-            "--node=-é",
-            "f",
-        ],
-    )?;
-    let expected = PackOptions {
-        node: NodeId::try_from("-é".as_bytes())?,
-        keepalive: 1,
-        segment_mru: 2,
-        transfer_mru: 3,
-        peer_segment: 4,
-        peer_transfer: 5,
-        announce: 6,
-        send_term: true,
-    };
-    assert!(rt; invocation.options == Options::Pack(expected));
+    let invocation = taken(alloc, ALL_OF_PACK)?;
+    assert!(rt; invocation.options == Options::Pack(all_of_pack()?));
     assert!(rt; invocation.file.as_deref() == Some("f"));
     Ok(())
 }
@@ -373,4 +377,120 @@ fn ends_of_the_program(rt: HostRuntime) -> Result<(), Fail> {
     );
     assert!(rt; usage_exit(&UsageFault::Memory) == (4, "tcpclkit: out of memory"));
     Ok(())
+}
+
+/// What `options` returns; `None`: want of memory, which a line on standard output reports.
+fn returned(
+    rt: &(impl AllocGlobal + Print),
+    words: &[String],
+) -> Result<Option<Result<Invocation, UsageFault>>, Fail> {
+    match options(rt.alloc(), words) {
+        Err(UsageFault::Memory) => {
+            println!(rt; "out of memory")?;
+            Ok(None)
+        }
+        other => Ok(Some(other)),
+    }
+}
+
+/// Where one request for memory is refused, at most one of two calls returns want of it, and each other what the words ask for.
+/// No call is made where it was a request for the words themselves. `tests/refused` refuses each request in turn.
+fn asks_for(
+    rt: &(impl Abort + AllocGlobal + Print),
+    line: &[&str],
+    expected: &Options,
+    file: Option<&str>,
+) -> Result<(), Fail> {
+    let Ok(words) = words_of(rt.alloc(), line) else {
+        return Ok(());
+    };
+    let mut found = false;
+    for _ in 0..2 {
+        match returned(rt, words.as_slice())? {
+            Some(Ok(invocation)) => {
+                assert!(rt; invocation.options == *expected);
+                assert!(rt; invocation.file.as_deref() == file);
+                found = true;
+            }
+            Some(other) => return Err(Fail::from(name_of(&other))),
+            None => {}
+        }
+    }
+    assert!(rt; found);
+    Ok(())
+}
+
+/// The text of the fault of this name, which `options` returns; `None`: want of memory.
+fn text_returned(
+    rt: &(impl Abort + AllocGlobal + Print),
+    words: &[String],
+    expected: &str,
+) -> Result<Option<String>, Fail> {
+    let Some(outcome) = returned(rt, words)? else {
+        return Ok(None);
+    };
+    let (name, text) = match outcome {
+        Err(UsageFault::Help(text)) => ("help", text),
+        Err(UsageFault::Words(text)) => ("words", text),
+        other => return Err(Fail::from(name_of(&other))),
+    };
+    assert!(rt; name == expected);
+    Ok(Some(text))
+}
+
+/// The same where a fault with a text is returned: both calls return the same text.
+fn returns_text(
+    rt: &(impl Abort + AllocGlobal + Print),
+    line: &[&str],
+    expected: &str,
+) -> Result<(), Fail> {
+    let Ok(words) = words_of(rt.alloc(), line) else {
+        return Ok(());
+    };
+    let first = text_returned(rt, words.as_slice(), expected)?;
+    let second = text_returned(rt, words.as_slice(), expected)?;
+    assert!(rt; first.is_some() || second.is_some());
+    if let (Some(first), Some(second)) = (first, second) {
+        assert!(rt; first == second);
+    }
+    Ok(())
+}
+
+#[test]
+fn memory_of_list(rt: HostRuntime) -> Result<(), Fail> {
+    asks_for(&rt, &["list", "f"], &Options::List, Some("f"))
+}
+
+#[test]
+fn memory_of_unpack(rt: HostRuntime) -> Result<(), Fail> {
+    let wanted = Wanted {
+        only: Some(7),
+        payload: true,
+    };
+    asks_for(
+        &rt,
+        &["unpack", "--payload", "--transfer", "7", "f"],
+        &Options::Unpack(wanted),
+        Some("f"),
+    )
+}
+
+#[test]
+fn memory_of_pack(rt: HostRuntime) -> Result<(), Fail> {
+    asks_for(&rt, ALL_OF_PACK, &Options::Pack(all_of_pack()?), Some("f"))
+}
+
+#[test]
+fn memory_of_help(rt: HostRuntime) -> Result<(), Fail> {
+    returns_text(&rt, &["pack", "--help"], "help")
+}
+
+#[test]
+fn memory_of_a_wrong_word(rt: HostRuntime) -> Result<(), Fail> {
+    returns_text(&rt, &["lists"], "words")
+}
+
+#[test]
+fn memory_of_a_wrong_number(rt: HostRuntime) -> Result<(), Fail> {
+    returns_text(&rt, &["unpack", "--transfer", "-1"], "words")
 }
