@@ -66,7 +66,7 @@ pub fn every_byte_once()
 {}
 
 /// The report of `unpack` cuts its output: each line's transfer begins in the output where those before it end, and what
-/// is left behind the last is that of a transfer that a fault left open.
+/// is left after the last is that of a transfer that a fault left open.
 pub fn report_cuts_output()
     ensures { (wanted : Wanted) (bytes : List ℕ) → CutsOutput wanted bytes }
 {}
