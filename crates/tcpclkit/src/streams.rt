@@ -19,7 +19,7 @@ use std::io::{BufReader, BufWriter, ErrorKind, Read, Write};
 const INPUT_BUFFER: usize = 64 << 10;
 
 /// How many bytes of a text are written at once.
-const TEXT_BUFFER: usize = 256 << 10;
+const TEXT_BUFFER: usize = 64 << 10;
 
 /// A run over buffered streams that has ended.
 #[derive(Drop)]
