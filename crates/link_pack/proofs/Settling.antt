@@ -1,5 +1,5 @@
 -- What was written is handed on before a step of `pack` that may have to wait.
-use Rattle.std.proofs.Common.{◌≡◌, ℕ, ◌<◌, List, [], length, Err, refl, sym, ◌∙◌}
+use Rattle.std.proofs.Common.{ℕ, ◌<◌, List, [], length, Err, refl, sym, ◌∙◌}
 use Rattle.link_wire.specs.Device.{Input, Output}
 use Rattle.link_wire.specs.Limits.{window_size}
 use Rattle.link_wire.specs.Source.{window_of}
@@ -10,7 +10,7 @@ use Rattle.link_run.specs.Writers.{place_of, Writes, WritesPart}
 use Rattle.link_run.specs.declared.writers.Writers.{Writers}
 use Rattle.link_run.proofs.Runs.{no_texts, then_none, written_as, sound_written, settle_lost, settle_kept}
 use Rattle.link_pack.specs.Packing.{pack_tool, packing_sofar}
-use Rattle.link_pack.specs.PackRun.{texts_of, Begins, Packs, IsPacking}
+use Rattle.link_pack.specs.PackRun.{texts_of, IsPacking}
 use Rattle.link_pack.specs.declared.packer.Packer.{Packer}
 use Rattle.link_pack.specs.declared.packing.Stage.{Stage}
 use Rattle.link_pack.specs.declared.packing.Stage.TheVariants as stage

@@ -1,5 +1,5 @@
 -- What was written is handed on before a step of `unpack` that may have to wait.
-use Rattle.std.proofs.Common.{◌≡◌, ℕ, ◌<◌, Bool, List, [], length, Err, refl, ap, sym, ◌∙◌}
+use Rattle.std.proofs.Common.{◌≡◌, ℕ, ◌<◌, Bool, List, [], length, Err, refl, sym, ◌∙◌}
 use Rattle.link_wire.specs.Device.{Input, Output}
 use Rattle.link_wire.specs.Limits.{window_size}
 use Rattle.link_wire.specs.Source.{window_of}
@@ -14,7 +14,7 @@ use Rattle.link_run.specs.declared.writers.Writers.{Writers}
 use Rattle.link_run.proofs.Runs.{no_texts, then_none, written_as, sound_written, settle_lost, settle_kept}
 use Rattle.link_unpack.specs.Transfers.{heads_of, Transfer, transfers_of}
 use Rattle.link_unpack.specs.Unpacking.{unpack_tool, unpacking_sofar}
-use Rattle.link_unpack.specs.UnpackRun.{texts_of, IsWaiting, Begins, Unpacks, IsUnpacking}
+use Rattle.link_unpack.specs.UnpackRun.{texts_of, IsWaiting, Unpacks, IsUnpacking}
 use Rattle.link_unpack.specs.declared.transfer.TransferScan.{TransferScan}
 use Rattle.link_unpack.specs.declared.unpacking.Stage.{Stage}
 use Rattle.link_unpack.specs.declared.unpacking.Stage.TheVariants as stage
