@@ -67,7 +67,7 @@ keeps-then bytes place (Err stop) (Err other) next next_later (short cut onward 
 keeps-then bytes place (Err stop) (Ok (value, end)) next next_later (short cut onward past) each =
     let rest = next_later (value, end) in
     let from = payload_later bytes end (next (value, end)) rest (each (value, end)) in
-    before cut (sooner place end rest onward from) (sooner (length bytes) end rest past from)
+    before cut (sooner place end rest onward from) (sooner (length bytes) end rest (omega arith) from)
 keeps-then bytes place (Ok (value, end)) later next next_later (whole is onward) each =
     rw is (keeps-sooner bytes place end (next (value, end)) (next_later (value, end)) onward (each (value, end)))
 keeps-then bytes place (Err stop) later next next_later (whole is onward) each =

@@ -159,6 +159,10 @@ bundle_at-within bytes =
     (λ (primary, place). within-then bytes (field_at primary.1 start bytes place) _
     (λ (_, place). blocks_at-within 64 [] primary.0 bytes place)))
 
+pub bundle_within : (bytes : List ℕ) (bundle : Bundle) → bundle_at bytes ≡ Ok bundle → bundle.length ≤ length bytes
+unfolding BundleWithin
+bundle_within bytes bundle is = rw is at (bundle_at-within bytes)
+
 -- the verdict by what is read
 judgement : List ℕ → Result Bundle Stop → Result BundleInfo (BundleFault × ℕ)
 judgement bytes reading = verdict_by (reading >>= λ bundle. ends bytes bundle)

@@ -14,5 +14,6 @@ pub mod Keeping
 pub mod Lengths
 pub mod Payloads
 pub mod Feeding
-pub mod FirstHead
+pub mod Alone
+pub mod Readings
 pub mod Judgings

@@ -9,7 +9,7 @@ use Rattle.std.proofs.Math.Seq.{take-nil}
 use Rattle.link_bundle.specs.Laws.{PayloadLasts, PayloadPlaced, PayloadEnds}
 use Rattle.link_bundle_rows.specs.Rows.{◌>>=◌}
 use Rattle.link_bundle.specs.Reading.{Stop}
-use Rattle.link_bundle.specs.Bundle.{Bundle, bundle_at, ends, judged, verdict_by, verdict, payload_of, bytes_of, payload_in, state_of, is_going}
+use Rattle.link_bundle.specs.Bundle.{Bundle, bundle_at, ends, judged, verdict_by, verdict, payload_of, bytes_of, payload_in, state_of, is_going, bundle_goes}
 use Rattle.link_bundle.proofs.Steady.{EndsCut}
 use Rattle.link_bundle.proofs.Keeping.{Keeps, before, inside, after, stop_without_payload, bundle_at-keeps}
 
@@ -89,6 +89,10 @@ cut_goes : (bytes : List ℕ) (reading : Result Bundle Stop) → EndsCut reading
 unfolding goes whole_of
 cut_goes bytes (Ok bundle) cut = absurd cut
 cut_goes bytes (Err stop) cut = rw cut refl
+
+pub cut_goes-on : (bytes : List ℕ) → EndsCut (bundle_at bytes) → bundle_goes bytes ≡ true
+unfolding verdict judged goes whole_of
+cut_goes-on bytes cut = cut_goes bytes (bundle_at bytes) cut
 
 payload_of-ends : (bytes more : List ℕ) (now later : Result Bundle Stop) → Keeps bytes 0 now later → goes bytes now ≡ false
     → bytes_of (payload_of later) (bytes ++ more) ≡ bytes_of (payload_of now) bytes

@@ -1,6 +1,6 @@
 -- what is read of some bytes, and of those bytes with more after them
 
-use Rattle.std.proofs.Common.{◌≡◌, ℕ, ◌+◌, ◌-◌, ◌≤◌, Bool, true, false, List, [], ◌∷◌, ◌++◌, length, drop, Option, None, Some, Result, Ok, Err, refl, sym, ap, ◌∙◌, ⊎_elim, length-append, length-drop, arith, ltb}
+use Rattle.std.proofs.Common.{◌≡◌, ℕ, suc, ◌+◌, ◌-◌, ◌<◌, ◌≤◌, Bool, true, false, List, [], ◌∷◌, ◌++◌, length, drop, Option, None, Some, Result, Ok, Err, refl, sym, ap, ◌∙◌, ⊎_elim, length-append, length-drop, arith, ltb}
 use Rattle.std.specs.Prelude.{◌==◌, slice_range, if◌then◌else◌}
 use Rattle.std.proofs.lemmas.Bool.{cases_lt, lt-ltb, le-ltb, false≢true}
 use Rattle.std.proofs.lemmas.List.{drop-append-le, take-append-le}
@@ -30,9 +30,9 @@ abbrev pub Onward : {A : Type 0} → ℕ → Reading A → Type 0
 Onward place (Ok (value, next)) = place ≤ next
 Onward place (Err stop) = stop.payload ≡ None
 
--- what is read, if it is, ends at this offset or after it
+-- what is read, if it is, ends after this offset
 abbrev pub Past : {A : Type 0} → ℕ → Reading A → Type 0
-Past limit (Ok (value, next)) = limit ≤ next
+Past limit (Ok (value, next)) = limit < next
 Past limit (Err stop) = Unit {0}
 
 onward-from : {A : Type 0} (place start : ℕ) (reading : Reading A) → place ≤ start → Onward start reading
@@ -40,7 +40,7 @@ onward-from : {A : Type 0} (place start : ℕ) (reading : Reading A) → place �
 onward-from place start (Ok (value, next)) before onward = omega arith
 onward-from place start (Err stop) before onward = onward
 
-past-from : {A : Type 0} (limit start : ℕ) (reading : Reading A) → limit ≤ start → Onward start reading
+past-from : {A : Type 0} (limit start : ℕ) (reading : Reading A) → limit < start → Onward start reading
     → Past limit reading
 past-from limit start (Ok (value, next)) before onward = omega arith
 past-from limit start (Err stop) before onward = tt
@@ -70,7 +70,7 @@ onward-placed bytes place CutHead = refl
 onward-placed bytes place IllFormed = refl
 onward-placed bytes place (Whole head size) = omega arith
 
-past-placed : (bytes : List ℕ) (limit place : ℕ) (front : HeadFront) → EndsFrom (limit - place) front
+past-placed : (bytes : List ℕ) (limit place : ℕ) (front : HeadFront) → EndsFrom (suc (limit - place)) front
     → Past limit (placed bytes place front)
 past-placed bytes limit place CutHead ends = tt
 past-placed bytes limit place IllFormed ends = tt
@@ -107,7 +107,7 @@ IsCut bytes (Ok value) = ⊥
 IsCut bytes (Err stop) = stop ≡ stopped Cut (length bytes)
 
 -- what is read at an offset of some bytes, and of those bytes with more after them: either the first bytes end inside it,
--- and then it ends where they do or later, or it is the same
+-- and then it ends after them, or it is the same
 pub data Reads {A : Type 0} : List ℕ → ℕ → Reading A → Reading A → Type 0 where
   short : {bytes : List ℕ} {place : ℕ} {now later : Reading A}
       → IsCut bytes now → Onward place later → Past (length bytes) later → Reads bytes place now later
@@ -348,8 +348,13 @@ unfolding opening_at
 opening_at-onward [] = refl
 opening_at-onward (first ∷ rest) = onward-if 0 (first == 0x9f) (Ok (true, 1)) (Err _) (omega arith) refl
 
+opening_at-past : (bytes : List ℕ) → Past 0 (opening_at bytes)
+unfolding opening_at
+opening_at-past [] = tt
+opening_at-past (first ∷ rest) = past-if 0 (first == 0x9f) (Ok (true, 1)) (Err _) (omega arith) tt
+
 pub opening_at-reads : (bytes more : List ℕ) → Reads bytes 0 (opening_at bytes) (opening_at (bytes ++ more))
 unfolding opening_at
 opening_at-reads [] more =
-    short refl (opening_at-onward more) (past-from 0 0 (opening_at more) (omega arith) (opening_at-onward more))
+    short refl (opening_at-onward more) (opening_at-past more)
 opening_at-reads (first ∷ rest) more = whole refl (opening_at-onward (first ∷ rest))

@@ -27,7 +27,7 @@ use Rattle.link_bundle.specs.CheckKinds.{kind_of}
 use Rattle.link_bundle_rows.specs.Rows.{◌>>=◌, unsigned, byte_string, pair, scheme, version, is_fragment, primary_block, primary_check_type, block_number, block_check_type, closing}
 use Rattle.link_bundle.specs.Reading.{Stop, stopped, Reading, head_at, row_at, bytes_at}
 use Rattle.link_bundle.specs.EndpointId.{specific_at, eid_at}
-use Rattle.link_bundle.specs.KeptEid.{name_of}
+use Rattle.link_bundle_kept.specs.KeptEid.{name_of}
 use Rattle.link_bundle.specs.CheckField.{number_from, field_at}
 use Rattle.link_bundle.specs.Primary.{Primary, fragment_at}
 use Rattle.link_bundle.specs.Canonical.{content_at}

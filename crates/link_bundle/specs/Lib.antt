@@ -1,6 +1,5 @@
 pub mod Reading
 pub mod EndpointId
-pub mod KeptEid
 pub mod CheckField
 pub mod Primary
 pub mod Canonical
@@ -13,3 +12,4 @@ pub mod Stages
 pub mod Scan
 pub mod Laws
 pub mod Judged
+pub mod Whole

@@ -1,9 +1,8 @@
 //! What is held of a bundle while its heads come, and how each head goes into it.
 ghost use Rattle.std.specs.Prelude.{◌≡◌, ◌≤◌, [], ◌++◌, IsTrue, length};
 
-use crate::kept_eid::{EidForm, KeptEid};
-use crate::numbers::BlockNumbers;
 use crate::stage::{CanonicalField, CheckType, Field, Part, PrimaryField, Role, Stage};
+use link_bundle_kept::{BlockNumbers, EidForm, KeptEid};
 use link_bundle_rows::{Scheme, row};
 use link_bundle_types::{BundleFault, BundleInfo, BundleView};
 use link_cbor::Head;
@@ -261,7 +260,7 @@ impl Draft {
     ghost use Rattle.link_bundle.specs.Fits.{stage_fits, rest_fits, KeepsCheck};
     ghost use Rattle.link_bundle.specs.Judged.{Judged};
     ghost use Rattle.link_bundle.specs.Left.{EidEnds, NameBegins, NameGoesOn, with_eid, kept_name};
-    ghost use Rattle.link_bundle.specs.KeptEid.{formed};
+    ghost use Rattle.link_bundle_kept.specs.KeptEid.{formed};
     ghost use Rattle.link_bundle_types.specs.declared.eid.Eid.TheVariants.{Dtn};
 
     /// Judges a head of an endpoint ID.

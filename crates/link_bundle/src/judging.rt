@@ -1,4 +1,4 @@
-//! Heads of a bundle: the one that a piece begins with, and what a head that has come whole leads to.
+//! What a head of a bundle that has come whole leads to.
 ghost use Rattle.std.specs.Prelude.{◌≡◌, ◌^◌, ◌-◌, ◌<◌, ◌≤◌, ℕ, IsTrue, List, length, take, drop};
 ghost use Rattle.link_cbor.specs.Head.{Whole, head_front, front_of};
 ghost use Rattle.link_bundle.specs.Fits.{scan_fits, stage_fits};
@@ -10,7 +10,7 @@ use crate::draft::Draft;
 use crate::stage::{Field, Stage};
 use link_bundle_rows::row;
 use link_bundle_types::BundleFault;
-use link_cbor::{Head, HeadScan, HeadStep, Piecewise};
+use link_cbor::Head;
 
 /// Judges a whole head at a field: what comes next, or the fault.
 #[tactic(auto, using(crate::proofs::Heads::heads), unfolding(crate::specs::Left::field_left, crate::specs::Left::stage_left))]
@@ -52,26 +52,4 @@ pub(crate) fn take_head(draft: &mut Draft, cursor: &mut Cursor, field: Field, he
         }
         Err(fault) => Stage::Failed(fault, cursor.place),
     }
-}
-
-/// The head that a piece begins with, and how many of the piece's bytes show it.
-pub(crate) fn first_head(piece: &[u8]) -> (HeadStep, usize)
-    requires some { 0 < length piece.now }
-    requires room { length piece.now ≤ 2 ^ 63 - 1 }
-    ensures head { head_front (take result.1 piece.now) ≡ front_of result.0 result.1 }
-    ensures some { 0 < result.1 }
-    ensures within { result.1 ≤ length piece.now }
-{
-    let first = piece[0];
-    let information = first & 0x1f;
-    if information < 24 {
-        let head = Head {
-            major: first >> 5,
-            value: Some(u64::from(information)),
-        };
-        return (HeadStep::Done(head), 1);
-    }
-    let mut scan = HeadScan::new();
-    let size = scan.feed(piece);
-    (scan.outcome(), size)
 }

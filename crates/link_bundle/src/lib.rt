@@ -26,18 +26,18 @@
 //! ```
 //!
 //! The verdict depends on the bytes alone, however they are cut into pieces: it is the definition `verdict` of
-//! specs/Bundle.antt. The types stand in the crate `link_bundle_types`, and how each head is judged in `link_bundle_rows`.
+//! specs/Bundle.antt. The types stand in the crate `link_bundle_types`, how each head is judged in `link_bundle_rows`,
+//! and what is kept in place in `link_bundle_kept`.
 #![tactic(auto)]
 
 mod checks;
 mod cursor;
 mod draft;
 mod judging;
-mod kept_eid;
 pub mod laws;
-mod numbers;
 mod scan;
 mod stage;
+mod whole;
 
 pub use link_bundle_types::{
     BLOCK_LIMIT, BundleFault, BundleInfo, BundleView, EID_LIMIT, Eid, EidView, State,

@@ -5,14 +5,14 @@ ghost use Rattle.link_cbor.specs.Head.{Whole, head_front};
 
 use crate::cursor::Cursor;
 use crate::draft::Draft;
-use crate::judging::{first_head, take_head};
+use crate::judging::take_head;
 use crate::stage::{CheckType, Field, PrimaryField, Role, Stage};
 use link_bundle_types::{BundleFault, BundleInfo, BundleView, State};
 use link_cbor::{CheckKind, Head, HeadStep, Piecewise};
 use std::fmt;
 
 /// The first byte of a bundle: it opens an array of indefinite length (RFC 9171 section 4.1).
-const OPENING: u8 = 0x9f;
+pub(crate) const OPENING: u8 = 0x9f;
 
 /// Scans one bundle (RFC 9171 section 4), in pieces of any size. It holds what [`BundleInfo`] says and no bytes of the
 /// data.
@@ -259,11 +259,40 @@ impl BundleScan {
                 self.content_run(left, run);
                 run.len()
             }
+            Stage::Start => self.advance_start(piece),
             Stage::Head(field) if self.cursor.place == self.cursor.count => {
                 self.advance_head(field, piece)
             }
             _ => {
                 self.step(piece[0]);
+                1
+            }
+        }
+    }
+
+    /// The same before the first byte: the whole bundle if the piece has it, else one byte.
+    fn advance_start(&mut self, piece: &[u8]) -> usize
+        requires stage { self.old.stage ≡ Stage.Start }
+        requires some { 0 < length piece.now }
+        requires room { scan_size self.old + length piece.now ≤ 2 ^ 63 - 1 }
+        requires goes { (seen : List ℕ) → HasScanned self.old seen → bundle_goes seen ≡ true }
+        ensures some { 0 < result }
+        ensures within { result ≤ length piece.now }
+        ensures size { scan_size self.new ≡ scan_size self.old + result }
+        ensures seen { (seen : List ℕ) → HasScanned self.old seen → HasScanned self.new (seen ++ take result piece.now) }
+        ensures goes { (seen : List ℕ) → HasScanned self.old seen →
+            (count : ℕ) → count < result → bundle_goes (seen ++ take count piece.now) ≡ true }
+    {
+        match self.draft.whole(piece) {
+            Ok(size) => {
+                self.cursor.count += size as u64;
+                self.cursor.place = self.cursor.count;
+                self.stage = Stage::Ended;
+                size
+            }
+            Err(_) => {
+                self.draft.restart();
+                self.open(piece[0]);
                 1
             }
         }
@@ -283,12 +312,12 @@ impl BundleScan {
         ensures goes { (seen : List ℕ) → HasScanned self.old seen →
             (count : ℕ) → count < result → bundle_goes (seen ++ take count piece.now) ≡ true }
     {
-        match first_head(piece) {
-            (HeadStep::Done(head), size) => {
+        match Head::front(piece) {
+            Some((head, size)) => {
                 self.head_run(field, head, &piece[..size]);
                 size
             }
-            _ => {
+            None => {
                 self.head_byte(field, piece[0]);
                 1
             }

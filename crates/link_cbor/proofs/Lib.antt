@@ -1,5 +1,6 @@
 mod CrcLaws
 mod Feeding
+mod Fronts
 mod Joins
 mod Linear
 mod LookUps

@@ -1,6 +1,6 @@
 -- what a list of bytes begins with, as a CBOR head (RFC 8949 section 3)
 
-use Rattle.std.specs.Prelude.{ℕ, ◌+◌, ◌-◌, ◌*◌, ◌/◌, ◌%◌, ◌^◌, Bool, true, false, ◌&&◌, ◌||◌, ◌==◌, nat_lt, List, [], ◌∷◌, length, take, Some, None, if◌then◌else◌, All, ◌<◌}
+use Rattle.std.specs.Prelude.{ℕ, ◌+◌, ◌-◌, ◌*◌, ◌/◌, ◌%◌, ◌^◌, Bool, true, false, ◌&&◌, ◌||◌, ◌==◌, nat_lt, List, [], ◌∷◌, length, take, Option, Some, None, if◌then◌else◌, All, ◌<◌}
 use Rattle.link_cbor.specs.declared.head.Head.{Head}
 use Rattle.link_cbor.specs.declared.head.HeadStep.{HeadStep}
 use Rattle.link_cbor.specs.declared.head.HeadStep.TheVariants.{More, Done, Bad}
@@ -50,6 +50,12 @@ front_by major information rest =
 unfoldable pub head_front : List ℕ → HeadFront
 head_front [] = Cut
 head_front (first ∷ rest) = front_by (first / 32) (first % 32) rest
+
+-- the head that the bytes begin with and how many of them it is, where it is whole
+abbrev pub whole_of : HeadFront → Option (Head × ℕ)
+whole_of Cut = None
+whole_of IllFormed = None
+whole_of (Whole head size) = Some (head, size)
 
 -- what a scan that has seen these bytes returns
 abbrev pub step_at : HeadFront → HeadStep

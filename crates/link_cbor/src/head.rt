@@ -1,4 +1,6 @@
 //! The head of a CBOR data item, and what a scan knows of it.
+ghost use Rattle.std.specs.Prelude.{◌≡◌, ◌+◌, ◌<◌, ◌≤◌, length, get_or, IfSome, bit_and};
+ghost use Rattle.link_cbor.specs.Head.{big_endian};
 
 /// The head of a CBOR data item, RFC 8949 section 3.
 #[derive(Clone, Copy, PartialEq, Eq, Debug)]
@@ -8,6 +10,90 @@ pub struct Head {
     /// The argument, however many bytes it was encoded in. `None` for additional information 31: an indefinite length
     /// for major types 2 to 5, the break for major type 7.
     pub value: Option<u64>,
+}
+
+impl Head {
+    ghost use Rattle.link_cbor.specs.Head.{head_front, argument_front, no_argument, whole_of};
+
+    /// The head that the bytes begin with, and how many of them it is. `None` where they end inside it, and where no
+    /// well-formed head begins like this.
+    // Most heads are one byte: where they are read, that is to be no call.
+    #[inline(always)]
+    pub fn front(bytes: &[u8]) -> Option<(Head, usize)>
+        ensures front { result ≡ whole_of (head_front bytes.now) }
+        ensures some { IfSome result (λ front. 0 < front.1) }
+        ensures within { IfSome result (λ front. front.1 ≤ length bytes.now) }
+    {
+        if bytes.is_empty() {
+            return None;
+        }
+        let information = bytes[0] & 0x1f;
+        if information < 24 {
+            let major = bytes[0] >> 5;
+            let value = Some(u64::from(information));
+            return Some((Head { major, value }, 1));
+        }
+        Head::longer(bytes)
+    }
+
+    /// A head whose additional information is not its argument.
+    fn longer(bytes: &[u8]) -> Option<(Head, usize)>
+        requires some { 0 < length bytes.now }
+        requires information { 24 ≤ bit_and (get_or bytes.now 0 0) 31 }
+        ensures front { result ≡ whole_of (head_front bytes.now) }
+        ensures some { IfSome result (λ front. 0 < front.1) }
+        ensures within { IfSome result (λ front. front.1 ≤ length bytes.now) }
+    {
+        let major = bytes[0] >> 5;
+        match bytes[0] & 0x1f {
+            24 => Head::with_argument(major, 1, &bytes[1..]),
+            25 => Head::with_argument(major, 2, &bytes[1..]),
+            26 => Head::with_argument(major, 4, &bytes[1..]),
+            27 => Head::with_argument(major, 8, &bytes[1..]),
+            31 => Head::without_argument(major),
+            _ => None,
+        }
+    }
+
+    /// A head whose argument stands in the first `size` of these bytes.
+    #[tactic(auto, unfolding(crate::specs::Head::argument_front, crate::specs::Head::with_argument))]
+    fn with_argument(major: u8, size: usize, rest: &[u8]) -> Option<(Head, usize)>
+        requires { size ≤ 8 }
+        ensures front { result ≡ whole_of (argument_front major size rest.now) }
+        ensures some { IfSome result (λ front. 0 < front.1) }
+        ensures within { IfSome result (λ front. front.1 ≤ 1 + length rest.now) }
+    {
+        let value = big_endian(rest.get(..size)?);
+        if major == 7 && size == 1 && value < 32 {
+            return None;
+        }
+        let value = Some(value);
+        Some((Head { major, value }, 1 + size))
+    }
+
+    /// Additional information 31: an indefinite length or the break, ill-formed for major types 0, 1 and 6.
+    #[tactic(auto, unfolding(crate::specs::Head::no_argument))]
+    fn without_argument(major: u8) -> Option<(Head, usize)>
+        ensures front { result ≡ whole_of (no_argument major) }
+        ensures within { IfSome result (λ front. front.1 ≡ 1) }
+    {
+        if major < 2 || major == 6 {
+            return None;
+        }
+        Some((Head { major, value: None }, 1))
+    }
+}
+
+/// The number that these bytes encode.
+fn big_endian(bytes: &[u8]) -> u64
+    requires { length bytes.now ≤ 8 }
+    ensures { result ≡ big_endian bytes.now }
+{
+    let mut number = 0;
+    for &byte in bytes {
+        number = number * 256 + u64::from(byte);
+    }
+    number
 }
 
 /// What the bytes seen so far say of the head that they begin.

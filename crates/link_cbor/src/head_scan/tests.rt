@@ -16,8 +16,8 @@ fn without_value(major: u8) -> HeadStep {
     HeadStep::Done(Head { major, value: None })
 }
 
-/// Feeds the bytes to a new scan, at once and byte by byte, and compares how many it took and its outcome. Fed again, a
-/// scan that is not going takes none.
+/// Feeds the bytes to a new scan, at once and byte by byte, and compares how many it took and its outcome, and the head that
+/// is read at once. Fed again, a scan that is not going takes none.
 fn compare(rt: &impl Abort, bytes: &[u8], taken: usize, outcome: HeadStep) {
     assert!(rt; bytes.len() < 16);
     let mut whole = HeadScan::new();
@@ -27,6 +27,11 @@ fn compare(rt: &impl Abort, bytes: &[u8], taken: usize, outcome: HeadStep) {
         assert_eq!(rt; whole.feed(bytes), 0, "{bytes:?}");
         assert_eq!(rt; whole.outcome(), outcome, "{bytes:?}");
     }
+    let front = match outcome {
+        HeadStep::Done(head) => Some((head, taken)),
+        _ => None,
+    };
+    assert_eq!(rt; Head::front(bytes), front, "{bytes:?}");
     let mut bytewise = HeadScan::new();
     for &byte in bytes {
         assert!(rt; bytewise.count() < 10);

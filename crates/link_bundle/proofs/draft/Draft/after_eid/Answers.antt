@@ -1,5 +1,5 @@
 use Rattle.std.proofs.Common.{[]}
-use Rattle.link_bundle.specs.KeptEid.{formed}
+use Rattle.link_bundle_kept.specs.KeptEid.{formed}
 use Rattle.link_bundle.proofs.Names.{eid_ends}
 use Rattle.link_bundle.proofs.draft.Draft.after_eid.Goals as goal
 

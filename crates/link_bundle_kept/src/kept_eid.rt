@@ -7,7 +7,7 @@ use std::marker::Model;
 
 /// An endpoint ID but for the bytes of a dtn name.
 #[derive(Clone, Copy)]
-pub(crate) enum EidForm {
+pub enum EidForm {
     DtnNone,
     Dtn,
     Ipn(u64, u64),
@@ -16,7 +16,7 @@ pub(crate) enum EidForm {
 
 /// An endpoint ID that is kept in place: the bytes of a dtn name go straight here, in pieces of any size.
 #[derive(Drop)]
-pub(crate) struct KeptEid {
+pub struct KeptEid {
     form: EidForm,
     /// The name's bytes so far, and then bytes that no reader sees.
     name: [u8; EID_LIMIT],
@@ -26,7 +26,7 @@ pub(crate) struct KeptEid {
 impl Model for KeptEid {
     ghost use Rattle.std.specs.Prelude.{◌≤◌, take};
     ghost use Rattle.link_bundle_types.specs.declared.eid.Eid.{Eid};
-    ghost use Rattle.link_bundle.specs.KeptEid.{formed};
+    ghost use Rattle.link_bundle_kept.specs.KeptEid.{formed};
 
     ghost Value = { Eid };
 
@@ -46,7 +46,7 @@ fn write_at(buffer: &mut [u8], at: usize, bytes: &[u8])
 impl KeptEid {
     ghost use Rattle.link_bundle_types.specs.EidView.{viewed_eid};
     ghost use Rattle.link_bundle_types.specs.ShortNames.{IsShort};
-    ghost use Rattle.link_bundle.specs.KeptEid.{formed, name_of, name_fits};
+    ghost use Rattle.link_bundle_kept.specs.KeptEid.{formed, name_of, name_fits};
     ghost use Rattle.link_bundle_types.specs.declared.eid.Eid.TheVariants.{DtnNone, Dtn};
 
     /// `dtn:none`.
@@ -75,6 +75,24 @@ impl KeptEid {
     {
         write_at(&mut self.name, self.length, bytes);
         self.length += bytes.len();
+    }
+
+    /// Keeps this endpoint ID.
+    pub fn keep(&mut self, eid: EidView<'_>)
+        requires { IsShort (viewed_eid eid) }
+        ensures { self.new ≡ viewed_eid eid.entry }
+    {
+        match eid {
+            EidView::DtnNone => self.set(EidForm::DtnNone),
+            EidView::Dtn(name) => {
+                self.set(EidForm::Dtn);
+                self.extend(name);
+            }
+            EidView::Ipn(node, service) => self.set(EidForm::Ipn(node, service)),
+            EidView::Ipn3(allocator, node, service) => {
+                self.set(EidForm::Ipn3(allocator, node, service));
+            }
+        }
     }
 
     /// The endpoint ID by reference.

@@ -6,7 +6,7 @@ use std::marker::Model;
 
 /// Block numbers in the order of their blocks. They are kept in place, and emptied without writing over them.
 #[derive(Drop)]
-pub(crate) struct BlockNumbers {
+pub struct BlockNumbers {
     cells: [u64; BLOCK_LIMIT],
     length: usize,
 }

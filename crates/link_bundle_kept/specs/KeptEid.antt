@@ -3,8 +3,8 @@
 use Rattle.std.specs.Prelude.{ℕ, ◌+◌, Bool, false, nat_le, List, [], length}
 use Rattle.link_bundle_types.specs.declared.eid.Eid.{Eid}
 use Rattle.link_bundle_types.specs.declared.eid.Eid.TheVariants as eid
-use Rattle.link_bundle.specs.declared.kept_eid.EidForm.{EidForm}
-use Rattle.link_bundle.specs.declared.kept_eid.EidForm.TheVariants.{DtnNone, Dtn, Ipn, Ipn3}
+use Rattle.link_bundle_kept.specs.declared.kept_eid.EidForm.{EidForm}
+use Rattle.link_bundle_kept.specs.declared.kept_eid.EidForm.TheVariants.{DtnNone, Dtn, Ipn, Ipn3}
 
 abbrev pub formed : EidForm → List ℕ → Eid
 formed DtnNone name = eid.DtnNone

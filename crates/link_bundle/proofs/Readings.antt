@@ -1,0 +1,70 @@
+-- a bundle that lies whole in some bytes, part by part
+
+use Rattle.std.proofs.Common.{◌≡◌, ℕ, ◌+◌, ◌-◌, ◌<◌, ◌≤◌, Bool, true, false, List, [], ◌∷◌, ◌++◌, length, take, drop, get_or, Some, Ok, refl, sym, ap, ◌∙◌, arith}
+use Rattle.std.proofs.lemmas.Bool.{le-ltb}
+use Rattle.std.specs.Prelude.{◌==◌}
+use Rattle.link_cbor.specs.declared.check.CheckKind.{CheckKind}
+use Rattle.link_cbor.specs.declared.check.CheckKind.TheVariants.{Crc16, Crc32}
+use Rattle.link_cbor.specs.declared.head.Head.{Head}
+use Rattle.link_cbor.specs.Head.{HeadFront, Cut, IllFormed, Whole, head_front, whole_of}
+use Rattle.link_bundle_rows.specs.Rows.{check_width, check_field, closing}
+use Rattle.link_bundle.specs.Reading.{placed, head_at, row_at, bytes_at}
+use Rattle.link_bundle.specs.declared.whole.Heads.{Heads}
+use Rattle.link_bundle.specs.Primary.{Primary}
+use Rattle.link_bundle.specs.Canonical.{content_at}
+use Rattle.link_bundle.specs.Bundle.{payload_at, blocks_at, opening_at}
+use Rattle.link_bundle.specs.Whole.{after_heads, bundle_by}
+use Rattle.link_bundle.specs.CheckField.{number_from, check_of, field_at}
+use Rattle.link_bundle.proofs.Feeding.{the_rest}
+
+placed-whole : (bytes : List ℕ) (place size : ℕ) (head : Head) (front : HeadFront) → whole_of front ≡ Some (head, size)
+    → placed bytes place front ≡ Ok (head, place + size)
+placed-whole bytes place size head Cut is = cc
+placed-whole bytes place size head IllFormed is = cc
+placed-whole bytes place size head (Whole found found_size) is =
+    let same : (found, found_size) ≡ (head, size) = cc in
+    ap (λ (front : Head × ℕ). Ok (front.0, place + front.1)) same
+
+pub head_at-whole : (bytes : List ℕ) (place size : ℕ) (head : Head)
+    → whole_of (head_front (take (length bytes - place) (drop place bytes))) ≡ Some (head, size)
+    → head_at bytes place ≡ Ok (head, place + size)
+unfolding head_at
+head_at-whole bytes place size head is =
+    placed-whole bytes place size head (head_front (drop place bytes))
+    (ap (λ (rest : List ℕ). whole_of (head_front rest)) (sym (the_rest bytes place)) ∙ is)
+
+pub bytes_at-whole : (size : ℕ) (bytes : List ℕ) (place : ℕ) → place + size ≤ length bytes
+    → bytes_at size bytes place ≡ Ok (take size (drop place bytes), place + size)
+unfolding bytes_at
+bytes_at-whole size bytes place within = rw (le-ltb (length bytes) (place + size) within) refl
+
+pub width_fits : (kind : CheckKind) → check_width kind ≤ 4
+width_fits Crc16 = omega arith
+width_fits Crc32 = omega arith
+
+-- a check field whose content spells the check of its block
+pub field_at-equal : (kind : CheckKind) (start content next count : ℕ) (bytes : List ℕ) (place : ℕ) (stored : List ℕ)
+    → row_at (check_field kind) bytes place ≡ Ok (count, content)
+    → bytes_at (check_width kind) bytes content ≡ Ok (stored, next)
+    → (number_from 0 stored == check_of kind start content bytes) ≡ true
+    → field_at (Some kind) start bytes place ≡ Ok (true, next)
+unfolding field_at
+field_at-equal kind start content next count bytes place stored head there equal = rw (head, there, equal) refl
+
+-- after the heads of the payload block, and of another
+pub payload_read : (heads : Heads) (left : ℕ) (numbers : List ℕ) (primary : Primary) (start place next end : ℕ) (last : Bool) (bytes : List ℕ)
+    → (heads.block_type == 1) ≡ true → content_at heads.size heads.check start bytes place ≡ Ok (true, next)
+    → row_at closing bytes next ≡ Ok (last, end)
+    → after_heads heads left numbers primary start bytes place ≡ Ok (bundle_by primary (length numbers + 1) (place, heads.size) end)
+unfolding payload_at
+payload_read heads left numbers primary start place next end last bytes is content closes = rw (is, content, closes) refl
+
+pub next_read : (heads : Heads) (left : ℕ) (numbers : List ℕ) (primary : Primary) (start place next : ℕ) (bytes : List ℕ)
+    → (heads.block_type == 1) ≡ false → content_at heads.size heads.check start bytes place ≡ Ok (true, next)
+    → after_heads heads left numbers primary start bytes place ≡ blocks_at left (numbers ++ heads.number ∷ []) primary bytes next
+next_read heads left numbers primary start place next bytes is content = rw (is, content) refl
+
+pub opens : (bytes : List ℕ) → 0 < length bytes → get_or bytes 0 0 ≡ 0x9f → opening_at bytes ≡ Ok (true, 1)
+unfolding opening_at
+opens [] some is = absurd (omega arith)
+opens (first ∷ rest) some is = rw is refl

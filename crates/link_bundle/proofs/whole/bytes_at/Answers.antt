@@ -1,0 +1,11 @@
+use Rattle.std.proofs.Common.{ℕ, ◌≡◌, ◌+◌, ◌-◌, take, drop, Ok, ap, ◌∙◌, sym, arith}
+use Rattle.link_bundle.proofs.Readings.{bytes_at-whole}
+use Rattle.link_bundle.proofs.whole.bytes_at.Goals as goal
+
+pub returns-clause-read : goal.returns-clause-read
+returns-clause-read c =
+    let bytes = c.args.bytes.now in
+    let place = c.args.place in
+    let size : place + c.args.size - place ≡ c.args.size = omega arith in
+    bytes_at-whole c.args.size bytes place (omega arith)
+    ∙ ap (λ (count : ℕ). Ok (take count (drop place bytes), place + c.args.size)) (sym size)

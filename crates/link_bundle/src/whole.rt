@@ -1,0 +1,317 @@
+//! Reading a bundle that lies whole in the bytes at hand, as specs/ reads one: each function has the name of its definition
+//! there. An error says only that the bundle is not whole or not right: the scan then finds byte by byte what it is.
+ghost use Rattle.std.specs.Prelude.{◌≡◌, ℕ, suc, ◌+◌, ◌<◌, ◌≤◌, ◌++◌, List, [], length, replicate, fold, is_some, true, Some, Ok, IfOk, IsTrue};
+ghost use Rattle.link_bundle_types.specs.EidView.{viewed_eid};
+ghost use Rattle.link_bundle_types.specs.ShortNames.{IsShort};
+ghost use Rattle.link_cbor.specs.Crc.{crc};
+ghost use Rattle.link_bundle_rows.specs.Rows.{unsigned, pair, check_width, closing};
+ghost use Rattle.link_bundle.specs.Reading.{head_at, row_at, bytes_at};
+ghost use Rattle.link_bundle.specs.EndpointId.{eid_at, specific_at};
+ghost use Rattle.link_bundle.specs.CheckField.{number_from, field_at};
+ghost use Rattle.link_bundle.specs.Canonical.{content_at};
+ghost use Rattle.link_bundle.specs.Primary.{Primary, fragment_at, primary_at};
+ghost use Rattle.link_bundle.specs.Bundle.{blocks_at, bundle_at};
+ghost use Rattle.link_bundle.specs.Left.{primary_of, bundle_of};
+ghost use Rattle.link_bundle.specs.Whole.{after_heads, bundle_by};
+ghost use Rattle.link_bundle_rows.specs.declared.endpoint.Scheme.TheVariants.{Dtn, Ipn};
+
+use crate::draft::Draft;
+use crate::scan::OPENING;
+use link_bundle_kept::BlockNumbers;
+use link_bundle_rows::{Scheme, row};
+use link_bundle_types::{BundleFault, EidView};
+use link_cbor::{Check, CheckKind, Head};
+
+/// The head at an offset, and the offset after it.
+#[inline(always)]
+fn head_at(bytes: &[u8], place: usize) -> Result<(Head, usize), BundleFault>
+    ensures { IfOk result (λ read. head_at bytes.now place ≡ Ok read) }
+{
+    if place > bytes.len() {
+        return Err(BundleFault::Cut);
+    }
+    match Head::front(&bytes[place..]) {
+        Some((head, size)) => Ok((head, place + size)),
+        None => Err(BundleFault::BadHead),
+    }
+}
+
+#[inline(always)]
+#[tactic(auto, using(crate::proofs::Heads::heads))]
+fn unsigned_at(bytes: &[u8], place: usize) -> Result<(u64, usize), BundleFault>
+    ensures { IfOk result (λ read. row_at unsigned bytes.now place ≡ Ok read) }
+{
+    let (head, next) = head_at(bytes, place)?;
+    Ok((row::unsigned(head)?, next))
+}
+
+#[inline(always)]
+#[tactic(auto, using(crate::proofs::Heads::heads))]
+fn pair_at(bytes: &[u8], place: usize) -> Result<(u64, usize), BundleFault>
+    ensures { IfOk result (λ read. row_at pair bytes.now place ≡ Ok read) }
+{
+    let (head, next) = head_at(bytes, place)?;
+    Ok((row::pair(head)?, next))
+}
+
+/// That many bytes from an offset, and the offset after them.
+fn bytes_at(size: u64, bytes: &[u8], place: usize) -> Result<(&[u8], usize), BundleFault>
+    ensures read { IfOk result (λ read. bytes_at size bytes.now place ≡ Ok (read.0.now, read.1)) }
+    ensures size { IfOk result (λ read. length read.0.now ≡ size) }
+    ensures within { IfOk result (λ read. place + size ≤ length bytes.now) }
+{
+    if place > bytes.len() || size > (bytes.len() - place) as u64 {
+        return Err(BundleFault::Cut);
+    }
+    let next = place + size as usize;
+    Ok((&bytes[place..next], next))
+}
+
+/// An endpoint ID (RFC 9171 section 4.2.5.1).
+#[tactic(auto, using(crate::proofs::Heads::heads), unfolding(crate::specs::EndpointId::eid_at))]
+fn eid_at(bytes: &[u8], place: usize) -> Result<(EidView<'_>, usize), BundleFault>
+    ensures read { IfOk result (λ read. eid_at bytes.now place ≡ Ok (viewed_eid read.0, read.1)) }
+    ensures short { IfOk result (λ read. IsShort (viewed_eid read.0)) }
+{
+    let (_, place) = pair_at(bytes, place)?;
+    let (head, place) = head_at(bytes, place)?;
+    match row::scheme(head)? {
+        Scheme::Dtn => dtn_at(bytes, place),
+        Scheme::Ipn => ipn_at(bytes, place),
+    }
+}
+
+/// The specific part of scheme dtn.
+#[tactic(auto, using(crate::proofs::Heads::heads), unfolding(crate::specs::EndpointId::specific_at, crate::specs::EndpointId::dtn_at))]
+fn dtn_at(bytes: &[u8], place: usize) -> Result<(EidView<'_>, usize), BundleFault>
+    ensures read { IfOk result (λ read. specific_at Dtn bytes.now place ≡ Ok (viewed_eid read.0, read.1)) }
+    ensures short { IfOk result (λ read. IsShort (viewed_eid read.0)) }
+{
+    let (head, place) = head_at(bytes, place)?;
+    match row::dtn_part(head)? {
+        None => Ok((EidView::DtnNone, place)),
+        Some(size) => {
+            let (name, place) = bytes_at(size, bytes, place)?;
+            Ok((EidView::Dtn(name), place))
+        }
+    }
+}
+
+/// The specific part of scheme ipn.
+#[tactic(auto, using(crate::proofs::Heads::heads), unfolding(crate::specs::EndpointId::specific_at, crate::specs::EndpointId::ipn_at))]
+fn ipn_at(bytes: &[u8], place: usize) -> Result<(EidView<'_>, usize), BundleFault>
+    ensures read { IfOk result (λ read. specific_at Ipn bytes.now place ≡ Ok (viewed_eid read.0, read.1)) }
+    ensures short { IfOk result (λ read. IsShort (viewed_eid read.0)) }
+{
+    let (head, place) = head_at(bytes, place)?;
+    let count = row::ipn_part(head)?;
+    let (first, place) = unsigned_at(bytes, place)?;
+    let (second, place) = unsigned_at(bytes, place)?;
+    if count != 3 {
+        return Ok((EidView::Ipn(first, second), place));
+    }
+    let (third, place) = unsigned_at(bytes, place)?;
+    Ok((EidView::Ipn3(first, second, third), place))
+}
+
+/// In a fragment the fragment offset and the total length.
+#[tactic(auto, unfolding(crate::specs::Primary::fragment_at))]
+fn fragment_at(
+    is_fragment: bool,
+    bytes: &[u8],
+    place: usize,
+) -> Result<(Option<(u64, u64)>, usize), BundleFault>
+    ensures { IfOk result (λ read. fragment_at is_fragment bytes.now place ≡ Ok read) }
+{
+    if !is_fragment {
+        return Ok((None, place));
+    }
+    let (offset, place) = unsigned_at(bytes, place)?;
+    let (total, place) = unsigned_at(bytes, place)?;
+    Ok((Some((offset, total)), place))
+}
+
+/// The number that the bytes of a check field spell.
+fn number_of(stored: &[u8]) -> u32
+    requires { length stored.now ≤ 4 }
+    ensures { result ≡ number_from 0 stored.now }
+{
+    let mut number = 0;
+    for &byte in stored {
+        number = number * 256 + u32::from(byte);
+    }
+    number
+}
+
+/// The check of a block's bytes before its check field's content, and of zeros for that.
+fn check_of(kind: CheckKind, block: &[u8]) -> u32
+    ensures { result ≡ crc kind (block.now ++ replicate (check_width kind) 0) }
+{
+    let mut check = Check::new(kind);
+    check.push_slice(block);
+    match kind {
+        CheckKind::Crc16 => check.push_slice(&[0, 0]),
+        CheckKind::Crc32 => check.push_slice(&[0, 0, 0, 0]),
+    }
+    check.value()
+}
+
+/// The check field of a block that begins at `start` (RFC 9171 section 4.2.1), where it has one: the offset after it.
+#[tactic(auto, unfolding(crate::specs::CheckField::field_at))]
+fn field_at(
+    check: Option<CheckKind>,
+    start: usize,
+    bytes: &[u8],
+    place: usize,
+) -> Result<usize, BundleFault>
+    ensures { IfOk result (λ next. field_at check start bytes.now place ≡ Ok (true, next)) }
+{
+    match check {
+        None => Ok(place),
+        Some(kind) => stored_at(kind, start, bytes, place),
+    }
+}
+
+fn stored_at(
+    kind: CheckKind,
+    start: usize,
+    bytes: &[u8],
+    place: usize,
+) -> Result<usize, BundleFault>
+    ensures { IfOk result (λ next. field_at (Some kind) start bytes.now place ≡ Ok (true, next)) }
+{
+    let (head, content) = head_at(bytes, place)?;
+    row::check_field(kind, head)?;
+    let (stored, next) = bytes_at(row::check_width(kind), bytes, content)?;
+    if start > content || number_of(stored) != check_of(kind, &bytes[start..content]) {
+        return Err(BundleFault::CheckDiffers);
+    }
+    Ok(next)
+}
+
+/// The data of a canonical block that begins at `start`, and its check field: the offset after them.
+#[tactic(auto, unfolding(crate::specs::Canonical::content_at))]
+fn content_at(
+    size: u64,
+    check: Option<CheckKind>,
+    start: usize,
+    bytes: &[u8],
+    place: usize,
+) -> Result<usize, BundleFault>
+    ensures { IfOk result (λ next. content_at size check start bytes.now place ≡ Ok (true, next)) }
+{
+    let (_, place) = bytes_at(size, bytes, place)?;
+    field_at(check, start, bytes, place)
+}
+
+/// What the heads of a canonical block say, up to its data.
+#[derive(Clone, Copy)]
+struct Heads {
+    block_type: u64,
+    number: u64,
+    check: Option<CheckKind>,
+    size: u64,
+}
+
+/// The heads of a canonical block (RFC 9171 section 4.3.2), where blocks of these numbers came before.
+fn heads_at(numbers: &[u64], bytes: &[u8], place: usize) -> Result<(Heads, usize), BundleFault>
+    ensures { IfOk result (λ read. (left : ℕ) (primary : Primary) →
+        blocks_at (suc left) numbers.now primary bytes.now place
+        ≡ after_heads read.0 left numbers.now primary place bytes.now read.1) }
+{
+    let (head, place) = head_at(bytes, place)?;
+    let count = row::block(head)?;
+    let (block_type, place) = unsigned_at(bytes, place)?;
+    let (head, place) = head_at(bytes, place)?;
+    let number = row::block_number(block_type, numbers, head)?;
+    let (_, place) = unsigned_at(bytes, place)?;
+    let (head, place) = head_at(bytes, place)?;
+    let check = row::block_check_type(count, head)?;
+    let (head, place) = head_at(bytes, place)?;
+    let heads = Heads {
+        block_type,
+        number,
+        check,
+        size: row::byte_string(head)?,
+    };
+    Ok((heads, place))
+}
+
+/// The canonical blocks and the break after the payload block: where the payload is, and the bundle's length.
+fn blocks_at(
+    numbers: &mut BlockNumbers,
+    bytes: &[u8],
+    place: usize,
+) -> Result<((u64, u64), usize), BundleFault>
+    requires { numbers.old ≡ [] }
+    ensures { IfOk result (λ read. (primary : Primary) →
+        blocks_at 64 [] primary bytes.now place ≡ Ok (bundle_by primary (length numbers.new) read.0 read.1)) }
+{
+    let mut start = place;
+    while !numbers.is_full() {
+        let (heads, place) = heads_at(numbers.as_slice(), bytes, start)?;
+        numbers.push(heads.number);
+        let next = content_at(heads.size, heads.check, start, bytes, place)?;
+        if heads.block_type == row::PAYLOAD_TYPE {
+            let (head, end) = head_at(bytes, next)?;
+            row::closing(head)?;
+            return Ok(((place as u64, heads.size), end));
+        }
+        start = next;
+    }
+    Err(BundleFault::TooManyBlocks)
+}
+
+impl Draft {
+    /// The primary block up to its check field, and its check type (RFC 9171 section 4.3.1).
+    fn primary_at(
+        &mut self,
+        bytes: &[u8],
+        place: usize,
+    ) -> Result<(Option<CheckKind>, usize), BundleFault>
+        ensures read { IfOk result (λ read. primary_at bytes.now place ≡ Ok ((primary_of self.new, read.0), read.1)) }
+        ensures numbers { self.new.numbers ≡ self.old.numbers }
+    {
+        let (head, place) = head_at(bytes, place)?;
+        let count = row::primary_block(head)?;
+        let (head, place) = head_at(bytes, place)?;
+        row::version(head)?;
+        let (flags, place) = unsigned_at(bytes, place)?;
+        let (head, place) = head_at(bytes, place)?;
+        let check = row::primary_check_type(count, flags, head)?;
+        let (destination, place) = eid_at(bytes, place)?;
+        let (source, place) = eid_at(bytes, place)?;
+        let (_report_to, place) = eid_at(bytes, place)?;
+        let (_, place) = pair_at(bytes, place)?;
+        let (time, place) = unsigned_at(bytes, place)?;
+        let (sequence, place) = unsigned_at(bytes, place)?;
+        let (lifetime, place) = unsigned_at(bytes, place)?;
+        let (fragment, place) = fragment_at(row::is_fragment(flags), bytes, place)?;
+        self.flags = flags;
+        self.destination.keep(destination);
+        self.source.keep(source);
+        self.time = time;
+        self.sequence = sequence;
+        self.lifetime = lifetime;
+        self.fragment = fragment;
+        Ok((check, place))
+    }
+
+    /// Reads the bundle that the bytes begin with, where all of it is there: its length. After an error, what the draft
+    /// holds is to be made new.
+    pub fn whole(&mut self, bytes: &[u8]) -> Result<usize, BundleFault>
+        requires some { 0 < length bytes.now }
+        requires blank { self.old.numbers ≡ [] }
+        ensures read { IfOk result (λ size. bundle_at bytes.now ≡ Ok (bundle_of self.new size)) }
+        ensures payload { IfOk result (λ _. IsTrue (is_some self.new.payload)) }
+    {
+        if bytes[0] != OPENING {
+            return Err(BundleFault::NotABundle);
+        }
+        let (check, place) = self.primary_at(bytes, 1)?;
+        let place = field_at(check, 1, bytes, place)?;
+        let (payload, end) = blocks_at(&mut self.numbers, bytes, place)?;
+        self.payload = Some(payload);
+        Ok(end)
+    }
+}
