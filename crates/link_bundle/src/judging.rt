@@ -1,6 +1,6 @@
 //! What a head of a bundle that has come whole leads to.
-ghost use Rattle.std.specs.Prelude.{◌≡◌, ◌^◌, ◌-◌, ◌<◌, ◌≤◌, ℕ, IsTrue, List, length, take, drop};
-ghost use Rattle.link_cbor.specs.Head.{Whole, head_front, front_of};
+ghost use Rattle.std.specs.Prelude.{◌≡◌, ℕ, IsTrue, List, length, drop};
+ghost use Rattle.link_cbor.specs.Head.{Whole, head_front};
 ghost use Rattle.link_bundle.specs.Fits.{scan_fits, stage_fits};
 ghost use Rattle.link_bundle.specs.Judged.{JudgedFrom};
 ghost use Rattle.link_bundle.specs.Scan.{HasCome, HeadCame};

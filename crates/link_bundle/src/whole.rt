@@ -1,6 +1,6 @@
 //! Reading a bundle that lies whole in the bytes at hand, as specs/ reads one: each function has the name of its definition
 //! there. An error says only that the bundle is not whole or not right: the scan then finds byte by byte what it is.
-ghost use Rattle.std.specs.Prelude.{◌≡◌, ℕ, suc, ◌+◌, ◌<◌, ◌≤◌, ◌++◌, List, [], length, replicate, fold, is_some, true, Some, Ok, IfOk, IsTrue};
+ghost use Rattle.std.specs.Prelude.{◌≡◌, ℕ, suc, ◌+◌, ◌<◌, ◌≤◌, ◌++◌, [], length, replicate, is_some, true, Some, Ok, IfOk, IsTrue};
 ghost use Rattle.link_bundle_types.specs.EidView.{viewed_eid};
 ghost use Rattle.link_bundle_types.specs.ShortNames.{IsShort};
 ghost use Rattle.link_cbor.specs.Crc.{crc};
@@ -36,6 +36,7 @@ fn head_at(bytes: &[u8], place: usize) -> Result<(Head, usize), BundleFault>
     }
 }
 
+/// An unsigned integer.
 #[inline(always)]
 #[tactic(auto, using(crate::proofs::Heads::heads))]
 fn unsigned_at(bytes: &[u8], place: usize) -> Result<(u64, usize), BundleFault>
@@ -45,6 +46,7 @@ fn unsigned_at(bytes: &[u8], place: usize) -> Result<(u64, usize), BundleFault>
     Ok((row::unsigned(head)?, next))
 }
 
+/// An array of two elements.
 #[inline(always)]
 #[tactic(auto, using(crate::proofs::Heads::heads))]
 fn pair_at(bytes: &[u8], place: usize) -> Result<(u64, usize), BundleFault>
@@ -172,6 +174,7 @@ fn field_at(
     }
 }
 
+/// The same of a block that has a check of this kind.
 fn stored_at(
     kind: CheckKind,
     start: usize,
