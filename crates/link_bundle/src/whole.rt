@@ -22,6 +22,9 @@ use link_bundle_rows::{Scheme, row};
 use link_bundle_types::{BundleFault, EidView};
 use link_cbor::{Check, CheckKind, Head};
 
+/// The head of an array of two elements, in one byte.
+const PAIR: u8 = 0x82;
+
 /// The head at an offset, and the offset after it.
 #[inline(always)]
 fn head_at(bytes: &[u8], place: usize) -> Result<(Head, usize), BundleFault>
@@ -36,22 +39,28 @@ fn head_at(bytes: &[u8], place: usize) -> Result<(Head, usize), BundleFault>
     }
 }
 
-/// An unsigned integer.
+/// An unsigned integer. Most are one byte, which is its own value.
 #[inline(always)]
-#[tactic(auto, using(crate::proofs::Heads::heads))]
+#[tactic(auto, using(crate::proofs::Heads::heads, crate::proofs::Readings::one_byte))]
 fn unsigned_at(bytes: &[u8], place: usize) -> Result<(u64, usize), BundleFault>
     ensures { IfOk result (λ read. row_at unsigned bytes.now place ≡ Ok read) }
 {
+    if place < bytes.len() && bytes[place] < 24 {
+        return Ok((u64::from(bytes[place]), place + 1));
+    }
     let (head, next) = head_at(bytes, place)?;
     Ok((row::unsigned(head)?, next))
 }
 
 /// An array of two elements.
 #[inline(always)]
-#[tactic(auto, using(crate::proofs::Heads::heads))]
+#[tactic(auto, using(crate::proofs::Heads::heads, crate::proofs::Readings::one_byte))]
 fn pair_at(bytes: &[u8], place: usize) -> Result<(u64, usize), BundleFault>
     ensures { IfOk result (λ read. row_at pair bytes.now place ≡ Ok read) }
 {
+    if place < bytes.len() && bytes[place] == PAIR {
+        return Ok((2, place + 1));
+    }
     let (head, next) = head_at(bytes, place)?;
     Ok((row::pair(head)?, next))
 }

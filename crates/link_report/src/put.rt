@@ -37,14 +37,18 @@ pub fn put_text(line: &mut Line, text: &str)
     put_bytes(line, text.as_bytes());
 }
 
-/// Appends `number` in decimal, without leading zeros.
-#[tactic(auto, using(crate::proofs::Lengths::length_of_decimal))]
+/// Appends `number` in decimal, without leading zeros. Most numbers of a line have one digit.
+#[tactic(auto, using(crate::proofs::Lengths::length_of_decimal, crate::proofs::Lengths::one_digit))]
 #[inline(always)]
 pub fn put_decimal(line: &mut Line, number: u64)
     requires { array_vec_len line.old + length (decimal number) ≤ LINE_MAX }
     ensures items { line.new.items ≡ line.old.items ++ decimal number }
     ensures len { array_vec_len line.new ≡ array_vec_len line.old + length (decimal number) }
 {
+    if number < 10 {
+        line.push(b'0' + number as u8);
+        return;
+    }
     let mut digits = [0; MAX_DIGITS];
     let start = write_digits(number, &mut digits, MAX_DIGITS);
     put_bytes(line, &digits[start..]);
