@@ -5,7 +5,6 @@ use Rattle.std.proofs.lemmas.Bool.{le-ltb}
 use Rattle.std.proofs.lemmas.List.{get_or-drop, length-drop}
 use Rattle.std.specs.Prelude.{◌==◌}
 use Rattle.link_cbor.specs.declared.check.CheckKind.{CheckKind}
-use Rattle.link_cbor.specs.declared.check.CheckKind.TheVariants.{Crc16, Crc32}
 use Rattle.link_cbor.specs.declared.head.Head.{Head}
 use Rattle.link_cbor.specs.HeadLaws.{front_by-small}
 use Rattle.link_cbor.specs.Head.{HeadFront, Cut, IllFormed, Whole, head_front, whole_of}
@@ -40,10 +39,6 @@ pub bytes_at-whole : (size : ℕ) (bytes : List ℕ) (place : ℕ) → place + s
     → bytes_at size bytes place ≡ Ok (take size (drop place bytes), place + size)
 unfolding bytes_at
 bytes_at-whole size bytes place within = rw (le-ltb (length bytes) (place + size) within) refl
-
-pub width_fits : (kind : CheckKind) → check_width kind ≤ 4
-width_fits Crc16 = omega arith
-width_fits Crc32 = omega arith
 
 -- a check field whose content spells the check of its block
 pub field_at-equal : (kind : CheckKind) (start content next count : ℕ) (bytes : List ℕ) (place : ℕ) (stored : List ℕ)
