@@ -23,7 +23,7 @@ use Rattle.link_report.specs.Fault.{fault_text}
 use Rattle.link_report.specs.declared.fault.Fault.TheVariants.{Wire}
 use Rattle.link_run.specs.Ends.{end_lines, end_status, lasting_lines, is_shown}
 use Rattle.link_run.specs.Run.{Texts, Outcome, Devices, devices_at, NoneFailed, HasWritten, Ended, WentOn, Gave, GivesStep}
-use Rattle.link_run.specs.Writers.{place_of, on_output, on_report, Writes, WritesPart, GivesReport}
+use Rattle.link_run.specs.Writers.{place_of, on_output, on_report, Writes, WritesPart, GivesReport, Unsettled}
 use Rattle.link_list.specs.Listing.{contact_lines, message_lines, lines_of, listing, listing_by, listing_sofar, listing_sofar_by, listing_shows, list_tool}
 use Rattle.link_list.specs.ListRun.{most_given, IsWaiting, HasNoContent, IsWaitingAfter, progress_of, Begins, Lists, IsListing, GivesStage, GivesLine, GoesOn, GivesEnd}
 use Rattle.link_list.specs.declared.listing.Stage.{Stage}
@@ -31,7 +31,7 @@ use Rattle.link_list.specs.declared.listing.Stage.TheVariants as stage
 use Rattle.link_run.specs.declared.run.Progress.{Progress}
 use Rattle.link_run.specs.declared.run.Status.{Status}
 use Rattle.link_run.specs.declared.writers.Writers.{Writers}
-use Rattle.link_run.proofs.Runs.{◌then◌, no_texts, texts_as, then_none, written_as, written_given, written_more, sound_given, sound_written, few_over, all_given, answered, writer_lost, settle_lost, settle_kept}
+use Rattle.link_run.proofs.Runs.{◌then◌, no_texts, texts_as, written_as, written_given, written_more, sound_given, sound_written, few_over, all_given, answered, writer_lost, settle_lost, settle_kept}
 use Rattle.link_run.proofs.Ends.{undecided_lines, undecided_shown, standing_lines, standing_shown, lasts, lasting_as, few_at_fault, reported, read_failed}
 
 -- ---- the texts that bytes determine
@@ -142,7 +142,8 @@ module _ {R W E : Type 0} (in_look : R → Input) (out_look : W → Output) (rep
     lost fault part texts = record {
       given = given;
       size = size;
-      gave = writer_lost in_look out_look report_look list_tool start (source_of new) mid after (history ++ given) (listing_sofar history) (on_output mid.line.items) (listing_sofar (history ++ given)) fault mid_written (sym texts) (inl refl) (takes.window.less some) part;
+      gave = writer_lost in_look out_look report_look list_tool start (source_of new) mid after (history ++ given) (listing_sofar history) (on_output mid.line.items) (listing_sofar (history ++ given)) fault mid_written mid_sound.reader (sym texts) (inl refl) (takes.window.less some)
+          (λ some_output. inr (record { front = history; rest = given; parts = refl; is = refl })) part;
     }
 
     pub goes_on : (next : Stage)
@@ -393,6 +394,12 @@ module _ {R W E : Type 0} (in_look : R → Input) (out_look : W → Output) (rep
 
 -- ---- what was written is handed on
 
+-- where the run goes on no fault was shown
+waiting_shown : (now : Stage) (items : List ℕ) (end : End) → IsWaiting now items end → is_shown end ≡ false
+waiting_shown now items Clean waits = refl
+waiting_shown now items (Cut offset message content) waits = refl
+waiting_shown now items (Fault offset fault) waits = absurd waits
+
 module _ {R W E : Type 0} (in_look : R → Input) (out_look : W → Output) (report_look : E → Output) (start : Devices R W E)
     (s : Session R) (old new : Writers W E) (history : List ℕ) where
   lists_on : (now : Stage) → Writes out_look report_look old new no_texts → new.line.items ≡ old.line.items
@@ -419,14 +426,19 @@ module _ {R W E : Type 0} (in_look : R → Input) (out_look : W → Output) (rep
   settled stage.Data writes kept at = lists_on stage.Data writes kept at
   settled (stage.Ended answer) writes kept at = absurd at
 
+  lists_lost : (now : Stage) (fault : IoFault) → Unsettled out_look report_look old new fault → length (window_of (source_of s)) < window_size
+      → Lists in_look out_look report_look start now s old history → Gave in_look out_look report_look list_tool start (devices_at (place_of (source_of s) new)) history (Err fault)
+  lists_lost now fault part few at =
+      settle_lost in_look out_look report_look list_tool start (source_of s) old new history fault at.written at.sound.reader
+      (shows_is history _ refl ∙ waiting_shown now old.line.items _ at.waits) few part
+
   -- a writer failed in it
-  pub settle_failed : (now : Stage) (fault : IoFault) → WritesPart out_look report_look old new no_texts fault → length (window_of (source_of s)) < window_size
+  pub settle_failed : (now : Stage) (fault : IoFault) → Unsettled out_look report_look old new fault → length (window_of (source_of s)) < window_size
       → IsListing in_look out_look report_look start now s old history → Gave in_look out_look report_look list_tool start (devices_at (place_of (source_of s) new)) history (Err fault)
   settle_failed stage.Contact fault part few at =
-      settle_lost out_look report_look in_look list_tool start (source_of s) old new history no_texts (listing_sofar history) fault
-      (written_as in_look out_look report_look at.written (sym at.nothing) refl) refl few part
-  settle_failed stage.Message fault part few at =
-      settle_lost out_look report_look in_look list_tool start (source_of s) old new history (listing_sofar history) no_texts fault at.written (then_none (listing_sofar history)) few part
-  settle_failed stage.Data fault part few at =
-      settle_lost out_look report_look in_look list_tool start (source_of s) old new history (listing_sofar history) no_texts fault at.written (then_none (listing_sofar history)) few part
+      settle_lost in_look out_look report_look list_tool start (source_of s) old new history fault
+      (written_as in_look out_look report_look at.written (sym at.nothing) (sym (ap listing_sofar at.nothing ∙ nothing_read))) at.sound.reader
+      (ap listing_shows at.nothing ∙ shows_is [] _ reading-none) few part
+  settle_failed stage.Message fault part few at = lists_lost stage.Message fault part few at
+  settle_failed stage.Data fault part few at = lists_lost stage.Data fault part few at
   settle_failed (stage.Ended answer) fault part few at = absurd at

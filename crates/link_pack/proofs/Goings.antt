@@ -32,12 +32,12 @@ module _ {W E : Type 0} (out_look : W → Output) (report_look : E → Output) w
   -- a writer failed in the segments
   segments_lost : (old new : Writers W E) (segments line : List ℕ) (fault : IoFault) → WritesPart out_look report_look old new (on_output segments) fault
       → WritesPart out_look report_look old new (record { output = segments; report = line }) fault
-  segments_lost old new segments line fault part = rw (sym (segments_then segments line)) (part_of_more out_look report_look old new (on_output segments) (on_report line) fault part)
+  segments_lost old new segments line fault part = rw (sym (segments_then segments line)) (part_of_more out_look report_look old new (on_output segments) (on_report line) fault (λ none. refl) part)
 
   -- the segments were written, and a writer failed in the line
   line_lost : (old mid new : Writers W E) (segments line : List ℕ) (fault : IoFault) → Writes out_look report_look old mid (on_output segments) → WritesPart out_look report_look mid new (on_report line) fault
       → WritesPart out_look report_look old new (record { output = segments; report = line }) fault
-  line_lost old mid new segments line fault writes part = rw (sym (segments_then segments line)) (part_behind out_look report_look old mid new (on_output segments) (on_report line) fault writes part)
+  line_lost old mid new segments line fault writes part = rw (sym (segments_then segments line)) (part_behind out_look report_look old mid new segments (on_report line) fault writes part)
 
   line_written : (old mid new : Writers W E) (segments line : List ℕ) → Writes out_look report_look old mid (on_output segments) → Writes out_look report_look mid new (on_report line)
       → Writes out_look report_look old new (record { output = segments; report = line })

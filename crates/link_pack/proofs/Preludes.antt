@@ -56,8 +56,8 @@ module _ {R W E : Type 0} (in_look : R → Input) (out_look : W → Output) (rep
     from_none (stage.Ended (Err fault)) gives = record {
       given = [];
       size = omega arith;
-      gave = writer_lost in_look out_look report_look (pack_tool packer.options) start source before after [] no_texts (on_output (prelude_bytes packer.options)) _ fault fresh.written
-          (prelude_texts packer.options ∙ sym (sofar_going packer.options [] [] [] fresh.holds.front fresh.holds.goes fresh.holds.within refl)) (inl refl) few gives;
+      gave = writer_lost in_look out_look report_look (pack_tool packer.options) start source before after [] no_texts (on_output (prelude_bytes packer.options)) _ fault fresh.written fresh.sound.reader
+          (prelude_texts packer.options ∙ sym (sofar_going packer.options [] [] [] fresh.holds.front fresh.holds.goes fresh.holds.within refl)) (inl refl) few (λ some. inl refl) gives;
     }
 
   pub begun : (source : Source R) (before after : Writers W E) (packer : Packer) (history : List ℕ) (next : Stage) → Begins in_look out_look report_look start source before packer history

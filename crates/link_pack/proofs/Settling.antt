@@ -1,20 +1,20 @@
 -- What was written is handed on before a step of `pack` that may have to wait.
-use Rattle.std.proofs.Common.{ℕ, ◌<◌, List, [], length, Err, refl, sym, ◌∙◌}
+use Rattle.std.proofs.Common.{◌≡◌, ℕ, ◌<◌, List, [], length, Err, refl, sym}
 use Rattle.link_wire.specs.Device.{Input, Output}
 use Rattle.link_wire.specs.Limits.{window_size}
 use Rattle.link_wire.specs.Source.{window_of}
 use Rattle.link_wire.specs.declared.IoFault.{IoFault}
 use Rattle.link_wire.specs.declared.Source.{Source}
 use Rattle.link_run.specs.Run.{Devices, devices_at, Gave}
-use Rattle.link_run.specs.Writers.{place_of, Writes, WritesPart}
+use Rattle.link_run.specs.Writers.{place_of, Writes, Unsettled}
 use Rattle.link_run.specs.declared.writers.Writers.{Writers}
-use Rattle.link_run.proofs.Runs.{no_texts, then_none, written_as, sound_written, settle_lost, settle_kept}
-use Rattle.link_pack.specs.Packing.{pack_tool, packing_sofar}
+use Rattle.link_run.proofs.Runs.{no_texts, written_as, sound_written, settle_lost, settle_kept}
+use Rattle.link_pack.specs.Packing.{pack_tool}
 use Rattle.link_pack.specs.PackRun.{texts_of, IsPacking}
 use Rattle.link_pack.specs.declared.packer.Packer.{Packer}
 use Rattle.link_pack.specs.declared.packing.Stage.{Stage}
 use Rattle.link_pack.specs.declared.packing.Stage.TheVariants as stage
-use Rattle.link_pack.proofs.Steps.{due}
+use Rattle.link_pack.proofs.Steps.{due, unshown}
 
 module _ {R W E : Type 0} (in_look : R → Input) (out_look : W → Output) (report_look : E → Output) (start : Devices R W E)
     (s : Source R) (old new : Writers W E) (packer : Packer) (history : List ℕ) where
@@ -43,13 +43,12 @@ module _ {R W E : Type 0} (in_look : R → Input) (out_look : W → Output) (rep
   }
   settled (stage.Ended answer) writes at = absurd at
 
-  -- a writer failed in it
-  pub settle_failed : (now : Stage) (fault : IoFault) → WritesPart out_look report_look old new no_texts fault → length (window_of s) < window_size
+  -- a writer failed in it; before the first step nothing is handed on
+  pub settle_failed : (now : Stage) (fault : IoFault) → Unsettled out_look report_look old new fault → (now ≡ stage.Prelude → ⊥) → length (window_of s) < window_size
       → IsPacking in_look out_look report_look start now s old packer history → Gave in_look out_look report_look (pack_tool packer.options) start (devices_at (place_of s new)) history (Err fault)
-  settle_failed stage.Prelude fault part few at =
-      settle_lost out_look report_look in_look (pack_tool packer.options) start s old new history no_texts (packing_sofar packer.options history) fault
-      (written_as in_look out_look report_look at.written (sym at.nothing) refl) refl few part
-  settle_failed stage.Bundles fault part few at =
-      settle_lost out_look report_look in_look (pack_tool packer.options) start s old new history (texts_of packer.options at.bundles at.begun) no_texts fault at.written
-      (then_none _ ∙ sym (due in_look out_look report_look start s old packer history at)) few part
-  settle_failed (stage.Ended answer) fault part few at = absurd at
+  settle_failed stage.Prelude fault part begun few at = absurd (begun refl)
+  settle_failed stage.Bundles fault part begun few at =
+      settle_lost in_look out_look report_look (pack_tool packer.options) start s old new history fault
+      (written_as in_look out_look report_look at.written refl (sym (due in_look out_look report_look start s old packer history at))) at.sound.reader
+      (unshown in_look out_look report_look start s old packer history at) few part
+  settle_failed (stage.Ended answer) fault part begun few at = absurd at

@@ -1,5 +1,5 @@
 -- The steps of a run of `pack`.
-use Rattle.std.proofs.Common.{◌≡◌, ℕ, ◌+◌, ◌<◌, ◌≤◌, ◌⊎◌, inl, inr, List, [], ◌++◌, length, Ok, Err, ⊎_elim, refl, ap, sym, ◌∙◌, subst, append-nil, arith}
+use Rattle.std.proofs.Common.{◌≡◌, ℕ, ◌+◌, ◌<◌, ◌≤◌, ◌⊎◌, inl, inr, false, List, [], ◌++◌, length, Ok, Err, ⊎_elim, refl, ap, sym, ◌∙◌, subst, append-nil, arith}
 use Rattle.link_wire.specs.Device.{Input, Output}
 use Rattle.link_wire.specs.Limits.{window_size}
 use Rattle.link_wire.specs.Source.{window_of, IsLive, IsOver, Takes, StopsAfter}
@@ -9,9 +9,9 @@ use Rattle.link_io.proofs.Sources.{IsSourceAt-then}
 use Rattle.link_run.specs.Run.{Texts, Devices, devices_at, NoneFailed, HasWritten}
 use Rattle.link_run.specs.Writers.{place_of, Writes}
 use Rattle.link_run.specs.declared.writers.Writers.{Writers}
-use Rattle.link_run.proofs.Runs.{◌then◌, written_as, written_given, written_more, sound_given, sound_written, all_given, answered, writer_lost, reader_lost}
+use Rattle.link_run.proofs.Runs.{◌then◌, written_as, written_given, written_more, sound_given, sound_written, all_given, answered, writer_lost, reader_lost, Stood}
 use Rattle.link_pack.specs.Bundles.{Packed, divided, joined}
-use Rattle.link_pack.specs.Packing.{packing, packing_sofar, pack_tool}
+use Rattle.link_pack.specs.Packing.{packing, packing_sofar, packing_shows, pack_tool}
 use Rattle.link_pack.specs.Packer.{Holds}
 use Rattle.link_pack.specs.PackRun.{texts_of, Packs, GivesStage, GivesRun, GivesLast}
 use Rattle.link_pack.specs.declared.options.PackOptions.{PackOptions}
@@ -35,6 +35,12 @@ module _ {R W E : Type 0} (in_look : R → Input) (out_look : W → Output) (rep
 
     pub due : packing_sofar options history ≡ texts
     due = sofar_going options history at.bundles at.begun at.holds.front at.holds.goes at.holds.within divided_so
+
+    stood : (run : List ℕ) → Stood (pack_tool options) (history ++ run) texts
+    stood run = inr (record { front = history; rest = run; parts = refl; is = sym due })
+
+    pub unshown : packing_shows options history ≡ false
+    unshown = unshown_going options history at.bundles at.begun at.holds.front at.holds.goes at.holds.within divided_so
 
     -- ---- bytes were given
 
@@ -75,7 +81,7 @@ module _ {R W E : Type 0} (in_look : R → Input) (out_look : W → Output) (rep
             record {
               given = run;
               size = size;
-              gave = writer_lost in_look out_look report_look (pack_tool options) start new before after (history ++ run) texts more _ fault mid (grown ∙ sym now_due) (inl refl) (takes.window.less some) gives;
+              gave = writer_lost in_look out_look report_look (pack_tool options) start new before after (history ++ run) texts more _ fault mid sound.reader (grown ∙ sym now_due) (inl refl) (takes.window.less some) (λ more_output. stood run) gives;
             }
 
     -- ---- the run ends
@@ -107,8 +113,8 @@ module _ {R W E : Type 0} (in_look : R → Input) (out_look : W → Output) (rep
             given = run;
             size = size;
             gave = ⊎_elim
-                (λ over. writer_lost in_look out_look report_look (pack_tool options) start new before after (history ++ run) texts more _ fault last refl (inr (all_given in_look out_look report_look new after over, whole)) few gives)
-                (λ shows. writer_lost in_look out_look report_look (pack_tool options) start new before after (history ++ run) texts more _ fault last refl (inl shows.0) few gives)
+                (λ over. writer_lost in_look out_look report_look (pack_tool options) start new before after (history ++ run) texts more _ fault last (takes.device ∙ at.sound.reader) refl (inr (all_given in_look out_look report_look new after over, whole)) few (λ some. stood run) gives)
+                (λ shows. writer_lost in_look out_look report_look (pack_tool options) start new before after (history ++ run) texts more _ fault last (takes.device ∙ at.sound.reader) refl (inl shows.0) few (λ some. stood run) gives)
                 shown;
           }
 
@@ -122,5 +128,5 @@ module _ {R W E : Type 0} (in_look : R → Input) (out_look : W → Output) (rep
           size = omega arith;
           gave = reader_lost in_look out_look report_look (pack_tool options) start old new before history [] texts fault at.written
               (sym due ∙ ap (packing_sofar options) (sym same))
-              (ap (pack_tool options).shows same ∙ unshown_going options history at.bundles at.begun at.holds.front at.holds.goes at.holds.within divided_so) stops;
+              (ap (pack_tool options).shows same ∙ unshown) stops;
         }

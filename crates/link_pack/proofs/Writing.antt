@@ -42,12 +42,12 @@ module _ {W E : Type 0} (out_look : W → Output) (report_look : E → Output) w
       → Writes out_look report_look old mid (on_output first) → GivesTexts out_look report_look mid new (on_output second) result
       → GivesTexts out_look report_look old new (on_output (first ++ second)) result
   gives_then old mid new first second (Ok done) one two = writes_then out_look report_look old mid new (on_output first) (on_output second) one two
-  gives_then old mid new first second (Err fault) one part = part_behind out_look report_look old mid new (on_output first) (on_output second) fault one part
+  gives_then old mid new first second (Err fault) one part = part_behind out_look report_look old mid new first (on_output second) fault one part
 
   pub part_more : (old new : Writers W E) (first second : List ℕ) (fault : IoFault)
       → WritesPart out_look report_look old new (on_output first) fault
       → WritesPart out_look report_look old new (on_output (first ++ second)) fault
-  part_more old new first second fault part = part_of_more out_look report_look old new (on_output first) (on_output second) fault part
+  part_more old new first second fault part = part_of_more out_look report_look old new (on_output first) (on_output second) fault (λ none. absurd (omega arith)) part
 
 -- ---- a cut
 
@@ -186,7 +186,7 @@ module _ {W E : Type 0} (out_look : W → Output) (report_look : E → Output) w
       ap (λ chunk. some.sent ++ (segment_bytes id cut chunk ++ segments_left id (after_cut some.now))) same
       ∙ ap (λ (more : List ℕ). some.sent ++ more) (sym (cut_left id some.now cut is)) ∙ sym some.left in
       rw (sym all)
-      (part_behind out_look report_look old mid new (on_output some.sent) (on_output _) fault some.writes
+      (part_behind out_look report_look old mid new some.sent (on_output _) fault some.writes
       (part_more out_look report_look mid new (segment_bytes id cut chunk) (segments_left id (after_cut some.now)) fault part))
 
   -- all that were left are written

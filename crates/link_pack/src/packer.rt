@@ -46,13 +46,13 @@ fn segment(options: &PackOptions) -> u64
 }
 
 impl Packer {
-    ghost use Rattle.std.specs.Prelude.{◌≡◌, ◌+◌, ◌-◌, min, true, ◌^◌, ◌<◌, ◌≤◌, false, List, ℕ, [], ◌∷◌, ◌++◌, length, take, IfOk, IfSome, IfNone, Ok};
+    ghost use Rattle.std.specs.Prelude.{◌≡◌, ◌+◌, ◌-◌, min, true, ◌^◌, ◌<◌, ◌≤◌, false, List, ℕ, [], ◌∷◌, ◌++◌, length, take, is_ok, IfOk, IfSome, IfNone, Ok};
     ghost use Rattle.link_bundle.specs.Bundle.{verdict, state_of, bundle_goes};
     ghost use Rattle.link_bundle.specs.Scan.{HasScanned, scan_size};
     ghost use Rattle.link_bundle_types.specs.declared.info.BundleInfo.{BundleInfo};
     ghost use Rattle.link_report.specs.Fault.{fault_text};
     ghost use Rattle.link_transfer.specs.Cutter.{IsCutterAt, cut_waits, wanted_by};
-    ghost use Rattle.link_transfer.specs.Cutting.{Cutting, with_bytes};
+    ghost use Rattle.link_transfer.specs.Cutting.{Cutting, beginning, with_bytes};
     ghost use Rattle.link_pack.specs.Bundles.{Packed};
     ghost use Rattle.link_pack.specs.Packing.{line_of};
     ghost use Rattle.link_pack.specs.Packer.{Holds, Took, CutShort, found_by, accepted_of, is_whole};
@@ -63,13 +63,38 @@ impl Packer {
         ensures options { IfOk result (λ packer. packer.options ≡ options) }
         ensures quiet { IfOk result (λ packer. cut_waits packer.cutter ≡ false) }
     {
-        let cutter = Cutter::new(alloc, segment(&options) as usize, options.announce as usize)?;
-        Ok(Packer {
+        let cutter = Cutter::new(alloc, segment(&options) as usize, options.announce as usize);
+        Packer::over(cutter, options)
+    }
+
+    /// A packer over this cutter, where it was given memory.
+    fn over(
+        cutter: Result<Cutter, AllocError>,
+        options: PackOptions,
+    ) -> Result<Packer, AllocError>
+        requires start { IfOk cutter (λ it. IsCutterAt it (beginning (segment_size options) options.announce)) }
+        requires quiet { IfOk cutter (λ it. cut_waits it ≡ false) }
+        ensures start { IfOk result (λ packer. Holds packer [] []) }
+        ensures options { IfOk result (λ packer. packer.options ≡ options) }
+        ensures quiet { IfOk result (λ packer. cut_waits packer.cutter ≡ false) }
+        ensures given { is_ok result ≡ is_ok cutter }
+    {
+        Ok(Packer::with(cutter?, options))
+    }
+
+    /// A packer with this cutter.
+    fn with(cutter: Cutter, options: PackOptions) -> Packer
+        requires start { IsCutterAt cutter (beginning (segment_size options) options.announce) }
+        ensures start { Holds result [] [] }
+        ensures options { result.options ≡ options }
+        ensures cutter { result.cutter ≡ cutter }
+    {
+        Packer {
             options,
             number: 0,
             scan: BundleScan::new(),
             cutter,
-        })
+        }
     }
 
     /// How many bytes more the bundle may have.

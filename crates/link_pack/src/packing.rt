@@ -21,7 +21,7 @@ use link_run::{Progress, Run, RunEnd, Status, Writers};
 use link_wire::{
     HeadBuf, InDevice, IoFault, OutDevice, Source, put_contact, put_sess_init, put_sess_term,
 };
-use std::alloc::Global;
+use std::alloc::{AllocError, Global};
 
 /// How many bytes one step is given at most.
 const PIECE: usize = 4096;
@@ -229,6 +229,7 @@ pub struct PackRun<R, W, E> {
 /// Whether the step at this stage may have to wait for input.
 fn may_wait<R: InDevice>(stage: Stage, source: &Source<R>) -> bool
     ensures few { IsTrue result → length (window_of source.now) < window_size }
+    ensures begun { stage ≡ Stage.Prelude → result ≡ false }
     ensures ended { (answer : _) → stage ≡ Stage.Ended answer → result ≡ false }
 {
     match stage {
@@ -238,8 +239,10 @@ fn may_wait<R: InDevice>(stage: Stage, source: &Source<R>) -> bool
 }
 
 impl<R: InDevice, W: OutDevice, E: OutDevice> PackRun<R, W, E> {
-    ghost use Rattle.std.specs.Prelude.{◌≡◌, [], false, IfOk, IfErr};
-    ghost use Rattle.link_run.specs.Run.{devices_at};
+    ghost use Rattle.std.specs.Prelude.{◌≡◌, [], false, is_ok, Ok, IfOk, IfErr};
+    ghost use Rattle.link_transfer.specs.Cutter.{cut_waits};
+    ghost use Rattle.link_run.specs.Run.{devices_at, GivesAnswer};
+    ghost use Rattle.link_pack.specs.Packer.{Holds};
     ghost use Rattle.link_pack.specs.Packing.{pack_tool};
     ghost use Rattle.link_pack.specs.PackRuns.{place_of_pack, tool_of_pack, pack_stands};
 
@@ -261,24 +264,70 @@ impl<R: InDevice, W: OutDevice, E: OutDevice> PackRun<R, W, E> {
         ensures memory { IfErr result (λ end. LacksMemory (record { reader = reader; output = output; report = report })
             (record { reader = end.reader; output = end.output; report = end.report }) end.answer) }
     {
-        let packer = match Packer::new(alloc, options) {
-            Ok(packer) => packer,
-            Err(_) => {
-                return Err(RunEnd {
-                    reader,
-                    output,
-                    report,
-                    answer: Err(IoFault::Memory),
-                });
-            }
-        };
-        Ok(PackRun {
+        PackRun::over(Packer::new(alloc, options), reader, output, report)
+    }
+
+    /// A run with this packer, where it was given memory.
+    fn over(
+        packer: Result<Packer, AllocError>,
+        reader: R,
+        output: W,
+        report: E,
+    ) -> Result<PackRun<R, W, E>, RunEnd<R, W, E>>
+        requires reader { (R.state reader).failed ≡ false }
+        requires output { (W.state output).failed ≡ false }
+        requires report { (E.state report).failed ≡ false }
+        requires start { IfOk packer (λ it. Holds it [] []) }
+        requires quiet { IfOk packer (λ it. cut_waits it.cutter ≡ false) }
+        ensures start { IfOk result (λ run. pack_stands R.state W.state E.state run (devices_at (place_of_pack run)) []) }
+        ensures packer { IfOk result (λ run. packer ≡ Ok run.packer) }
+        ensures devices { IfOk result (λ run. devices_at (place_of_pack run) ≡ record { reader = reader; output = output; report = report }) }
+        ensures memory { IfErr result (λ end. LacksMemory (record { reader = reader; output = output; report = report })
+            (record { reader = end.reader; output = end.output; report = end.report }) end.answer) }
+        ensures given { is_ok result ≡ is_ok packer }
+    {
+        match packer {
+            Ok(packer) => Ok(PackRun::with(packer, reader, output, report)),
+            Err(_) => Err(RunEnd {
+                reader,
+                output,
+                report,
+                answer: Err(IoFault::Memory),
+            }),
+        }
+    }
+
+    /// A run with this packer.
+    fn with(packer: Packer, reader: R, output: W, report: E) -> PackRun<R, W, E>
+        requires reader { (R.state reader).failed ≡ false }
+        requires output { (W.state output).failed ≡ false }
+        requires report { (E.state report).failed ≡ false }
+        requires start { Holds packer [] [] }
+        requires quiet { cut_waits packer.cutter ≡ false }
+        ensures start { pack_stands R.state W.state E.state result (devices_at (place_of_pack result)) [] }
+        ensures packer { result.packer ≡ packer }
+        ensures devices { devices_at (place_of_pack result) ≡ record { reader = reader; output = output; report = report } }
+    {
+        PackRun {
             source: Source::new(reader),
             writers: Writers::new(output, report),
             packer,
             head: HeadBuf::new(),
             stage: Stage::Prelude,
-        })
+        }
+    }
+
+    /// Steps to the end, where the run was given memory.
+    fn finish(begun: Result<PackRun<R, W, E>, RunEnd<R, W, E>>) -> RunEnd<R, W, E>
+        requires { IfOk begun (λ run. pack_stands R.state W.state E.state run (devices_at (place_of_pack run)) []) }
+        ensures ran { IfOk begun (λ run. GivesAnswer R.state W.state E.state (tool_of_pack run) (devices_at (place_of_pack run))
+            (record { reader = result.reader; output = result.output; report = result.report }) result.answer) }
+        ensures lacked { IfErr begun (λ end. result ≡ end) }
+    {
+        match begun {
+            Ok(run) => run.run(),
+            Err(end) => end,
+        }
     }
 
     /// Where the output goes.
@@ -367,8 +416,5 @@ pub fn pack<R: InDevice, W: OutDevice, E: OutDevice>(
         ⊎ LacksMemory (record { reader = reader; output = output; report = report })
         (record { reader = result.reader; output = result.output; report = result.report }) result.answer }
 {
-    match PackRun::new(alloc, options, reader, output, report) {
-        Ok(run) => run.run(),
-        Err(end) => end,
-    }
+    PackRun::finish(PackRun::new(alloc, options, reader, output, report))
 }

@@ -12,7 +12,7 @@ use Rattle.link_wire.specs.declared.fault.WireFault.TheVariants as wire
 use Rattle.link_report.specs.Fault.{fault_text}
 use Rattle.link_report.specs.declared.fault.Fault.TheVariants.{Wire}
 use Rattle.link_run.specs.Ends.{lasting_line, lasting_lines, is_lasting, is_shown}
-use Rattle.link_run.specs.Run.{Texts, Tool, Devices, devices_at, NoneFailed, HasWritten, Ended, Gave}
+use Rattle.link_run.specs.Run.{Texts, Tool, Devices, devices_at, NoneFailed, HasWritten, AreDue, Ended, Gave}
 use Rattle.link_run.specs.Writers.{place_of, on_report, WritesPart, Reports, GivesReport}
 use Rattle.link_run.specs.declared.run.Status.{Status}
 use Rattle.link_run.specs.declared.writers.Writers.{Writers}
@@ -90,11 +90,16 @@ module _ {R W E : Type 0} (in_look : R → Input) (out_look : W → Output) (rep
     mid : HasWritten in_look out_look report_look start (place_of new before) (history ++ given) texts
     mid = written_given in_look out_look report_look start old new before history given texts written takes
 
+    lost_due : AreDue in_look out_look report_look tool (devices_at (place_of new after)) (history ++ given) (window_of new) (texts then on_report line)
+        → (failure : IoFault) → WritesPart out_look report_look before after (on_report line) failure → Gave in_look out_look report_look tool start (devices_at (place_of new after)) (history ++ given) (Err failure)
+    lost_due due failure part =
+        writer_lost in_look out_look report_look tool start new before after (history ++ given) texts (on_report line) _ failure mid (takes.device ∙ sound.reader) refl due few (λ some. absurd (omega arith)) part
+
     lost : (failure : IoFault) → WritesPart out_look report_look before after (on_report line) failure → Gave in_look out_look report_look tool start (devices_at (place_of new after)) (history ++ given) (Err failure)
     lost failure part =
         ⊎_elim
-        (λ over. writer_lost in_look out_look report_look tool start new before after (history ++ given) texts (on_report line) _ failure mid refl (inr (all_given in_look out_look report_look new after over, whole)) few part)
-        (λ shows. writer_lost in_look out_look report_look tool start new before after (history ++ given) texts (on_report line) _ failure mid refl (inl shows.0) few part)
+        (λ over. lost_due (inr (all_given in_look out_look report_look new after over, whole)) failure part)
+        (λ shows. lost_due (inl shows.0) failure part)
         shown
 
     done : (status : Status) → Reports out_look report_look before after line status → Gave in_look out_look report_look tool start (devices_at (place_of new after)) (history ++ given) (Ok status)

@@ -1,5 +1,5 @@
 -- What the steps of a run write in turn the run writes in all, and how a run ends.
-use Rattle.std.proofs.Common.{◌≡◌, ℕ, ◌+◌, ◌-◌, min, ◌<◌, ◌⊎◌, inl, false, List, [], ◌++◌, length, take, drop, Option, Some, None, Result, Err, refl, ap, sym, ◌∙◌, subst, length-append, append-nil, append_assoc, arith}
+use Rattle.std.proofs.Common.{◌≡◌, ℕ, ◌+◌, ◌-◌, min, ◌<◌, ◌⊎◌, inl, inr, false, List, [], ◌++◌, length, take, drop, Option, Some, None, Result, Err, ⊎_elim, refl, ap, sym, ◌∙◌, subst, length-append, append-nil, append_assoc, take_all, arith}
 use Rattle.std.proofs.Math.Nat.{min-le_right}
 use Rattle.std.proofs.Math.Seq.{take-append-add}
 use Rattle.std.proofs.lemmas.List.{take-append-le, take_min}
@@ -11,8 +11,8 @@ use Rattle.link_wire.specs.Source.{reader_of, window_of, ahead, Takes, StopsAfte
 use Rattle.link_wire.specs.declared.IoFault.{IoFault}
 use Rattle.link_wire.specs.declared.IoFault.TheVariants as io
 use Rattle.link_wire.specs.declared.Source.{Source}
-use Rattle.link_run.specs.Run.{Texts, Tool, Devices, Place, devices_at, NoneFailed, Moves, HasWritten, HandedBack, AllGiven, GaveAnswer, AreDue, Gave, GivesAnswer}
-use Rattle.link_run.specs.Writers.{place_of, Writes, WritesPart}
+use Rattle.link_run.specs.Run.{Texts, Tool, Devices, Place, devices_at, NoneFailed, Moves, HasWritten, HandedBack, AllGiven, GaveAnswer, AreDue, IsBehind, Gave, GivesAnswer}
+use Rattle.link_run.specs.Writers.{place_of, on_output, Writes, WritesPart, Unsettled}
 use Rattle.link_run.specs.declared.run.Status.{Status}
 use Rattle.link_run.specs.declared.writers.Writers.{Writers}
 
@@ -99,6 +99,17 @@ none_between window start end same =
 pub few_over : {R : Type 0} (look : R → Input) (s : Source R) → IsOver look s → length (window_of s) < window_size
 few_over look s over = let none = ap length (none_between s.window s.start s.end over.ended.1) in omega arith
 
+-- these texts are what some of the bytes determine
+pub record StoodAt (tool : Tool) (given : List ℕ) (texts : Texts) : Type 0 where
+  pub front : List ℕ
+  pub rest : List ℕ
+  pub parts : given ≡ front ++ rest
+  pub is : texts ≡ tool.sofar front
+
+-- what was written before others: nothing to the report, or what some of the bytes determine
+abbrev pub Stood : Tool → (given : List ℕ) → Texts → Type 0
+Stood tool given texts = (texts.report ≡ []) ⊎ StoodAt tool given texts
+
 module _ {R W E : Type 0} (in_look : R → Input) (out_look : W → Output) (report_look : E → Output) where
   -- bytes were given, and nothing was written
   pub takes_moves : (old new : Source R) (w : Writers W E) (bytes : List ℕ) → Takes in_look old new bytes → Moves in_look out_look report_look (place_of old w) (place_of new w) bytes no_texts
@@ -158,13 +169,28 @@ module _ {R W E : Type 0} (in_look : R → Input) (out_look : W → Output) (rep
     settled = settled;
   }
 
+  -- where the output failed in texts, nothing of the report speaks of what it lacks
+  behind : (tool : Tool) (given : List ℕ) (before texts due : Texts) (output report : ℕ) → before then texts ≡ due → Stood tool given before → report ≡ 0
+      → ((length before.report + report ≡ 0) ⊎ IsBehind tool given (length before.output + output) (length before.report + report))
+  behind tool given before texts due output report same stood none =
+      ⊎_elim
+      (λ empty. inl (let no_report = ap length empty in omega arith))
+      (λ at. inr (record {
+        front = at.front;
+        rest = at.rest;
+        parts = at.parts;
+        output = let size = ap (λ (t : Texts). length t.output) at.is in omega arith;
+        report = let size = ap (λ (t : Texts). length t.report) at.is in omega arith;
+      }))
+      stood
+
   -- a writer failed in texts that are due
   pub writer_lost : (tool : Tool) (start : Devices R W E) (s : Source R) (old new : Writers W E) (given : List ℕ) (before texts due : Texts) (fault : IoFault)
-      → HasWritten in_look out_look report_look start (place_of s old) given before → before then texts ≡ due
+      → HasWritten in_look out_look report_look start (place_of s old) given before → (in_look (reader_of s)).failed ≡ false → before then texts ≡ due
       → AreDue in_look out_look report_look tool (devices_at (place_of s new)) given (window_of s) due
-      → length (window_of s) < window_size
+      → length (window_of s) < window_size → (0 < length texts.output → Stood tool given before)
       → WritesPart out_look report_look old new texts fault → Gave in_look out_look report_look tool start (devices_at (place_of s new)) given (Err fault)
-  writer_lost tool start s old new given before texts due fault written same are_due few part =
+  writer_lost tool start s old new given before texts due fault written reader same are_due few stood part =
       let last : Moves in_look out_look report_look (place_of s old) (place_of s new) [] (record { output = take part.output_count texts.output; report = take part.report_count texts.report }) = record {
         takes = Consumes-nil (ahead in_look s);
         count = omega arith;
@@ -173,6 +199,8 @@ module _ {R W E : Type 0} (in_look : R → Input) (out_look : W → Output) (rep
       } in
       let output = length before.output + part.output_count in
       let report = length before.report + part.report_count in
+      let outputs : length due.output ≡ length before.output + length texts.output = ap (λ (t : Texts). length t.output) (sym same) ∙ length-append before.output texts.output in
+      let reports : length due.report ≡ length before.report + length texts.report = ap (λ (t : Texts). length t.report) (sym same) ∙ length-append before.report texts.report in
       let cut : before then (record { output = take part.output_count texts.output; report = take part.report_count texts.report }) ≡ record { output = take output due.output; report = take report due.report } =
       texts_as
       (sym (ap (λ (t : Texts). take output t.output) (sym same) ∙ take-append-add before.output texts.output part.output_count))
@@ -186,7 +214,47 @@ module _ {R W E : Type 0} (in_look : R → Input) (out_look : W → Output) (rep
         output = output;
         report = report;
         written = written_left in_look out_look report_look start (place_of s new) given _ cut_off;
-        failed = part.failed;
+        reader = reader;
+        failed = ⊎_elim
+            (λ lost. let less = lost.part in inl (lost.failed, behind tool given before texts due part.output_count part.report_count same (stood (omega arith)) lost.none))
+            (λ lost. let whole = lost.whole in inr (lost.failed, omega arith))
+            part.failed;
+        unended = λ shown. ⊎_elim
+            (λ lost. let less = lost.part in inl (omega arith))
+            (λ lost. let less = lost.part in inr (omega arith))
+            part.failed;
+      })
+
+  -- a writer failed when what was written was handed on
+  pub settle_lost : (tool : Tool) (start : Devices R W E) (s : Source R) (old new : Writers W E) (given : List ℕ) (fault : IoFault)
+      → HasWritten in_look out_look report_look start (place_of s old) given (tool.sofar given) → (in_look (reader_of s)).failed ≡ false
+      → tool.shows given ≡ false → length (window_of s) < window_size
+      → Unsettled out_look report_look old new fault → Gave in_look out_look report_look tool start (devices_at (place_of s new)) given (Err fault)
+  settle_lost tool start s old new given fault written reader unshown few part =
+      let due = tool.sofar given in
+      let kept : Moves in_look out_look report_look (place_of s old) (place_of s new) [] no_texts = record {
+        takes = Consumes-nil (ahead in_look s);
+        count = omega arith;
+        writes = part.output;
+        reports = part.report;
+      } in
+      let all : due then no_texts ≡ record { output = take (length due.output) due.output; report = take (length due.report) due.report } =
+      then_none due ∙ texts_as (sym (take_all (length due.output) due.output (omega arith))) (sym (take_all (length due.report) due.report (omega arith))) in
+      rw part.kind (record {
+        unread = window_of s;
+        few = few;
+        due = due;
+        are_due = inl refl;
+        output = length due.output;
+        report = length due.report;
+        written = written_left in_look out_look report_look start (place_of s new) given _
+            (written_as (written_then in_look out_look report_look start (place_of s old) (place_of s new) given [] due no_texts written kept) (append-nil given) all);
+        reader = reader;
+        failed = ⊎_elim
+            (λ is. inl (is, inr (record { front = given; rest = []; parts = sym (append-nil given); output = omega arith; report = omega arith })))
+            (λ is. inr (is, omega arith))
+            part.failed;
+        unended = λ shown. absurd (cc);
       })
 
   -- the source stopped after some bytes, and what is due was written
@@ -222,19 +290,31 @@ module _ {R W E : Type 0} (in_look : R → Input) (out_look : W → Output) (rep
   reader_lost tool start old new w history given texts io.Write written due unshown stops = absurd stops.cause
   reader_lost tool start old new w history given texts io.Memory written due unshown stops = absurd stops.cause
 
--- what a writer failed in, with texts after it that were not begun
+-- what was written of a text, with others after it that were not begun
 take_less : (count : ℕ) (text more : List ℕ) → take count text ≡ take (min count (length text)) (text ++ more)
 take_less count text more = sym (take-append-le (min count (length text)) text more (min-le_right count (length text)) ∙ take_min count text)
 
 module _ {W E : Type 0} (out_look : W → Output) (report_look : E → Output) where
-  pub part_of_more : (old new : Writers W E) (texts more : Texts) (fault : IoFault) → WritesPart out_look report_look old new texts fault → WritesPart out_look report_look old new (texts then more) fault
-  part_of_more old new texts more fault part = record {
+  -- a writer failed in texts, before others; where it was the report, these have nothing for the output
+  pub part_of_more : (old new : Writers W E) (texts more : Texts) (fault : IoFault) → (0 < length texts.report → more.output ≡ [])
+      → WritesPart out_look report_look old new texts fault → WritesPart out_look report_look old new (texts then more) fault
+  part_of_more old new texts more fault same part = record {
     kind = part.kind;
     output_count = min part.output_count (length texts.output);
     report_count = min part.report_count (length texts.report);
     output = rw (← take_less part.output_count texts.output more.output) part.output;
     report = rw (← take_less part.report_count texts.report more.report) part.report;
-    failed = part.failed;
+    failed = ⊎_elim
+        (λ lost. inl (
+        let less = lost.part in
+        let none = lost.none in
+        record { failed = lost.failed; part = omega (arith, length-append texts.output more.output); none = omega arith }))
+        (λ lost. inr (
+        let less = lost.part in
+        let whole = lost.whole in
+        let no_more = ap length (same (omega arith)) in
+        record { failed = lost.failed; part = omega (arith, length-append texts.report more.report); whole = omega (arith, length-append texts.output more.output) }))
+        part.failed;
   }
 
   pub writes_none : (writers : Writers W E) → Writes out_look report_look writers writers no_texts
@@ -253,23 +333,19 @@ module _ {W E : Type 0} (out_look : W → Output) (report_look : E → Output) w
     report_sound = two.report_sound ∙ one.report_sound;
   }
 
-  -- texts were written, and then a writer failed in others
-  pub part_behind : (old mid new : Writers W E) (first second : Texts) (fault : IoFault) → Writes out_look report_look old mid first → WritesPart out_look report_look mid new second fault → WritesPart out_look report_look old new (first then second) fault
+  -- a text was written to the output, and then a writer failed in others
+  pub part_behind : (old mid new : Writers W E) (first : List ℕ) (second : Texts) (fault : IoFault) → Writes out_look report_look old mid (on_output first) → WritesPart out_look report_look mid new second fault → WritesPart out_look report_look old new (on_output first then second) fault
   part_behind old mid new first second fault one part = record {
     kind = part.kind;
-    output_count = length first.output + part.output_count;
-    report_count = length first.report + part.report_count;
-    output = rw take-append-add (Appends-trans (out_look old.output).written (out_look mid.output).written (out_look new.output).written first.output (take part.output_count second.output) one.output part.output);
-    report = rw take-append-add (Appends-trans (report_look old.report).written (report_look mid.report).written (report_look new.report).written first.report (take part.report_count second.report) one.report part.report);
-    failed = part.failed;
+    output_count = length first + part.output_count;
+    report_count = part.report_count;
+    output = rw take-append-add (Appends-trans (out_look old.output).written (out_look mid.output).written (out_look new.output).written first (take part.output_count second.output) one.output part.output);
+    report = Appends-trans (report_look old.report).written (report_look mid.report).written (report_look new.report).written [] (take part.report_count second.report) one.report part.report;
+    failed = ⊎_elim
+        (λ lost. inl (let less = lost.part in record { failed = lost.failed; part = omega (arith, length-append first second.output); none = lost.none }))
+        (λ lost. inr (let whole = lost.whole in record { failed = lost.failed; part = lost.part; whole = omega (arith, length-append first second.output) }))
+        part.failed;
   }
-
-  -- a writer failed when what was written was handed on
-  pub settle_lost : {R : Type 0} (in_look : R → Input) (tool : Tool) (start : Devices R W E) (s : Source R) (old new : Writers W E) (given : List ℕ) (before rest : Texts) (fault : IoFault)
-      → HasWritten in_look out_look report_look start (place_of s old) given before → before then rest ≡ tool.sofar given → length (window_of s) < window_size
-      → WritesPart out_look report_look old new no_texts fault → Gave in_look out_look report_look tool start (devices_at (place_of s new)) given (Err fault)
-  settle_lost in_look tool start s old new given before rest fault written due few part =
-      writer_lost in_look out_look report_look tool start s old new given before rest (tool.sofar given) fault written due (inl refl) few (part_of_more old new no_texts rest fault part)
 
   -- what was written was handed on: it is written still
   pub settle_kept : {R : Type 0} (in_look : R → Input) (start : Devices R W E) (s : Source R) (old new : Writers W E) (history : List ℕ) (texts : Texts)

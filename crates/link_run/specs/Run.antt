@@ -48,6 +48,14 @@ abbrev pub answer_of : Result Status IoFault → Result Progress IoFault
 answer_of (Ok status) = Ok (Done status)
 answer_of (Err fault) = Err fault
 
+-- the first bytes of the report are no more than some of these bytes determine of which all output is written
+pub record IsBehind (tool : Tool) (given : List ℕ) (output_count report_count : ℕ) : Type 0 where
+  pub front : List ℕ
+  pub rest : List ℕ
+  pub parts : given ≡ front ++ rest
+  pub output : length (tool.sofar front).output ≤ output_count
+  pub report : report_count ≤ length (tool.sofar front).report
+
 module _ {R W E : Type 0} (in_look : R → Input) (out_look : W → Output) (report_look : E → Output) where
   -- no device has failed
   pub record NoneFailed (devices : Devices R W E) : Type 0 where
@@ -108,7 +116,14 @@ module _ {R W E : Type 0} (in_look : R → Input) (out_look : W → Output) (rep
   abbrev pub AreDue : Tool → Devices R W E → (given unread : List ℕ) → Texts → Type 0
   AreDue tool now given unread texts = (texts ≡ tool.sofar given) ⊎ (AllGiven now unread × (texts ≡ (tool.whole given).texts))
 
-  -- A writer failed: the texts are prefixes of those that the bytes given determine.
+  -- Which writer failed: the output, and no line of the report speaks of what it lacks; or the report, and the output is whole.
+  abbrev pub IsLost : Tool → Devices R W E → (given : List ℕ) → (due : Texts) → (output report : ℕ) → Type 0
+  IsLost tool now given due output report =
+      (((out_look now.output).failed ≡ true) × ((report ≡ 0) ⊎ IsBehind tool given output report))
+      ⊎ (((report_look now.report).failed ≡ true) × (length due.output ≤ output))
+
+  -- A writer failed, and not the reader: the texts are prefixes of those that the bytes given determine. Where these show a
+  -- fault, its text is not whole.
   pub record LostWriter (tool : Tool) (start now : Devices R W E) (given : List ℕ) : Type 0 where
     pub unread : List ℕ
     pub few : length unread < window_size
@@ -117,7 +132,9 @@ module _ {R W E : Type 0} (in_look : R → Input) (out_look : W → Output) (rep
     pub output : ℕ
     pub report : ℕ
     pub written : HandedBack start now (given ++ unread) (record { output = take output due.output; report = take report due.report })
-    pub failed : ((out_look now.output).failed ≡ true) ⊎ ((report_look now.report).failed ≡ true)
+    pub reader : (in_look now.reader).failed ≡ false
+    pub failed : IsLost tool now given due output report
+    pub unended : tool.shows given ≡ true → (output < length due.output) ⊎ (report < length due.report)
 
   abbrev pub GaveFailure : Tool → Devices R W E → Devices R W E → List ℕ → IoFault → Type 0
   GaveFailure tool start now given io.Read = LostReader tool start now given

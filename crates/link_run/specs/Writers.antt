@@ -1,5 +1,5 @@
 -- What the calls of a run's writers write.
-use Rattle.std.specs.Prelude.{◌≡◌, ℕ, ◌⊎◌, true, List, [], take, Result, Ok, Err}
+use Rattle.std.specs.Prelude.{◌≡◌, ℕ, ◌<◌, ◌≤◌, ◌⊎◌, true, List, [], length, take, Result, Ok, Err}
 use Rattle.std.specs.Io.KnownBytes.{Appends}
 use Rattle.link_wire.specs.Device.{Output}
 use Rattle.link_wire.specs.declared.IoFault.{IoFault}
@@ -27,14 +27,26 @@ module _ {W E : Type 0} (out_look : W → Output) (report_look : E → Output) w
     pub output_sound : (out_look new.output).failed ≡ (out_look old.output).failed
     pub report_sound : (report_look new.report).failed ≡ (report_look old.report).failed
 
-  -- a prefix of each of these texts was written, and then a writer failed
+  -- the output failed before all of its text was written, and nothing was written to the report
+  pub record LostOutput (new : Writers W E) (texts : Texts) (output_count report_count : ℕ) : Type 0 where
+    pub failed : (out_look new.output).failed ≡ true
+    pub part : output_count < length texts.output
+    pub none : report_count ≡ 0
+
+  -- the report failed before all of its text was written, and all of the output was
+  pub record LostReport (new : Writers W E) (texts : Texts) (output_count report_count : ℕ) : Type 0 where
+    pub failed : (report_look new.report).failed ≡ true
+    pub part : report_count < length texts.report
+    pub whole : length texts.output ≤ output_count
+
+  -- A prefix of each of these texts was written, and then a writer failed. The output is written before the report.
   pub record WritesPart (old new : Writers W E) (texts : Texts) (fault : IoFault) : Type 0 where
     pub kind : fault ≡ io.Write
     pub output_count : ℕ
     pub report_count : ℕ
     pub output : Appends (out_look old.output).written (out_look new.output).written (take output_count texts.output)
     pub report : Appends (report_look old.report).written (report_look new.report).written (take report_count texts.report)
-    pub failed : ((out_look new.output).failed ≡ true) ⊎ ((report_look new.report).failed ≡ true)
+    pub failed : LostOutput new texts output_count report_count ⊎ LostReport new texts output_count report_count
 
   abbrev pub GivesTexts : Writers W E → Writers W E → Texts → Result (Unit {0}) IoFault → Type 0
   GivesTexts old new texts (Ok done) = Writes old new texts
@@ -48,3 +60,15 @@ module _ {W E : Type 0} (out_look : W → Output) (report_look : E → Output) w
   abbrev pub GivesReport : Writers W E → Writers W E → List ℕ → Result Status IoFault → Type 0
   GivesReport old new text (Ok status) = Reports old new text status
   GivesReport old new text (Err fault) = WritesPart old new (on_report text) fault
+
+  -- what was written stays, and a writer failed
+  pub record Unsettled (old new : Writers W E) (fault : IoFault) : Type 0 where
+    pub kind : fault ≡ io.Write
+    pub output : Appends (out_look old.output).written (out_look new.output).written []
+    pub report : Appends (report_look old.report).written (report_look new.report).written []
+    pub failed : ((out_look new.output).failed ≡ true) ⊎ ((report_look new.report).failed ≡ true)
+
+  -- what was written is handed on
+  abbrev pub GivesHandedOn : Writers W E → Writers W E → Result (Unit {0}) IoFault → Type 0
+  GivesHandedOn old new (Ok done) = Writes old new (on_output [])
+  GivesHandedOn old new (Err fault) = Unsettled old new fault

@@ -2,7 +2,7 @@
 
 ghost use Rattle.std.specs.Prelude.{◌≡◌, []};
 ghost use Rattle.link_report.specs.Fault.{fault_text};
-ghost use Rattle.link_run.specs.Writers.{GivesTexts, GivesReport, on_output, on_report};
+ghost use Rattle.link_run.specs.Writers.{GivesTexts, GivesReport, GivesHandedOn, on_output, on_report};
 
 use crate::run::Status;
 use link_report::{Fault, Line, fault_line};
@@ -58,7 +58,7 @@ impl<W: OutDevice, E: OutDevice> Writers<W, E> {
 
     /// Hands on what the writers hold back of what was written.
     pub fn settle(&mut self) -> Result<(), IoFault>
-        ensures gives { GivesTexts W.state E.state self.old self.new (on_output []) result }
+        ensures gives { GivesHandedOn W.state E.state self.old self.new result }
         ensures line { self.new.line ≡ self.old.line }
     {
         if self.output.settle().is_err() {

@@ -1,5 +1,5 @@
 -- Data of a segment has come.
-use Rattle.std.proofs.Common.{◌≡◌, ℕ, ◌+◌, ◌^◌, ◌<◌, ◌≤◌, inl, Bool, true, false, not, ◌&&◌, ◌==◌, nat_lt, is_some, List, [], ◌∷◌, ◌++◌, length, Err, if◌then◌else◌, refl, ap, sym, ◌∙◌, subst, append-nil, append_assoc, length-append, arith}
+use Rattle.std.proofs.Common.{◌≡◌, ℕ, ◌+◌, ◌^◌, ◌<◌, ◌≤◌, inl, inr, Bool, true, false, not, ◌&&◌, ◌==◌, nat_lt, is_some, List, [], ◌∷◌, ◌++◌, length, Err, if◌then◌else◌, refl, ap, sym, ◌∙◌, subst, append-nil, append_assoc, length-append, arith}
 use Rattle.std.proofs.lemmas.Bool.{ltb-true, ltb-false}
 use Rattle.link_wire.specs.Device.{Input, Output}
 use Rattle.link_wire.specs.Message.{data_length}
@@ -21,7 +21,7 @@ use Rattle.link_run.specs.Run.{Texts, Devices, devices_at, HasWritten, Gave}
 use Rattle.link_run.specs.Writers.{place_of, on_output, on_report, Writes, WritesPart}
 use Rattle.link_run.specs.declared.writers.Writers.{Writers}
 use Rattle.link_run.proofs.Ends.{standing_lines, standing_shown}
-use Rattle.link_run.proofs.Runs.{◌then◌, then_assoc, texts_as, written_as, written_given, written_more, sound_given, sound_written, few_over, writer_lost, part_of_more}
+use Rattle.link_run.proofs.Runs.{◌then◌, then_assoc, texts_as, written_as, written_given, written_more, sound_given, sound_written, few_over, writer_lost, part_of_more, Stood}
 use Rattle.link_unpack.specs.Transfers.{heads_of, Transfer, closes, continued, after_segment, after_message, transfers_of, settled}
 use Rattle.link_unpack.specs.Unpacking.{parts_of, part_of, line_of, lines_of, are_good, unpack_tool, unpacking_sofar}
 use Rattle.link_unpack.specs.TransferScan.{Follows, grown}
@@ -202,16 +202,25 @@ module _ {R W E : Type 0} (in_look : R → Input) (out_look : W → Output) (rep
         sofar : unpacking_sofar u.latest.wanted (history ++ bytes) ≡ texts_of u.latest.wanted (grown transfer bytes closing ∷ earlier)
         sofar = sofar_in_order u.latest.wanted (history ++ bytes) new_in_order (after_lines last (left_of new) (reading_of (history ++ bytes)).end after) ∙ ap (texts_of u.latest.wanted) new_transfers
 
+        stood : Stood (unpack_tool u.latest.wanted) (history ++ bytes) (texts_of u.latest.wanted transfers)
+        stood =
+            inr (record {
+              front = history;
+              rest = bytes;
+              parts = refl;
+              is = sym (sofar_in_order u.latest.wanted history at.in_order (standing_lines old.offset old.left (reading_of history).end at.session.left));
+            })
+
         lost_by : (is_closed : Bool) → closing ≡ is_closed → (written : Writers W E) (fault : IoFault) → WritesPart out_look report_look before written (on_output part) fault
             → Gave in_look out_look report_look (unpack_tool u.latest.wanted) start (devices_at (place_of (source_of new) written)) (history ++ bytes) (Err fault)
         lost_by true is written fault lost =
             let more = on_report (line_of u.latest.wanted (grown transfer bytes closing) earlier) in
-            writer_lost in_look out_look report_look (unpack_tool u.latest.wanted) start (source_of new) before written (history ++ bytes) _ _ _ fault given_written
+            writer_lost in_look out_look report_look (unpack_tool u.latest.wanted) start (source_of new) before written (history ++ bytes) _ _ _ fault given_written (takes.device ∙ at.sound.reader)
             (then_assoc (texts_of u.latest.wanted transfers) (on_output part) more ∙ ap (λ (t : Texts). t then more) part_texts ∙ texts_closed u.latest.wanted (grown transfer bytes closing) earlier is ∙ sym sofar)
-            (inl refl) (takes.window.less some) (part_of_more out_look report_look before written _ more fault lost)
+            (inl refl) (takes.window.less some) (λ some_output. stood) (part_of_more out_look report_look before written _ more fault (λ none. absurd (omega arith)) lost)
         lost_by false is written fault lost =
-            writer_lost in_look out_look report_look (unpack_tool u.latest.wanted) start (source_of new) before written (history ++ bytes) _ _ _ fault given_written
-            (part_texts ∙ sym (texts_open u.latest.wanted (grown transfer bytes closing) earlier is) ∙ sym sofar) (inl refl) (takes.window.less some) lost
+            writer_lost in_look out_look report_look (unpack_tool u.latest.wanted) start (source_of new) before written (history ++ bytes) _ _ _ fault given_written (takes.device ∙ at.sound.reader)
+            (part_texts ∙ sym (texts_open u.latest.wanted (grown transfer bytes closing) earlier is) ∙ sym sofar) (inl refl) (takes.window.less some) (λ some_output. stood) lost
 
         pub part_lost : (written : Writers W E) (fault : IoFault) → WritesPart out_look report_look before written (on_output part) fault
             → Gave in_look out_look report_look (unpack_tool u.latest.wanted) start (devices_at (place_of (source_of new) written)) (history ++ bytes) (Err fault)

@@ -145,8 +145,8 @@ module _ {R W E : Type 0} (in_look : R → Input) (out_look : W → Output) (rep
       finished after v (stage.Ended (Err fault)) gives = record {
         given = [];
         size = omega arith;
-        gave = writer_lost in_look out_look report_look (unpack_tool u.latest.wanted) start (source_of new) before after (history ++ []) _ _ _ fault mid last_texts
-            (inr (all_given in_look out_look report_look (source_of new) after got.over, refl)) (few_over in_look (source_of new) got.over) gives;
+        gave = writer_lost in_look out_look report_look (unpack_tool u.latest.wanted) start (source_of new) before after (history ++ []) _ _ _ fault mid (got.takes.device ∙ at.sound.reader) last_texts
+            (inr (all_given in_look out_look report_look (source_of new) after got.over, refl)) (few_over in_look (source_of new) got.over) (λ none. absurd (omega arith)) gives;
       }
 
     -- a fault of the wire, or a failure of the reader
@@ -206,7 +206,7 @@ module _ {R W E : Type 0} (in_look : R → Input) (out_look : W → Output) (rep
 
 -- ---- the contact header
 
-no_texts_of : (wanted : Wanted) → texts_of wanted [] ≡ no_texts
+pub no_texts_of : (wanted : Wanted) → texts_of wanted [] ≡ no_texts
 unfolding parts_of lines_of
 no_texts_of wanted = refl
 

@@ -1,13 +1,13 @@
 use Rattle.std.proofs.Common.{refl, sym, arith}
 use Rattle.link_pack.proofs.Sending.{open_none}
 use Rattle.link_pack.proofs.Dividing.{none_front, none_goes}
-use Rattle.link_pack.proofs.packer.Packer.new.Goals as goal
+use Rattle.link_pack.proofs.packer.Packer.with.Goals as goal
 
 pub returns-clause-start : goal.returns-clause-start
 returns-clause-start c = record {
   number = refl;
-  scanned = c.new-2.ensures.seen;
-  cut = rw (open_none, sym c.segment.ensures.value) c.in_ok-cutter.ensures.start;
+  scanned = c.new.ensures.seen;
+  cut = rw open_none c.requires.start;
   front = none_front;
   goes = none_goes;
   within = omega arith;
