@@ -68,10 +68,7 @@ impl Packer {
     }
 
     /// A packer over this cutter, where it was given memory.
-    fn over(
-        cutter: Result<Cutter, AllocError>,
-        options: PackOptions,
-    ) -> Result<Packer, AllocError>
+    fn over(cutter: Result<Cutter, AllocError>, options: PackOptions) -> Result<Packer, AllocError>
         requires start { IfOk cutter (λ it. IsCutterAt it (beginning (segment_size options) options.announce)) }
         requires quiet { IfOk cutter (λ it. cut_waits it ≡ false) }
         ensures start { IfOk result (λ packer. Holds packer [] []) }
