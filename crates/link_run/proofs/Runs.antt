@@ -170,9 +170,9 @@ module _ {R W E : Type 0} (in_look : R → Input) (out_look : W → Output) (rep
   }
 
   -- where the output failed in texts, nothing of the report speaks of what it lacks
-  behind : (tool : Tool) (given : List ℕ) (before texts due : Texts) (output report : ℕ) → before then texts ≡ due → Stood tool given before → report ≡ 0
+  behind : (tool : Tool) (given : List ℕ) (before : Texts) (output report : ℕ) → Stood tool given before → report ≡ 0
       → ((length before.report + report ≡ 0) ⊎ IsBehind tool given (length before.output + output) (length before.report + report))
-  behind tool given before texts due output report same stood none =
+  behind tool given before output report stood none =
       ⊎_elim
       (λ empty. inl (let no_report = ap length empty in omega arith))
       (λ at. inr (record {
@@ -216,7 +216,7 @@ module _ {R W E : Type 0} (in_look : R → Input) (out_look : W → Output) (rep
         written = written_left in_look out_look report_look start (place_of s new) given _ cut_off;
         reader = reader;
         failed = ⊎_elim
-            (λ lost. let less = lost.part in inl (lost.failed, behind tool given before texts due part.output_count part.report_count same (stood (omega arith)) lost.none))
+            (λ lost. let less = lost.part in inl (lost.failed, behind tool given before part.output_count part.report_count (stood (omega arith)) lost.none))
             (λ lost. let whole = lost.whole in inr (lost.failed, omega arith))
             part.failed;
         unended = λ shown. ⊎_elim
