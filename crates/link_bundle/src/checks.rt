@@ -41,8 +41,20 @@ impl BlockChecks {
         }
     }
 
-    /// The same for a run. Most heads are one byte, which goes faster alone.
+    /// The same for a run. Most blocks have no check, so that nothing is to be done for most of the data.
+    #[inline]
     pub fn take(&mut self, check: CheckType, run: &[u8])
+        ensures { (covered : List ℕ) → Covers check self.old covered → Covers check self.new (covered ++ run.now) }
+    {
+        if let CheckType::Is(None) = check {
+            return;
+        }
+        self.take_covered(check, run);
+    }
+
+    /// The same for a run that a check may cover. Most heads are one byte, which goes faster alone.
+    #[inline(never)]
+    fn take_covered(&mut self, check: CheckType, run: &[u8])
         ensures { (covered : List ℕ) → Covers check self.old covered → Covers check self.new (covered ++ run.now) }
     {
         if run.len() == 1 {

@@ -271,6 +271,7 @@ impl BundleScan {
     }
 
     /// The same before the first byte: the whole bundle if the piece has it, else one byte.
+    #[inline(never)]
     fn advance_start(&mut self, piece: &[u8]) -> usize
         requires stage { self.old.stage ≡ Stage.Start }
         requires some { 0 < length piece.now }
@@ -299,6 +300,7 @@ impl BundleScan {
     }
 
     /// The same at a head of which no byte has come: the whole head if the piece has it, else one byte.
+    #[inline(never)]
     fn advance_head(&mut self, field: Field, piece: &[u8]) -> usize
         requires stage { self.old.stage ≡ Stage.Head field }
         requires begins { self.old.cursor.place ≡ self.old.cursor.count }

@@ -1,6 +1,6 @@
 //! Pieces of text, each appended to a line.
 
-ghost use Rattle.std.specs.Prelude.{◌≡◌, ◌+◌, ◌≤◌, ◌++◌, length, decimal, codes, not};
+ghost use Rattle.std.specs.Prelude.{◌≡◌, ◌+◌, ◌<◌, ◌≤◌, ◌++◌, length, decimal, codes, not};
 ghost use Rattle.std.specs.List.{position};
 ghost use Rattle.arrayvec.specs.ArrayVec.{array_vec_len};
 ghost use Rattle.link_report.specs.Text.{hex2, hex4, escaped, is_plain, number_text};
@@ -37,7 +37,41 @@ pub fn put_text(line: &mut Line, text: &str)
     put_bytes(line, text.as_bytes());
 }
 
-/// Appends `number` in decimal, without leading zeros. Most numbers of a line have one digit.
+/// What stands where the digits of a number are to be written.
+static ZEROS: [u8; MAX_DIGITS] = [b'0'; MAX_DIGITS];
+
+/// How many digits a number of at most four has.
+#[tactic(auto, using(crate::proofs::Lengths::digits))]
+#[inline(always)]
+fn few_digits(number: u64) -> usize
+    requires { number < 10000 }
+    ensures { result ≡ length (decimal number) }
+{
+    match number {
+        0..10 => 1,
+        10..100 => 2,
+        100..1_000 => 3,
+        _ => 4,
+    }
+}
+
+/// How many digits a number has.
+#[tactic(auto, using(crate::proofs::Lengths::digits, crate::proofs::Lengths::length_of_decimal))]
+#[inline(always)]
+fn digits(number: u64) -> usize
+    ensures { result ≡ length (decimal number) }
+{
+    let mut front = number;
+    let mut behind = 0;
+    while front >= 10_000 {
+        front /= 10_000;
+        behind += 4;
+    }
+    behind + few_digits(front)
+}
+
+/// Appends `number` in decimal, without leading zeros. Most numbers of a line have one digit. Those of more are written
+/// where they stay: to read back what was just written in other sizes, as a copy does, holds the processor up.
 #[tactic(auto, using(crate::proofs::Lengths::length_of_decimal, crate::proofs::Lengths::one_digit))]
 #[inline(always)]
 pub fn put_decimal(line: &mut Line, number: u64)
@@ -49,9 +83,9 @@ pub fn put_decimal(line: &mut Line, number: u64)
         line.push(b'0' + number as u8);
         return;
     }
-    let mut digits = [0; MAX_DIGITS];
-    let start = write_digits(number, &mut digits, MAX_DIGITS);
-    put_bytes(line, &digits[start..]);
+    put_bytes(line, &ZEROS[..digits(number)]);
+    let end = line.len();
+    write_digits(number, line.as_mut_slice(), end);
 }
 
 /// Appends `byte` as two lower-case hexadecimal digits.

@@ -36,8 +36,8 @@ impl Model for Held {
         (held.given ≤ held.start) × (held.start ≤ held.end) × (held.end ≤ length held.buffer.items) };
 }
 
-/// Moves the bytes from `start` to `end` to the beginning of the buffer if there are fewer than `count` bytes after
-/// them, and returns where they stand then.
+/// Moves the bytes from `start` to `end` to the beginning of the buffer if there are none, or fewer than `count` bytes
+/// after them, and returns where they stand then. So short bundles are held in the same few bytes, one after another.
 #[inline]
 fn with_room(buffer: &mut Vec<u8>, start: usize, end: usize, count: usize) -> (usize, usize)
     requires order { start ≤ end }
@@ -48,7 +48,7 @@ fn with_room(buffer: &mut Vec<u8>, start: usize, end: usize, count: usize) -> (u
     ensures room { result.1 + count ≤ length buffer.new.items }
     ensures size { length buffer.new.items ≡ length buffer.old.items }
 {
-    if count <= buffer.len() - end {
+    if start < end && count <= buffer.len() - end {
         return (start, end);
     }
     buffer.copy_within(start..end, 0);

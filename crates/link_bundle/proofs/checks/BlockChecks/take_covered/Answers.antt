@@ -1,6 +1,6 @@
 use Rattle.std.proofs.Common.{◌≡◌, ℕ, List, [], ◌∷◌, ◌++◌, length, get_or, subst, refl, arith}
 use Rattle.link_bundle.specs.Covers.{Covers}
-use Rattle.link_bundle.proofs.checks.BlockChecks.take.Goals as goal
+use Rattle.link_bundle.proofs.checks.BlockChecks.take_covered.Goals as goal
 
 one_of : (run : List ℕ) → length run ≡ 1 → get_or run 0 0 ∷ [] ≡ run
 one_of [] one = absurd (omega arith)
