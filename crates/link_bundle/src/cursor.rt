@@ -54,6 +54,7 @@ impl Cursor {
     }
 
     /// Takes bytes of a name, of data or of a check field.
+    #[inline(always)]
     pub fn content_run(&mut self, check: CheckType, run: &[u8])
         requires room { self.old.count + length run.now ≤ 2 ^ 63 - 1 }
         ensures count { self.new.count ≡ self.old.count + length run.now }

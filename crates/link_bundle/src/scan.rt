@@ -25,6 +25,7 @@ pub struct BundleScan {
 }
 
 /// The first bytes of a piece, at most as many as are left.
+#[inline(always)]
 fn first_of(piece: &[u8], left: u64) -> &[u8]
     ensures run { result.now ≡ take (min left (length piece.now)) piece.now }
     ensures size { length result.now ≡ min left (length piece.now) }
@@ -173,6 +174,7 @@ impl BundleScan {
     }
 
     /// Bytes of a block's data, of which `left` bytes were left.
+    #[inline(always)]
     fn content_run(&mut self, left: u64, run: &[u8])
         requires stage { self.old.stage ≡ Stage.Content left }
         requires within { length run.now ≤ left }
@@ -235,6 +237,7 @@ impl BundleScan {
     ghost use Rattle.link_bundle.specs.Scan.{HasScanned, scan_size, may_scan};
 
     /// Takes the next bytes of a piece where more are needed: of a name and of data as many as there are, else one byte.
+    #[inline(always)]
     fn advance(&mut self, piece: &[u8]) -> usize
         requires may_step { IsTrue (may_scan self.old) }
         requires goes { (seen : List ℕ) → HasScanned self.old seen → bundle_goes seen ≡ true }
@@ -357,6 +360,7 @@ impl Piecewise for BundleScan {
         self.cursor.count
     }
 
+    #[inline(always)]
     fn feed(&mut self, bytes: &[u8]) -> usize {
         let mut taken = 0;
         while taken < bytes.len() && self.going() {

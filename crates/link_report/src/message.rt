@@ -15,6 +15,7 @@ use link_wire::{Contact, Fields, Item, MAX_ITEMS, MAX_NODE_ID, Message, MessageB
 
 /// Appends ` flags=` and the flags.
 #[tactic(auto, unfolding(crate::specs::Message::flags_text))]
+#[inline(always)]
 fn put_flags(line: &mut Line, flags: u8)
     requires { array_vec_len line.old + 9 ≤ LINE_MAX }
     ensures items { line.new.items ≡ line.old.items ++ flags_text flags }
@@ -83,6 +84,7 @@ fn put_parameters(line: &mut Line, keepalive: u16, segment_mru: u64, transfer_mr
 /// Appends the items of a segment that begins its transfer, and nothing of another. Two numbers, the
 /// flags and 17 bytes stand before them, and room for the length must be left.
 #[tactic(auto, unfolding(crate::specs::Message::start_items_text))]
+#[inline(always)]
 fn put_start_items(line: &mut Line, flags: u8, items: &[Item])
     requires before { array_vec_len line.old ≤ 66 }
     requires items { length items.now ≤ MAX_ITEMS }
@@ -96,6 +98,7 @@ fn put_start_items(line: &mut Line, flags: u8, items: &[Item])
 
 /// Appends what the line of a segment says after its offset.
 #[tactic(auto, unfolding(crate::specs::Message::segment_text))]
+#[inline(always)]
 fn put_segment(line: &mut Line, flags: u8, id: u64, items: &[Item], size: u64)
     requires before { array_vec_len line.old ≤ 20 }
     requires items { length items.now ≤ MAX_ITEMS }
@@ -112,6 +115,7 @@ fn put_segment(line: &mut Line, flags: u8, id: u64, items: &[Item], size: u64)
 /// Appends what the line of a message says after its offset. Only a SESS_INIT has a node ID, and only
 /// a SESS_INIT and a segment have items.
 #[tactic(auto, using(crate::proofs::Escapes::length_of_escaped), unfolding(crate::specs::Message::body_text))]
+#[inline(always)]
 fn put_body(line: &mut Line, fields: &Fields, node: &[u8], items: &[Item])
     requires before { array_vec_len line.old ≤ 20 }
     requires node { length node.now ≤ MAX_NODE_ID }
@@ -169,6 +173,7 @@ pub fn contact_line(line: &mut Line, contact: &Contact)
 
 /// Makes an empty line that of a message, whose type byte stands at `offset`.
 #[tactic(auto, using(crate::proofs::Lengths::length_of_decimal), unfolding(crate::specs::Message::message_text))]
+#[inline(always)]
 fn fields_line(line: &mut Line, offset: u64, fields: &Fields, node: &[u8], items: &[Item])
     requires empty { line.old.items ≡ [] }
     requires node { length node.now ≤ MAX_NODE_ID }
@@ -182,6 +187,7 @@ fn fields_line(line: &mut Line, offset: u64, fields: &Fields, node: &[u8], items
 }
 
 /// Makes an empty line that of the message in a buffer, whose type byte stands at `offset`.
+#[inline(always)]
 pub fn buffer_line(line: &mut Line, offset: u64, message: &MessageBuffer)
     requires { line.old.items ≡ [] }
     ensures { line.new.items ≡ message_text offset (message_of message.now) }

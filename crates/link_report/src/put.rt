@@ -1,6 +1,6 @@
 //! Pieces of text, each appended to a line.
 
-ghost use Rattle.std.specs.Prelude.{◌≡◌, ◌+◌, ◌<◌, ◌≤◌, ◌++◌, length, decimal, codes, not};
+ghost use Rattle.std.specs.Prelude.{◌≡◌, ◌+◌, ◌<◌, ◌≤◌, ◌++◌, length, take, decimal, codes, not};
 ghost use Rattle.std.specs.List.{position};
 ghost use Rattle.arrayvec.specs.ArrayVec.{array_vec_len};
 ghost use Rattle.link_report.specs.Text.{hex2, hex4, escaped, is_plain, number_text};
@@ -10,9 +10,6 @@ use itoa::write_digits;
 
 /// The most bytes that a line holds, its newline among them.
 pub const LINE_MAX: usize = 9216;
-
-/// The most digits of a number of 64 bits.
-const MAX_DIGITS: usize = 20;
 
 /// A report line as it is written, in bytes.
 pub type Line = ArrayVec<u8, LINE_MAX>;
@@ -37,37 +34,37 @@ pub fn put_text(line: &mut Line, text: &str)
     put_bytes(line, text.as_bytes());
 }
 
-/// What stands where the digits of a number are to be written.
-static ZEROS: [u8; MAX_DIGITS] = [b'0'; MAX_DIGITS];
-
-/// How many digits a number of at most four has.
+/// Appends a zero for each digit of a number of at most four.
 #[tactic(auto, using(crate::proofs::Lengths::digits))]
 #[inline(always)]
-fn few_digits(number: u64) -> usize
-    requires { number < 10000 }
-    ensures { result ≡ length (decimal number) }
+fn put_few_zeros(line: &mut Line, number: u64)
+    requires few { number < 10000 }
+    requires room { array_vec_len line.old + length (decimal number) ≤ LINE_MAX }
+    ensures before { take (array_vec_len line.old) line.new.items ≡ line.old.items }
+    ensures len { array_vec_len line.new ≡ array_vec_len line.old + length (decimal number) }
 {
     match number {
-        0..10 => 1,
-        10..100 => 2,
-        100..1_000 => 3,
-        _ => 4,
+        0..10 => put_text(line, "0"),
+        10..100 => put_text(line, "00"),
+        100..1_000 => put_text(line, "000"),
+        _ => put_text(line, "0000"),
     }
 }
 
-/// How many digits a number has.
+/// Appends a zero for each digit of a number.
 #[tactic(auto, using(crate::proofs::Lengths::digits, crate::proofs::Lengths::length_of_decimal))]
 #[inline(always)]
-fn digits(number: u64) -> usize
-    ensures { result ≡ length (decimal number) }
+fn put_zeros(line: &mut Line, number: u64)
+    requires { array_vec_len line.old + length (decimal number) ≤ LINE_MAX }
+    ensures before { take (array_vec_len line.old) line.new.items ≡ line.old.items }
+    ensures len { array_vec_len line.new ≡ array_vec_len line.old + length (decimal number) }
 {
     let mut front = number;
-    let mut behind = 0;
     while front >= 10_000 {
         front /= 10_000;
-        behind += 4;
+        put_text(line, "0000");
     }
-    behind + few_digits(front)
+    put_few_zeros(line, front);
 }
 
 /// Appends `number` in decimal, without leading zeros. Most numbers of a line have one digit. Those of more are written
@@ -83,7 +80,7 @@ pub fn put_decimal(line: &mut Line, number: u64)
         line.push(b'0' + number as u8);
         return;
     }
-    put_bytes(line, &ZEROS[..digits(number)]);
+    put_zeros(line, number);
     let end = line.len();
     write_digits(number, line.as_mut_slice(), end);
 }

@@ -1,6 +1,6 @@
 -- The order of the messages that one entity sends in a session (RFC 9174): what may follow the messages that were
 -- accepted before, over the whole list of them.
-use Rattle.std.specs.Prelude.{ℕ, Bool, true, false, not, ◌&&◌, ◌==◌, List, map, reverse, find, Option, Some, None, Result, Ok, Err, if◌then◌else◌, bit_and}
+use Rattle.std.specs.Prelude.{ℕ, Bool, true, false, not, ◌&&◌, ◌==◌, List, map, reverse, find, Option, Some, None, Result, Ok, Err, if◌then◌else◌}
 use Rattle.std.specs.List.{list_any}
 use Rattle.std.specs.Option.{option_and_then, option_eq}
 use Rattle.link_wire.specs.Codes.{is_start, is_end}

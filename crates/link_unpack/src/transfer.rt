@@ -54,6 +54,7 @@ fn payload_part(piece: &[u8], before: u64, place: u64, count: u64) -> &[u8]
 }
 
 /// Scans the next piece of a bundle, as far as it changes the verdict.
+#[inline(always)]
 fn scan_piece(scan: &mut BundleScan, piece: &[u8])
     requires { scan_size scan.old + length piece.now < 2 ^ 63 }
     ensures judged { (content : List ℕ) → HasJudged scan.old content → HasJudged scan.new (content
@@ -120,6 +121,7 @@ impl TransferScan {
     }
 
     /// Takes the next piece of its data, and returns what of it is written.
+    #[inline(always)]
     pub fn take<'a>(&mut self, piece: &'a [u8]) -> &'a [u8]
         ensures follows { (transfer : Transfer) (closed : _) (earlier : List Transfer) →
             self.old.total + length piece.now < 2 ^ 63
