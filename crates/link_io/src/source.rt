@@ -107,10 +107,7 @@ impl<R: InDevice> Source<R> {
     pub fn may_wait(&self) -> bool
         ensures { IsTrue result → length (window_of self.now) < window_size }
     {
-        if self.end - self.start >= WINDOW {
-            return false;
-        }
-        self.reader.may_wait()
+        self.reader.may_wait() && self.end - self.start < WINDOW
     }
 
     /// The bytes that were taken and not given.

@@ -293,6 +293,27 @@ impl<R: InDevice> Session<R> {
         ensures stopped { (stop : _) → HasStopped self.old stop
             → (self.new ≡ self.old) × (result ≡ Err stop) }
     {
+        let loaded = self.loaded().len();
+        match self.phase {
+            Phase::Reading if loaded > 0 => Ok(loaded),
+            _ => self.load_on(),
+        }
+    }
+
+    /// `load` where no data lies in the window, or after a stop.
+    #[cold]
+    #[inline(never)]
+    fn load_on(&mut self) -> Result<usize, Stop>
+        ensures size { IfOk result (λ n. n ≡ length (data_in self.new)) }
+        ensures settles { IfErr result (HasStopped self.new) }
+        ensures gives { (history : List ℕ) → IsSessionAt R.state self.old history
+            → GivesLoad R.state self.old self.new history result }
+        ensures opened { IsTrue (is_opened self.old) → IsTrue (is_opened self.new) }
+        ensures none { left_of self.old ≡ 0 → ((stop : _) → HasStopped self.old stop → ⊥)
+            → (self.new ≡ self.old) × (result ≡ Ok 0) }
+        ensures stopped { (stop : _) → HasStopped self.old stop
+            → (self.new ≡ self.old) × (result ≡ Err stop) }
+    {
         if let Phase::Stopped(stop) = self.phase {
             return Err(stop);
         }

@@ -1,7 +1,7 @@
 use Rattle.std.proofs.Common.{◌≢◌, refl, arith, length-take}
 use Rattle.link_io.specs.Source.{window_of}
 use Rattle.link_wire.proofs.Sessions.{loaded_stands}
-use Rattle.link_wire.proofs.session.Session.load.Goals as goal
+use Rattle.link_wire.proofs.session.Session.load_on.Goals as goal
 
 pub returns-in-Ok-clause-size : goal.returns-in-Ok-clause-size
 returns-in-Ok-clause-size g c = omega (arith, c.in-Ok.ensures.size, c.min.ensures, length-take c.args.self.now.left (window_of c.ready.new.self))
