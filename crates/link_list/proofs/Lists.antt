@@ -23,7 +23,7 @@ use Rattle.link_report.specs.Fault.{fault_text}
 use Rattle.link_report.specs.declared.fault.Fault.TheVariants.{Wire}
 use Rattle.link_run.specs.Ends.{end_lines, end_status, lasting_lines, is_shown}
 use Rattle.link_run.specs.Run.{Texts, Outcome, Devices, devices_at, NoneFailed, HasWritten, Ended, WentOn, Gave, GivesStep}
-use Rattle.link_run.specs.Writers.{place_of, on_output, on_report, Writes, WritesPart, GivesReport, Unsettled}
+use Rattle.link_run.specs.Writers.{place_of, next_line, on_output, on_report, Writes, WritesPart, GivesReport, Unsettled}
 use Rattle.link_list.specs.Listing.{contact_lines, message_lines, lines_of, listing, listing_by, listing_sofar, listing_sofar_by, listing_shows, list_tool}
 use Rattle.link_list.specs.ListRun.{most_given, IsWaiting, HasNoContent, IsWaitingAfter, progress_of, Begins, Lists, IsListing, GivesStage, GivesLine, GoesOn, GivesEnd}
 use Rattle.link_list.specs.declared.listing.Stage.{Stage}
@@ -104,7 +104,7 @@ module _ {R W E : Type 0} (in_look : R → Input) (out_look : W → Output) (rep
     mid_sound = record { reader = takes.device ∙ sound.reader; output = ap (λ w. (out_look w).failed) output ∙ sound.output; report = ap (λ e. (report_look e).failed) report ∙ sound.report }
 
     -- the line waits for data
-    waits : after ≡ mid → listing_sofar (history ++ given) ≡ listing_sofar history → IsWaiting stage.Data mid.line.items (reading_of (history ++ given)).end
+    waits : after ≡ mid → listing_sofar (history ++ given) ≡ listing_sofar history → IsWaiting stage.Data (next_line mid) (reading_of (history ++ given)).end
         → IsWaitingAfter now (reading_of (history ++ given)).end → GivesStage in_look out_look report_look start now old new before after history stage.Data
     waits same texts waiting after_step =
         let P : Writers W E → Type 0 = λ w. Lists in_look out_look report_look start stage.Data new w (history ++ given) in
@@ -118,10 +118,10 @@ module _ {R W E : Type 0} (in_look : R → Input) (out_look : W → Output) (rep
         }
 
     -- the line was written
-    wrote : Writes out_look report_look mid after (on_output mid.line.items) → listing_sofar (history ++ given) ≡ listing_sofar history then on_output mid.line.items → (reading_of (history ++ given)).end ≡ Clean
+    wrote : Writes out_look report_look mid after (on_output (next_line mid)) → listing_sofar (history ++ given) ≡ listing_sofar history then on_output (next_line mid) → (reading_of (history ++ given)).end ≡ Clean
         → WentOn in_look out_look report_look (place_of (source_of old) before) (place_of (source_of new) after) (Lists in_look out_look report_look start stage.Message new after) (most_given now) history
     wrote writes texts clean =
-        let P : End → Type 0 = λ end. IsWaiting stage.Message after.line.items end in
+        let P : End → Type 0 = λ end. IsWaiting stage.Message (next_line after) end in
         record {
           given = given;
           some = λ may. some;
@@ -130,25 +130,25 @@ module _ {R W E : Type 0} (in_look : R → Input) (out_look : W → Output) (rep
           window = takes.window.less some;
           at = record {
             session = at;
-            written = written_as in_look out_look report_look (written_more in_look out_look report_look start (source_of new) mid after (history ++ given) (listing_sofar history) (on_output mid.line.items) mid_written writes) refl (sym texts);
-            sound = sound_written in_look out_look report_look (source_of new) mid after (on_output mid.line.items) mid_sound writes;
+            written = written_as in_look out_look report_look (written_more in_look out_look report_look start (source_of new) mid after (history ++ given) (listing_sofar history) (on_output (next_line mid)) mid_written writes) refl (sym texts);
+            sound = sound_written in_look out_look report_look (source_of new) mid after (on_output (next_line mid)) mid_sound writes;
             waits = subst P (sym clean) refl;
           };
         }
 
     -- the output failed in the line
-    lost : (fault : IoFault) → WritesPart out_look report_look mid after (on_output mid.line.items) fault → listing_sofar (history ++ given) ≡ listing_sofar history then on_output mid.line.items
+    lost : (fault : IoFault) → WritesPart out_look report_look mid after (on_output (next_line mid)) fault → listing_sofar (history ++ given) ≡ listing_sofar history then on_output (next_line mid)
         → Ended in_look out_look report_look list_tool start (devices_at (place_of (source_of new) after)) (most_given now) history (Err fault)
     lost fault part texts = record {
       given = given;
       size = size;
-      gave = writer_lost in_look out_look report_look list_tool start (source_of new) mid after (history ++ given) (listing_sofar history) (on_output mid.line.items) (listing_sofar (history ++ given)) fault mid_written mid_sound.reader (sym texts) (inl refl) (takes.window.less some)
+      gave = writer_lost in_look out_look report_look list_tool start (source_of new) mid after (history ++ given) (listing_sofar history) (on_output (next_line mid)) (listing_sofar (history ++ given)) fault mid_written mid_sound.reader (sym texts) (inl refl) (takes.window.less some)
           (λ some_output. inr (record { front = history; rest = given; parts = refl; is = refl })) part;
     }
 
     pub goes_on : (next : Stage)
-        → (0 < left_of new → (listing_sofar (history ++ given) ≡ listing_sofar history) × IsWaiting stage.Data mid.line.items (reading_of (history ++ given)).end × IsWaitingAfter now (reading_of (history ++ given)).end)
-        → (left_of new ≡ 0 → (listing_sofar (history ++ given) ≡ listing_sofar history then on_output mid.line.items) × ((reading_of (history ++ given)).end ≡ Clean))
+        → (0 < left_of new → (listing_sofar (history ++ given) ≡ listing_sofar history) × IsWaiting stage.Data (next_line mid) (reading_of (history ++ given)).end × IsWaitingAfter now (reading_of (history ++ given)).end)
+        → (left_of new ≡ 0 → (listing_sofar (history ++ given) ≡ listing_sofar history then on_output (next_line mid)) × ((reading_of (history ++ given)).end ≡ Clean))
         → GoesOn out_look report_look (left_of new) mid after next → GivesStage in_look out_look report_look start now old new before after history next
     goes_on stage.Contact more whole went = absurd went
     goes_on stage.Message more whole went = let written = whole went.0 in wrote went.1 written.0 written.1
@@ -216,13 +216,13 @@ module _ {R W E : Type 0} (in_look : R → Input) (out_look : W → Output) (rep
     begun : HasWritten in_look out_look report_look start (place_of (source_of old) before) [] (listing_sofar [])
     begun = written_as in_look out_look report_look fresh.written refl (sym nothing_read)
 
-    pub contact_step : (mid after : Writers W E) (contact : Contact) (next : Stage) → mid.output ≡ before.output → mid.report ≡ before.report → mid.line.items ≡ contact_text contact
+    pub contact_step : (mid after : Writers W E) (contact : Contact) (next : Stage) → mid.output ≡ before.output → mid.report ≡ before.report → next_line mid ≡ contact_text contact
         → GaveContact in_look old new contact → GivesLine out_look report_look mid after next → GivesStage in_look out_look report_look start stage.Contact old new before after [] next
     contact_step mid after contact next output report line got gives =
         let given = got.given in
         let size = got.size in
-        let texts : listing_sofar given ≡ listing_sofar [] then on_output mid.line.items =
-        sofar_is given _ got.reading ∙ texts_as (ap (λ xs. contact_text contact ++ xs) no_lines ∙ append-nil (contact_text contact) ∙ sym line ∙ ap (λ (t : Texts). t.output ++ mid.line.items) (sym nothing_read)) (ap (λ (t : Texts). t.report ++ []) (sym nothing_read)) in
+        let texts : listing_sofar given ≡ listing_sofar [] then on_output (next_line mid) =
+        sofar_is given _ got.reading ∙ texts_as (ap (λ xs. contact_text contact ++ xs) no_lines ∙ append-nil (contact_text contact) ∙ sym line ∙ ap (λ (t : Texts). t.output ++ next_line mid) (sym nothing_read)) (ap (λ (t : Texts). t.report ++ []) (sym nothing_read)) in
         goes_on in_look out_look report_look start stage.Contact old new before mid after [] given output report begun fresh.sound got.takes (omega arith) (omega arith) got.at next
         (λ more. let none = got.between in absurd (omega arith))
         (λ none. (texts, ap (λ (r : Reading). r.end) got.reading))
@@ -253,7 +253,7 @@ module _ {R W E : Type 0} (in_look : R → Input) (out_look : W → Output) (rep
     standing : lasting_lines (reading_of history).end ≡ []
     standing = standing_lines old.offset old.left (reading_of history).end at.session.left
 
-    pub message_step : (mid after : Writers W E) (offset : ℕ) (message : Message) (next : Stage) → mid.output ≡ before.output → mid.report ≡ before.report → mid.line.items ≡ message_text offset message
+    pub message_step : (mid after : Writers W E) (offset : ℕ) (message : Message) (next : Stage) → mid.output ≡ before.output → mid.report ≡ before.report → next_line mid ≡ message_text offset message
         → GaveMessage in_look old new history offset message → GoesOn out_look report_look (left_of new) mid after next → GivesStage in_look out_look report_look start stage.Message old new before after history next
     message_step mid after offset message next output report line got gives =
         let given = got.given in
@@ -261,7 +261,7 @@ module _ {R W E : Type 0} (in_look : R → Input) (out_look : W → Output) (rep
         (λ more.
         let test : nat_lt 0 (data_length message) ≡ true = lt-ltb 0 (data_length message) (omega (arith, got.left)) in
         let reading = got.reading ∙ ap (λ b. joined (reading_of history) (if b then ended (Cut offset message []) else with_entry (record { offset = offset; message = message; content = [] }) (ended Clean))) test in
-        let P : End → Type 0 = λ end. IsWaiting stage.Data mid.line.items end × HasNoContent end in
+        let P : End → Type 0 = λ end. IsWaiting stage.Data (next_line mid) end × HasNoContent end in
         let waiting = subst P (sym (ap (λ (r : Reading). r.end) reading)) ((refl, line), refl) in
         (sofar_same history given _ reading refl refl standing, waiting.0, waiting.1))
         (λ none.
@@ -315,22 +315,22 @@ module _ {R W E : Type 0} (in_look : R → Input) (out_look : W → Output) (rep
       pub message : Message
       pub content : List ℕ
       pub end : (reading_of history).end ≡ Cut offset message content
-      pub line : before.line.items ≡ message_text offset message
+      pub line : (next_line before) ≡ message_text offset message
       pub left : 0 < left_of old
 
     by_end : (end : End) → (reading_of history).end ≡ end → Inside
     by_end Clean is =
-        let P : End → Type 0 = λ end. IsWaiting stage.Data before.line.items end in
+        let P : End → Type 0 = λ end. IsWaiting stage.Data (next_line before) end in
         let waiting : (let s : Stage = stage.Data in s) ≡ stage.Message = subst P is at.waits in
         absurd (cc)
     by_end (Cut offset message content) is =
-        let P : End → Type 0 = λ end. IsWaiting stage.Data before.line.items end in
-        let waiting : ((let s : Stage = stage.Data in s) ≡ stage.Data) × (before.line.items ≡ message_text offset message) = subst P is at.waits in
+        let P : End → Type 0 = λ end. IsWaiting stage.Data (next_line before) end in
+        let waiting : ((let s : Stage = stage.Data in s) ≡ stage.Data) × ((next_line before) ≡ message_text offset message) = subst P is at.waits in
         let Q : End → Type 0 = λ end. IsLeft old.offset old.left end in
         let left : (0 < old.left) × (offset ≡ old.offset) × (data_length message ≡ length content + old.left) = subst Q is at.session.left in
         record { offset = offset; message = message; content = content; end = is; line = waiting.1; left = left.0 }
     by_end (Fault offset fault) is =
-        let P : End → Type 0 = λ end. IsWaiting stage.Data before.line.items end in
+        let P : End → Type 0 = λ end. IsWaiting stage.Data (next_line before) end in
         absurd (subst P is at.waits)
 
     pub inside : Inside
@@ -352,7 +352,7 @@ module _ {R W E : Type 0} (in_look : R → Input) (out_look : W → Output) (rep
           goes_on in_look out_look report_look start stage.Data old new before before after history bytes refl refl at.written at.sound (Readies-takes in_look (source_of old) (source_of mid) (source_of new) bytes ready gave.takes some) some size gave.at next
           (λ more.
           let reading = read_data true (lt-ltb 0 (left_of new) more) in
-          let P : End → Type 0 = λ end. IsWaiting stage.Data before.line.items end in
+          let P : End → Type 0 = λ end. IsWaiting stage.Data (next_line before) end in
           (sofar_same history bytes _ reading refl refl standing_data, subst P (sym (ap (λ (r : Reading). r.end) reading)) (refl, inside.line), tt))
           (λ none.
           let reading = read_data false (le-ltb 0 (left_of new) (omega arith)) in
@@ -402,7 +402,7 @@ waiting_shown now items (Fault offset fault) waits = absurd waits
 
 module _ {R W E : Type 0} (in_look : R → Input) (out_look : W → Output) (report_look : E → Output) (start : Devices R W E)
     (s : Session R) (old new : Writers W E) (history : List ℕ) where
-  lists_on : (now : Stage) → Writes out_look report_look old new no_texts → new.line.items ≡ old.line.items
+  lists_on : (now : Stage) → Writes out_look report_look old new no_texts → next_line new ≡ next_line old
       → Lists in_look out_look report_look start now s old history → Lists in_look out_look report_look start now s new history
   lists_on now writes kept at =
       let P : List ℕ → Type 0 = λ items. IsWaiting now items (reading_of history).end in
@@ -414,7 +414,7 @@ module _ {R W E : Type 0} (in_look : R → Input) (out_look : W → Output) (rep
       }
 
   -- the run stands where it stood
-  pub settled : (now : Stage) → Writes out_look report_look old new no_texts → new.line.items ≡ old.line.items
+  pub settled : (now : Stage) → Writes out_look report_look old new no_texts → next_line new ≡ next_line old
       → IsListing in_look out_look report_look start now s old history → IsListing in_look out_look report_look start now s new history
   settled stage.Contact writes kept at = record {
     nothing = at.nothing;
@@ -430,7 +430,7 @@ module _ {R W E : Type 0} (in_look : R → Input) (out_look : W → Output) (rep
       → Lists in_look out_look report_look start now s old history → Gave in_look out_look report_look list_tool start (devices_at (place_of (source_of s) new)) history (Err fault)
   lists_lost now fault part few at =
       settle_lost in_look out_look report_look list_tool start (source_of s) old new history fault at.written at.sound.reader
-      (shows_is history _ refl ∙ waiting_shown now old.line.items _ at.waits) few part
+      (shows_is history _ refl ∙ waiting_shown now (next_line old) _ at.waits) few part
 
   -- a writer failed in it
   pub settle_failed : (now : Stage) (fault : IoFault) → Unsettled out_look report_look old new fault → length (window_of (source_of s)) < window_size

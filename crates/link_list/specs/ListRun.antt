@@ -13,7 +13,7 @@ use Rattle.link_report.specs.declared.fault.Fault.TheVariants.{Wire}
 use Rattle.link_report.specs.Message.{message_text}
 use Rattle.link_run.specs.Run.{Devices, devices_at, NoneFailed, HasWritten, WentOn, Ended, answer_of}
 use Rattle.link_list.specs.Listing.{list_tool, listing_sofar}
-use Rattle.link_run.specs.Writers.{place_of, on_output, Writes, WritesPart, GivesReport}
+use Rattle.link_run.specs.Writers.{place_of, next_line, on_output, Writes, WritesPart, GivesReport}
 use Rattle.link_list.specs.declared.listing.Stage.{Stage}
 use Rattle.link_list.specs.declared.listing.Stage.TheVariants as stage
 use Rattle.link_run.specs.declared.run.Progress.{Progress}
@@ -75,7 +75,7 @@ module _ {R W E : Type 0} where
       pub session : IsSessionAt in_look s history
       pub written : HasWritten in_look out_look report_look start (place_of (source_of s) w) history (listing_sofar history)
       pub sound : NoneFailed in_look out_look report_look (devices_at (place_of (source_of s) w))
-      pub waits : IsWaiting now w.line.items (reading_of history).end
+      pub waits : IsWaiting now (next_line w) (reading_of history).end
 
     abbrev pub IsListing : Stage → Session R → Writers W E → List ℕ → Type 0
     IsListing stage.Contact session writers history = Begins session writers history
@@ -95,18 +95,18 @@ module _ {W E : Type 0} (out_look : W → Output) (report_look : E → Output) w
   -- the line was written, and a message comes next
   abbrev pub GivesLine : (old new : Writers W E) → (next : Stage) → Type 0
   GivesLine old new stage.Contact = ⊥
-  GivesLine old new stage.Message = Writes out_look report_look old new (on_output old.line.items)
+  GivesLine old new stage.Message = Writes out_look report_look old new (on_output (next_line old))
   GivesLine old new stage.Data = ⊥
   GivesLine old new (stage.Ended (Ok status)) = ⊥
-  GivesLine old new (stage.Ended (Err fault)) = WritesPart out_look report_look old new (on_output old.line.items) fault
+  GivesLine old new (stage.Ended (Err fault)) = WritesPart out_look report_look old new (on_output (next_line old)) fault
 
   -- the line waits for data, or was written
   abbrev pub GoesOn : (left : ℕ) → (old new : Writers W E) → (next : Stage) → Type 0
   GoesOn left old new stage.Contact = ⊥
-  GoesOn left old new stage.Message = (left ≡ 0) × Writes out_look report_look old new (on_output old.line.items)
+  GoesOn left old new stage.Message = (left ≡ 0) × Writes out_look report_look old new (on_output (next_line old))
   GoesOn left old new stage.Data = (0 < left) × (new ≡ old)
   GoesOn left old new (stage.Ended (Ok status)) = ⊥
-  GoesOn left old new (stage.Ended (Err fault)) = (left ≡ 0) × WritesPart out_look report_look old new (on_output old.line.items) fault
+  GoesOn left old new (stage.Ended (Err fault)) = (left ≡ 0) × WritesPart out_look report_look old new (on_output (next_line old)) fault
 
   -- a fault of the wire was reported, or a failure of the reader ends the run
   abbrev pub GivesEnd : Stop → (old new : Writers W E) → (next : Stage) → Type 0

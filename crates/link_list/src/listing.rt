@@ -8,7 +8,7 @@ ghost use Rattle.link_run.specs.Run.{Devices, GivesAnswer};
 ghost use Rattle.link_list.specs.Listing.{list_tool};
 ghost use Rattle.link_list.specs.ListRun.{may_go_on, IsListing, GivesStage, GivesLine, GoesOn, GivesEnd};
 
-use link_report::{Fault, buffer_line, contact_line};
+use link_report::{Fault, contact_line, put_message};
 use link_run::{Progress, Run, RunEnd, Status, Writers};
 use link_wire::{InDevice, IoFault, MessageBuffer, OutDevice, Session, Source, Stop};
 
@@ -87,7 +87,7 @@ fn take_contact<R: InDevice, W: OutDevice, E: OutDevice>(
 {
     match session.open() {
         Ok(contact) => {
-            writers.line.clear();
+            writers.clear_line();
             contact_line(&mut writers.line, &contact);
             write_line(writers)
         }
@@ -108,8 +108,8 @@ fn take_message<R: InDevice, W: OutDevice, E: OutDevice>(
 {
     match session.read_next(message) {
         Ok(Some(offset)) => {
-            writers.line.clear();
-            buffer_line(&mut writers.line, offset, message);
+            writers.begin_line();
+            put_message(&mut writers.line, offset, message);
             go_on(session, writers)
         }
         Ok(None) => Stage::Ended(Ok(Status::CLEAN)),
@@ -137,6 +137,7 @@ fn take_data<R: InDevice, W: OutDevice, E: OutDevice>(
 }
 
 /// Writes the line, unless data of the segment is to come.
+#[inline(always)]
 fn go_on<R: InDevice, W: OutDevice, E: OutDevice>(
     session: &Session<R>,
     writers: &mut Writers<W, E>,
@@ -152,6 +153,7 @@ fn go_on<R: InDevice, W: OutDevice, E: OutDevice>(
 }
 
 /// Writes the line: a message comes next.
+#[inline(always)]
 fn write_line<W: OutDevice, E: OutDevice>(writers: &mut Writers<W, E>) -> Stage
     ensures { GivesLine W.state E.state writers.old writers.new result }
 {
@@ -264,11 +266,7 @@ impl<R: InDevice, W: OutDevice, E: OutDevice> Run<R, W, E> for ListRun<R, W, E> 
             message: _,
             stage: _,
         } = self;
-        let Writers {
-            output,
-            report,
-            line: _,
-        } = writers;
+        let (output, report) = writers.into_parts();
         (session.into_source().into_reader(), output, report)
     }
 }

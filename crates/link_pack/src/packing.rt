@@ -169,7 +169,7 @@ fn end_bundle<W: OutDevice, E: OutDevice>(writers: &mut Writers<W, E>, packer: &
     ensures options { packer.new.options ≡ packer.old.options }
     ensures cutter { packer.new.cutter ≡ packer.old.cutter }
 {
-    writers.line.clear();
+    writers.clear_line();
     packer.put_line(&mut writers.line);
     if let Err(fault) = writers.report_line() {
         return Stage::Ended(Err(fault));
@@ -389,11 +389,7 @@ impl<R: InDevice, W: OutDevice, E: OutDevice> Run<R, W, E> for PackRun<R, W, E> 
             head: _,
             stage: _,
         } = self;
-        let Writers {
-            output,
-            report,
-            line: _,
-        } = writers;
+        let (output, report) = writers.into_parts();
         (source.into_reader(), output, report)
     }
 }

@@ -1,5 +1,5 @@
 -- How long the pieces of a line are.
-use Rattle.std.proofs.Common.{ℕ, ◌^◌, ◌<◌, ◌≤◌, length, arith}
+use Rattle.std.proofs.Common.{◌≡◌, ℕ, ◌+◌, ◌/◌, ◌^◌, ◌<◌, ◌≤◌, length, arith}
 use Rattle.std.specs.Fmt.{decimal}
 use Rattle.std.proofs.lemmas.Fmt.{length-decimal-le, decimal_digit}
 use Rattle.itoa.proofs.Decimal.{length_one, length_two, length_pair, length_four}
@@ -14,3 +14,8 @@ pub ruleset one_digit = (decimal_digit)
 
 -- how many digits a number has: those of what is left without its last two, or four, and these
 pub ruleset digits = (length_one, length_two, length_pair, length_four)
+
+pub length_eight : (n : ℕ) → 100000000 ≤ n → n < 2 ^ 64 → length (decimal n) ≡ length (decimal (n / 100000000)) + 8
+length_eight n many fits =
+    let quotient : n / 10000 / 10000 ≡ n / 100000000 = omega arith in
+    omega (arith, length_four n (omega arith) fits, rw quotient at (length_four (n / 10000) (omega arith) (omega arith)))

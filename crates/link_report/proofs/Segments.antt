@@ -1,10 +1,18 @@
 -- The items of a segment in place.
-use Rattle.std.proofs.Common.{◌≡◌, ℕ, [], true, false, cond, refl}
+use Rattle.std.proofs.Common.{◌≡◌, ℕ, List, [], ◌∷◌, length, true, false, cond, codes, refl, arith}
+use Rattle.std.proofs.lemmas.Fmt.{decimal_digit}
 use Rattle.arrayvec.specs.ArrayVec.{ArrayVec}
 use Rattle.link_wire.specs.Codes.{is_start}
 use Rattle.link_wire.specs.MessageBuffer.{segment_items}
 use Rattle.link_wire.specs.declared.message.Item.{Item}
 use Rattle.link_report.specs.Message.{start_items_text, segment_text, items_text}
+use Rattle.link_report.specs.Text.{number_text}
+
+-- the text of a list without items
+pub no_items : (items : List Item) → length items ≡ 0 → items_text items ≡ codes " items=0"
+unfolding items_text number_text
+no_items [] none = rw (decimal_digit 0 (omega arith)) refl
+no_items (item ∷ items) none = absurd (omega (arith, none))
 
 -- the line shows the items of a segment with START alone, which are all that a message keeps
 pub start_items_text-segment_items : (flags : ℕ) (items : ArrayVec Item) →

@@ -1,7 +1,7 @@
 //! The report lines of a recorded TCPCLv4 session: one for its contact header, for each message, for each transfer, for
 //! each packed bundle and for a fault.
 //!
-//! A [`Line`] is made from empty by one call, and has room for every line. Clear it before the next:
+//! A [`Line`] has room for every line, and one call makes it from empty. Clear it before the next:
 //!
 //! ```text
 //! let mut line = Line::new();
@@ -12,8 +12,9 @@
 //! // line: "tcpclkit: byte 6: truncated\n"
 //! ```
 //!
-//! [`buffer_line`], [`transfer_view_line`] and [`packed_view_line`] make a line from references; [`message_line`],
-//! [`transfer_line`] and [`packed_line`] make the same line from values.
+//! [`transfer_view_line`] and [`packed_view_line`] make a line from references; [`transfer_line`] and [`packed_line`]
+//! make the same line from values. [`put_message`] appends what [`message_line`] makes, behind at most
+//! [`MESSAGE_FRONT`] bytes of other lines: a [`Line`] that is cleared is blanked, so it is better cleared once for many.
 #![tactic(auto)]
 
 mod bundle_fault;
@@ -32,7 +33,7 @@ mod transfer;
 
 pub use fault::{Fault, fault_line};
 pub use judgement::{Judgement, JudgementView, judge};
-pub use message::{buffer_line, contact_line, message_line};
+pub use message::{MESSAGE_FRONT, contact_line, message_line, put_message};
 pub use packed::{PackedEntry, PackedView, packed_line, packed_view_line};
 pub use put::{LINE_MAX, Line, put_decimal, put_escaped, put_hex2, put_hex4, put_text};
 pub use transfer::{TransferEntry, TransferView, transfer_line, transfer_view_line};

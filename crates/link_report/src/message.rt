@@ -13,6 +13,9 @@ use crate::put::{
 use crate::reason::{refuse_name, reject_name, term_name};
 use link_wire::{Contact, Fields, Item, MAX_ITEMS, MAX_NODE_ID, Message, MessageBuffer, START};
 
+/// The most bytes that stand in a line before a message's line is appended, so that it has room.
+pub const MESSAGE_FRONT: usize = 1024;
+
 /// Appends ` flags=` and the flags.
 #[tactic(auto, unfolding(crate::specs::Message::flags_text))]
 #[inline(always)]
@@ -66,6 +69,20 @@ fn put_items(line: &mut Line, items: &[Item])
     }
 }
 
+/// `put_items` for a segment: most transfers begin without items.
+#[inline(always)]
+fn put_list(line: &mut Line, items: &[Item])
+    requires { array_vec_len line.old + 27 + 34 * length items.now ≤ LINE_MAX }
+    ensures items { line.new.items ≡ line.old.items ++ items_text items.now }
+    ensures len { array_vec_len line.new ≤ array_vec_len line.old + 27 + 34 * length items.now }
+{
+    if items.is_empty() {
+        put_text(line, " items=0");
+    } else {
+        put_items(line, items);
+    }
+}
+
 /// Appends what the line of a SESS_INIT says of its parameters: 54 bytes, three numbers and the node
 /// ID.
 #[tactic(auto, unfolding(crate::specs::Message::parameters_text))]
@@ -81,32 +98,32 @@ fn put_parameters(line: &mut Line, keepalive: u16, segment_mru: u64, transfer_mr
     put_escaped(line, node);
 }
 
-/// Appends the items of a segment that begins its transfer, and nothing of another. Two numbers, the
+/// Appends the items of a segment that begins its transfer, and nothing of another. Of the segment's line two numbers, the
 /// flags and 17 bytes stand before them, and room for the length must be left.
 #[tactic(auto, unfolding(crate::specs::Message::start_items_text))]
 #[inline(always)]
 fn put_start_items(line: &mut Line, flags: u8, items: &[Item])
-    requires before { array_vec_len line.old ≤ 66 }
+    requires before { array_vec_len line.old ≤ MESSAGE_FRONT + 66 }
     requires items { length items.now ≤ MAX_ITEMS }
     ensures items { line.new.items ≡ line.old.items ++ start_items_text flags items.now }
     ensures len { array_vec_len line.new + 30 ≤ LINE_MAX }
 {
     if flags & START == START {
-        put_items(line, items);
+        put_list(line, items);
     }
 }
 
 /// Appends what the line of a segment says after its offset.
-#[tactic(auto, unfolding(crate::specs::Message::segment_text))]
+#[tactic(auto, unfolding(crate::specs::Message::segment_text, crate::specs::Message::flags_text))]
 #[inline(always)]
 fn put_segment(line: &mut Line, flags: u8, id: u64, items: &[Item], size: u64)
-    requires before { array_vec_len line.old ≤ 20 }
+    requires before { array_vec_len line.old ≤ MESSAGE_FRONT + 20 }
     requires items { length items.now ≤ MAX_ITEMS }
     ensures items { line.new.items ≡ line.old.items ++ segment_text flags id items.now size }
     ensures len { array_vec_len line.new < LINE_MAX }
 {
-    put_text(line, " xfer-segment");
-    put_flags(line, flags);
+    put_text(line, " xfer-segment flags=");
+    put_hex2(line, flags);
     put_number(line, " id=", id);
     put_start_items(line, flags, items);
     put_number(line, " length=", size);
@@ -114,10 +131,10 @@ fn put_segment(line: &mut Line, flags: u8, id: u64, items: &[Item], size: u64)
 
 /// Appends what the line of a message says after its offset. Only a SESS_INIT has a node ID, and only
 /// a SESS_INIT and a segment have items.
-#[tactic(auto, using(crate::proofs::Escapes::length_of_escaped), unfolding(crate::specs::Message::body_text))]
+#[tactic(auto, using(crate::proofs::Escapes::length_of_escaped), unfolding(crate::specs::Message::body_text, crate::specs::Message::flags_text))]
 #[inline(always)]
 fn put_body(line: &mut Line, fields: &Fields, node: &[u8], items: &[Item])
-    requires before { array_vec_len line.old ≤ 20 }
+    requires before { array_vec_len line.old ≤ MESSAGE_FRONT + 20 }
     requires node { length node.now ≤ MAX_NODE_ID }
     requires items { length items.now ≤ MAX_ITEMS }
     ensures items { line.new.items ≡ line.old.items ++ body_text
@@ -135,8 +152,8 @@ fn put_body(line: &mut Line, fields: &Fields, node: &[u8], items: &[Item])
         }
         Fields::Segment { flags, id, length } => put_segment(line, flags, id, items, length),
         Fields::Ack { flags, id, length } => {
-            put_text(line, " xfer-ack");
-            put_flags(line, flags);
+            put_text(line, " xfer-ack flags=");
+            put_hex2(line, flags);
             put_number(line, " id=", id);
             put_number(line, " length=", length);
         }
@@ -171,14 +188,14 @@ pub fn contact_line(line: &mut Line, contact: &Contact)
     put_text(line, "\n");
 }
 
-/// Makes an empty line that of a message, whose type byte stands at `offset`.
+/// Appends the line of a message, whose type byte stands at `offset`.
 #[tactic(auto, using(crate::proofs::Lengths::length_of_decimal), unfolding(crate::specs::Message::message_text))]
 #[inline(always)]
-fn fields_line(line: &mut Line, offset: u64, fields: &Fields, node: &[u8], items: &[Item])
-    requires empty { line.old.items ≡ [] }
+fn put_fields(line: &mut Line, offset: u64, fields: &Fields, node: &[u8], items: &[Item])
+    requires before { array_vec_len line.old ≤ MESSAGE_FRONT }
     requires node { length node.now ≤ MAX_NODE_ID }
     requires items { length items.now ≤ MAX_ITEMS }
-    ensures { line.new.items ≡ message_text offset
+    ensures { line.new.items ≡ line.old.items ++ message_text offset
         (message_with fields.now (record { items = node.now }) (record { items = items.now })) }
 {
     put_decimal(line, offset);
@@ -186,13 +203,13 @@ fn fields_line(line: &mut Line, offset: u64, fields: &Fields, node: &[u8], items
     put_text(line, "\n");
 }
 
-/// Makes an empty line that of the message in a buffer, whose type byte stands at `offset`.
+/// Appends the line of the message in a buffer, whose type byte stands at `offset`.
 #[inline(always)]
-pub fn buffer_line(line: &mut Line, offset: u64, message: &MessageBuffer)
-    requires { line.old.items ≡ [] }
-    ensures { line.new.items ≡ message_text offset (message_of message.now) }
+pub fn put_message(line: &mut Line, offset: u64, message: &MessageBuffer)
+    requires { array_vec_len line.old ≤ MESSAGE_FRONT }
+    ensures { line.new.items ≡ line.old.items ++ message_text offset (message_of message.now) }
 {
-    fields_line(line, offset, &message.fields, &message.node, &message.items);
+    put_fields(line, offset, &message.fields, &message.node, &message.items);
 }
 
 /// Makes an empty line that of the message whose type byte stands at `offset`.
@@ -214,7 +231,7 @@ pub fn message_line(line: &mut Line, offset: u64, message: &Message)
                 segment_mru,
                 transfer_mru,
             };
-            fields_line(line, offset, &fields, node, items);
+            put_fields(line, offset, &fields, node, items);
         }
         Message::Segment(ref head) => {
             let fields = Fields::Segment {
@@ -222,20 +239,20 @@ pub fn message_line(line: &mut Line, offset: u64, message: &Message)
                 id: head.id,
                 length: head.length,
             };
-            fields_line(line, offset, &fields, &[], &head.items);
+            put_fields(line, offset, &fields, &[], &head.items);
         }
         Message::Ack { flags, id, length } => {
-            fields_line(line, offset, &Fields::Ack { flags, id, length }, &[], &[]);
+            put_fields(line, offset, &Fields::Ack { flags, id, length }, &[], &[]);
         }
         Message::Refuse { reason, id } => {
-            fields_line(line, offset, &Fields::Refuse { reason, id }, &[], &[]);
+            put_fields(line, offset, &Fields::Refuse { reason, id }, &[], &[]);
         }
-        Message::Keepalive => fields_line(line, offset, &Fields::Keepalive, &[], &[]),
+        Message::Keepalive => put_fields(line, offset, &Fields::Keepalive, &[], &[]),
         Message::SessTerm { flags, reason } => {
-            fields_line(line, offset, &Fields::SessTerm { flags, reason }, &[], &[]);
+            put_fields(line, offset, &Fields::SessTerm { flags, reason }, &[], &[]);
         }
         Message::MsgReject { reason, header } => {
-            fields_line(
+            put_fields(
                 line,
                 offset,
                 &Fields::MsgReject { reason, header },

@@ -34,11 +34,11 @@ pub fn put_text(line: &mut Line, text: &str)
     put_bytes(line, text.as_bytes());
 }
 
-/// Appends a zero for each digit of a number of at most four.
+/// Appends a zero for each digit of a number of at most eight.
 #[tactic(auto, using(crate::proofs::Lengths::digits))]
 #[inline(always)]
 fn put_few_zeros(line: &mut Line, number: u64)
-    requires few { number < 10000 }
+    requires few { number < 100000000 }
     requires room { array_vec_len line.old + length (decimal number) ≤ LINE_MAX }
     ensures before { take (array_vec_len line.old) line.new.items ≡ line.old.items }
     ensures len { array_vec_len line.new ≡ array_vec_len line.old + length (decimal number) }
@@ -47,7 +47,11 @@ fn put_few_zeros(line: &mut Line, number: u64)
         0..10 => put_text(line, "0"),
         10..100 => put_text(line, "00"),
         100..1_000 => put_text(line, "000"),
-        _ => put_text(line, "0000"),
+        1_000..10_000 => put_text(line, "0000"),
+        10_000..100_000 => put_text(line, "00000"),
+        100_000..1_000_000 => put_text(line, "000000"),
+        1_000_000..10_000_000 => put_text(line, "0000000"),
+        _ => put_text(line, "00000000"),
     }
 }
 
@@ -60,9 +64,9 @@ fn put_zeros(line: &mut Line, number: u64)
     ensures len { array_vec_len line.new ≡ array_vec_len line.old + length (decimal number) }
 {
     let mut front = number;
-    while front >= 10_000 {
-        front /= 10_000;
-        put_text(line, "0000");
+    while front >= 100_000_000 {
+        front /= 100_000_000;
+        put_text(line, "00000000");
     }
     put_few_zeros(line, front);
 }

@@ -1,6 +1,6 @@
 use crate::{
-    Fault, Line, buffer_line, contact_line, fault_line, message_line, put_decimal, put_escaped,
-    put_hex2, put_hex4, put_text,
+    Fault, Line, contact_line, fault_line, message_line, put_decimal, put_escaped, put_hex2,
+    put_hex4, put_message, put_text,
 };
 use link_transfer::OrderFault;
 use link_wire::{
@@ -189,9 +189,9 @@ fn lines_of_messages_in_place(rt: HostRuntime) -> Result<(), Fail> {
     let mut line = Line::new();
     for (fields, want) in &rows {
         message.fields = *fields;
-        line.clear();
-        buffer_line(&mut line, 6, &message);
-        assert_eq!(rt; line.as_slice(), want.as_bytes(), "{want}");
+        let before = line.len();
+        put_message(&mut line, 6, &message);
+        assert_eq!(rt; &line[before..], want.as_bytes(), "{want}");
     }
     Ok(())
 }

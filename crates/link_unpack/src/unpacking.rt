@@ -261,7 +261,7 @@ fn report<W: OutDevice, E: OutDevice>(
     ensures latest { unpacker.new.latest ≡ unpacker.old.latest }
     ensures joiner { unpacker.new.joiner ≡ unpacker.old.joiner }
 {
-    writers.line.clear();
+    writers.clear_line();
     let good = unpacker.latest.put_line(&mut writers.line, abandoned);
     unpacker.good = good && unpacker.good;
     writers.report_line()
@@ -445,11 +445,7 @@ impl<R: InDevice, W: OutDevice, E: OutDevice> Run<R, W, E> for UnpackRun<R, W, E
             unpacker: _,
             stage: _,
         } = self;
-        let Writers {
-            output,
-            report,
-            line: _,
-        } = writers;
+        let (output, report) = writers.into_parts();
         (session.into_source().into_reader(), output, report)
     }
 }

@@ -1,14 +1,9 @@
-use Rattle.std.proofs.Common.{arith, length-drop}
-use Rattle.link_io.proofs.Writes.{take-all_after, Wrote-more}
+use Rattle.std.proofs.lemmas.Result.{IfErr-weaker}
+use Rattle.link_io.proofs.Writes.{take-all_after, WroteFront-after}
 use Rattle.link_io.proofs.writing.write_whole.Goals as goal
 
--- the prefix grows by what `write` took
-pub loop-at-preserved : goal.loop-at-preserved
-loop-at-preserved g c =
-    let bytes = c.args.bytes.now in
-    let rest = take-all_after c.loop-at.at bytes in
-    let bound = rw rest at c.in-Ok.ensures.bound in
-    record {
-      place = omega (arith, bound, length-drop c.loop-at.at bytes);
-      written = Wrote-more g.W.OutDevice.state _ _ _ bytes c.loop-at.at c.in-Ok.n c.loop-at.invariant.written (record { written = rw rest at c.in-Ok.ensures.bytes; device = c.in-Ok.ensures.failed });
-    }
+-- the first write took a prefix
+pub returns-in-Ok-2-clause-err : goal.returns-in-Ok-2-clause-err
+returns-in-Ok-2-clause-err g c =
+    IfErr-weaker c.write_rest.result _ _ (λ fault. WroteFront-after g.W.OutDevice.state _ _ _ c.args.bytes.now c.in-Ok.n fault c.in-Ok.ensures.bound
+    (record { written = c.in-Ok.ensures.bytes; device = c.in-Ok.ensures.failed })) (rw (take-all_after c.in-Ok.n c.args.bytes.now) at c.write_rest.ensures.err)

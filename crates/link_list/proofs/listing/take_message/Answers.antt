@@ -1,11 +1,13 @@
-use Rattle.std.proofs.Common.{refl}
+use Rattle.std.proofs.Common.{drop, refl, ap, ◌∙◌}
+use Rattle.std.proofs.Transfers.{drop-appended}
 use Rattle.link_list.proofs.Lists.{message_step, message_end, message_ended}
 use Rattle.link_list.proofs.listing.take_message.Goals as goal
 
 pub returns-in-Ok-Some-clause-gives : goal.returns-in-Ok-Some-clause-gives
 returns-in-Ok-Some-clause-gives g c = λ start history at.
     let got = rw c.in-Ok-Some.field-0-is at (c.in-Ok-Some.ensures.gives history at.session) in
-    message_step g.R.InDevice.state g.W.OutDevice.state g.E.OutDevice.state start c.args.session.now c.read_next.new.self c.args.writers.now history at _ c.go_on.new.writers c.in-Ok-Some.offset _ _ refl refl c.buffer_line.ensures got c.go_on.ensures.line
+    let line = ap (λ n. drop n c.put_message.new.line.items) c.begin_line.ensures.start ∙ drop-appended _ _ _ c.put_message.ensures in
+    message_step g.R.InDevice.state g.W.OutDevice.state g.E.OutDevice.state start c.args.session.now c.read_next.new.self c.args.writers.now history at _ c.go_on.new.writers c.in-Ok-Some.offset _ _ c.begin_line.ensures.output c.begin_line.ensures.report line got c.go_on.ensures.line
 
 pub returns-in-Ok-None-clause-gives : goal.returns-in-Ok-None-clause-gives
 returns-in-Ok-None-clause-gives g c = λ start history at.

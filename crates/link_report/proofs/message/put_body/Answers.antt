@@ -24,7 +24,7 @@ unfolding body_text
 returns-in-MsgReject-clause-items c =
     rw (
       c.in-MsgReject.is,
-      c.put_hex2.ensures.items,
+      c.put_hex2-in-MsgReject.ensures.items,
       c.put_text-in-MsgReject-2.ensures.items,
       c.put_reason-in-MsgReject.ensures.items,
       c.put_text-in-MsgReject.ensures.items,

@@ -1,4 +1,4 @@
-use Rattle.std.proofs.Common.{refl, sym, arith}
+use Rattle.std.proofs.Common.{refl, arith}
 use Rattle.link_pack.proofs.Sending.{open_none}
 use Rattle.link_pack.proofs.Dividing.{none_front, none_goes}
 use Rattle.link_pack.proofs.packer.Packer.with.Goals as goal

@@ -1,6 +1,6 @@
 use Rattle.std.proofs.Common.{length, ◌-◌, ◌≤◌, take}
 use Rattle.link_io.specs.Writing.{Wrote}
-use Rattle.link_io.proofs.writing.write_whole.Given as goal
+use Rattle.link_io.proofs.writing.write_rest.Given as goal
 
 -- the bytes before `at` were written
 abbrev pub invariant-loop-at : goal.invariant-loop-at
