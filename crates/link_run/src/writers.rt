@@ -21,7 +21,7 @@ pub struct Writers<W, E> {
 }
 
 impl<W: OutDevice, E: OutDevice> Writers<W, E> {
-    ghost use Rattle.link_run.specs.Writers.{GivesTexts, GivesReport, GivesHandedOn, next_line, on_output, on_report};
+    ghost use Rattle.link_run.specs.Writers.{GivesTexts, GivesReport, GivesHandedOn, line_start, next_line, on_output, on_report};
 
     /// Writers to which nothing was written.
     pub fn new(output: W, report: E) -> Writers<W, E>
@@ -55,7 +55,7 @@ impl<W: OutDevice, E: OutDevice> Writers<W, E> {
     #[inline(always)]
     pub fn begin_line(&mut self)
         ensures room { array_vec_len self.new.line ≤ MESSAGE_FRONT }
-        ensures start { self.new.start ≡ array_vec_len self.new.line }
+        ensures start { line_start self.new ≡ array_vec_len self.new.line }
         ensures output { self.new.output ≡ self.old.output }
         ensures report { self.new.report ≡ self.old.report }
     {
@@ -70,7 +70,7 @@ impl<W: OutDevice, E: OutDevice> Writers<W, E> {
     #[inline(never)]
     pub fn clear_line(&mut self)
         ensures line { self.new.line.items ≡ [] }
-        ensures start { self.new.start ≡ 0 }
+        ensures start { line_start self.new ≡ 0 }
         ensures output { self.new.output ≡ self.old.output }
         ensures report { self.new.report ≡ self.old.report }
     {
