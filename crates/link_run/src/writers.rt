@@ -60,14 +60,23 @@ impl<W: OutDevice, E: OutDevice> Writers<W, E> {
         ensures report { self.new.report ≡ self.old.report }
     {
         if self.line.len() > MESSAGE_FRONT {
-            self.clear_line();
+            self.make_room();
         }
         self.start = self.line.len();
     }
 
-    /// Begins a line where none stands before it, with all the room that there is.
+    /// `clear_line` for `begin_line`, which seldom needs it.
     #[cold]
     #[inline(never)]
+    fn make_room(&mut self)
+        ensures line { self.new.line.items ≡ [] }
+        ensures output { self.new.output ≡ self.old.output }
+        ensures report { self.new.report ≡ self.old.report }
+    {
+        self.clear_line();
+    }
+
+    /// Begins a line where none stands before it, with all the room that there is.
     pub fn clear_line(&mut self)
         ensures line { self.new.line.items ≡ [] }
         ensures start { line_start self.new ≡ 0 }
