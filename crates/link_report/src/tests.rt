@@ -189,9 +189,10 @@ fn lines_of_messages_in_place(rt: HostRuntime) -> Result<(), Fail> {
     let mut line = Line::new();
     for (fields, want) in &rows {
         message.fields = *fields;
-        let before = line.len();
+        line.clear();
+        put_text(&mut line, "0 keepalive\n");
         put_message(&mut line, 6, &message);
-        assert_eq!(rt; &line[before..], want.as_bytes(), "{want}");
+        assert_eq!(rt; &line[12..], want.as_bytes(), "{want}");
     }
     Ok(())
 }
