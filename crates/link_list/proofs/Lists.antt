@@ -142,7 +142,7 @@ module _ {R W E : Type 0} (in_look : R → Input) (out_look : W → Output) (rep
     lost fault part texts = record {
       given = given;
       size = size;
-      gave = writer_lost in_look out_look report_look list_tool start (source_of new) mid after (history ++ given) (listing_sofar history) (on_output (next_line mid)) (listing_sofar (history ++ given)) fault mid_written mid_sound.reader (sym texts) (inl refl) (takes.window.less some)
+      gave = writer_lost in_look out_look report_look list_tool start (source_of new) mid after (history ++ given) (listing_sofar history) (on_output (next_line mid)) (listing_sofar (history ++ given)) fault mid_written mid_sound (sym texts) (inl refl) (takes.window.less some)
           (λ some_output. inr (record { front = history; rest = given; parts = refl; is = refl })) part;
     }
 
@@ -429,7 +429,7 @@ module _ {R W E : Type 0} (in_look : R → Input) (out_look : W → Output) (rep
   lists_lost : (now : Stage) (fault : IoFault) → Unsettled out_look report_look old new fault → length (window_of (source_of s)) < window_size
       → Lists in_look out_look report_look start now s old history → Gave in_look out_look report_look list_tool start (devices_at (place_of (source_of s) new)) history (Err fault)
   lists_lost now fault part few at =
-      settle_lost in_look out_look report_look list_tool start (source_of s) old new history fault at.written at.sound.reader
+      settle_lost in_look out_look report_look list_tool start (source_of s) old new history fault at.written at.sound
       (shows_is history _ refl ∙ waiting_shown now (next_line old) _ at.waits) few part
 
   -- a writer failed in it
@@ -437,7 +437,7 @@ module _ {R W E : Type 0} (in_look : R → Input) (out_look : W → Output) (rep
       → IsListing in_look out_look report_look start now s old history → Gave in_look out_look report_look list_tool start (devices_at (place_of (source_of s) new)) history (Err fault)
   settle_failed stage.Contact fault part few at =
       settle_lost in_look out_look report_look list_tool start (source_of s) old new history fault
-      (written_as in_look out_look report_look at.written (sym at.nothing) (sym (ap listing_sofar at.nothing ∙ nothing_read))) at.sound.reader
+      (written_as in_look out_look report_look at.written (sym at.nothing) (sym (ap listing_sofar at.nothing ∙ nothing_read))) at.sound
       (ap listing_shows at.nothing ∙ shows_is [] _ reading-none) few part
   settle_failed stage.Message fault part few at = lists_lost stage.Message fault part few at
   settle_failed stage.Data fault part few at = lists_lost stage.Data fault part few at

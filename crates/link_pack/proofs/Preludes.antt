@@ -56,7 +56,7 @@ module _ {R W E : Type 0} (in_look : R → Input) (out_look : W → Output) (rep
     from_none (stage.Ended (Err fault)) gives = record {
       given = [];
       size = omega arith;
-      gave = writer_lost in_look out_look report_look (pack_tool packer.options) start source before after [] no_texts (on_output (prelude_bytes packer.options)) _ fault fresh.written fresh.sound.reader
+      gave = writer_lost in_look out_look report_look (pack_tool packer.options) start source before after [] no_texts (on_output (prelude_bytes packer.options)) _ fault fresh.written fresh.sound
           (prelude_texts packer.options ∙ sym (sofar_going packer.options [] [] [] fresh.holds.front fresh.holds.goes fresh.holds.within refl)) (inl refl) few (λ some. inl refl) gives;
     }
 

@@ -49,6 +49,6 @@ module _ {R W E : Type 0} (in_look : R → Input) (out_look : W → Output) (rep
   settle_failed stage.Prelude fault part begun few at = absurd (begun refl)
   settle_failed stage.Bundles fault part begun few at =
       settle_lost in_look out_look report_look (pack_tool packer.options) start s old new history fault
-      (written_as in_look out_look report_look at.written refl (sym (due in_look out_look report_look start s old packer history at))) at.sound.reader
+      (written_as in_look out_look report_look at.written refl (sym (due in_look out_look report_look start s old packer history at))) at.sound
       (unshown in_look out_look report_look start s old packer history at) few part
   settle_failed (stage.Ended answer) fault part begun few at = absurd at

@@ -81,7 +81,7 @@ module _ {R W E : Type 0} (in_look : R → Input) (out_look : W → Output) (rep
             record {
               given = run;
               size = size;
-              gave = writer_lost in_look out_look report_look (pack_tool options) start new before after (history ++ run) texts more _ fault mid sound.reader (grown ∙ sym now_due) (inl refl) (takes.window.less some) (λ more_output. stood run) gives;
+              gave = writer_lost in_look out_look report_look (pack_tool options) start new before after (history ++ run) texts more _ fault mid sound (grown ∙ sym now_due) (inl refl) (takes.window.less some) (λ more_output. stood run) gives;
             }
 
     -- ---- the run ends
@@ -113,8 +113,8 @@ module _ {R W E : Type 0} (in_look : R → Input) (out_look : W → Output) (rep
             given = run;
             size = size;
             gave = ⊎_elim
-                (λ over. writer_lost in_look out_look report_look (pack_tool options) start new before after (history ++ run) texts more _ fault last (takes.device ∙ at.sound.reader) refl (inr (all_given in_look out_look report_look new after over, whole)) few (λ some. stood run) gives)
-                (λ shows. writer_lost in_look out_look report_look (pack_tool options) start new before after (history ++ run) texts more _ fault last (takes.device ∙ at.sound.reader) refl (inl shows.0) few (λ some. stood run) gives)
+                (λ over. writer_lost in_look out_look report_look (pack_tool options) start new before after (history ++ run) texts more _ fault last (sound_given in_look out_look report_look old new before run at.sound takes) refl (inr (all_given in_look out_look report_look new after over, whole)) few (λ some. stood run) gives)
+                (λ shows. writer_lost in_look out_look report_look (pack_tool options) start new before after (history ++ run) texts more _ fault last (sound_given in_look out_look report_look old new before run at.sound takes) refl (inl shows.0) few (λ some. stood run) gives)
                 shown;
           }
 
@@ -126,7 +126,7 @@ module _ {R W E : Type 0} (in_look : R → Input) (out_look : W → Output) (rep
         record {
           given = [];
           size = omega arith;
-          gave = reader_lost in_look out_look report_look (pack_tool options) start old new before history [] texts fault at.written
+          gave = reader_lost in_look out_look report_look (pack_tool options) start old new before history [] texts fault at.written at.sound
               (sym due ∙ ap (packing_sofar options) (sym same))
               (ap (pack_tool options).shows same ∙ unshown) stops;
         }

@@ -1,3 +1,4 @@
+mod Digits
 mod Lengths
 mod Escapes
 mod Segments

@@ -43,15 +43,20 @@ fn put_few_zeros(line: &mut Line, number: u64)
     ensures before { take (array_vec_len line.old) line.new.items ≡ line.old.items }
     ensures len { array_vec_len line.new ≡ array_vec_len line.old + length (decimal number) }
 {
-    match number {
-        0..10 => put_text(line, "0"),
-        10..100 => put_text(line, "00"),
-        100..1_000 => put_text(line, "000"),
-        1_000..10_000 => put_text(line, "0000"),
-        10_000..100_000 => put_text(line, "00000"),
-        100_000..1_000_000 => put_text(line, "000000"),
-        1_000_000..10_000_000 => put_text(line, "0000000"),
-        _ => put_text(line, "00000000"),
+    if number < 10_000 {
+        match number {
+            0..10 => put_text(line, "0"),
+            10..100 => put_text(line, "00"),
+            100..1_000 => put_text(line, "000"),
+            _ => put_text(line, "0000"),
+        }
+    } else {
+        match number {
+            10_000..100_000 => put_text(line, "00000"),
+            100_000..1_000_000 => put_text(line, "000000"),
+            1_000_000..10_000_000 => put_text(line, "0000000"),
+            _ => put_text(line, "00000000"),
+        }
     }
 }
 
@@ -71,17 +76,52 @@ fn put_zeros(line: &mut Line, number: u64)
     put_few_zeros(line, front);
 }
 
-/// Appends `number` in decimal, without leading zeros. Most numbers of a line have one digit. Those of more are written
-/// where they stay: to read back what was just written in other sizes, as a copy does, holds the processor up.
-#[tactic(auto, using(crate::proofs::Lengths::length_of_decimal, crate::proofs::Lengths::one_digit))]
+/// Appends a digit.
+#[tactic(auto, using(crate::proofs::Lengths::one_digit))]
+#[inline(always)]
+fn put_digit(line: &mut Line, digit: u64)
+    requires digit { digit < 10 }
+    requires room { array_vec_len line.old < LINE_MAX }
+    ensures items { line.new.items ≡ line.old.items ++ decimal digit }
+    ensures len { array_vec_len line.new ≡ array_vec_len line.old + 1 }
+{
+    line.push(b'0' + digit as u8);
+}
+
+/// Appends a number of at most three digits, as most numbers of a line are but its offset.
+#[tactic(auto, using(crate::proofs::Lengths::digits, crate::proofs::Digits::few_digits))]
+#[inline(always)]
+fn put_few_digits(line: &mut Line, number: u64)
+    requires few { number < 1000 }
+    requires room { array_vec_len line.old + length (decimal number) ≤ LINE_MAX }
+    ensures items { line.new.items ≡ line.old.items ++ decimal number }
+    ensures len { array_vec_len line.new ≡ array_vec_len line.old + length (decimal number) }
+{
+    match number {
+        0..10 => put_digit(line, number),
+        10..100 => {
+            put_digit(line, number / 10);
+            put_digit(line, number % 10);
+        }
+        _ => {
+            put_digit(line, number / 100);
+            put_digit(line, number / 10 % 10);
+            put_digit(line, number % 10);
+        }
+    }
+}
+
+/// Appends `number` in decimal, without leading zeros. Those of more than three digits are written where they stay: to read
+/// back what was just written in other sizes, as a copy does, holds the processor up.
+#[tactic(auto, using(crate::proofs::Lengths::length_of_decimal))]
 #[inline(always)]
 pub fn put_decimal(line: &mut Line, number: u64)
     requires { array_vec_len line.old + length (decimal number) ≤ LINE_MAX }
     ensures items { line.new.items ≡ line.old.items ++ decimal number }
     ensures len { array_vec_len line.new ≡ array_vec_len line.old + length (decimal number) }
 {
-    if number < 10 {
-        line.push(b'0' + number as u8);
+    if number < 1000 {
+        put_few_digits(line, number);
         return;
     }
     put_zeros(line, number);

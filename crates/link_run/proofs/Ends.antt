@@ -93,7 +93,7 @@ module _ {R W E : Type 0} (in_look : R → Input) (out_look : W → Output) (rep
     lost_due : AreDue in_look out_look report_look tool (devices_at (place_of new after)) (history ++ given) (window_of new) (texts then on_report line)
         → (failure : IoFault) → WritesPart out_look report_look before after (on_report line) failure → Gave in_look out_look report_look tool start (devices_at (place_of new after)) (history ++ given) (Err failure)
     lost_due due failure part =
-        writer_lost in_look out_look report_look tool start new before after (history ++ given) texts (on_report line) _ failure mid (takes.device ∙ sound.reader) refl due few (λ some. absurd (omega arith)) part
+        writer_lost in_look out_look report_look tool start new before after (history ++ given) texts (on_report line) _ failure mid (sound_given in_look out_look report_look old new before given sound takes) refl due few (λ some. absurd (omega arith)) part
 
     lost : (failure : IoFault) → WritesPart out_look report_look before after (on_report line) failure → Gave in_look out_look report_look tool start (devices_at (place_of new after)) (history ++ given) (Err failure)
     lost failure part =
@@ -122,7 +122,7 @@ module _ {R W E : Type 0} (in_look : R → Input) (out_look : W → Output) (rep
   pub read_failed : (fault : IoFault) (answer : Result Status IoFault) → StopsAfter in_look old new given fault → texts ≡ tool.sofar (history ++ given) → tool.shows (history ++ given) ≡ false
       → answer ≡ Err fault → after ≡ before → Ended in_look out_look report_look tool start (devices_at (place_of new after)) most history answer
   read_failed fault answer stops due unshown is same =
-      let gave = reader_lost in_look out_look report_look tool start old new before history given texts fault written due unshown stops in
+      let gave = reader_lost in_look out_look report_look tool start old new before history given texts fault written sound due unshown stops in
       let P : Writers W E → Type 0 = λ w. Ended in_look out_look report_look tool start (devices_at (place_of new w)) most history answer in
       let Q : Result Status IoFault → Type 0 = λ a. Ended in_look out_look report_look tool start (devices_at (place_of new before)) most history a in
       subst P (sym same) (subst Q (sym is) (record { given = given; size = size; gave = gave }))

@@ -186,11 +186,11 @@ module _ {R W E : Type 0} (in_look : R → Input) (out_look : W → Output) (rep
 
   -- a writer failed in texts that are due
   pub writer_lost : (tool : Tool) (start : Devices R W E) (s : Source R) (old new : Writers W E) (given : List ℕ) (before texts due : Texts) (fault : IoFault)
-      → HasWritten in_look out_look report_look start (place_of s old) given before → (in_look (reader_of s)).failed ≡ false → before then texts ≡ due
+      → HasWritten in_look out_look report_look start (place_of s old) given before → NoneFailed in_look out_look report_look (devices_at (place_of s old)) → before then texts ≡ due
       → AreDue in_look out_look report_look tool (devices_at (place_of s new)) given (window_of s) due
       → length (window_of s) < window_size → (0 < length texts.output → Stood tool given before)
       → WritesPart out_look report_look old new texts fault → Gave in_look out_look report_look tool start (devices_at (place_of s new)) given (Err fault)
-  writer_lost tool start s old new given before texts due fault written reader same are_due few stood part =
+  writer_lost tool start s old new given before texts due fault written sound same are_due few stood part =
       let last : Moves in_look out_look report_look (place_of s old) (place_of s new) [] (record { output = take part.output_count texts.output; report = take part.report_count texts.report }) = record {
         takes = Consumes-nil (ahead in_look s);
         count = omega arith;
@@ -214,10 +214,10 @@ module _ {R W E : Type 0} (in_look : R → Input) (out_look : W → Output) (rep
         output = output;
         report = report;
         written = written_left in_look out_look report_look start (place_of s new) given _ cut_off;
-        reader = reader;
+        reader = sound.reader;
         failed = ⊎_elim
-            (λ lost. let less = lost.part in inl (lost.failed, behind tool given before part.output_count part.report_count (stood (omega arith)) lost.none))
-            (λ lost. let whole = lost.whole in inr (lost.failed, omega arith))
+            (λ lost. let less = lost.part in inl (lost.failed, lost.report_sound ∙ sound.report, behind tool given before part.output_count part.report_count (stood (omega arith)) lost.none))
+            (λ lost. let whole = lost.whole in inr (lost.failed, lost.output_sound ∙ sound.output, omega arith))
             part.failed;
         unended = λ shown. ⊎_elim
             (λ lost. let less = lost.part in inl (omega arith))
@@ -227,10 +227,10 @@ module _ {R W E : Type 0} (in_look : R → Input) (out_look : W → Output) (rep
 
   -- a writer failed when what was written was handed on
   pub settle_lost : (tool : Tool) (start : Devices R W E) (s : Source R) (old new : Writers W E) (given : List ℕ) (fault : IoFault)
-      → HasWritten in_look out_look report_look start (place_of s old) given (tool.sofar given) → (in_look (reader_of s)).failed ≡ false
+      → HasWritten in_look out_look report_look start (place_of s old) given (tool.sofar given) → NoneFailed in_look out_look report_look (devices_at (place_of s old))
       → tool.shows given ≡ false → length (window_of s) < window_size
       → Unsettled out_look report_look old new fault → Gave in_look out_look report_look tool start (devices_at (place_of s new)) given (Err fault)
-  settle_lost tool start s old new given fault written reader unshown few part =
+  settle_lost tool start s old new given fault written sound unshown few part =
       let due = tool.sofar given in
       let kept : Moves in_look out_look report_look (place_of s old) (place_of s new) [] no_texts = record {
         takes = Consumes-nil (ahead in_look s);
@@ -249,19 +249,19 @@ module _ {R W E : Type 0} (in_look : R → Input) (out_look : W → Output) (rep
         report = length due.report;
         written = written_left in_look out_look report_look start (place_of s new) given _
             (written_as (written_then in_look out_look report_look start (place_of s old) (place_of s new) given [] due no_texts written kept) (append-nil given) all);
-        reader = reader;
+        reader = sound.reader;
         failed = ⊎_elim
-            (λ is. inl (is, inr (record { front = given; rest = []; parts = sym (append-nil given); output = omega arith; report = omega arith })))
-            (λ is. inr (is, omega arith))
+            (λ is. inl (is.0, ap (λ e. (report_look e).failed) is.1 ∙ sound.report, inr (record { front = given; rest = []; parts = sym (append-nil given); output = omega arith; report = omega arith })))
+            (λ is. inr (is.0, is.1 ∙ sound.output, omega arith))
             part.failed;
         unended = λ shown. absurd (cc);
       })
 
   -- the source stopped after some bytes, and what is due was written
   pub reader_lost : (tool : Tool) (start : Devices R W E) (old new : Source R) (w : Writers W E) (history given : List ℕ) (texts : Texts) (fault : IoFault)
-      → HasWritten in_look out_look report_look start (place_of old w) history texts → texts ≡ tool.sofar (history ++ given) → tool.shows (history ++ given) ≡ false
+      → HasWritten in_look out_look report_look start (place_of old w) history texts → NoneFailed in_look out_look report_look (devices_at (place_of old w)) → texts ≡ tool.sofar (history ++ given) → tool.shows (history ++ given) ≡ false
       → StopsAfter in_look old new given fault → Gave in_look out_look report_look tool start (devices_at (place_of new w)) (history ++ given) (Err fault)
-  reader_lost tool start old new w history given texts io.Read written due unshown stops =
+  reader_lost tool start old new w history given texts io.Read written sound due unshown stops =
       let none : given ++ stops.past ≡ given = rw stops.cause.0 (append-nil given) in
       record {
         unshown = unshown;
@@ -271,8 +271,10 @@ module _ {R W E : Type 0} (in_look : R → Input) (out_look : W → Output) (rep
           reports = rw due at written.reports;
         };
         failed = stops.cause.1;
+        output = sound.output;
+        report = sound.report;
       }
-  reader_lost tool start old new w history given texts io.InputTooLong written due unshown stops =
+  reader_lost tool start old new w history given texts io.InputTooLong written sound due unshown stops =
       let before = written.count in
       let count = stops.count in
       let limit = stops.cause.1 in
@@ -286,9 +288,11 @@ module _ {R W E : Type 0} (in_look : R → Input) (out_look : W → Output) (rep
           writes = rw due at written.writes;
           reports = rw due at written.reports;
         };
+        output = sound.output;
+        report = sound.report;
       }
-  reader_lost tool start old new w history given texts io.Write written due unshown stops = absurd stops.cause
-  reader_lost tool start old new w history given texts io.Memory written due unshown stops = absurd stops.cause
+  reader_lost tool start old new w history given texts io.Write written sound due unshown stops = absurd stops.cause
+  reader_lost tool start old new w history given texts io.Memory written sound due unshown stops = absurd stops.cause
 
 -- what was written of a text, with others after it that were not begun
 take_less : (count : ℕ) (text more : List ℕ) → take count text ≡ take (min count (length text)) (text ++ more)
@@ -308,12 +312,12 @@ module _ {W E : Type 0} (out_look : W → Output) (report_look : E → Output) w
         (λ lost. inl (
         let less = lost.part in
         let none = lost.none in
-        record { failed = lost.failed; part = omega (arith, length-append texts.output more.output); none = omega arith }))
+        record { failed = lost.failed; part = omega (arith, length-append texts.output more.output); none = omega arith; report_sound = lost.report_sound }))
         (λ lost. inr (
         let less = lost.part in
         let whole = lost.whole in
         let no_more = ap length (same (omega arith)) in
-        record { failed = lost.failed; part = omega (arith, length-append texts.report more.report); whole = omega (arith, length-append texts.output more.output) }))
+        record { failed = lost.failed; part = omega (arith, length-append texts.report more.report); whole = omega (arith, length-append texts.output more.output); output_sound = lost.output_sound }))
         part.failed;
   }
 
@@ -342,8 +346,8 @@ module _ {W E : Type 0} (out_look : W → Output) (report_look : E → Output) w
     output = rw take-append-add (Appends-trans (out_look old.output).written (out_look mid.output).written (out_look new.output).written first (take part.output_count second.output) one.output part.output);
     report = Appends-trans (report_look old.report).written (report_look mid.report).written (report_look new.report).written [] (take part.report_count second.report) one.report part.report;
     failed = ⊎_elim
-        (λ lost. inl (let less = lost.part in record { failed = lost.failed; part = omega (arith, length-append first second.output); none = lost.none }))
-        (λ lost. inr (let whole = lost.whole in record { failed = lost.failed; part = lost.part; whole = omega (arith, length-append first second.output) }))
+        (λ lost. inl (let less = lost.part in record { failed = lost.failed; part = omega (arith, length-append first second.output); none = lost.none; report_sound = lost.report_sound ∙ one.report_sound }))
+        (λ lost. inr (let whole = lost.whole in record { failed = lost.failed; part = lost.part; whole = omega (arith, length-append first second.output); output_sound = lost.output_sound ∙ one.output_sound }))
         part.failed;
   }
 

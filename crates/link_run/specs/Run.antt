@@ -97,32 +97,38 @@ module _ {R W E : Type 0} (in_look : R → Input) (out_look : W → Output) (rep
     pub ends : status.0 ≡ (tool.whole given).status
     pub settled : AllGiven now unread ⊎ ((more : List ℕ) → tool.whole (given ++ more) ≡ tool.whole given)
 
-  -- The reader failed: all that it gave was given, it shows no fault, and the texts are those that these bytes determine.
+  -- The reader failed, and no writer: all that it gave was given, it shows no fault, and the texts are those that these
+  -- bytes determine.
   pub record LostReader (tool : Tool) (start now : Devices R W E) (given : List ℕ) : Type 0 where
     pub unshown : tool.shows given ≡ false
     pub written : HandedBack start now given (tool.sofar given)
     pub failed : (in_look now.reader).failed ≡ true
+    pub output : (out_look now.output).failed ≡ false
+    pub report : (report_look now.report).failed ≡ false
 
-  -- The reader gave a byte past the limit: the last bytes that it gave were not given, the others show no fault, and the
-  -- texts are those that they determine.
+  -- The reader gave a byte past the limit, and no writer failed: the last bytes that it gave were not given, the others show
+  -- no fault, and the texts are those that they determine.
   pub record PassedLimit (tool : Tool) (start now : Devices R W E) (given : List ℕ) : Type 0 where
     pub unshown : tool.shows given ≡ false
     pub past : List ℕ
     pub few : length past ≤ window_size
     pub limit : longest_input < length given + length past
     pub written : HandedBack start now (given ++ past) (tool.sofar given)
+    pub output : (out_look now.output).failed ≡ false
+    pub report : (report_look now.report).failed ≡ false
 
   -- the texts that the bytes given determine; where they are all of the input, those of the whole input
   abbrev pub AreDue : Tool → Devices R W E → (given unread : List ℕ) → Texts → Type 0
   AreDue tool now given unread texts = (texts ≡ tool.sofar given) ⊎ (AllGiven now unread × (texts ≡ (tool.whole given).texts))
 
-  -- Which writer failed: the output, and no line of the report speaks of what it lacks; or the report, and the output is whole.
+  -- Which writer failed, and not the other: the output, and no line of the report speaks of what it lacks; or the report, and
+  -- the output is whole.
   abbrev pub IsLost : Tool → Devices R W E → (given : List ℕ) → (due : Texts) → (output report : ℕ) → Type 0
   IsLost tool now given due output report =
-      (((out_look now.output).failed ≡ true) × ((report ≡ 0) ⊎ IsBehind tool given output report))
-      ⊎ (((report_look now.report).failed ≡ true) × (length due.output ≤ output))
+      (((out_look now.output).failed ≡ true) × ((report_look now.report).failed ≡ false) × ((report ≡ 0) ⊎ IsBehind tool given output report))
+      ⊎ (((report_look now.report).failed ≡ true) × ((out_look now.output).failed ≡ false) × (length due.output ≤ output))
 
-  -- A writer failed, and not the reader: the texts are prefixes of those that the bytes given determine. Where these show a
+  -- One writer failed, and not the reader: the texts are prefixes of those that the bytes given determine. Where these show a
   -- fault, its text is not whole.
   pub record LostWriter (tool : Tool) (start now : Devices R W E) (given : List ℕ) : Type 0 where
     pub unread : List ℕ

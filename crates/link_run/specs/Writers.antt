@@ -36,16 +36,18 @@ module _ {W E : Type 0} (out_look : W → Output) (report_look : E → Output) w
     pub report_sound : (report_look new.report).failed ≡ (report_look old.report).failed
 
   -- the output failed before all of its text was written, and nothing was written to the report
-  pub record LostOutput (new : Writers W E) (texts : Texts) (output_count report_count : ℕ) : Type 0 where
+  pub record LostOutput (old new : Writers W E) (texts : Texts) (output_count report_count : ℕ) : Type 0 where
     pub failed : (out_look new.output).failed ≡ true
     pub part : output_count < length texts.output
     pub none : report_count ≡ 0
+    pub report_sound : (report_look new.report).failed ≡ (report_look old.report).failed
 
   -- the report failed before all of its text was written, and all of the output was
-  pub record LostReport (new : Writers W E) (texts : Texts) (output_count report_count : ℕ) : Type 0 where
+  pub record LostReport (old new : Writers W E) (texts : Texts) (output_count report_count : ℕ) : Type 0 where
     pub failed : (report_look new.report).failed ≡ true
     pub part : report_count < length texts.report
     pub whole : length texts.output ≤ output_count
+    pub output_sound : (out_look new.output).failed ≡ (out_look old.output).failed
 
   -- A prefix of each of these texts was written, and then a writer failed. The output is written before the report.
   pub record WritesPart (old new : Writers W E) (texts : Texts) (fault : IoFault) : Type 0 where
@@ -54,7 +56,7 @@ module _ {W E : Type 0} (out_look : W → Output) (report_look : E → Output) w
     pub report_count : ℕ
     pub output : Appends (out_look old.output).written (out_look new.output).written (take output_count texts.output)
     pub report : Appends (report_look old.report).written (report_look new.report).written (take report_count texts.report)
-    pub failed : LostOutput new texts output_count report_count ⊎ LostReport new texts output_count report_count
+    pub failed : LostOutput old new texts output_count report_count ⊎ LostReport old new texts output_count report_count
 
   abbrev pub GivesTexts : Writers W E → Writers W E → Texts → Result (Unit {0}) IoFault → Type 0
   GivesTexts old new texts (Ok done) = Writes old new texts
@@ -69,12 +71,14 @@ module _ {W E : Type 0} (out_look : W → Output) (report_look : E → Output) w
   GivesReport old new text (Ok status) = Reports old new text status
   GivesReport old new text (Err fault) = WritesPart old new (on_report text) fault
 
-  -- what was written stays, and a writer failed
+  -- What was written stays, and a writer failed. The output is handed on before the report.
   pub record Unsettled (old new : Writers W E) (fault : IoFault) : Type 0 where
     pub kind : fault ≡ io.Write
     pub output : Appends (out_look old.output).written (out_look new.output).written []
     pub report : Appends (report_look old.report).written (report_look new.report).written []
-    pub failed : ((out_look new.output).failed ≡ true) ⊎ ((report_look new.report).failed ≡ true)
+    pub failed :
+        (((out_look new.output).failed ≡ true) × (new.report ≡ old.report))
+        ⊎ (((report_look new.report).failed ≡ true) × ((out_look new.output).failed ≡ (out_look old.output).failed))
 
   -- what was written is handed on
   abbrev pub GivesHandedOn : Writers W E → Writers W E → Result (Unit {0}) IoFault → Type 0

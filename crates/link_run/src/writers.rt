@@ -101,6 +101,7 @@ impl<W: OutDevice, E: OutDevice> Writers<W, E> {
     pub fn write_output(&mut self, bytes: &[u8]) -> Result<(), IoFault>
         ensures gives { GivesTexts W.state E.state self.old self.new (on_output bytes.now) result }
         ensures report { self.new.report ≡ self.old.report }
+        ensures line { next_line self.new ≡ next_line self.old }
     {
         write_whole(&mut self.output, bytes)
     }
@@ -109,6 +110,7 @@ impl<W: OutDevice, E: OutDevice> Writers<W, E> {
     pub fn report_line(&mut self) -> Result<(), IoFault>
         ensures gives { GivesTexts W.state E.state self.old self.new (on_report (next_line self.old)) result }
         ensures output { self.new.output ≡ self.old.output }
+        ensures line { next_line self.new ≡ next_line self.old }
     {
         write_whole(&mut self.report, &self.line[self.start..])
     }

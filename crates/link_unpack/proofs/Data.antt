@@ -17,7 +17,7 @@ use Rattle.link_transfer.specs.Order.{open_of}
 use Rattle.link_report.specs.Fault.{fault_text}
 use Rattle.link_report.specs.declared.fault.Fault.TheVariants.{Wire}
 use Rattle.link_run.specs.Ends.{end_lines, end_status}
-use Rattle.link_run.specs.Run.{Texts, Devices, devices_at, HasWritten, Gave}
+use Rattle.link_run.specs.Run.{Texts, Devices, devices_at, NoneFailed, HasWritten, Gave}
 use Rattle.link_run.specs.Writers.{place_of, on_output, on_report, Writes, WritesPart}
 use Rattle.link_run.specs.declared.writers.Writers.{Writers}
 use Rattle.link_run.proofs.Ends.{standing_lines, standing_shown}
@@ -178,6 +178,9 @@ module _ {R W E : Type 0} (in_look : R → Input) (out_look : W → Output) (rep
         given_written : HasWritten in_look out_look report_look start (place_of (source_of new) before) (history ++ bytes) (texts_of u.latest.wanted transfers)
         given_written = written_given in_look out_look report_look start (source_of old) (source_of new) before history bytes _ at.written takes
 
+        given_sound : NoneFailed in_look out_look report_look (devices_at (place_of (source_of new) before))
+        given_sound = sound_given in_look out_look report_look (source_of old) (source_of new) before bytes at.sound takes
+
         pub grows : (written : Writers W E) (v : Unpacker) → Writes out_look report_look before written (on_output part) → Follows v.latest (grown transfer bytes closing) earlier
             → v.latest.wanted ≡ u.latest.wanted → v.latest.total ≤ u.latest.total + length bytes → v.joiner ≡ u.joiner → v.good ≡ u.good
             → IsJoining in_look out_look report_look start last new written v (history ++ bytes)
@@ -192,7 +195,7 @@ module _ {R W E : Type 0} (in_look : R → Input) (out_look : W → Output) (rep
           closed = refl;
           follows = follows;
           written = rw wanted (written_as in_look out_look report_look (written_more in_look out_look report_look start (source_of new) before written (history ++ bytes) _ _ given_written writes) refl part_texts);
-          sound = sound_written in_look out_look report_look (source_of new) before written _ (sound_given in_look out_look report_look (source_of old) (source_of new) before bytes at.sound takes) writes;
+          sound = sound_written in_look out_look report_look (source_of new) before written _ given_sound writes;
           total = let was = at.total in omega (arith, length-append history bytes);
           good = good ∙ at.good ∙ ap (λ ts. are_good (settled ts)) here.goes.are ∙ ap are_good (settled_open transfer earlier here.goes.is_open);
           opened = ap (λ ms. is_some (open_of ms)) same_messages ∙ here.opened;
@@ -215,11 +218,11 @@ module _ {R W E : Type 0} (in_look : R → Input) (out_look : W → Output) (rep
             → Gave in_look out_look report_look (unpack_tool u.latest.wanted) start (devices_at (place_of (source_of new) written)) (history ++ bytes) (Err fault)
         lost_by true is written fault lost =
             let more = on_report (line_of u.latest.wanted (grown transfer bytes closing) earlier) in
-            writer_lost in_look out_look report_look (unpack_tool u.latest.wanted) start (source_of new) before written (history ++ bytes) _ _ _ fault given_written (takes.device ∙ at.sound.reader)
+            writer_lost in_look out_look report_look (unpack_tool u.latest.wanted) start (source_of new) before written (history ++ bytes) _ _ _ fault given_written given_sound
             (then_assoc (texts_of u.latest.wanted transfers) (on_output part) more ∙ ap (λ (t : Texts). t then more) part_texts ∙ texts_closed u.latest.wanted (grown transfer bytes closing) earlier is ∙ sym sofar)
             (inl refl) (takes.window.less some) (λ some_output. stood) (part_of_more out_look report_look before written _ more fault (λ none. absurd (omega arith)) lost)
         lost_by false is written fault lost =
-            writer_lost in_look out_look report_look (unpack_tool u.latest.wanted) start (source_of new) before written (history ++ bytes) _ _ _ fault given_written (takes.device ∙ at.sound.reader)
+            writer_lost in_look out_look report_look (unpack_tool u.latest.wanted) start (source_of new) before written (history ++ bytes) _ _ _ fault given_written given_sound
             (part_texts ∙ sym (texts_open u.latest.wanted (grown transfer bytes closing) earlier is) ∙ sym sofar) (inl refl) (takes.window.less some) (λ some_output. stood) lost
 
         pub part_lost : (written : Writers W E) (fault : IoFault) → WritesPart out_look report_look before written (on_output part) fault

@@ -111,4 +111,4 @@ module _ {R W E : Type 0} (in_look : R → Input) (out_look : W → Output) (rep
           let standing : lasting_lines (reading_of history).end ≡ [] = after_lines last (left_of s) (reading_of history).end at.after in
           let sofar : texts_of u.latest.wanted (at.transfer ∷ at.earlier) ≡ unpacking_sofar u.latest.wanted history =
           ap (texts_of u.latest.wanted) (sym at.are) ∙ sym (sofar_in_order u.latest.wanted history at.in_order standing) in
-          writer_lost in_look out_look report_look (unpack_tool u.latest.wanted) start (source_of s) w after history _ _ _ fault at.written at.sound.reader (due ∙ sofar) (inl refl) at.window (λ none. absurd (omega arith)) part
+          writer_lost in_look out_look report_look (unpack_tool u.latest.wanted) start (source_of s) w after history _ _ _ fault at.written at.sound (due ∙ sofar) (inl refl) at.window (λ none. absurd (omega arith)) part

@@ -82,7 +82,7 @@ module _ {R W E : Type 0} (in_look : R → Input) (out_look : W → Output) (rep
       → Unpacks in_look out_look report_look start now s old u history → Gave in_look out_look report_look (unpack_tool u.latest.wanted) start (devices_at (place_of (source_of s) new)) history (Err fault)
   unpacks_lost now fault part few at =
       settle_lost in_look out_look report_look (unpack_tool u.latest.wanted) start (source_of s) old new history fault
-      (written_as in_look out_look report_look at.written refl (sym (sofar_in_order u.latest.wanted history at.in_order (waiting_lines now _ u.latest _ _ at.waits)))) at.sound.reader
+      (written_as in_look out_look report_look at.written refl (sym (sofar_in_order u.latest.wanted history at.in_order (waiting_lines now _ u.latest _ _ at.waits)))) at.sound
       (unshown_at history _ refl at.in_order (waiting_shown now _ u.latest _ _ at.waits)) few part
 
   -- a writer failed in it
@@ -91,7 +91,7 @@ module _ {R W E : Type 0} (in_look : R → Input) (out_look : W → Output) (rep
   settle_failed stage.Contact fault part few at =
       let none : unpacking_sofar u.latest.wanted history ≡ no_texts = ap (unpacking_sofar u.latest.wanted) at.nothing ∙ nothing_unpacked u.latest.wanted in
       settle_lost in_look out_look report_look (unpack_tool u.latest.wanted) start (source_of s) old new history fault
-      (written_as in_look out_look report_look at.written (sym at.nothing) (sym none)) at.sound.reader
+      (written_as in_look out_look report_look at.written (sym at.nothing) (sym none)) at.sound
       (ap unpacking_shows at.nothing ∙ nothing_shown) few part
   settle_failed stage.Message fault part few at = unpacks_lost stage.Message fault part few at
   settle_failed (stage.Data last) fault part few at = unpacks_lost (stage.Data last) fault part few at

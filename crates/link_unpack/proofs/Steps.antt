@@ -145,7 +145,7 @@ module _ {R W E : Type 0} (in_look : R → Input) (out_look : W → Output) (rep
       finished after v (stage.Ended (Err fault)) gives = record {
         given = [];
         size = omega arith;
-        gave = writer_lost in_look out_look report_look (unpack_tool u.latest.wanted) start (source_of new) before after (history ++ []) _ _ _ fault mid (got.takes.device ∙ at.sound.reader) last_texts
+        gave = writer_lost in_look out_look report_look (unpack_tool u.latest.wanted) start (source_of new) before after (history ++ []) _ _ _ fault mid (sound_given in_look out_look report_look (source_of old) (source_of new) before [] at.sound got.takes) last_texts
             (inr (all_given in_look out_look report_look (source_of new) after got.over, refl)) (few_over in_look (source_of new) got.over) (λ none. absurd (omega arith)) gives;
       }
 
