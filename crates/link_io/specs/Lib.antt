@@ -3,3 +3,4 @@ pub mod Limits
 pub mod Device
 pub mod Source
 pub mod Writing
+pub mod TextWriter

@@ -1,9 +1,12 @@
 //! Where bytes come from and go to: two traits, and devices made of std's readers and writers.
 
-ghost use Rattle.std.specs.Prelude.{◌≡◌, ◌<◌, ◌≤◌, true, false, length, IfOk, MatchResult};
+ghost use Rattle.std.specs.Prelude.{◌≡◌, ◌<◌, ◌≤◌, true, false, length, OnOk, IfOk, IfErr, MatchResult};
 ghost use Rattle.std.specs.Io.KnownBytes.{Keeps, ReadConsumes, WriteAppends};
 ghost use Rattle.link_io.specs.Device.{Input, Output};
+ghost use Rattle.link_io.specs.Writing.{Wrote, WroteFront};
 
+use crate::fault::IoFault;
+use crate::text::{TEXT_MAX, Text};
 use std::io::{BufReader, Read, Write};
 use thiserror::Error;
 
@@ -54,6 +57,26 @@ pub trait OutDevice {
     /// Whether a write has failed.
     fn failed(&self) -> bool
         ensures { result ≡ (state self.now).failed };
+
+    /// Writes all of a text. It is made in `page`, or where the device itself has room for it. After a fault a prefix of it
+    /// was written.
+    fn write_text<T: Text>(&mut self, text: &T, page: &mut [u8]) -> Result<(), IoFault>
+        requires page { TEXT_MAX ≤ length page.old }
+        ensures ok { OnOk result (Wrote state self.old self.new (T.text text.now)) }
+        ensures err { IfErr result (WroteFront state self.old self.new (T.text text.now)) }
+        ensures size { length page.new ≡ length page.old }
+    {
+        let end = text.put(page, 0);
+        let made = &page[..end];
+        let mut at = 0;
+        while at < made.len() {
+            match self.write(&made[at..]) {
+                Ok(n) => at += n,
+                Err(_) => return Err(IoFault::Write),
+            }
+        }
+        Ok(())
+    }
 
     /// Hands on what the device holds back of the bytes written.
     fn settle(&mut self) -> Result<(), DeviceFault>

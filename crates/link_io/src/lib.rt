@@ -17,9 +17,13 @@
 mod device;
 mod fault;
 mod source;
+mod text;
+mod text_writer;
 mod writing;
 
 pub use device::{BufferedReader, DeviceFault, InDevice, OutDevice, Reader, Writer};
 pub use fault::IoFault;
 pub use source::{Filled, INPUT_LIMIT, Source, WINDOW};
+pub use text::{TEXT_MAX, Text, copy_into};
+pub use text_writer::TextWriter;
 pub use writing::write_whole;

@@ -1,10 +1,10 @@
 //! Whole writes.
 
-ghost use Rattle.std.specs.Prelude.{◌≡◌, ◌≤◌, true, length, take, drop, ℕ, OnOk, IfErr};
+ghost use Rattle.std.specs.Prelude.{◌≡◌, ◌<◌, ◌≤◌, true, length, take, drop, ℕ, OnOk, OnErr, IfErr, MatchResult};
 ghost use Rattle.std.specs.Io.KnownBytes.{Appends};
 ghost use Rattle.link_io.specs.Writing.{Wrote, WroteFront};
 
-use crate::device::OutDevice;
+use crate::device::{DeviceFault, OutDevice};
 use crate::fault::IoFault;
 
 /// Writes all of the bytes, by repeated writes. After a fault a prefix of them was written.
@@ -30,12 +30,28 @@ fn write_rest<W: OutDevice>(out: &mut W, bytes: &[u8]) -> Result<(), IoFault>
     ensures ok { OnOk result (Wrote W.state out.old out.new bytes.now) }
     ensures err { IfErr result (WroteFront W.state out.old out.new bytes.now) }
 {
+    match write_out(out, bytes) {
+        (_, Ok(())) => Ok(()),
+        (_, Err(_)) => Err(IoFault::Write),
+    }
+}
+
+/// Writes the bytes by repeated writes until all are written or a write fails, and returns how many were written.
+pub(crate) fn write_out<W: OutDevice>(out: &mut W, bytes: &[u8]) -> (usize, Result<(), DeviceFault>)
+    ensures bound { result.0 ≤ length bytes.now }
+    ensures all { OnOk result.1 (result.0 ≡ length bytes.now) }
+    ensures part { OnErr result.1 (result.0 < length bytes.now) }
+    ensures written { Appends (W.state out.old).written (W.state out.new).written (take result.0 bytes.now) }
+    ensures failed { MatchResult result.1
+        (λ _. (W.state out.new).failed ≡ (W.state out.old).failed)
+        (λ _. (W.state out.new).failed ≡ true) }
+{
     let mut at = 0;
     while at < bytes.len() {
         match out.write(&bytes[at..]) {
             Ok(n) => at += n,
-            Err(_) => return Err(IoFault::Write),
+            Err(fault) => return (at, Err(fault)),
         }
     }
-    Ok(())
+    (at, Ok(()))
 }

@@ -1,5 +1,5 @@
 -- What each call of a session lets a step of `list` give.
-use Rattle.std.proofs.Common.{◌≡◌, ℕ, ◌+◌, ◌<◌, ◌≤◌, ◌⊎◌, inl, inr, Bool, true, false, List, [], ◌∷◌, ◌++◌, length, Result, Ok, Err, nat_lt, if◌then◌else◌, ⊎_elim, refl, ap, sym, ◌∙◌, subst, append-nil, append_assoc, arith}
+use Rattle.std.proofs.Common.{◌≡◌, ℕ, ◌+◌, ◌<◌, ◌≤◌, ◌⊎◌, inl, inr, Bool, true, false, List, [], ◌∷◌, ◌++◌, length, Result, Ok, Err, OnOk, IfErr, nat_lt, if◌then◌else◌, ⊎_elim, refl, ap, sym, ◌∙◌, subst, append-nil, append_assoc, arith}
 use Rattle.std.proofs.lemmas.Bool.{lt-ltb, le-ltb}
 use Rattle.std.proofs.lemmas.Grind.{flat_map-append}
 use Rattle.link_wire.specs.Device.{Input, Output}
@@ -7,7 +7,7 @@ use Rattle.link_wire.specs.Limits.{window_size}
 use Rattle.link_wire.specs.Message.{data_length}
 use Rattle.link_wire.specs.Source.{window_of, Takes, Readies, IsOver}
 use Rattle.link_wire.specs.Stream.{Entry, End, Clean, Cut, Fault, Stream, ended, with_entry, Reading, reading_of}
-use Rattle.link_wire.specs.Session.{source_of, left_of, joined, data_after, IsSessionAt, IsLeft, IsRead, IsUndecided, SameMessages, GaveContact, GivesContact, GaveMessage, GaveEnd, GivesNext, GaveBytes, GivesLoad}
+use Rattle.link_wire.specs.Session.{source_of, left_of, joined, data_after, IsSessionAt, IsLeft, IsRead, IsUndecided, SameMessages, GaveContact, GivesContact, GaveMessage, GaveEnd, GivesNext as SessionGivesNext, GaveBytes, GivesLoad}
 use Rattle.link_wire.proofs.Contacts.{reading-none}
 use Rattle.link_io.proofs.Sources.{Readies-takes}
 use Rattle.link_wire.specs.declared.IoFault.{IoFault}
@@ -23,9 +23,11 @@ use Rattle.link_report.specs.Fault.{fault_text}
 use Rattle.link_report.specs.declared.fault.Fault.TheVariants.{Wire}
 use Rattle.link_run.specs.Ends.{end_lines, end_status, lasting_lines, is_shown}
 use Rattle.link_run.specs.Run.{Texts, Outcome, Devices, devices_at, NoneFailed, HasWritten, Ended, WentOn, Gave, GivesStep}
-use Rattle.link_run.specs.Writers.{place_of, next_line, on_output, on_report, Writes, WritesPart, GivesReport, Unsettled}
+use Rattle.link_run.specs.Writers.{place_of, on_output, on_report, Writes, WritesPart, GivesTexts, GivesReport, Unsettled}
 use Rattle.link_list.specs.Listing.{contact_lines, message_lines, lines_of, listing, listing_by, listing_sofar, listing_sofar_by, listing_shows, list_tool}
-use Rattle.link_list.specs.ListRun.{most_given, IsWaiting, HasNoContent, IsWaitingAfter, progress_of, Begins, Lists, IsListing, GivesStage, GivesLine, GoesOn, GivesEnd}
+use Rattle.link_list.specs.ListRun.{most_given, IsWaiting, HasNoContent, IsWaitingAfter, progress_of, Begins, Lists, IsListing, IsDue, GivesStage, GivesNext, GivesLine, GoesOn, GivesEnd}
+use Rattle.link_list.specs.declared.listing.Next.{Next}
+use Rattle.link_list.specs.declared.listing.Next.TheVariants as next
 use Rattle.link_list.specs.declared.listing.Stage.{Stage}
 use Rattle.link_list.specs.declared.listing.Stage.TheVariants as stage
 use Rattle.link_run.specs.declared.run.Progress.{Progress}
@@ -88,8 +90,8 @@ module _ (history given : List ℕ) where
 -- ---- steps
 
 module _ {R W E : Type 0} (in_look : R → Input) (out_look : W → Output) (report_look : E → Output) (start : Devices R W E) where
-  -- the line waits, or was written
-  module _ (now : Stage) (old new : Session R) (before mid after : Writers W E) (history given : List ℕ)
+  -- a message was given, in whole or in part
+  module _ (now : Stage) (old new : Session R) (before mid : Writers W E) (line history given : List ℕ)
       (output : mid.output ≡ before.output) (report : mid.report ≡ before.report)
       (written : HasWritten in_look out_look report_look start (place_of (source_of old) before) history (listing_sofar history))
       (sound : NoneFailed in_look out_look report_look (devices_at (place_of (source_of old) before)))
@@ -103,58 +105,74 @@ module _ {R W E : Type 0} (in_look : R → Input) (out_look : W → Output) (rep
     mid_sound : NoneFailed in_look out_look report_look (devices_at (place_of (source_of new) mid))
     mid_sound = record { reader = takes.device ∙ sound.reader; output = ap (λ w. (out_look w).failed) output ∙ sound.output; report = ap (λ e. (report_look e).failed) report ∙ sound.report }
 
-    -- the line waits for data
-    waits : after ≡ mid → listing_sofar (history ++ given) ≡ listing_sofar history → IsWaiting stage.Data (next_line mid) (reading_of (history ++ given)).end
-        → IsWaitingAfter now (reading_of (history ++ given)).end → GivesStage in_look out_look report_look start now old new before after history stage.Data
-    waits same texts waiting after_step =
-        let P : Writers W E → Type 0 = λ w. Lists in_look out_look report_look start stage.Data new w (history ++ given) in
-        record {
-          given = given;
-          some = λ may. some;
-          size = size;
-          count = takes.count;
-          window = takes.window.less some;
-          at = (subst P (sym same) (record { session = at; written = written_as in_look out_look report_look mid_written refl (sym texts); sound = mid_sound; waits = waiting }), after_step);
-        }
+    -- its line waits for data
+    pub waits : listing_sofar (history ++ given) ≡ listing_sofar history → IsWaiting stage.Data line (reading_of (history ++ given)).end
+        → IsWaitingAfter now (reading_of (history ++ given)).end → GivesStage in_look out_look report_look start now old new before mid line history stage.Data
+    waits texts waiting after_step = record {
+      given = given;
+      some = λ may. some;
+      size = size;
+      count = takes.count;
+      window = takes.window.less some;
+      at = (record { session = at; written = written_as in_look out_look report_look mid_written refl (sym texts); sound = mid_sound; waits = waiting }, after_step);
+    }
 
-    -- the line was written
-    wrote : Writes out_look report_look mid after (on_output (next_line mid)) → listing_sofar (history ++ given) ≡ listing_sofar history then on_output (next_line mid) → (reading_of (history ++ given)).end ≡ Clean
-        → WentOn in_look out_look report_look (place_of (source_of old) before) (place_of (source_of new) after) (Lists in_look out_look report_look start stage.Message new after) (most_given now) history
-    wrote writes texts clean =
-        let P : End → Type 0 = λ end. IsWaiting stage.Message (next_line after) end in
+    -- its line is due
+    pub due : listing_sofar (history ++ given) ≡ listing_sofar history then on_output line → (reading_of (history ++ given)).end ≡ Clean
+        → IsDue in_look out_look report_look start now old new mid line history
+    due texts clean = record {
+      given = given;
+      some = some;
+      size = size;
+      count = takes.count;
+      window = takes.window.less some;
+      session = at;
+      written = mid_written;
+      sound = mid_sound;
+      texts = texts ∙ texts_as refl (append-nil _);
+      clean = clean;
+    }
+
+  -- the line that was due
+  module _ (now : Stage) (old new : Session R) (before mid after : Writers W E) (text line history : List ℕ) (at : IsDue in_look out_look report_look start now old new mid text history) where
+    due_texts : listing_sofar (history ++ at.given) ≡ listing_sofar history then on_output text
+    due_texts = at.texts ∙ texts_as refl (sym (append-nil _))
+
+    -- was written
+    wrote : Writes out_look report_look mid after (on_output text)
+        → WentOn in_look out_look report_look (place_of (source_of old) before) (place_of (source_of new) after) (Lists in_look out_look report_look start stage.Message new after line) (most_given now) history
+    wrote writes =
+        let P : End → Type 0 = λ end. IsWaiting stage.Message line end in
         record {
-          given = given;
-          some = λ may. some;
-          size = size;
-          count = takes.count;
-          window = takes.window.less some;
+          given = at.given;
+          some = λ may. at.some;
+          size = at.size;
+          count = at.count;
+          window = at.window;
           at = record {
-            session = at;
-            written = written_as in_look out_look report_look (written_more in_look out_look report_look start (source_of new) mid after (history ++ given) (listing_sofar history) (on_output (next_line mid)) mid_written writes) refl (sym texts);
-            sound = sound_written in_look out_look report_look (source_of new) mid after (on_output (next_line mid)) mid_sound writes;
-            waits = subst P (sym clean) refl;
+            session = at.session;
+            written = written_as in_look out_look report_look (written_more in_look out_look report_look start (source_of new) mid after (history ++ at.given) (listing_sofar history) (on_output text) at.written writes) refl (sym due_texts);
+            sound = sound_written in_look out_look report_look (source_of new) mid after (on_output text) at.sound writes;
+            waits = subst P (sym at.clean) refl;
           };
         }
 
-    -- the output failed in the line
-    lost : (fault : IoFault) → WritesPart out_look report_look mid after (on_output (next_line mid)) fault → listing_sofar (history ++ given) ≡ listing_sofar history then on_output (next_line mid)
+    -- the output failed in it
+    lost : (fault : IoFault) → WritesPart out_look report_look mid after (on_output text) fault
         → Ended in_look out_look report_look list_tool start (devices_at (place_of (source_of new) after)) (most_given now) history (Err fault)
-    lost fault part texts = record {
-      given = given;
-      size = size;
-      gave = writer_lost in_look out_look report_look list_tool start (source_of new) mid after (history ++ given) (listing_sofar history) (on_output (next_line mid)) (listing_sofar (history ++ given)) fault mid_written mid_sound (sym texts) (inl refl) (takes.window.less some)
-          (λ some_output. inr (record { front = history; rest = given; parts = refl; is = refl })) part;
+    lost fault part = record {
+      given = at.given;
+      size = at.size;
+      gave = writer_lost in_look out_look report_look list_tool start (source_of new) mid after (history ++ at.given) (listing_sofar history) (on_output text) (listing_sofar (history ++ at.given)) fault at.written at.sound (sym due_texts) (inl refl) at.window
+          (λ some_output. inr (record { front = history; rest = at.given; parts = refl; is = refl })) part;
     }
 
-    pub goes_on : (next : Stage)
-        → (0 < left_of new → (listing_sofar (history ++ given) ≡ listing_sofar history) × IsWaiting stage.Data (next_line mid) (reading_of (history ++ given)).end × IsWaitingAfter now (reading_of (history ++ given)).end)
-        → (left_of new ≡ 0 → (listing_sofar (history ++ given) ≡ listing_sofar history then on_output (next_line mid)) × ((reading_of (history ++ given)).end ≡ Clean))
-        → GoesOn out_look report_look (left_of new) mid after next → GivesStage in_look out_look report_look start now old new before after history next
-    goes_on stage.Contact more whole went = absurd went
-    goes_on stage.Message more whole went = let written = whole went.0 in wrote went.1 written.0 written.1
-    goes_on stage.Data more whole went = let written = more went.0 in waits went.1 written.0 written.1 written.2
-    goes_on (stage.Ended (Ok status)) more whole went = absurd went
-    goes_on (stage.Ended (Err fault)) more whole went = let written = whole went.0 in lost fault went.1 written.0
+    pub line_given : (next : Stage) → GivesLine out_look report_look text mid after next → GivesStage in_look out_look report_look start now old new before after line history next
+    line_given stage.Contact gives = absurd gives
+    line_given stage.Message gives = wrote gives
+    line_given stage.Data gives = absurd gives
+    line_given (stage.Ended (Ok status)) gives = absurd gives
+    line_given (stage.Ended (Err fault)) gives = lost fault gives
 
   -- a fault of the wire, or a failure of the reader
   module _ (now : Stage) (old new : Session R) (before after : Writers W E) (history given : List ℕ) (texts : Texts)
@@ -198,14 +216,6 @@ nothing_read : listing_sofar [] ≡ no_texts
 nothing_read = sofar_is [] _ reading-none ∙ texts_as no_lines refl
 
 module _ {R W E : Type 0} (in_look : R → Input) (out_look : W → Output) (report_look : E → Output) (start : Devices R W E) where
-  -- a line that is written at once
-  at_once : (left : ℕ) (mid after : Writers W E) (next : Stage) → left ≡ 0 → GivesLine out_look report_look mid after next → GoesOn out_look report_look left mid after next
-  at_once left mid after stage.Contact none gives = absurd gives
-  at_once left mid after stage.Message none gives = (none, gives)
-  at_once left mid after stage.Data none gives = absurd gives
-  at_once left mid after (stage.Ended (Ok status)) none gives = absurd gives
-  at_once left mid after (stage.Ended (Err fault)) none gives = (none, gives)
-
   -- nothing was given before the contact header
   pub from_nothing : (old : Session R) (before : Writers W E) (history : List ℕ) (P : List ℕ → Type 0) → Begins in_look out_look report_look start old before history → (Begins in_look out_look report_look start old before [] → P []) → P history
   from_nothing old before history P fresh by =
@@ -216,32 +226,31 @@ module _ {R W E : Type 0} (in_look : R → Input) (out_look : W → Output) (rep
     begun : HasWritten in_look out_look report_look start (place_of (source_of old) before) [] (listing_sofar [])
     begun = written_as in_look out_look report_look fresh.written refl (sym nothing_read)
 
-    pub contact_step : (mid after : Writers W E) (contact : Contact) (next : Stage) → mid.output ≡ before.output → mid.report ≡ before.report → next_line mid ≡ contact_text contact
-        → GaveContact in_look old new contact → GivesLine out_look report_look mid after next → GivesStage in_look out_look report_look start stage.Contact old new before after [] next
-    contact_step mid after contact next output report line got gives =
+    pub contact_step : (mid after : Writers W E) (line : List ℕ) (contact : Contact) (next : Stage) → mid.output ≡ before.output → mid.report ≡ before.report
+        → GaveContact in_look old new contact → GivesLine out_look report_look (contact_text contact) mid after next → GivesStage in_look out_look report_look start stage.Contact old new before after line [] next
+    contact_step mid after line contact next output report got gives =
         let given = got.given in
         let size = got.size in
-        let texts : listing_sofar given ≡ listing_sofar [] then on_output (next_line mid) =
-        sofar_is given _ got.reading ∙ texts_as (ap (λ xs. contact_text contact ++ xs) no_lines ∙ append-nil (contact_text contact) ∙ sym line ∙ ap (λ (t : Texts). t.output ++ next_line mid) (sym nothing_read)) (ap (λ (t : Texts). t.report ++ []) (sym nothing_read)) in
-        goes_on in_look out_look report_look start stage.Contact old new before mid after [] given output report begun fresh.sound got.takes (omega arith) (omega arith) got.at next
-        (λ more. let none = got.between in absurd (omega arith))
-        (λ none. (texts, ap (λ (r : Reading). r.end) got.reading))
-        (at_once (left_of new) mid after next got.between gives)
+        let text = contact_text contact in
+        let texts : listing_sofar given ≡ listing_sofar [] then on_output text =
+        sofar_is given _ got.reading ∙ texts_as (ap (λ xs. text ++ xs) no_lines ∙ append-nil text ∙ ap (λ (t : Texts). t.output ++ text) (sym nothing_read)) (ap (λ (t : Texts). t.report ++ []) (sym nothing_read)) in
+        let is_due = due in_look out_look report_look start stage.Contact old new before mid text [] given output report begun fresh.sound got.takes (omega arith) (omega arith) got.at texts (ap (λ (r : Reading). r.end) got.reading) in
+        line_given in_look out_look report_look start stage.Contact old new before mid after text line [] is_due next gives
 
-    pub contact_ended : (after : Writers W E) (why : Stop) (next : Stage) → GivesContact in_look old new (Err why) → GivesEnd out_look report_look why before after next → GivesStage in_look out_look report_look start stage.Contact old new before after [] next
-    contact_ended after (stop.Wire offset fault) stage.Contact got gives = absurd gives
-    contact_ended after (stop.Wire offset fault) stage.Message got gives = absurd gives
-    contact_ended after (stop.Wire offset fault) stage.Data got gives = absurd gives
-    contact_ended after (stop.Io fault) stage.Contact got gives = absurd gives
-    contact_ended after (stop.Io fault) stage.Message got gives = absurd gives
-    contact_ended after (stop.Io fault) stage.Data got gives = absurd gives
-    contact_ended after (stop.Wire offset fault) (stage.Ended answer) got gives =
+    pub contact_ended : (after : Writers W E) (line : List ℕ) (why : Stop) (next : Stage) → GivesContact in_look old new (Err why) → GivesEnd out_look report_look why before after next → GivesStage in_look out_look report_look start stage.Contact old new before after line [] next
+    contact_ended after line (stop.Wire offset fault) stage.Contact got gives = absurd gives
+    contact_ended after line (stop.Wire offset fault) stage.Message got gives = absurd gives
+    contact_ended after line (stop.Wire offset fault) stage.Data got gives = absurd gives
+    contact_ended after line (stop.Io fault) stage.Contact got gives = absurd gives
+    contact_ended after line (stop.Io fault) stage.Message got gives = absurd gives
+    contact_ended after line (stop.Io fault) stage.Data got gives = absurd gives
+    contact_ended after line (stop.Wire offset fault) (stage.Ended answer) got gives =
         let place : (let e : End = Fault 0 fault in e) ≡ Fault offset fault = ap (λ n. let e : End = Fault n fault in e) (sym got.place) in
         fault_reported in_look out_look report_look start stage.Contact old new before after [] got.given (listing_sofar []) begun fresh.sound offset fault _ got.takes got.is_read
         (ap (λ (t : Texts). t.output) nothing_read ∙ sym no_lines) (ap (λ (t : Texts). t.report) nothing_read)
         (ap end_lines place) refl (λ other. ap lasting_lines place ∙ lasting_as offset fault other) answer got.size
         (few_at_fault in_look (source_of old) (source_of new) [] got.given 0 fault _ got.takes got.is_read refl (ap (λ (r : Reading). is_shown r.end) reading-none)) gives
-    contact_ended after (stop.Io fault) (stage.Ended answer) got gives =
+    contact_ended after line (stop.Io fault) (stage.Ended answer) got gives =
         let size = got.size in
         read_failed in_look out_look report_look list_tool start (most_given stage.Contact) (source_of old) (source_of new) before after [] got.given (listing_sofar []) begun fresh.sound (omega arith) fault answer got.stops
         (nothing_read ∙ sym (sofar_is got.given _ got.reading ∙ texts_as no_lines refl)) (shows_is got.given _ got.reading) gives.0 gives.1
@@ -249,26 +258,31 @@ module _ {R W E : Type 0} (in_look : R → Input) (out_look : W → Output) (rep
 -- ---- messages
 
 module _ {R W E : Type 0} (in_look : R → Input) (out_look : W → Output) (report_look : E → Output) (start : Devices R W E) where
-  module _ (old new : Session R) (before : Writers W E) (history : List ℕ) (at : Lists in_look out_look report_look start stage.Message old before history) where
+  module _ (old new : Session R) (before : Writers W E) (last history : List ℕ) (at : Lists in_look out_look report_look start stage.Message old before last history) where
     standing : lasting_lines (reading_of history).end ≡ []
     standing = standing_lines old.offset old.left (reading_of history).end at.session.left
 
-    pub message_step : (mid after : Writers W E) (offset : ℕ) (message : Message) (next : Stage) → mid.output ≡ before.output → mid.report ≡ before.report → next_line mid ≡ message_text offset message
-        → GaveMessage in_look old new history offset message → GoesOn out_look report_look (left_of new) mid after next → GivesStage in_look out_look report_look start stage.Message old new before after history next
-    message_step mid after offset message next output report line got gives =
-        let given = got.given in
-        goes_on in_look out_look report_look start stage.Message old new before mid after history given output report at.written at.sound got.takes got.some got.size got.at next
-        (λ more.
-        let test : nat_lt 0 (data_length message) ≡ true = lt-ltb 0 (data_length message) (omega (arith, got.left)) in
-        let reading = got.reading ∙ ap (λ b. joined (reading_of history) (if b then ended (Cut offset message []) else with_entry (record { offset = offset; message = message; content = [] }) (ended Clean))) test in
-        let P : End → Type 0 = λ end. IsWaiting stage.Data (next_line mid) end × HasNoContent end in
-        let waiting = subst P (sym (ap (λ (r : Reading). r.end) reading)) ((refl, line), refl) in
-        (sofar_same history given _ reading refl refl standing, waiting.0, waiting.1))
-        (λ none.
-        let test : nat_lt 0 (data_length message) ≡ false = le-ltb 0 (data_length message) (omega (arith, got.left)) in
-        let reading = got.reading ∙ ap (λ b. joined (reading_of history) (if b then ended (Cut offset message []) else with_entry (record { offset = offset; message = message; content = [] }) (ended Clean))) test in
-        (sofar_one history given _ _ reading refl refl standing ∙ ap (λ xs. listing_sofar history then on_output xs) (sym line), ap (λ (r : Reading). r.end) reading))
-        gives
+    module _ (offset : ℕ) (message : Message) (got : GaveMessage in_look old new history offset message) where
+      abbrev pub text : List ℕ
+      text = message_text offset message
+
+      read_head : (test : Bool) → nat_lt 0 (data_length message) ≡ test → reading_of (history ++ got.given) ≡ joined (reading_of history) (if test then ended (Cut offset message []) else with_entry (record { offset = offset; message = message; content = [] }) (ended Clean))
+      read_head test is = got.reading ∙ ap (λ b. joined (reading_of history) (if b then ended (Cut offset message []) else with_entry (record { offset = offset; message = message; content = [] }) (ended Clean))) is
+
+      pub message_step : (next : Next) → GoesOn (left_of new) next → GivesNext in_look out_look report_look start stage.Message old new before before text history next
+      message_step next.Line none =
+          let reading = read_head false (le-ltb 0 (data_length message) (omega (arith, got.left))) in
+          due in_look out_look report_look start stage.Message old new before before text history got.given refl refl at.written at.sound got.takes got.some got.size got.at
+          (sofar_one history got.given _ _ reading refl refl standing) (ap (λ (r : Reading). r.end) reading)
+      message_step (next.Stage stage.Contact) goes = absurd goes
+      message_step (next.Stage stage.Message) goes = absurd goes
+      message_step (next.Stage stage.Data) more =
+          let reading = read_head true (lt-ltb 0 (data_length message) (omega (arith, got.left))) in
+          let P : End → Type 0 = λ end. IsWaiting stage.Data text end × HasNoContent end in
+          let waiting = subst P (sym (ap (λ (r : Reading). r.end) reading)) ((refl, refl), refl) in
+          waits in_look out_look report_look start stage.Message old new before before text history got.given refl refl at.written at.sound got.takes got.some got.size got.at
+          (sofar_same history got.given _ reading refl refl standing) waiting.0 waiting.1
+      message_step (next.Stage (stage.Ended answer)) goes = absurd goes
 
     pub message_end : (after : Writers W E) → after ≡ before → GaveEnd in_look old new history → Ended in_look out_look report_look list_tool start (devices_at (place_of (source_of new) after)) (most_given stage.Message) history (Ok (record { 0 = 0 }))
     message_end after same got =
@@ -287,20 +301,20 @@ module _ {R W E : Type 0} (in_look : R → Input) (out_look : W → Output) (rep
               (few_over in_look (source_of new) got.over);
         })
 
-    pub message_ended : (after : Writers W E) (why : Stop) (next : Stage) → GivesNext in_look old new history (Err why) → GivesEnd out_look report_look why before after next → GivesStage in_look out_look report_look start stage.Message old new before after history next
-    message_ended after (stop.Wire offset fault) stage.Contact got gives = absurd gives
-    message_ended after (stop.Wire offset fault) stage.Message got gives = absurd gives
-    message_ended after (stop.Wire offset fault) stage.Data got gives = absurd gives
-    message_ended after (stop.Io fault) stage.Contact got gives = absurd gives
-    message_ended after (stop.Io fault) stage.Message got gives = absurd gives
-    message_ended after (stop.Io fault) stage.Data got gives = absurd gives
-    message_ended after (stop.Wire offset fault) (stage.Ended answer) got gives =
+    pub message_ended : (after : Writers W E) (line : List ℕ) (why : Stop) (next : Stage) → SessionGivesNext in_look old new history (Err why) → GivesEnd out_look report_look why before after next → GivesStage in_look out_look report_look start stage.Message old new before after line history next
+    message_ended after line (stop.Wire offset fault) stage.Contact got gives = absurd gives
+    message_ended after line (stop.Wire offset fault) stage.Message got gives = absurd gives
+    message_ended after line (stop.Wire offset fault) stage.Data got gives = absurd gives
+    message_ended after line (stop.Io fault) stage.Contact got gives = absurd gives
+    message_ended after line (stop.Io fault) stage.Message got gives = absurd gives
+    message_ended after line (stop.Io fault) stage.Data got gives = absurd gives
+    message_ended after line (stop.Wire offset fault) (stage.Ended answer) got gives =
         fault_reported in_look out_look report_look start stage.Message old new before after history got.given (listing_sofar history) at.written at.sound offset fault _ got.takes got.is_read
         (ap (λ (t : Texts). t.output) (sofar_is history _ refl) ∙ sym (lines_joined (reading_of history) (ended (Fault offset fault)) ∙ ap (λ xs. lines_of (reading_of history) ++ xs) no_lines ∙ append-nil (lines_of (reading_of history))))
         (ap (λ (t : Texts). t.report) (sofar_is history _ refl) ∙ standing)
         refl refl (λ other. lasting_as offset fault other) answer got.size
         (few_at_fault in_look (source_of old) (source_of new) history got.given offset fault _ got.takes got.is_read refl (standing_shown old.offset old.left _ at.session.left)) gives
-    message_ended after (stop.Io fault) (stage.Ended answer) got gives =
+    message_ended after line (stop.Io fault) (stage.Ended answer) got gives =
         let size = got.size in
         read_failed in_look out_look report_look list_tool start (most_given stage.Message) (source_of old) (source_of new) before after history got.given (listing_sofar history) at.written at.sound (omega arith) fault answer got.stops
         (sofar_undecided history got.given got.same got.undecided standing) (shows_is (history ++ got.given) _ refl ∙ undecided_shown _ got.undecided) gives.0 gives.1
@@ -308,29 +322,29 @@ module _ {R W E : Type 0} (in_look : R → Input) (out_look : W → Output) (rep
 -- ---- data
 
 module _ {R W E : Type 0} (in_look : R → Input) (out_look : W → Output) (report_look : E → Output) (start : Devices R W E) where
-  module _ (old : Session R) (before : Writers W E) (history : List ℕ) (at : Lists in_look out_look report_look start stage.Data old before history) where
+  module _ (old : Session R) (before : Writers W E) (line history : List ℕ) (at : Lists in_look out_look report_look start stage.Data old before line history) where
     -- inside the data of a segment, whose line waits
     pub record Inside : Type 0 where
       pub offset : ℕ
       pub message : Message
       pub content : List ℕ
       pub end : (reading_of history).end ≡ Cut offset message content
-      pub line : (next_line before) ≡ message_text offset message
+      pub shown : line ≡ message_text offset message
       pub left : 0 < left_of old
 
     by_end : (end : End) → (reading_of history).end ≡ end → Inside
     by_end Clean is =
-        let P : End → Type 0 = λ end. IsWaiting stage.Data (next_line before) end in
+        let P : End → Type 0 = λ end. IsWaiting stage.Data line end in
         let waiting : (let s : Stage = stage.Data in s) ≡ stage.Message = subst P is at.waits in
         absurd (cc)
     by_end (Cut offset message content) is =
-        let P : End → Type 0 = λ end. IsWaiting stage.Data (next_line before) end in
-        let waiting : ((let s : Stage = stage.Data in s) ≡ stage.Data) × ((next_line before) ≡ message_text offset message) = subst P is at.waits in
+        let P : End → Type 0 = λ end. IsWaiting stage.Data line end in
+        let waiting : ((let s : Stage = stage.Data in s) ≡ stage.Data) × (line ≡ message_text offset message) = subst P is at.waits in
         let Q : End → Type 0 = λ end. IsLeft old.offset old.left end in
         let left : (0 < old.left) × (offset ≡ old.offset) × (data_length message ≡ length content + old.left) = subst Q is at.session.left in
-        record { offset = offset; message = message; content = content; end = is; line = waiting.1; left = left.0 }
+        record { offset = offset; message = message; content = content; end = is; shown = waiting.1; left = left.0 }
     by_end (Fault offset fault) is =
-        let P : End → Type 0 = λ end. IsWaiting stage.Data (next_line before) end in
+        let P : End → Type 0 = λ end. IsWaiting stage.Data line end in
         absurd (subst P is at.waits)
 
     pub inside : Inside
@@ -347,19 +361,24 @@ module _ {R W E : Type 0} (in_look : R → Input) (out_look : W → Output) (rep
           ∙ ap (λ end. joined (reading_of history) (data_after (left_of new) bytes end)) inside.end
           ∙ ap (λ b. joined (reading_of history) (if b then ended (Cut inside.offset inside.message (inside.content ++ bytes)) else with_entry (record { offset = inside.offset; message = inside.message; content = inside.content ++ bytes }) (ended Clean))) is
 
-      pub data_step : (after : Writers W E) (next : Stage) → 0 < length bytes → length bytes ≤ most_given stage.Data → GoesOn out_look report_look (left_of new) before after next → GivesStage in_look out_look report_look start stage.Data old new before after history next
-      data_step after next some size gives =
-          goes_on in_look out_look report_look start stage.Data old new before before after history bytes refl refl at.written at.sound (Readies-takes in_look (source_of old) (source_of mid) (source_of new) bytes ready gave.takes some) some size gave.at next
-          (λ more.
-          let reading = read_data true (lt-ltb 0 (left_of new) more) in
-          let P : End → Type 0 = λ end. IsWaiting stage.Data (next_line before) end in
-          (sofar_same history bytes _ reading refl refl standing_data, subst P (sym (ap (λ (r : Reading). r.end) reading)) (refl, inside.line), tt))
-          (λ none.
-          let reading = read_data false (le-ltb 0 (left_of new) (omega arith)) in
-          (sofar_one history bytes _ _ reading refl refl standing_data ∙ ap (λ xs. listing_sofar history then on_output xs) (sym inside.line), ap (λ (r : Reading). r.end) reading))
-          gives
+      takes : 0 < length bytes → Takes in_look (source_of old) (source_of new) bytes
+      takes some = Readies-takes in_look (source_of old) (source_of mid) (source_of new) bytes ready gave.takes some
 
-    pub data_ended : (new : Session R) (after : Writers W E) (why : Stop) (next : Stage) → GivesLoad in_look old new history (Err why) → GivesEnd out_look report_look why before after next → GivesStage in_look out_look report_look start stage.Data old new before after history next
+      pub data_step : (next : Next) → 0 < length bytes → length bytes ≤ most_given stage.Data → GoesOn (left_of new) next → GivesNext in_look out_look report_look start stage.Data old new before before line history next
+      data_step next.Line some size none =
+          let reading = read_data false (le-ltb 0 (left_of new) (omega arith)) in
+          due in_look out_look report_look start stage.Data old new before before line history bytes refl refl at.written at.sound (takes some) some size gave.at
+          (sofar_one history bytes _ _ reading refl refl standing_data ∙ ap (λ xs. listing_sofar history then on_output xs) (sym inside.shown)) (ap (λ (r : Reading). r.end) reading)
+      data_step (next.Stage stage.Contact) some size goes = absurd goes
+      data_step (next.Stage stage.Message) some size goes = absurd goes
+      data_step (next.Stage stage.Data) some size more =
+          let reading = read_data true (lt-ltb 0 (left_of new) more) in
+          let P : End → Type 0 = λ end. IsWaiting stage.Data line end in
+          waits in_look out_look report_look start stage.Data old new before before line history bytes refl refl at.written at.sound (takes some) some size gave.at
+          (sofar_same history bytes _ reading refl refl standing_data) (subst P (sym (ap (λ (r : Reading). r.end) reading)) (refl, inside.shown)) tt
+      data_step (next.Stage (stage.Ended answer)) some size goes = absurd goes
+
+    pub data_ended : (new : Session R) (after : Writers W E) (why : Stop) (next : Stage) → GivesLoad in_look old new history (Err why) → GivesEnd out_look report_look why before after next → GivesStage in_look out_look report_look start stage.Data old new before after line history next
     data_ended new after (stop.Wire offset fault) stage.Contact got gives = absurd gives
     data_ended new after (stop.Wire offset fault) stage.Message got gives = absurd gives
     data_ended new after (stop.Wire offset fault) stage.Data got gives = absurd gives
@@ -376,21 +395,30 @@ module _ {R W E : Type 0} (in_look : R → Input) (out_look : W → Output) (rep
         read_failed in_look out_look report_look list_tool start (most_given stage.Data) (source_of old) (source_of new) before after history [] (listing_sofar history) at.written at.sound (omega arith) fault answer got.stops
         (ap listing_sofar (sym (append-nil history))) (ap listing_shows (append-nil history) ∙ shows_is history _ refl ∙ standing_shown old.offset old.left _ at.session.left) gives.0 gives.1
 
+-- ---- a line
+
+module _ {W E : Type 0} (out_look : W → Output) (report_look : E → Output) where
+  -- a line was written, or failed, and this stage comes after it
+  pub line_gives : (line : List ℕ) (before after : Writers W E) (written : Result (Unit {0}) IoFault) (next : Stage) → GivesTexts out_look report_look before after (on_output line) written
+      → OnOk written (next ≡ stage.Message) → IfErr written (λ fault. next ≡ stage.Ended (Err fault)) → GivesLine out_look report_look line before after next
+  line_gives line before after (Ok done) next gives ok err = rw ok gives
+  line_gives line before after (Err fault) next gives ok err = rw err gives
+
 -- ---- a step
 
 module _ {R W E : Type 0} (in_look : R → Input) (out_look : W → Output) (report_look : E → Output) (start : Devices R W E) where
   -- what a stage gives, in the words of every run
-  stage_step : (now next : Stage) (old new : Session R) (before after : Writers W E) (history : List ℕ) → GivesStage in_look out_look report_look start now old new before after history next
-      → GivesStep in_look out_look report_look list_tool start (place_of (source_of old) before) (place_of (source_of new) after) (IsListing in_look out_look report_look start next new after) (most_given now) history (progress_of next)
-  stage_step now stage.Contact old new before after history gives = absurd gives
-  stage_step now stage.Message old new before after history gives = gives
-  stage_step now stage.Data old new before after history gives = record { given = gives.given; some = gives.some; size = gives.size; count = gives.count; window = gives.window; at = gives.at.0 }
-  stage_step now (stage.Ended (Ok status)) old new before after history gives = gives
-  stage_step now (stage.Ended (Err fault)) old new before after history gives = gives
+  stage_step : (now next : Stage) (old new : Session R) (before after : Writers W E) (line history : List ℕ) → GivesStage in_look out_look report_look start now old new before after line history next
+      → GivesStep in_look out_look report_look list_tool start (place_of (source_of old) before) (place_of (source_of new) after) (IsListing in_look out_look report_look start next new after line) (most_given now) history (progress_of next)
+  stage_step now stage.Contact old new before after line history gives = absurd gives
+  stage_step now stage.Message old new before after line history gives = gives
+  stage_step now stage.Data old new before after line history gives = record { given = gives.given; some = gives.some; size = gives.size; count = gives.count; window = gives.window; at = gives.at.0 }
+  stage_step now (stage.Ended (Ok status)) old new before after line history gives = gives
+  stage_step now (stage.Ended (Err fault)) old new before after line history gives = gives
 
-  pub step_gives : (now next : Stage) (old new : Session R) (before after : Writers W E) (history : List ℕ) (result : Result Progress IoFault) → GivesStage in_look out_look report_look start now old new before after history next → result ≡ progress_of next
-      → GivesStep in_look out_look report_look list_tool start (place_of (source_of old) before) (place_of (source_of new) after) (IsListing in_look out_look report_look start next new after) (most_given now) history result
-  step_gives now next old new before after history result gives is = rw is (stage_step now next old new before after history gives)
+  pub step_gives : (now next : Stage) (old new : Session R) (before after : Writers W E) (line history : List ℕ) (result : Result Progress IoFault) → GivesStage in_look out_look report_look start now old new before after line history next → result ≡ progress_of next
+      → GivesStep in_look out_look report_look list_tool start (place_of (source_of old) before) (place_of (source_of new) after) (IsListing in_look out_look report_look start next new after line) (most_given now) history result
+  step_gives now next old new before after line history result gives is = rw is (stage_step now next old new before after line history gives)
 
 -- ---- what was written is handed on
 
@@ -401,40 +429,38 @@ waiting_shown now items (Cut offset message content) waits = refl
 waiting_shown now items (Fault offset fault) waits = absurd waits
 
 module _ {R W E : Type 0} (in_look : R → Input) (out_look : W → Output) (report_look : E → Output) (start : Devices R W E)
-    (s : Session R) (old new : Writers W E) (history : List ℕ) where
-  lists_on : (now : Stage) → Writes out_look report_look old new no_texts → next_line new ≡ next_line old
-      → Lists in_look out_look report_look start now s old history → Lists in_look out_look report_look start now s new history
-  lists_on now writes kept at =
-      let P : List ℕ → Type 0 = λ items. IsWaiting now items (reading_of history).end in
-      record {
-        session = at.session;
-        written = settle_kept out_look report_look in_look start (source_of s) old new history (listing_sofar history) at.written writes;
-        sound = sound_written in_look out_look report_look (source_of s) old new no_texts at.sound writes;
-        waits = subst P (sym kept) at.waits;
-      }
+    (s : Session R) (old new : Writers W E) (line history : List ℕ) where
+  lists_on : (now : Stage) → Writes out_look report_look old new no_texts
+      → Lists in_look out_look report_look start now s old line history → Lists in_look out_look report_look start now s new line history
+  lists_on now writes at = record {
+    session = at.session;
+    written = settle_kept out_look report_look in_look start (source_of s) old new history (listing_sofar history) at.written writes;
+    sound = sound_written in_look out_look report_look (source_of s) old new no_texts at.sound writes;
+    waits = at.waits;
+  }
 
   -- the run stands where it stood
-  pub settled : (now : Stage) → Writes out_look report_look old new no_texts → next_line new ≡ next_line old
-      → IsListing in_look out_look report_look start now s old history → IsListing in_look out_look report_look start now s new history
-  settled stage.Contact writes kept at = record {
+  pub settled : (now : Stage) → Writes out_look report_look old new no_texts
+      → IsListing in_look out_look report_look start now s old line history → IsListing in_look out_look report_look start now s new line history
+  settled stage.Contact writes at = record {
     nothing = at.nothing;
     opens = at.opens;
     written = settle_kept out_look report_look in_look start (source_of s) old new [] no_texts at.written writes;
     sound = sound_written in_look out_look report_look (source_of s) old new no_texts at.sound writes;
   }
-  settled stage.Message writes kept at = lists_on stage.Message writes kept at
-  settled stage.Data writes kept at = lists_on stage.Data writes kept at
-  settled (stage.Ended answer) writes kept at = absurd at
+  settled stage.Message writes at = lists_on stage.Message writes at
+  settled stage.Data writes at = lists_on stage.Data writes at
+  settled (stage.Ended answer) writes at = absurd at
 
   lists_lost : (now : Stage) (fault : IoFault) → Unsettled out_look report_look old new fault → length (window_of (source_of s)) < window_size
-      → Lists in_look out_look report_look start now s old history → Gave in_look out_look report_look list_tool start (devices_at (place_of (source_of s) new)) history (Err fault)
+      → Lists in_look out_look report_look start now s old line history → Gave in_look out_look report_look list_tool start (devices_at (place_of (source_of s) new)) history (Err fault)
   lists_lost now fault part few at =
       settle_lost in_look out_look report_look list_tool start (source_of s) old new history fault at.written at.sound
-      (shows_is history _ refl ∙ waiting_shown now (next_line old) _ at.waits) few part
+      (shows_is history _ refl ∙ waiting_shown now line _ at.waits) few part
 
   -- a writer failed in it
   pub settle_failed : (now : Stage) (fault : IoFault) → Unsettled out_look report_look old new fault → length (window_of (source_of s)) < window_size
-      → IsListing in_look out_look report_look start now s old history → Gave in_look out_look report_look list_tool start (devices_at (place_of (source_of s) new)) history (Err fault)
+      → IsListing in_look out_look report_look start now s old line history → Gave in_look out_look report_look list_tool start (devices_at (place_of (source_of s) new)) history (Err fault)
   settle_failed stage.Contact fault part few at =
       settle_lost in_look out_look report_look list_tool start (source_of s) old new history fault
       (written_as in_look out_look report_look at.written (sym at.nothing) (sym (ap listing_sofar at.nothing ∙ nothing_read))) at.sound

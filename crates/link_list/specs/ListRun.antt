@@ -1,9 +1,11 @@
 -- Where a run of `list` stands.
-use Rattle.std.specs.Prelude.{◌≡◌, ℕ, ◌<◌, Bool, true, List, [], Result, Ok, Err}
+use Rattle.std.specs.Prelude.{◌≡◌, ℕ, ◌+◌, ◌<◌, ◌≤◌, Bool, true, List, [], ◌++◌, length, Result, Ok, Err}
 use Rattle.link_wire.specs.Device.{Input, Output}
-use Rattle.link_wire.specs.Limits.{longest_head}
+use Rattle.link_wire.specs.Limits.{longest_head, window_size}
 use Rattle.link_wire.specs.Stream.{End, Clean, Cut, Fault, reading_of}
+use Rattle.link_wire.specs.MessageBuffer.{message_of}
 use Rattle.link_wire.specs.Session.{source_of, IsSessionAt, may_open, may_read, is_opened}
+use Rattle.link_wire.specs.Source.{given_by, window_of}
 use Rattle.link_wire.specs.declared.IoFault.{IoFault}
 use Rattle.link_wire.specs.declared.fault.Stop.{Stop}
 use Rattle.link_wire.specs.declared.fault.Stop.TheVariants as stop
@@ -11,9 +13,12 @@ use Rattle.link_wire.specs.declared.session.Session.{Session}
 use Rattle.link_report.specs.Fault.{fault_text}
 use Rattle.link_report.specs.declared.fault.Fault.TheVariants.{Wire}
 use Rattle.link_report.specs.Message.{message_text}
-use Rattle.link_run.specs.Run.{Devices, devices_at, NoneFailed, HasWritten, WentOn, Ended, answer_of}
+use Rattle.link_run.specs.Run.{Texts, Devices, devices_at, NoneFailed, HasWritten, WentOn, Ended, answer_of}
 use Rattle.link_list.specs.Listing.{list_tool, listing_sofar}
-use Rattle.link_run.specs.Writers.{place_of, next_line, on_output, Writes, WritesPart, GivesReport}
+use Rattle.link_run.specs.Writers.{place_of, on_output, Writes, WritesPart, GivesReport}
+use Rattle.link_list.specs.declared.listing.Latest.{Latest}
+use Rattle.link_list.specs.declared.listing.Next.{Next}
+use Rattle.link_list.specs.declared.listing.Next.TheVariants as next
 use Rattle.link_list.specs.declared.listing.Stage.{Stage}
 use Rattle.link_list.specs.declared.listing.Stage.TheVariants as stage
 use Rattle.link_run.specs.declared.run.Progress.{Progress}
@@ -33,6 +38,15 @@ may_go_on stage.Contact session = may_open session
 may_go_on stage.Message session = may_read session
 may_go_on stage.Data session = is_opened session
 may_go_on (stage.Ended answer) session = true
+
+-- what a session may be asked for, whatever comes next: after a line a message does
+abbrev pub may_go_next : {R : Type 0} → Next → Session R → Bool
+may_go_next next.Line session = may_read session
+may_go_next (next.Stage stage) session = may_go_on stage session
+
+-- the line of the message that was read last
+abbrev pub latest_line : Latest → List ℕ
+latest_line latest = message_text latest.offset (message_of latest.message)
 
 -- What waits, by how the reading of the bytes so far ends: between two messages nothing does, and inside the data of a
 -- segment its line.
@@ -71,42 +85,53 @@ module _ {R W E : Type 0} where
       pub sound : NoneFailed in_look out_look report_look (devices_at (place_of (source_of s) w))
 
     -- a run that was given exactly these bytes, and has written exactly what they determine
-    pub record Lists (now : Stage) (s : Session R) (w : Writers W E) (history : List ℕ) : Type 0 where
+    pub record Lists (now : Stage) (s : Session R) (w : Writers W E) (line history : List ℕ) : Type 0 where
       pub session : IsSessionAt in_look s history
       pub written : HasWritten in_look out_look report_look start (place_of (source_of s) w) history (listing_sofar history)
       pub sound : NoneFailed in_look out_look report_look (devices_at (place_of (source_of s) w))
-      pub waits : IsWaiting now (next_line w) (reading_of history).end
+      pub waits : IsWaiting now line (reading_of history).end
 
-    abbrev pub IsListing : Stage → Session R → Writers W E → List ℕ → Type 0
-    IsListing stage.Contact session writers history = Begins session writers history
-    IsListing stage.Message session writers history = Lists stage.Message session writers history
-    IsListing stage.Data session writers history = Lists stage.Data session writers history
-    IsListing (stage.Ended answer) session writers history = ⊥
+    -- by the stage, with the line of the message that was read last
+    abbrev pub IsListing : Stage → Session R → Writers W E → (line history : List ℕ) → Type 0
+    IsListing stage.Contact session writers line history = Begins session writers history
+    IsListing stage.Message session writers line history = Lists stage.Message session writers line history
+    IsListing stage.Data session writers line history = Lists stage.Data session writers line history
+    IsListing (stage.Ended answer) session writers line history = ⊥
 
     -- what a step at the stage `now` gives, that leaves the stage `next`
-    abbrev pub GivesStage : (now : Stage) → (old new : Session R) → (before after : Writers W E) → (history : List ℕ) → (next : Stage) → Type 0
-    GivesStage now old new before after history (stage.Ended answer) = Ended in_look out_look report_look list_tool start (devices_at (place_of (source_of new) after)) (most_given now) history answer
-    GivesStage now old new before after history stage.Contact = ⊥
-    GivesStage now old new before after history stage.Message = WentOn in_look out_look report_look (place_of (source_of old) before) (place_of (source_of new) after) (Lists stage.Message new after) (most_given now) history
-    GivesStage now old new before after history stage.Data = WentOn in_look out_look report_look (place_of (source_of old) before) (place_of (source_of new) after) (λ bytes. Lists stage.Data new after bytes × IsWaitingAfter now (reading_of bytes).end) (most_given now) history
+    abbrev pub GivesStage : (now : Stage) → (old new : Session R) → (before after : Writers W E) → (line history : List ℕ) → (next : Stage) → Type 0
+    GivesStage now old new before after line history (stage.Ended answer) = Ended in_look out_look report_look list_tool start (devices_at (place_of (source_of new) after)) (most_given now) history answer
+    GivesStage now old new before after line history stage.Contact = ⊥
+    GivesStage now old new before after line history stage.Message = WentOn in_look out_look report_look (place_of (source_of old) before) (place_of (source_of new) after) (Lists stage.Message new after line) (most_given now) history
+    GivesStage now old new before after line history stage.Data = WentOn in_look out_look report_look (place_of (source_of old) before) (place_of (source_of new) after) (λ bytes. Lists stage.Data new after line bytes × IsWaitingAfter now (reading_of bytes).end) (most_given now) history
+
+    -- The message that a step at the stage `now` was given is whole: nothing but its line is still to be written.
+    pub record IsDue (now : Stage) (old new : Session R) (w : Writers W E) (line history : List ℕ) : Type 0 where
+      pub given : List ℕ
+      pub some : 0 < length given
+      pub size : length given ≤ most_given now
+      pub count : given_by (source_of new) ≡ given_by (source_of old) + length given
+      pub window : length (window_of (source_of new)) < window_size
+      pub session : IsSessionAt in_look new (history ++ given)
+      pub written : HasWritten in_look out_look report_look start (place_of (source_of new) w) (history ++ given) (listing_sofar history)
+      pub sound : NoneFailed in_look out_look report_look (devices_at (place_of (source_of new) w))
+      pub texts : listing_sofar (history ++ given) ≡ record { output = (listing_sofar history).output ++ line; report = (listing_sofar history).report }
+      pub clean : (reading_of (history ++ given)).end ≡ Clean
+
+    -- what the first part of a step gives
+    abbrev pub GivesNext : (now : Stage) → (old new : Session R) → (before after : Writers W E) → (line history : List ℕ) → Next → Type 0
+    GivesNext now old new before after line history next.Line = IsDue now old new after line history
+    GivesNext now old new before after line history (next.Stage stage) = GivesStage now old new before after line history stage
 
 -- what the parts of a step do
 module _ {W E : Type 0} (out_look : W → Output) (report_look : E → Output) where
   -- the line was written, and a message comes next
-  abbrev pub GivesLine : (old new : Writers W E) → (next : Stage) → Type 0
-  GivesLine old new stage.Contact = ⊥
-  GivesLine old new stage.Message = Writes out_look report_look old new (on_output (next_line old))
-  GivesLine old new stage.Data = ⊥
-  GivesLine old new (stage.Ended (Ok status)) = ⊥
-  GivesLine old new (stage.Ended (Err fault)) = WritesPart out_look report_look old new (on_output (next_line old)) fault
-
-  -- the line waits for data, or was written
-  abbrev pub GoesOn : (left : ℕ) → (old new : Writers W E) → (next : Stage) → Type 0
-  GoesOn left old new stage.Contact = ⊥
-  GoesOn left old new stage.Message = (left ≡ 0) × Writes out_look report_look old new (on_output (next_line old))
-  GoesOn left old new stage.Data = (0 < left) × (new ≡ old)
-  GoesOn left old new (stage.Ended (Ok status)) = ⊥
-  GoesOn left old new (stage.Ended (Err fault)) = (left ≡ 0) × WritesPart out_look report_look old new (on_output (next_line old)) fault
+  abbrev pub GivesLine : (line : List ℕ) → (old new : Writers W E) → (next : Stage) → Type 0
+  GivesLine line old new stage.Contact = ⊥
+  GivesLine line old new stage.Message = Writes out_look report_look old new (on_output line)
+  GivesLine line old new stage.Data = ⊥
+  GivesLine line old new (stage.Ended (Ok status)) = ⊥
+  GivesLine line old new (stage.Ended (Err fault)) = WritesPart out_look report_look old new (on_output line) fault
 
   -- a fault of the wire was reported, or a failure of the reader ends the run
   abbrev pub GivesEnd : Stop → (old new : Writers W E) → (next : Stage) → Type 0
@@ -115,3 +140,11 @@ module _ {W E : Type 0} (out_look : W → Output) (report_look : E → Output) w
   GivesEnd why old new stage.Data = ⊥
   GivesEnd (stop.Wire offset fault) old new (stage.Ended answer) = GivesReport out_look report_look old new (fault_text (Wire offset fault)) answer
   GivesEnd (stop.Io fault) old new (stage.Ended answer) = (answer ≡ Err fault) × (new ≡ old)
+
+-- the line waits where data is to come, and is due where none is
+abbrev pub GoesOn : (left : ℕ) → Next → Type 0
+GoesOn left next.Line = left ≡ 0
+GoesOn left (next.Stage stage.Contact) = ⊥
+GoesOn left (next.Stage stage.Message) = ⊥
+GoesOn left (next.Stage stage.Data) = 0 < left
+GoesOn left (next.Stage (stage.Ended answer)) = ⊥

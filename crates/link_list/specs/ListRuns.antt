@@ -5,7 +5,7 @@ use Rattle.link_wire.specs.declared.IoFault.{IoFault}
 use Rattle.link_run.specs.Run.{Devices, Place}
 use Rattle.link_wire.specs.Session.{source_of}
 use Rattle.link_run.specs.Writers.{place_of}
-use Rattle.link_list.specs.ListRun.{most_given, progress_of, IsListing}
+use Rattle.link_list.specs.ListRun.{most_given, progress_of, latest_line, IsListing}
 use Rattle.link_list.specs.declared.listing.ListRun.{ListRun}
 use Rattle.link_list.specs.declared.listing.Stage.TheVariants as stage
 use Rattle.link_run.specs.declared.run.Progress.{Progress}
@@ -23,4 +23,4 @@ module _ {R W E : Type 0} where
   list_has_ended run answer = (given : Result Status IoFault) × (run.stage ≡ stage.Ended given) × (answer ≡ progress_of (stage.Ended given))
 
   abbrev pub list_stands : (R → Input) → (W → Output) → (E → Output) → ListRun R W E → Devices R W E → List ℕ → Type 0
-  list_stands in_look out_look report_look run start history = IsListing in_look out_look report_look start run.stage run.session run.writers history
+  list_stands in_look out_look report_look run start history = IsListing in_look out_look report_look start run.stage run.session run.writers (latest_line run.latest) history

@@ -1,14 +1,14 @@
 //! `list`: a line for the contact header and for each message of a recorded stream.
 
-ghost use Rattle.std.specs.Prelude.{◌≡◌, ◌<◌, false, true, IsTrue, List, ℕ, length};
+ghost use Rattle.std.specs.Prelude.{◌≡◌, ◌<◌, false, true, IsTrue, List, ℕ, length, Err, OnOk, IfErr};
 ghost use Rattle.link_wire.specs.Limits.{window_size};
 ghost use Rattle.link_wire.specs.Source.{window_of};
 ghost use Rattle.link_wire.specs.Session.{source_of, may_open, may_read, is_opened, left_of};
 ghost use Rattle.link_run.specs.Run.{Devices, GivesAnswer};
 ghost use Rattle.link_list.specs.Listing.{list_tool};
-ghost use Rattle.link_list.specs.ListRun.{may_go_on, IsListing, GivesStage, GivesLine, GoesOn, GivesEnd};
+ghost use Rattle.link_list.specs.ListRun.{may_go_on, may_go_next, latest_line, IsListing, GivesStage, GivesNext, GivesLine, GoesOn, GivesEnd};
 
-use link_report::{Fault, contact_line, put_message};
+use link_report::{Fault, KeptDigits, MessageText, contact_line};
 use link_run::{Progress, Run, RunEnd, Status, Writers};
 use link_wire::{InDevice, IoFault, MessageBuffer, OutDevice, Session, Source, Stop};
 
@@ -43,121 +43,175 @@ impl Stage {
     }
 }
 
+/// What comes next in a step.
+#[derive(Clone, Copy, Debug, PartialEq, Eq)]
+enum Next {
+    /// The line of a message, which is whole.
+    Line,
+    /// Nothing: the step leads to this stage.
+    Stage(Stage),
+}
+
+/// The message that was read last.
+#[derive(Drop)]
+struct Latest {
+    /// Where its type byte stands.
+    offset: u64,
+    /// Digits of that offset.
+    kept: KeptDigits,
+    message: MessageBuffer,
+}
+
 /// A run of `list`, step by step.
 #[derive(Drop)]
 pub struct ListRun<R, W, E> {
     session: Session<R>,
     writers: Writers<W, E>,
-    /// The message that was read last.
-    message: MessageBuffer,
+    latest: Latest,
     stage: Stage,
     ghost fits: { IsTrue (may_go_on stage session) },
 }
 
-/// Does what comes at this stage, and returns the next.
+/// Does what comes at this stage, and returns the next. The line of a message is written in one place, which is inlined once.
 fn take<R: InDevice, W: OutDevice, E: OutDevice>(
     stage: Stage,
     session: &mut Session<R>,
     writers: &mut Writers<W, E>,
-    message: &mut MessageBuffer,
+    latest: &mut Latest,
 ) -> Stage
     requires { IsTrue (may_go_on stage session.old) }
     ensures fits { IsTrue (may_go_on result session.new) }
-    ensures gives { (start : Devices R W E) (history : List ℕ) → IsListing R.state W.state E.state start stage session.old writers.old history →
-        GivesStage R.state W.state E.state start stage session.old session.new writers.old writers.new history result }
-    ensures ended { (answer : _) → stage ≡ Stage.Ended answer → (session.new ≡ session.old) × (writers.new ≡ writers.old) × (message.new ≡ message.old) × (result ≡ stage) }
+    ensures gives { (start : Devices R W E) (history : List ℕ) → IsListing R.state W.state E.state start stage session.old writers.old (latest_line latest.old) history →
+        GivesStage R.state W.state E.state start stage session.old session.new writers.old writers.new (latest_line latest.new) history result }
+    ensures ended { (answer : _) → stage ≡ Stage.Ended answer → (session.new ≡ session.old) × (writers.new ≡ writers.old) × (latest.new ≡ latest.old) × (result ≡ stage) }
+{
+    match read(stage, session, writers, latest) {
+        Next::Line => write_line(writers, latest),
+        Next::Stage(stage) => stage,
+    }
+}
+
+/// Does what comes at this stage, but for the line of a message that is whole.
+#[inline(always)]
+fn read<R: InDevice, W: OutDevice, E: OutDevice>(
+    stage: Stage,
+    session: &mut Session<R>,
+    writers: &mut Writers<W, E>,
+    latest: &mut Latest,
+) -> Next
+    requires { IsTrue (may_go_on stage session.old) }
+    ensures fits { IsTrue (may_go_next result session.new) }
+    ensures gives { (start : Devices R W E) (history : List ℕ) → IsListing R.state W.state E.state start stage session.old writers.old (latest_line latest.old) history →
+        GivesNext R.state W.state E.state start stage session.old session.new writers.old writers.new (latest_line latest.new) history result }
+    ensures ended { (answer : _) → stage ≡ Stage.Ended answer → (session.new ≡ session.old) × (writers.new ≡ writers.old) × (latest.new ≡ latest.old) × (result ≡ Next.Stage stage) }
 {
     match stage {
-        Stage::Contact => take_contact(session, writers),
-        Stage::Message => take_message(session, writers, message),
-        Stage::Data => take_data(session, writers),
-        Stage::Ended(answer) => Stage::Ended(answer),
+        Stage::Contact => Next::Stage(take_contact(session, writers)),
+        Stage::Message => read_message(session, writers, latest),
+        Stage::Data => pass_data(session, writers),
+        Stage::Ended(answer) => Next::Stage(Stage::Ended(answer)),
     }
 }
 
 /// Reads the contact header, and writes its line.
+#[cold]
+#[inline(never)]
 fn take_contact<R: InDevice, W: OutDevice, E: OutDevice>(
     session: &mut Session<R>,
     writers: &mut Writers<W, E>,
 ) -> Stage
     requires { IsTrue (may_open session.old) }
     ensures fits { IsTrue (may_go_on result session.new) }
-    ensures gives { (start : Devices R W E) (history : List ℕ) → IsListing R.state W.state E.state start Stage.Contact session.old writers.old history →
-        GivesStage R.state W.state E.state start Stage.Contact session.old session.new writers.old writers.new history result }
+    ensures gives { (start : Devices R W E) (line history : List ℕ) → IsListing R.state W.state E.state start Stage.Contact session.old writers.old line history →
+        GivesStage R.state W.state E.state start Stage.Contact session.old session.new writers.old writers.new line history result }
 {
     match session.open() {
         Ok(contact) => {
             writers.clear_line();
             contact_line(&mut writers.line, &contact);
-            write_line(writers)
+            after_line(writers.write_line())
         }
         Err(stop) => end(writers, stop),
     }
 }
 
-/// Reads the head of a message, and writes its line if it has no data.
-fn take_message<R: InDevice, W: OutDevice, E: OutDevice>(
+/// Reads the head of a message.
+#[inline(always)]
+fn read_message<R: InDevice, W: OutDevice, E: OutDevice>(
     session: &mut Session<R>,
     writers: &mut Writers<W, E>,
-    message: &mut MessageBuffer,
-) -> Stage
+    latest: &mut Latest,
+) -> Next
     requires { IsTrue (may_read session.old) }
-    ensures fits { IsTrue (may_go_on result session.new) }
-    ensures gives { (start : Devices R W E) (history : List ℕ) → IsListing R.state W.state E.state start Stage.Message session.old writers.old history →
-        GivesStage R.state W.state E.state start Stage.Message session.old session.new writers.old writers.new history result }
+    ensures fits { IsTrue (may_go_next result session.new) }
+    ensures gives { (start : Devices R W E) (history : List ℕ) → IsListing R.state W.state E.state start Stage.Message session.old writers.old (latest_line latest.old) history →
+        GivesNext R.state W.state E.state start Stage.Message session.old session.new writers.old writers.new (latest_line latest.new) history result }
 {
-    match session.read_next(message) {
+    match session.read_next(&mut latest.message) {
         Ok(Some(offset)) => {
-            writers.begin_line();
-            put_message(&mut writers.line, offset, message);
-            go_on(session, writers)
+            latest.offset = offset;
+            go_on(session)
         }
-        Ok(None) => Stage::Ended(Ok(Status::CLEAN)),
-        Err(stop) => end(writers, stop),
+        Ok(None) => Next::Stage(Stage::Ended(Ok(Status::CLEAN))),
+        Err(stop) => Next::Stage(end(writers, stop)),
     }
 }
 
-/// Passes over a piece of a segment's data, and writes the segment's line after the last.
-fn take_data<R: InDevice, W: OutDevice, E: OutDevice>(
+/// Passes over a piece of a segment's data.
+#[inline(always)]
+fn pass_data<R: InDevice, W: OutDevice, E: OutDevice>(
     session: &mut Session<R>,
     writers: &mut Writers<W, E>,
-) -> Stage
+) -> Next
     requires { IsTrue (is_opened session.old) }
-    ensures fits { IsTrue (may_go_on result session.new) }
-    ensures gives { (start : Devices R W E) (history : List ℕ) → IsListing R.state W.state E.state start Stage.Data session.old writers.old history →
-        GivesStage R.state W.state E.state start Stage.Data session.old session.new writers.old writers.new history result }
+    ensures fits { IsTrue (may_go_next result session.new) }
+    ensures gives { (start : Devices R W E) (line history : List ℕ) → IsListing R.state W.state E.state start Stage.Data session.old writers.old line history →
+        GivesNext R.state W.state E.state start Stage.Data session.old session.new writers.old writers.new line history result }
 {
     match session.load() {
         Ok(ready) => {
             session.pass(ready.min(PIECE));
-            go_on(session, writers)
+            go_on(session)
         }
-        Err(stop) => end(writers, stop),
+        Err(stop) => Next::Stage(end(writers, stop)),
     }
 }
 
-/// Writes the line, unless data of the segment is to come.
+/// The line of the message that was read last comes next, unless data of it is to come.
 #[inline(always)]
-fn go_on<R: InDevice, W: OutDevice, E: OutDevice>(
-    session: &Session<R>,
-    writers: &mut Writers<W, E>,
-) -> Stage
+fn go_on<R: InDevice>(session: &Session<R>) -> Next
     requires { IsTrue (is_opened session.now) }
-    ensures fits { IsTrue (may_go_on result session.now) }
-    ensures line { GoesOn W.state E.state (left_of session.now) writers.old writers.new result }
+    ensures fits { IsTrue (may_go_next result session.now) }
+    ensures goes { GoesOn (left_of session.now) result }
 {
     if session.left() > 0 {
-        return Stage::Data;
+        return Next::Stage(Stage::Data);
     }
-    write_line(writers)
+    Next::Line
 }
 
-/// Writes the line: a message comes next.
+/// Writes the line of the message that was read last.
 #[inline(always)]
-fn write_line<W: OutDevice, E: OutDevice>(writers: &mut Writers<W, E>) -> Stage
-    ensures { GivesLine W.state E.state writers.old writers.new result }
+fn write_line<W: OutDevice, E: OutDevice>(writers: &mut Writers<W, E>, latest: &mut Latest) -> Stage
+    ensures line { GivesLine W.state E.state (latest_line latest.old) writers.old writers.new result }
+    ensures latest { latest_line latest.new ≡ latest_line latest.old }
 {
-    match writers.write_line() {
+    latest.kept.keep(latest.offset);
+    let line = MessageText {
+        offset: latest.offset,
+        message: &latest.message,
+        kept: &latest.kept,
+    };
+    after_line(writers.write_text(&line))
+}
+
+/// After a line was written a message comes next.
+#[inline(always)]
+fn after_line(written: Result<(), IoFault>) -> Stage
+    ensures ok { OnOk written (result ≡ Stage.Message) }
+    ensures err { IfErr written (λ fault. result ≡ Stage.Ended (Err fault)) }
+{
+    match written {
         Ok(()) => Stage::Message,
         Err(fault) => Stage::Ended(Err(fault)),
     }
@@ -203,7 +257,11 @@ impl<R: InDevice, W: OutDevice, E: OutDevice> ListRun<R, W, E> {
         ListRun {
             session: Session::new(Source::new(reader)),
             writers: Writers::new(output, report),
-            message: MessageBuffer::new(),
+            latest: Latest {
+                offset: 0,
+                kept: KeptDigits::new(),
+                message: MessageBuffer::new(),
+            },
             stage: Stage::Contact,
         }
     }
@@ -242,7 +300,7 @@ impl<R: InDevice, W: OutDevice, E: OutDevice> Run<R, W, E> for ListRun<R, W, E> 
             self.stage,
             &mut self.session,
             &mut self.writers,
-            &mut self.message,
+            &mut self.latest,
         );
         self.stage = next;
         next.progress()
@@ -263,7 +321,7 @@ impl<R: InDevice, W: OutDevice, E: OutDevice> Run<R, W, E> for ListRun<R, W, E> 
         let ListRun {
             session,
             writers,
-            message: _,
+            latest: _,
             stage: _,
         } = self;
         let (output, report) = writers.into_parts();

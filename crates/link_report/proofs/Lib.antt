@@ -2,3 +2,5 @@ mod Digits
 mod Lengths
 mod Escapes
 mod Segments
+mod Pages
+mod Pairs

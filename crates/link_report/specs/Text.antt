@@ -1,5 +1,5 @@
 -- Pieces of a line's text.
-use Rattle.std.specs.Prelude.{ℕ, ◌/◌, ◌%◌, ◌==◌, ◌&&◌, nat_le, not, Bool, if◌then◌else◌, List, [], ◌∷◌, ◌++◌, slice_index, codes, decimal}
+use Rattle.std.specs.Prelude.{ℕ, ◌+◌, ◌/◌, ◌%◌, ◌==◌, ◌&&◌, nat_le, not, Bool, if◌then◌else◌, List, [], ◌∷◌, ◌++◌, slice_index, codes, decimal}
 use Rattle.std.specs.List.{flat_map}
 
 -- the lower-case hexadecimal digit of a number below 16
@@ -13,6 +13,10 @@ hex2 byte = hex_digit (byte / 16) ∷ hex_digit (byte % 16) ∷ []
 -- a number of two bytes as four digits
 unfoldable pub hex4 : ℕ → List ℕ
 hex4 number = hex2 (number / 256) ++ hex2 (number % 256)
+
+-- a number below 100 as two decimal digits
+abbrev pub two_digits : ℕ → List ℕ
+two_digits number = (48 + number / 10) ∷ (48 + number % 10) ∷ []
 
 -- whether a byte of an escaped text stands for itself
 unfoldable pub is_plain : ℕ → Bool

@@ -13,8 +13,7 @@
 //! ```
 //!
 //! [`transfer_view_line`] and [`packed_view_line`] make a line from references; [`transfer_line`] and [`packed_line`]
-//! make the same line from values. [`put_message`] appends what [`message_line`] makes, behind at most
-//! [`MESSAGE_FRONT`] bytes of other lines: a [`Line`] that is cleared is blanked, so it is better cleared once for many.
+//! make the same line from values. [`MessageText`] is the line that [`message_line`] makes, and is made where it is to stand.
 #![tactic(auto)]
 
 mod bundle_fault;
@@ -23,8 +22,10 @@ mod bundle_tests;
 mod fault;
 mod identity;
 mod judgement;
+mod kept_digits;
 mod message;
 mod packed;
+mod page;
 mod put;
 mod reason;
 #[cfg(test)]
@@ -33,7 +34,8 @@ mod transfer;
 
 pub use fault::{Fault, fault_line};
 pub use judgement::{Judgement, JudgementView, judge};
-pub use message::{MESSAGE_FRONT, contact_line, message_line, put_message};
+pub use kept_digits::KeptDigits;
+pub use message::{MessageText, contact_line, message_line};
 pub use packed::{PackedEntry, PackedView, packed_line, packed_view_line};
 pub use put::{LINE_MAX, Line, put_decimal, put_escaped, put_hex2, put_hex4, put_text};
 pub use transfer::{TransferEntry, TransferView, transfer_line, transfer_view_line};

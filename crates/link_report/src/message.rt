@@ -1,20 +1,33 @@
 //! The lines of the contact header and of the messages (RFC 9174 sections 4.2 to 6.1).
 
-ghost use Rattle.std.specs.Prelude.{◌≡◌, ◌+◌, ◌*◌, ◌<◌, ◌≤◌, [], ◌++◌, length};
+ghost use Rattle.std.specs.Prelude.{◌≡◌, ◌+◌, ◌*◌, ◌≤◌, [], ◌++◌, length, take, codes};
 ghost use Rattle.std.specs.List.{flat_map};
 ghost use Rattle.arrayvec.specs.ArrayVec.{array_vec_len};
 ghost use Rattle.link_wire.specs.MessageBuffer.{message_of, message_with};
-ghost use Rattle.link_report.specs.Text.{escaped};
+ghost use Rattle.link_report.specs.Reason.{name_in, refuse_names, term_names, reject_names};
+ghost use Rattle.link_report.specs.Text.{escaped, hex2, number_text};
 ghost use Rattle.link_report.specs.Message.{flags_text, reason_text, item_text, items_text, parameters_text, start_items_text, segment_text, body_text, contact_text, message_text};
 
+use crate::kept_digits::KeptDigits;
+use crate::page::{write_hex2, write_number, write_text};
 use crate::put::{
-    LINE_MAX, Line, put_decimal, put_escaped, put_hex2, put_hex4, put_number, put_text,
+    LINE_MAX, Line, put_bytes, put_escaped, put_hex2, put_hex4, put_number, put_text,
 };
 use crate::reason::{refuse_name, reject_name, term_name};
-use link_wire::{Contact, Fields, Item, MAX_ITEMS, MAX_NODE_ID, Message, MessageBuffer, START};
+use link_wire::{
+    Contact, Fields, Item, MAX_ITEMS, MAX_NODE_ID, Message, MessageBuffer, START, TEXT_MAX, Text,
+    copy_into,
+};
 
-/// The most bytes that stand in a line before a message's line is appended, so that it has room.
-pub const MESSAGE_FRONT: usize = 1024;
+/// The most bytes of a list: 27, and 34 for each item.
+const ITEMS_MAX: usize = 27 + 34 * MAX_ITEMS;
+
+/// The most bytes that the line of a message with a reason has between its offset and its newline, and some.
+const REASON_MAX: usize = 80;
+
+/// The most bytes that a line has between its offset and its newline: those of a SESS_INIT, 114, the node ID with each byte
+/// escaped, and the list.
+const BODY_MAX: usize = 114 + 4 * MAX_NODE_ID + ITEMS_MAX;
 
 /// Appends ` flags=` and the flags.
 #[tactic(auto, unfolding(crate::specs::Message::flags_text))]
@@ -28,17 +41,18 @@ fn put_flags(line: &mut Line, flags: u8)
     put_hex2(line, flags);
 }
 
-/// Appends ` reason=`, the code of a reason and its name.
+/// Writes ` reason=`, the code of a reason and its name.
 #[tactic(auto, unfolding(crate::specs::Message::reason_text))]
-fn put_reason(line: &mut Line, reason: u8, name: &str)
-    requires { array_vec_len line.old + 11 + length name.now ≤ LINE_MAX }
-    ensures items { line.new.items ≡ line.old.items ++ reason_text reason name.now }
-    ensures len { array_vec_len line.new ≡ array_vec_len line.old + 11 + length name.now }
+fn write_reason(page: &mut [u8], at: usize, reason: u8, name: &str) -> usize
+    requires { at + 11 + length name.now ≤ length page.old }
+    ensures text { take result page.new ≡ take at page.old ++ reason_text reason name.now }
+    ensures end { result ≡ at + 11 + length name.now }
+    ensures size { length page.new ≡ length page.old }
 {
-    put_text(line, " reason=");
-    put_hex2(line, reason);
-    put_text(line, "/");
-    put_text(line, name);
+    let at = write_text(page, at, " reason=");
+    let at = write_hex2(page, at, reason);
+    let at = write_text(page, at, "/");
+    write_text(page, at, name)
 }
 
 /// Appends ` item=`, the flags, the type and the length of an extension item: 14 bytes and a number
@@ -69,20 +83,6 @@ fn put_items(line: &mut Line, items: &[Item])
     }
 }
 
-/// `put_items` for a segment: most transfers begin without items.
-#[inline(always)]
-fn put_list(line: &mut Line, items: &[Item])
-    requires { array_vec_len line.old + 27 + 34 * length items.now ≤ LINE_MAX }
-    ensures items { line.new.items ≡ line.old.items ++ items_text items.now }
-    ensures len { array_vec_len line.new ≤ array_vec_len line.old + 27 + 34 * length items.now }
-{
-    if items.is_empty() {
-        put_text(line, " items=0");
-    } else {
-        put_items(line, items);
-    }
-}
-
 /// Appends what the line of a SESS_INIT says of its parameters: 54 bytes, three numbers and the node
 /// ID.
 #[tactic(auto, unfolding(crate::specs::Message::parameters_text))]
@@ -98,82 +98,217 @@ fn put_parameters(line: &mut Line, keepalive: u16, segment_mru: u64, transfer_mr
     put_escaped(line, node);
 }
 
-/// Appends the items of a segment that begins its transfer, and nothing of another. Of the segment's line two numbers, the
-/// flags and 17 bytes stand before them, and room for the length must be left.
-#[tactic(auto, unfolding(crate::specs::Message::start_items_text))]
-#[inline(always)]
-fn put_start_items(line: &mut Line, flags: u8, items: &[Item])
-    requires before { array_vec_len line.old ≤ MESSAGE_FRONT + 66 }
-    requires items { length items.now ≤ MAX_ITEMS }
-    ensures items { line.new.items ≡ line.old.items ++ start_items_text flags items.now }
-    ensures len { array_vec_len line.new + 30 ≤ LINE_MAX }
-{
-    if flags & START == START {
-        put_list(line, items);
-    }
-}
-
-/// Appends what the line of a segment says after its offset.
-#[tactic(auto, unfolding(crate::specs::Message::segment_text, crate::specs::Message::flags_text))]
-#[inline(always)]
-fn put_segment(line: &mut Line, flags: u8, id: u64, items: &[Item], size: u64)
-    requires before { array_vec_len line.old ≤ MESSAGE_FRONT + 20 }
-    requires items { length items.now ≤ MAX_ITEMS }
-    ensures items { line.new.items ≡ line.old.items ++ segment_text flags id items.now size }
-    ensures len { array_vec_len line.new < LINE_MAX }
-{
-    put_text(line, " xfer-segment flags=");
-    put_hex2(line, flags);
-    put_number(line, " id=", id);
-    put_start_items(line, flags, items);
-    put_number(line, " length=", size);
-}
-
-/// Appends what the line of a message says after its offset. Only a SESS_INIT has a node ID, and only
-/// a SESS_INIT and a segment have items.
-#[tactic(auto, using(crate::proofs::Escapes::length_of_escaped), unfolding(crate::specs::Message::body_text, crate::specs::Message::flags_text))]
-#[inline(always)]
-fn put_body(line: &mut Line, fields: &Fields, node: &[u8], items: &[Item])
-    requires before { array_vec_len line.old ≤ MESSAGE_FRONT + 20 }
+/// Writes what the line of a SESS_INIT says after its offset.
+#[cold]
+#[inline(never)]
+#[tactic(auto, using(crate::proofs::Escapes::length_of_escaped))]
+fn write_session(
+    page: &mut [u8],
+    at: usize,
+    keepalive: u16,
+    segment_mru: u64,
+    transfer_mru: u64,
+    node: &[u8],
+    items: &[Item],
+) -> usize
+    requires room { at + BODY_MAX ≤ length page.old }
     requires node { length node.now ≤ MAX_NODE_ID }
     requires items { length items.now ≤ MAX_ITEMS }
-    ensures items { line.new.items ≡ line.old.items ++ body_text
+    ensures text { take result page.new ≡ take at page.old ++ parameters_text keepalive segment_mru transfer_mru node.now ++ items_text items.now }
+    ensures fits { result ≤ at + BODY_MAX }
+    ensures size { length page.new ≡ length page.old }
+{
+    let mut line = Line::new();
+    put_parameters(&mut line, keepalive, segment_mru, transfer_mru, node);
+    put_items(&mut line, items);
+    copy_into(page, at, &line)
+}
+
+/// Writes the items of a list that has some.
+#[cold]
+#[inline(never)]
+fn write_items(page: &mut [u8], at: usize, items: &[Item]) -> usize
+    requires room { at + ITEMS_MAX ≤ length page.old }
+    requires items { length items.now ≤ MAX_ITEMS }
+    ensures text { take result page.new ≡ take at page.old ++ items_text items.now }
+    ensures fits { result ≤ at + ITEMS_MAX }
+    ensures size { length page.new ≡ length page.old }
+{
+    let mut line = Line::new();
+    put_items(&mut line, items);
+    copy_into(page, at, &line)
+}
+
+/// Writes the items of a segment that begins its transfer, and nothing of another. Most transfers begin without items.
+#[tactic(auto, unfolding(crate::specs::Message::start_items_text))]
+#[inline(always)]
+fn write_start_items(page: &mut [u8], at: usize, flags: u8, items: &[Item]) -> usize
+    requires room { at + ITEMS_MAX ≤ length page.old }
+    requires items { length items.now ≤ MAX_ITEMS }
+    ensures text { take result page.new ≡ take at page.old ++ start_items_text flags items.now }
+    ensures fits { result ≤ at + ITEMS_MAX }
+    ensures size { length page.new ≡ length page.old }
+{
+    if flags & START != START {
+        return at;
+    }
+    if items.is_empty() {
+        return write_text(page, at, " items=0");
+    }
+    write_items(page, at, items)
+}
+
+/// Writes what the line of a segment says after its offset.
+#[tactic(auto, unfolding(crate::specs::Message::segment_text, crate::specs::Message::flags_text))]
+#[inline(always)]
+fn write_segment(page: &mut [u8], at: usize, flags: u8, id: u64, items: &[Item], size: u64) -> usize
+    requires room { at + BODY_MAX ≤ length page.old }
+    requires items { length items.now ≤ MAX_ITEMS }
+    ensures text { take result page.new ≡ take at page.old ++ segment_text flags id items.now size }
+    ensures fits { result ≤ at + BODY_MAX }
+    ensures size { length page.new ≡ length page.old }
+{
+    let at = write_text(page, at, " xfer-segment flags=");
+    let at = write_hex2(page, at, flags);
+    let at = write_number(page, at, " id=", id);
+    let at = write_start_items(page, at, flags, items);
+    write_number(page, at, " length=", size)
+}
+
+/// Writes what the line of an XFER_REFUSE says after its offset.
+#[tactic(auto, unfolding(crate::specs::Message::reason_text))]
+#[inline(never)]
+fn write_refuse(page: &mut [u8], at: usize, reason: u8, id: u64) -> usize
+    requires { at + REASON_MAX ≤ length page.old }
+    ensures text { take result page.new ≡ take at page.old
+        ++ codes " xfer-refuse" ++ reason_text reason (name_in refuse_names reason) ++ number_text (codes " id=") id }
+    ensures fits { result ≤ at + REASON_MAX }
+    ensures size { length page.new ≡ length page.old }
+{
+    let at = write_text(page, at, " xfer-refuse");
+    let at = write_reason(page, at, reason, refuse_name(reason));
+    write_number(page, at, " id=", id)
+}
+
+/// Writes what the line of a SESS_TERM says after its offset.
+#[tactic(auto, unfolding(crate::specs::Message::flags_text))]
+#[cold]
+#[inline(never)]
+fn write_sess_term(page: &mut [u8], at: usize, flags: u8, reason: u8) -> usize
+    requires { at + REASON_MAX ≤ length page.old }
+    ensures text { take result page.new ≡ take at page.old
+        ++ codes " sess-term" ++ flags_text flags ++ reason_text reason (name_in term_names reason) }
+    ensures fits { result ≤ at + REASON_MAX }
+    ensures size { length page.new ≡ length page.old }
+{
+    let at = write_text(page, at, " sess-term flags=");
+    let at = write_hex2(page, at, flags);
+    write_reason(page, at, reason, term_name(reason))
+}
+
+/// Writes what the line of a MSG_REJECT says after its offset.
+#[cold]
+#[inline(never)]
+fn write_msg_reject(page: &mut [u8], at: usize, reason: u8, header: u8) -> usize
+    requires { at + REASON_MAX ≤ length page.old }
+    ensures text { take result page.new ≡ take at page.old
+        ++ codes " msg-reject" ++ reason_text reason (name_in reject_names reason) ++ codes " header=" ++ hex2 header }
+    ensures fits { result ≤ at + REASON_MAX }
+    ensures size { length page.new ≡ length page.old }
+{
+    let at = write_text(page, at, " msg-reject");
+    let at = write_reason(page, at, reason, reject_name(reason));
+    let at = write_text(page, at, " header=");
+    write_hex2(page, at, header)
+}
+
+/// Writes what the line of a message says after its offset. Only a SESS_INIT has a node ID, and only a SESS_INIT and a
+/// segment have items.
+#[tactic(auto, unfolding(crate::specs::Message::body_text, crate::specs::Message::flags_text))]
+#[inline(always)]
+fn write_body(page: &mut [u8], at: usize, fields: &Fields, node: &[u8], items: &[Item]) -> usize
+    requires room { at + BODY_MAX ≤ length page.old }
+    requires node { length node.now ≤ MAX_NODE_ID }
+    requires items { length items.now ≤ MAX_ITEMS }
+    ensures text { take result page.new ≡ take at page.old ++ body_text
         (message_with fields.now (record { items = node.now }) (record { items = items.now })) }
-    ensures len { array_vec_len line.new < LINE_MAX }
+    ensures fits { result ≤ at + BODY_MAX }
+    ensures size { length page.new ≡ length page.old }
 {
     match *fields {
         Fields::SessInit {
             keepalive,
             segment_mru,
             transfer_mru,
-        } => {
-            put_parameters(line, keepalive, segment_mru, transfer_mru, node);
-            put_items(line, items);
-        }
-        Fields::Segment { flags, id, length } => put_segment(line, flags, id, items, length),
+        } => write_session(page, at, keepalive, segment_mru, transfer_mru, node, items),
+        Fields::Segment { flags, id, length } => write_segment(page, at, flags, id, items, length),
         Fields::Ack { flags, id, length } => {
-            put_text(line, " xfer-ack flags=");
-            put_hex2(line, flags);
-            put_number(line, " id=", id);
-            put_number(line, " length=", length);
+            let at = write_text(page, at, " xfer-ack flags=");
+            let at = write_hex2(page, at, flags);
+            let at = write_number(page, at, " id=", id);
+            write_number(page, at, " length=", length)
         }
-        Fields::Refuse { reason, id } => {
-            put_text(line, " xfer-refuse");
-            put_reason(line, reason, refuse_name(reason));
-            put_number(line, " id=", id);
-        }
-        Fields::Keepalive => put_text(line, " keepalive"),
-        Fields::SessTerm { flags, reason } => {
-            put_text(line, " sess-term");
-            put_flags(line, flags);
-            put_reason(line, reason, term_name(reason));
-        }
-        Fields::MsgReject { reason, header } => {
-            put_text(line, " msg-reject");
-            put_reason(line, reason, reject_name(reason));
-            put_text(line, " header=");
-            put_hex2(line, header);
-        }
+        Fields::Refuse { reason, id } => write_refuse(page, at, reason, id),
+        Fields::Keepalive => write_text(page, at, " keepalive"),
+        Fields::SessTerm { flags, reason } => write_sess_term(page, at, flags, reason),
+        Fields::MsgReject { reason, header } => write_msg_reject(page, at, reason, header),
+    }
+}
+
+/// Writes the line of a message, whose type byte stands at `offset`.
+#[tactic(auto, unfolding(crate::specs::Message::message_text))]
+#[inline(always)]
+fn write_message(
+    page: &mut [u8],
+    at: usize,
+    kept: &KeptDigits,
+    offset: u64,
+    fields: &Fields,
+    node: &[u8],
+    items: &[Item],
+) -> usize
+    requires room { at + TEXT_MAX ≤ length page.old }
+    requires node { length node.now ≤ MAX_NODE_ID }
+    requires items { length items.now ≤ MAX_ITEMS }
+    ensures text { take result page.new ≡ take at page.old ++ message_text offset
+        (message_with fields.now (record { items = node.now }) (record { items = items.now })) }
+    ensures fits { result ≤ at + TEXT_MAX }
+    ensures size { length page.new ≡ length page.old }
+{
+    let at = kept.write(page, at, offset);
+    let at = write_body(page, at, fields, node, items);
+    write_text(page, at, "\n")
+}
+
+/// The line of the message in a buffer.
+#[derive(Drop)]
+pub struct MessageText<'a> {
+    /// Where the type byte of the message stands.
+    pub offset: u64,
+    /// The message.
+    pub message: &'a MessageBuffer,
+    /// Digits of the offset, if they were kept: they change no text.
+    pub kept: &'a KeptDigits,
+}
+
+impl<'a> Text for MessageText<'a> {
+    ghost use Rattle.link_wire.specs.MessageBuffer.{message_of};
+    ghost use Rattle.link_report.specs.Message.{message_text};
+
+    ghost text = { λ line. message_text line.offset (message_of line.message.now) };
+
+    #[inline(always)]
+    fn put(&self, page: &mut [u8], at: usize) -> usize {
+        let message = self.message;
+        write_message(
+            page,
+            at,
+            self.kept,
+            self.offset,
+            &message.fields,
+            &message.node,
+            &message.items,
+        )
     }
 }
 
@@ -188,28 +323,25 @@ pub fn contact_line(line: &mut Line, contact: &Contact)
     put_text(line, "\n");
 }
 
-/// Appends the line of a message, whose type byte stands at `offset`.
-#[tactic(auto, using(crate::proofs::Lengths::length_of_decimal), unfolding(crate::specs::Message::message_text))]
-#[inline(always)]
+/// Makes an empty line that of the message with these fields, whose type byte stands at `offset`.
 fn put_fields(line: &mut Line, offset: u64, fields: &Fields, node: &[u8], items: &[Item])
-    requires before { array_vec_len line.old ≤ MESSAGE_FRONT }
+    requires empty { line.old.items ≡ [] }
     requires node { length node.now ≤ MAX_NODE_ID }
     requires items { length items.now ≤ MAX_ITEMS }
-    ensures { line.new.items ≡ line.old.items ++ message_text offset
+    ensures { line.new.items ≡ message_text offset
         (message_with fields.now (record { items = node.now }) (record { items = items.now })) }
 {
-    put_decimal(line, offset);
-    put_body(line, fields, node, items);
-    put_text(line, "\n");
-}
-
-/// Appends the line of the message in a buffer, whose type byte stands at `offset`.
-#[inline(always)]
-pub fn put_message(line: &mut Line, offset: u64, message: &MessageBuffer)
-    requires { array_vec_len line.old ≤ MESSAGE_FRONT }
-    ensures { line.new.items ≡ line.old.items ++ message_text offset (message_of message.now) }
-{
-    put_fields(line, offset, &message.fields, &message.node, &message.items);
+    let mut page = [0; TEXT_MAX];
+    let end = write_message(
+        &mut page,
+        0,
+        &KeptDigits::new(),
+        offset,
+        fields,
+        node,
+        items,
+    );
+    put_bytes(line, &page[..end]);
 }
 
 /// Makes an empty line that of the message whose type byte stands at `offset`.

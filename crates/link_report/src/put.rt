@@ -1,12 +1,12 @@
 //! Pieces of text, each appended to a line.
 
-ghost use Rattle.std.specs.Prelude.{◌≡◌, ◌+◌, ◌<◌, ◌≤◌, ◌++◌, length, take, decimal, codes, not};
+ghost use Rattle.std.specs.Prelude.{◌≡◌, ◌+◌, ◌<◌, ◌≤◌, ◌++◌, length, decimal, codes, not};
 ghost use Rattle.std.specs.List.{position};
 ghost use Rattle.arrayvec.specs.ArrayVec.{array_vec_len};
 ghost use Rattle.link_report.specs.Text.{hex2, hex4, escaped, is_plain, number_text};
 
+use crate::page::{hex_digits, write_decimal};
 use arrayvec::ArrayVec;
-use itoa::write_digits;
 
 /// The most bytes that a line holds, its newline among them.
 pub const LINE_MAX: usize = 9216;
@@ -16,7 +16,7 @@ pub type Line = ArrayVec<u8, LINE_MAX>;
 
 /// Appends `bytes` as they stand.
 #[inline(always)]
-fn put_bytes(line: &mut Line, bytes: &[u8])
+pub(crate) fn put_bytes(line: &mut Line, bytes: &[u8])
     requires { array_vec_len line.old + length bytes.now ≤ LINE_MAX }
     ensures items { line.new.items ≡ line.old.items ++ bytes.now }
     ensures len { array_vec_len line.new ≡ array_vec_len line.old + length bytes.now }
@@ -34,85 +34,7 @@ pub fn put_text(line: &mut Line, text: &str)
     put_bytes(line, text.as_bytes());
 }
 
-/// Appends a zero for each digit of a number of at most eight.
-#[tactic(auto, using(crate::proofs::Lengths::digits))]
-#[inline(always)]
-fn put_few_zeros(line: &mut Line, number: u64)
-    requires few { number < 100000000 }
-    requires room { array_vec_len line.old + length (decimal number) ≤ LINE_MAX }
-    ensures before { take (array_vec_len line.old) line.new.items ≡ line.old.items }
-    ensures len { array_vec_len line.new ≡ array_vec_len line.old + length (decimal number) }
-{
-    if number < 10_000 {
-        match number {
-            0..10 => put_text(line, "0"),
-            10..100 => put_text(line, "00"),
-            100..1_000 => put_text(line, "000"),
-            _ => put_text(line, "0000"),
-        }
-    } else {
-        match number {
-            10_000..100_000 => put_text(line, "00000"),
-            100_000..1_000_000 => put_text(line, "000000"),
-            1_000_000..10_000_000 => put_text(line, "0000000"),
-            _ => put_text(line, "00000000"),
-        }
-    }
-}
-
-/// Appends a zero for each digit of a number.
-#[tactic(auto, using(crate::proofs::Lengths::digits, crate::proofs::Lengths::length_of_decimal))]
-#[inline(always)]
-fn put_zeros(line: &mut Line, number: u64)
-    requires { array_vec_len line.old + length (decimal number) ≤ LINE_MAX }
-    ensures before { take (array_vec_len line.old) line.new.items ≡ line.old.items }
-    ensures len { array_vec_len line.new ≡ array_vec_len line.old + length (decimal number) }
-{
-    let mut front = number;
-    while front >= 100_000_000 {
-        front /= 100_000_000;
-        put_text(line, "00000000");
-    }
-    put_few_zeros(line, front);
-}
-
-/// Appends a digit.
-#[tactic(auto, using(crate::proofs::Lengths::one_digit))]
-#[inline(always)]
-fn put_digit(line: &mut Line, digit: u64)
-    requires digit { digit < 10 }
-    requires room { array_vec_len line.old < LINE_MAX }
-    ensures items { line.new.items ≡ line.old.items ++ decimal digit }
-    ensures len { array_vec_len line.new ≡ array_vec_len line.old + 1 }
-{
-    line.push(b'0' + digit as u8);
-}
-
-/// Appends a number of at most three digits, as most numbers of a line are but its offset.
-#[tactic(auto, using(crate::proofs::Lengths::digits, crate::proofs::Digits::few_digits))]
-#[inline(always)]
-fn put_few_digits(line: &mut Line, number: u64)
-    requires few { number < 1000 }
-    requires room { array_vec_len line.old + length (decimal number) ≤ LINE_MAX }
-    ensures items { line.new.items ≡ line.old.items ++ decimal number }
-    ensures len { array_vec_len line.new ≡ array_vec_len line.old + length (decimal number) }
-{
-    match number {
-        0..10 => put_digit(line, number),
-        10..100 => {
-            put_digit(line, number / 10);
-            put_digit(line, number % 10);
-        }
-        _ => {
-            put_digit(line, number / 100);
-            put_digit(line, number / 10 % 10);
-            put_digit(line, number % 10);
-        }
-    }
-}
-
-/// Appends `number` in decimal, without leading zeros. Those of more than three digits are written where they stay: to read
-/// back what was just written in other sizes, as a copy does, holds the processor up.
+/// Appends `number` in decimal, without leading zeros. To copy a count of bytes that is known is no call.
 #[tactic(auto, using(crate::proofs::Lengths::length_of_decimal))]
 #[inline(always)]
 pub fn put_decimal(line: &mut Line, number: u64)
@@ -120,26 +42,24 @@ pub fn put_decimal(line: &mut Line, number: u64)
     ensures items { line.new.items ≡ line.old.items ++ decimal number }
     ensures len { array_vec_len line.new ≡ array_vec_len line.old + length (decimal number) }
 {
-    if number < 1000 {
-        put_few_digits(line, number);
-        return;
+    let mut digits = [0; 20];
+    let end = write_decimal(&mut digits, 0, number);
+    match end {
+        1 => put_bytes(line, &digits[..1]),
+        2 => put_bytes(line, &digits[..2]),
+        3 => put_bytes(line, &digits[..3]),
+        _ => put_bytes(line, &digits[..end]),
     }
-    put_zeros(line, number);
-    let end = line.len();
-    write_digits(number, line.as_mut_slice(), end);
 }
 
 /// Appends `byte` as two lower-case hexadecimal digits.
-#[tactic(auto, unfolding(crate::specs::Text::hex2, hex::specs::Hex::encode_with))]
 #[inline(always)]
 pub fn put_hex2(line: &mut Line, byte: u8)
     requires { array_vec_len line.old + 2 ≤ LINE_MAX }
     ensures items { line.new.items ≡ line.old.items ++ hex2 byte }
     ensures len { array_vec_len line.new ≡ array_vec_len line.old + 2 }
 {
-    let mut digits = [0; 2];
-    hex::encode_to_slice([byte], &mut digits).unwrap();
-    put_bytes(line, &digits);
+    put_bytes(line, &hex_digits(byte));
 }
 
 /// Appends `number` as four lower-case hexadecimal digits.

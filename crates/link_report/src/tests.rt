@@ -1,10 +1,11 @@
 use crate::{
-    Fault, Line, contact_line, fault_line, message_line, put_decimal, put_escaped, put_hex2,
-    put_hex4, put_message, put_text,
+    Fault, KeptDigits, Line, MessageText, contact_line, fault_line, message_line, put_decimal,
+    put_escaped, put_hex2, put_hex4, put_text,
 };
 use link_transfer::OrderFault;
 use link_wire::{
-    Contact, Fields, Item, Items, Message, MessageBuffer, NodeId, SegmentHead, WireFault,
+    Contact, Fields, Item, Items, Message, MessageBuffer, NodeId, SegmentHead, TEXT_MAX, Text,
+    WireFault,
 };
 use std::test::Fail;
 
@@ -186,13 +187,17 @@ fn lines_of_messages_in_place(rt: HostRuntime) -> Result<(), Fail> {
     let mut message = MessageBuffer::new();
     message.node = NodeId::try_from(b"ipn:1.0".as_slice())?;
     message.items.try_push(WITH_TOTAL)?;
-    let mut line = Line::new();
+    let mut page = [b'-'; TEXT_MAX + 2];
     for (fields, want) in &rows {
         message.fields = *fields;
-        line.clear();
-        put_text(&mut line, "0 keepalive\n");
-        put_message(&mut line, 6, &message);
-        assert_eq!(rt; &line[12..], want.as_bytes(), "{want}");
+        let text = MessageText {
+            offset: 6,
+            message: &message,
+            kept: &KeptDigits::new(),
+        };
+        let end = text.put(&mut page, 2);
+        assert_eq!(rt; &page[2..end], want.as_bytes(), "{want}");
+        assert_eq!(rt; &page[..2], b"--");
     }
     Ok(())
 }

@@ -1,5 +1,5 @@
 -- What the calls of a run's writers write.
-use Rattle.std.specs.Prelude.{◌≡◌, ℕ, ◌<◌, ◌≤◌, ◌⊎◌, true, List, [], length, take, drop, Result, Ok, Err}
+use Rattle.std.specs.Prelude.{◌≡◌, ℕ, ◌<◌, ◌≤◌, ◌⊎◌, true, List, [], length, take, Result, Ok, Err}
 use Rattle.std.specs.Io.KnownBytes.{Appends}
 use Rattle.link_wire.specs.Device.{Output}
 use Rattle.link_wire.specs.declared.IoFault.{IoFault}
@@ -15,13 +15,9 @@ on_output text = record { output = text; report = [] }
 abbrev pub on_report : List ℕ → Texts
 on_report text = record { output = []; report = text }
 
--- where the line starts that is written next
-abbrev pub line_start : {W E : Type 0} → Writers W E → ℕ
-line_start writers = writers.start
-
 -- the line that is written next
 abbrev pub next_line : {W E : Type 0} → Writers W E → List ℕ
-next_line writers = drop (line_start writers) writers.line.items
+next_line writers = writers.line.items
 
 -- where a run stands, by its source and its writers
 abbrev pub place_of : {R W E : Type 0} → Source R → Writers W E → Place R W E

@@ -1,27 +1,25 @@
 //! Where a run writes: its output, its report, and the line that it writes next.
 
-ghost use Rattle.std.specs.Prelude.{◌≡◌, ◌≤◌, []};
-ghost use Rattle.arrayvec.specs.ArrayVec.{array_vec_len};
+ghost use Rattle.std.specs.Prelude.{◌≡◌, []};
 ghost use Rattle.link_report.specs.Fault.{fault_text};
 
 use crate::run::Status;
-use link_report::{Fault, Line, MESSAGE_FRONT, fault_line};
-use link_wire::{IoFault, OutDevice, write_whole};
+use link_report::{Fault, Line, fault_line};
+use link_wire::{IoFault, OutDevice, TEXT_MAX, Text, write_whole};
 
 /// The writers of a run.
 #[derive(Drop)]
 pub struct Writers<W, E> {
     pub output: W,
     pub report: E,
-    /// The line that is written next, behind lines that were written: to clear them blanks them, so many are cleared at once.
+    /// The line that is written next.
     pub line: Line,
-    /// Where the next line starts.
-    start: usize,
-    ghost within: { start ≤ array_vec_len line },
+    /// Where a text is made for a device that has no room of its own for it.
+    page: [u8; TEXT_MAX],
 }
 
 impl<W: OutDevice, E: OutDevice> Writers<W, E> {
-    ghost use Rattle.link_run.specs.Writers.{GivesTexts, GivesReport, GivesHandedOn, line_start, next_line, on_output, on_report};
+    ghost use Rattle.link_run.specs.Writers.{GivesTexts, GivesReport, GivesHandedOn, next_line, on_output, on_report};
 
     /// Writers to which nothing was written.
     pub fn new(output: W, report: E) -> Writers<W, E>
@@ -33,7 +31,7 @@ impl<W: OutDevice, E: OutDevice> Writers<W, E> {
             output,
             report,
             line: Line::new(),
-            start: 0,
+            page: [0; TEXT_MAX],
         }
     }
 
@@ -46,55 +44,37 @@ impl<W: OutDevice, E: OutDevice> Writers<W, E> {
             output,
             report,
             line: _,
-            start: _,
+            page: _,
         } = self;
         (output, report)
     }
 
-    /// Begins a line behind those that stand, with room for that of a message.
-    #[inline(always)]
-    pub fn begin_line(&mut self)
-        ensures room { array_vec_len self.new.line ≤ MESSAGE_FRONT }
-        ensures start { line_start self.new ≡ array_vec_len self.new.line }
-        ensures output { self.new.output ≡ self.old.output }
-        ensures report { self.new.report ≡ self.old.report }
-    {
-        if self.line.len() > MESSAGE_FRONT {
-            self.make_room();
-        }
-        self.start = self.line.len();
-    }
-
-    /// `clear_line` for `begin_line`, which seldom needs it.
-    #[cold]
-    #[inline(never)]
-    fn make_room(&mut self)
-        ensures line { self.new.line.items ≡ [] }
-        ensures output { self.new.output ≡ self.old.output }
-        ensures report { self.new.report ≡ self.old.report }
-    {
-        self.clear_line();
-    }
-
-    /// Begins a line where none stands before it, with all the room that there is.
+    /// Begins a line.
     pub fn clear_line(&mut self)
-        ensures line { self.new.line.items ≡ [] }
-        ensures start { line_start self.new ≡ 0 }
+        ensures line { next_line self.new ≡ [] }
         ensures output { self.new.output ≡ self.old.output }
         ensures report { self.new.report ≡ self.old.report }
     {
-        self.start = 0;
         self.line.clear();
     }
 
     /// Writes the line to the output.
-    #[inline(always)]
     pub fn write_line(&mut self) -> Result<(), IoFault>
         ensures gives { GivesTexts W.state E.state self.old self.new (on_output (next_line self.old)) result }
         ensures report { self.new.report ≡ self.old.report }
         ensures line { next_line self.new ≡ next_line self.old }
     {
-        write_whole(&mut self.output, &self.line[self.start..])
+        write_whole(&mut self.output, &self.line)
+    }
+
+    /// Writes a text to the output, which is made where it is to stand.
+    #[inline(always)]
+    pub fn write_text<T: Text>(&mut self, text: &T) -> Result<(), IoFault>
+        ensures gives { GivesTexts W.state E.state self.old self.new (on_output (T.text text.now)) result }
+        ensures report { self.new.report ≡ self.old.report }
+        ensures line { next_line self.new ≡ next_line self.old }
+    {
+        self.output.write_text(text, &mut self.page)
     }
 
     /// Writes bytes to the output.
@@ -112,7 +92,7 @@ impl<W: OutDevice, E: OutDevice> Writers<W, E> {
         ensures output { self.new.output ≡ self.old.output }
         ensures line { next_line self.new ≡ next_line self.old }
     {
-        write_whole(&mut self.report, &self.line[self.start..])
+        write_whole(&mut self.report, &self.line)
     }
 
     /// Hands on what the writers hold back of what was written.

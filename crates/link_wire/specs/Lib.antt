@@ -2,6 +2,7 @@ pub use Rattle.link_io.specs.Bytes
 pub use Rattle.link_io.specs.Device
 pub use Rattle.link_io.specs.Source
 pub use Rattle.link_io.specs.Writing
+pub use Rattle.link_io.specs.TextWriter
 pub mod Limits
 pub mod Codes
 pub mod Part

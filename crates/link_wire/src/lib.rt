@@ -33,7 +33,7 @@ pub use codes::{END, START};
 pub use fault::{Stop, WireFault};
 pub use link_io::{
     BufferedReader, DeviceFault, Filled, INPUT_LIMIT, InDevice, IoFault, OutDevice, Reader, Source,
-    WINDOW, Writer, write_whole,
+    TEXT_MAX, Text, TextWriter, WINDOW, Writer, copy_into, write_whole,
 };
 pub use message::{
     Contact, Fields, Item, Items, ListOf, MAX_ITEMS, MAX_LIST_LENGTH, MAX_NODE_ID, Message,

@@ -1,7 +1,8 @@
 -- What a run over buffered streams has handed on.
 use Rattle.std.proofs.Common.{◌≡◌, ℕ, ◌⊎◌, inl, inr, append_assoc, List, [], ◌++◌, Option, Some, None, Bool, true, false, Result, Ok, Err, IfSome, if◌then◌else◌, ap, sym, subst, ◌∙◌, refl, ◌==◌}
 use Rattle.std.proofs.lemmas.List.{append-nil}
-use Rattle.std.specs.Io.KnownBytes.{Consumes, Appends, IsAtEnd, Keeps, append_known, prepend_known}
+use Rattle.std.specs.Io.KnownBytes.{Consumes, Appends, IsAtEnd, Keeps, prepend_known}
+use Rattle.std.proofs.KnownBytes.{Appends-kept}
 use Rattle.link_wire.specs.Device.{Input, Output}
 use Rattle.link_wire.specs.declared.IoFault.{IoFault}
 use Rattle.link_wire.specs.declared.IoFault.TheVariants.{Write}
@@ -67,35 +68,17 @@ pub had_memory : {R W E : Type 0} (in_look : R → Input) (out_look : W → Outp
 had_memory in_look out_look report_look options start now answer status is (inl gives) = gives
 had_memory in_look out_look report_look options start now answer status is (inr lacks) = let none = lacks.1.is in cc
 
--- what was written into an empty buffer, and handed on
-handed : (old before after new : Option (List ℕ)) (text : List ℕ)
-    → before ≡ append_known old [] → Appends before after text → Keeps after new → Appends old new text
-handed None before after new text is written kept = tt
-handed (Some xs) None after new text is written kept = cc
-handed (Some xs) (Some bs) None new text is written kept = absurd written
-handed (Some xs) (Some bs) (Some as') None text is written kept = absurd kept
-handed (Some xs) (Some bs) (Some as') (Some ns) text is written kept =
-    let same : bs ≡ xs ++ [] = cc in
-    let plain : bs ≡ xs = same ∙ append-nil xs in
-    cc
-
--- the same, where the writer below the buffer is given only if it holds all
-pub handed_on : {W : Type 0} (written : W → Option (List ℕ)) (result : Option W)
-    (old before after held : Option (List ℕ)) (text : List ℕ)
-    → before ≡ append_known old [] → Appends before after text → held ≡ after
-    → IfSome result (λ inner. Keeps held (written inner))
+-- what was written, and handed on to the writer below, which is given only if it holds all
+pub handed_on : {W : Type 0} (written : W → Option (List ℕ)) (result : Option W) (old before after : Option (List ℕ)) (text : List ℕ)
+    → before ≡ old → Appends before after text
+    → IfSome result (λ inner. Keeps after (written inner))
     → IfSome result (λ new. Appends old (written new) text)
-handed_on written None old before after held text is wrote same kept = tt
-handed_on written (Some inner) old before after held text is wrote same kept =
-    handed old before after (written inner) text is wrote (subst (λ known. Keeps known (written inner)) same kept)
+handed_on written None old before after text is wrote kept = tt
+handed_on written (Some inner) old before after text is wrote kept =
+    subst (λ known. Appends known (written inner) text) is (Appends-kept before after (written inner) text wrote kept)
 
 -- what a reader with an empty buffer has left
 pub buffered : (capacity : ℕ) (buffer : List ℕ) (rest : Option (List ℕ)) (bytes : List ℕ)
     → capacity ≡ 65536 → buffer ≡ [] → rest ≡ Some bytes
     → (if capacity == 0 then None else prepend_known buffer rest) ≡ Some bytes
 buffered capacity buffer rest bytes size empty known = rw (size, empty, known) refl
-
--- what a writer with an empty buffer holds
-pub unfilled : {W : Type 0} (written : W → Option (List ℕ)) (inner : W) (buffer : List ℕ) (writer : W)
-    → inner ≡ writer → buffer ≡ [] → append_known (written inner) buffer ≡ append_known (written writer) []
-unfilled written inner buffer writer same empty = rw (same, empty) refl

@@ -1,7 +1,6 @@
 //! The tools over buffered streams.
 
 ghost use Rattle.std.specs.Prelude.{◌≡◌, ℕ, false, List, IfOk, IfErr, IfSome, Ok, Some};
-ghost use Rattle.std.specs.Io.Buffered.{writer_contents};
 ghost use Rattle.std.specs.Io.KnownBytes.{Keeps};
 ghost use Rattle.std.specs.IoError.{error_kind};
 ghost use Rattle.link_tools.specs.Options.{tool_of};
@@ -10,16 +9,13 @@ ghost use Rattle.tcpclkit.specs.BufferedEnd.{HasWritten, IsFlushed};
 
 use crate::ending::after_flush;
 use link_tools::{Options, Status, run_tool};
-use link_wire::{BufferedReader, IoFault, Writer};
+use link_wire::{BufferedReader, IoFault, OutDevice, TextWriter, Writer};
 use std::alloc::Global;
 use std::io;
-use std::io::{BufReader, BufWriter, ErrorKind, Read, Write};
+use std::io::{BufReader, ErrorKind, Read, Write};
 
 /// How many bytes of the input are read at once, below the window of its source.
 const INPUT_BUFFER: usize = 64 << 10;
-
-/// How many bytes of a text are written at once.
-const TEXT_BUFFER: usize = 64 << 10;
 
 /// A run over buffered streams that has ended.
 #[derive(Drop)]
@@ -54,17 +50,11 @@ pub fn run_buffered<R: Read + Drop, W: Write + Drop, E: Write + Drop>(
     ensures err { IfErr result (λ error. error_kind error ≡ ErrorKind.OutOfMemory) }
 {
     let reader = BufReader::with_capacity(alloc, INPUT_BUFFER, input)?;
-    let output = BufWriter::with_capacity(alloc, TEXT_BUFFER, output)?;
-    let report = BufWriter::with_capacity(alloc, TEXT_BUFFER, report)?;
-    let end = run_tool(
-        alloc,
-        options,
-        BufferedReader::new(reader),
-        Writer::new(output),
-        Writer::new(report),
-    );
-    let output = flushed(end.output.into_inner());
-    let report = flushed(end.report.into_inner());
+    let output = TextWriter::new(alloc, Writer::new(output))?;
+    let report = TextWriter::new(alloc, Writer::new(report))?;
+    let end = run_tool(alloc, options, BufferedReader::new(reader), output, report);
+    let output = flushed(end.output);
+    let report = flushed(end.report);
     Ok(BufferedEnd {
         answer: after_flush(end.answer, output.is_some() && report.is_some()),
         output,
@@ -72,11 +62,11 @@ pub fn run_buffered<R: Read + Drop, W: Write + Drop, E: Write + Drop>(
     })
 }
 
-/// Hands on what the buffer holds. Returns the writer below it, or `None` where it failed.
-fn flushed<W: Write + Drop>(writer: BufWriter<W>) -> Option<W>
-    ensures { IfSome result (λ inner. Keeps (writer_contents W.contents writer) (W.contents inner)) }
+/// Hands on what waits. Returns the writer below, or `None` where it failed.
+fn flushed<W: Write + Drop>(writer: TextWriter<Writer<W>>) -> Option<W>
+    ensures { IfSome result (λ inner. Keeps (⟦<TextWriter<Writer<W>> as OutDevice>⟧.state writer).written (W.contents inner)) }
 {
-    let mut inner = writer.into_inner().ok()?;
+    let mut inner = writer.into_device().ok()?.into_inner();
     inner.flush().ok()?;
     Some(inner)
 }

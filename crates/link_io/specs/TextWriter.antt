@@ -1,0 +1,21 @@
+-- What a `TextWriter` has written.
+use Rattle.std.specs.Prelude.{ℕ, List, take}
+use Rattle.std.specs.Io.KnownBytes.{append_known}
+use Rattle.link_io.specs.Device.{Output}
+use Rattle.link_io.specs.declared.text_writer.TextWriter.{TextWriter}
+
+module _ {D : Type 0} where
+  -- the device below, as it stands
+  abbrev pub device_of : TextWriter D → D
+  device_of writer = writer.device
+
+  -- the bytes that wait to be handed on
+  abbrev pub waiting : TextWriter D → List ℕ
+  waiting writer = take writer.end writer.page.items
+
+  -- what was handed on was written, and so is what waits
+  abbrev pub output_of : (D → Output) → TextWriter D → Output
+  output_of look writer = record {
+    written = append_known (look writer.device).written (waiting writer);
+    failed = (look writer.device).failed;
+  }

@@ -1,0 +1,186 @@
+//! A device that makes texts in a page of its own.
+
+ghost use Rattle.std.specs.Prelude.{◌≡◌, ◌+◌, ◌≤◌, ◌++◌, length, take, slice_range, IfOk};
+
+use crate::device::{DeviceFault, OutDevice};
+use crate::fault::IoFault;
+use crate::text::{TEXT_MAX, Text, copy_into};
+use crate::writing::write_out;
+use std::alloc::{AllocError, Global};
+
+/// How many bytes the page of a [`TextWriter`] has.
+const PAGE: usize = 64 << 10;
+
+/// A device that makes texts in a page of its own, so that none is copied, and hands a full page on to the device below. It
+/// counts as written what waits in the page.
+#[derive(Drop)]
+pub struct TextWriter<D> {
+    device: D,
+    page: Vec<u8>,
+    /// How many bytes of the page wait to be handed on.
+    end: usize,
+    ghost room: { 8192 ≤ length page.items },
+    ghost within: { end ≤ length page.items },
+}
+
+impl<D: OutDevice + Drop> TextWriter<D> {
+    ghost use Rattle.std.specs.Prelude.{◌≡◌, IfOk};
+    ghost use Rattle.std.specs.Io.KnownBytes.{Keeps};
+    ghost use Rattle.link_io.specs.TextWriter.{output_of};
+
+    /// A writer over the device. Its page is the only memory that it takes.
+    pub fn new(alloc: Global, device: D) -> Result<TextWriter<D>, AllocError>
+        ensures { IfOk result (λ writer. output_of D.state writer ≡ D.state device) }
+    {
+        Ok(TextWriter::over(device, zeros(alloc, PAGE)?))
+    }
+
+    /// Hands on all that waits, and returns the device below.
+    pub fn into_device(mut self) -> Result<D, DeviceFault>
+        ensures bytes { IfOk result (λ device. Keeps (output_of D.state self).written (D.state device).written) }
+        ensures failed { IfOk result (λ device. (D.state device).failed ≡ (output_of D.state self).failed) }
+    {
+        self.pass()?;
+        let TextWriter {
+            device,
+            page: _,
+            end: _,
+        } = self;
+        Ok(device)
+    }
+}
+
+impl<D: OutDevice> TextWriter<D> {
+    /// A writer with this page, over the device.
+    fn over(device: D, page: Vec<u8>) -> TextWriter<D>
+        requires { TEXT_MAX ≤ length page.items }
+        ensures { output_of D.state result ≡ D.state device }
+    {
+        TextWriter {
+            device,
+            page,
+            end: 0,
+        }
+    }
+
+    ghost use Rattle.std.specs.Prelude.{◌≡◌, ◌+◌, ◌<◌, ◌≤◌, [], ◌++◌, length, OnOk, IfOk, IfErr, true, MatchResult};
+    ghost use Rattle.std.specs.Io.KnownBytes.{Keeps, WriteAppends};
+    ghost use Rattle.link_io.specs.Writing.{Wrote, WroteFront};
+    ghost use Rattle.link_io.specs.TextWriter.{device_of, waiting, output_of};
+
+    /// Appends bytes for which the page has room.
+    #[inline(always)]
+    fn append(&mut self, bytes: &[u8])
+        requires { length (waiting self.old) + length bytes.now ≤ length self.old.page.items }
+        ensures waiting { waiting self.new ≡ waiting self.old ++ bytes.now }
+        ensures device { self.new.device ≡ self.old.device }
+    {
+        self.end = copy_into(&mut self.page, self.end, bytes);
+    }
+
+    /// Hands on what waits. After a fault that waits which was not written.
+    fn pass(&mut self) -> Result<(), DeviceFault>
+        ensures empty { OnOk result (waiting self.new ≡ []) }
+        ensures size { length self.new.page.items ≡ length self.old.page.items }
+        ensures bytes { Keeps (output_of D.state self.old).written (output_of D.state self.new).written }
+        ensures failed { MatchResult result
+            (λ _. (D.state self.new.device).failed ≡ (D.state self.old.device).failed)
+            (λ _. (D.state self.new.device).failed ≡ true) }
+    {
+        let (count, answer) = write_out(&mut self.device, &self.page[..self.end]);
+        self.end = keep_from(&mut self.page, count, self.end);
+        answer
+    }
+
+    /// Appends bytes for which the page has no room.
+    #[cold]
+    #[inline(never)]
+    fn write_on(&mut self, bytes: &[u8]) -> Result<usize, DeviceFault>
+        ensures bound { IfOk result (λ n. n ≤ length bytes.now) }
+        ensures some { IfOk result (λ n. 0 < length bytes.now → 0 < n) }
+        ensures bytes { WriteAppends (output_of D.state self.old).written (output_of D.state self.new).written result bytes.now }
+        ensures failed { MatchResult result
+            (λ _. (D.state self.new.device).failed ≡ (D.state self.old.device).failed)
+            (λ _. (D.state self.new.device).failed ≡ true) }
+    {
+        self.pass()?;
+        if bytes.len() >= self.page.len() {
+            return self.device.write(bytes);
+        }
+        self.append(bytes);
+        Ok(bytes.len())
+    }
+
+    /// Appends a text that was made elsewhere, since the page had no room for it.
+    #[cold]
+    #[inline(never)]
+    fn write_made(&mut self, text: &[u8]) -> Result<(), IoFault>
+        requires { length text.now ≤ TEXT_MAX }
+        ensures ok { OnOk result (Wrote (output_of D.state) self.old self.new text.now) }
+        ensures err { IfErr result (WroteFront (output_of D.state) self.old self.new text.now) }
+    {
+        if text.is_empty() {
+            return Ok(());
+        }
+        match self.pass() {
+            Ok(()) => {
+                self.append(text);
+                Ok(())
+            }
+            Err(_) => Err(IoFault::Write),
+        }
+    }
+}
+
+impl<D: OutDevice> OutDevice for TextWriter<D> {
+    ghost use Rattle.link_io.specs.TextWriter.{output_of};
+
+    ghost state = { output_of D.state };
+
+    #[inline(always)]
+    fn write(&mut self, bytes: &[u8]) -> Result<usize, DeviceFault> {
+        if bytes.len() <= self.page.len() - self.end {
+            self.append(bytes);
+            return Ok(bytes.len());
+        }
+        self.write_on(bytes)
+    }
+
+    fn failed(&self) -> bool {
+        self.device.failed()
+    }
+
+    #[inline(always)]
+    fn write_text<T: Text>(&mut self, text: &T, page: &mut [u8]) -> Result<(), IoFault> {
+        if self.page.len() - self.end >= TEXT_MAX {
+            self.end = text.put(&mut self.page, self.end);
+            return Ok(());
+        }
+        let end = text.put(page, 0);
+        self.write_made(&page[..end])
+    }
+
+    fn settle(&mut self) -> Result<(), DeviceFault> {
+        self.pass()?;
+        self.device.settle()
+    }
+}
+
+/// That many zeros.
+fn zeros(alloc: Global, size: usize) -> Result<Vec<u8>, AllocError>
+    ensures { IfOk result (λ page. length page.items ≡ size) }
+{
+    Ok(vec![in alloc; 0; size]?)
+}
+
+/// Moves the bytes from `start` to `end` to the beginning of the page, and returns where they end then.
+fn keep_from(page: &mut Vec<u8>, start: usize, end: usize) -> usize
+    requires order { start ≤ end }
+    requires within { end ≤ length page.old.items }
+    ensures bytes { slice_range page.new.items 0 result ≡ slice_range page.old.items start end }
+    ensures within { result ≤ length page.new.items }
+    ensures size { length page.new.items ≡ length page.old.items }
+{
+    page.copy_within(start..end, 0);
+    end - start
+}

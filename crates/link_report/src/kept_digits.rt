@@ -1,0 +1,68 @@
+//! Digits that are kept from one number to the next.
+
+ghost use Rattle.std.specs.Prelude.{◌≡◌, ◌+◌, ◌≤◌, ◌++◌, length, take, decimal};
+
+use crate::page::{write_decimal, write_four_digits};
+use link_wire::copy_into;
+
+/// The digits of a number without its last four, kept for the next number: of numbers that grow slowly, as offsets do, most
+/// have the same.
+#[derive(Drop)]
+pub struct KeptDigits {
+    /// The number without its last four digits.
+    front: u64,
+    /// Its text, and bytes that mean nothing.
+    text: [u8; 20],
+    len: usize,
+    ghost within: { len ≤ 20 },
+    ghost kept: { take len text ≡ decimal front },
+}
+
+impl KeptDigits {
+    /// The digits of a number of four.
+    pub fn new() -> KeptDigits {
+        KeptDigits::of(0)
+    }
+
+    /// The digits of this number.
+    fn of(front: u64) -> KeptDigits {
+        let mut text = [0; 20];
+        let len = write_decimal(&mut text, 0, front);
+        KeptDigits { front, text, len }
+    }
+
+    /// Keeps the digits of a number.
+    #[inline(always)]
+    pub fn keep(&mut self, number: u64) {
+        if number / 10_000 != self.front {
+            self.set(number / 10_000);
+        }
+    }
+
+    /// Keeps these digits, which are others.
+    #[cold]
+    #[inline(never)]
+    fn set(&mut self, front: u64) {
+        *self = KeptDigits::of(front);
+    }
+
+    /// Writes a number in decimal, by the digits that are kept if they are its own.
+    #[inline(always)]
+    pub(crate) fn write(&self, page: &mut [u8], at: usize, number: u64) -> usize
+        requires { at + 20 ≤ length page.old }
+        ensures text { take result page.new ≡ take at page.old ++ decimal number }
+        ensures fits { result ≤ at + 20 }
+        ensures size { length page.new ≡ length page.old }
+    {
+        let front = number / 10_000;
+        if front == 0 {
+            return write_decimal(page, at, number);
+        }
+        if front != self.front {
+            return write_decimal(page, at, number);
+        }
+        let text = self.text;
+        copy_into(page, at, &text);
+        write_four_digits(page, at + self.len, number - front * 10_000)
+    }
+}

@@ -1,0 +1,165 @@
+//! Pieces of text, each written into a page from an index on. Each call returns where its text ends.
+
+ghost use Rattle.std.specs.Prelude.{◌≡◌, ◌+◌, ◌/◌, ◌%◌, ◌<◌, ◌≤◌, [], ◌∷◌, ◌++◌, length, take, decimal};
+ghost use Rattle.link_report.specs.Text.{hex2, number_text, two_digits};
+
+use itoa::write_digits;
+use link_wire::copy_into;
+
+/// The two digits of each number below 100.
+static PAIRS: [u8; 200] =
+    *b"00010203040506070809101112131415161718192021222324252627282930313233343536373839404142434445464748495051525354555657585960616263646566676869707172737475767778798081828384858687888990919293949596979899";
+
+/// Writes `text`.
+#[inline(always)]
+pub(crate) fn write_text(page: &mut [u8], at: usize, text: &str) -> usize
+    requires { at + length text.now ≤ length page.old }
+    ensures text { take result page.new ≡ take at page.old ++ text.now }
+    ensures end { result ≡ at + length text.now }
+    ensures size { length page.new ≡ length page.old }
+{
+    copy_into(page, at, text.as_bytes())
+}
+
+/// Writes a byte.
+#[tactic(auto, using(std::proofs::lemmas::List::take_more_set))]
+#[inline(always)]
+fn write_byte(page: &mut [u8], at: usize, byte: u8) -> usize
+    requires { at < length page.old }
+    ensures text { take result page.new ≡ take at page.old ++ byte ∷ [] }
+    ensures end { result ≡ at + 1 }
+    ensures size { length page.new ≡ length page.old }
+{
+    page[at] = byte;
+    at + 1
+}
+
+/// Writes a digit.
+#[tactic(auto, using(crate::proofs::Lengths::one_digit))]
+#[inline(always)]
+fn write_digit(page: &mut [u8], at: usize, digit: u64) -> usize
+    requires digit { digit < 10 }
+    requires room { at < length page.old }
+    ensures text { take result page.new ≡ take at page.old ++ decimal digit }
+    ensures end { result ≡ at + 1 }
+    ensures size { length page.new ≡ length page.old }
+{
+    write_byte(page, at, b'0' + digit as u8)
+}
+
+/// Writes two digits.
+#[inline(always)]
+pub(crate) fn write_pair(page: &mut [u8], at: usize, pair: u64) -> usize
+    requires pair { pair < 100 }
+    requires room { at + 2 ≤ length page.old }
+    ensures text { take result page.new ≡ take at page.old ++ two_digits pair }
+    ensures end { result ≡ at + 2 }
+    ensures size { length page.new ≡ length page.old }
+{
+    let from = pair as usize * 2;
+    let (ten, one) = (PAIRS[from], PAIRS[from + 1]);
+    let at = write_byte(page, at, ten);
+    write_byte(page, at, one)
+}
+
+/// Writes a number of at most three digits, as most numbers of a line are but its offset.
+#[tactic(auto, using(crate::proofs::Digits::few_digits))]
+#[inline(always)]
+fn write_few_digits(page: &mut [u8], at: usize, number: u64) -> usize
+    requires few { number < 1000 }
+    requires room { at + 3 ≤ length page.old }
+    ensures text { take result page.new ≡ take at page.old ++ decimal number }
+    ensures fits { result ≤ at + 20 }
+    ensures size { length page.new ≡ length page.old }
+{
+    match number {
+        0..10 => write_digit(page, at, number),
+        10..100 => write_pair(page, at, number),
+        _ => {
+            let at = write_digit(page, at, number / 100);
+            write_pair(page, at, number % 100)
+        }
+    }
+}
+
+/// Writes the four digits of a number below 10,000, zeros before it among them.
+#[inline(always)]
+pub(crate) fn write_four_digits(page: &mut [u8], at: usize, number: u64) -> usize
+    requires few { number < 10000 }
+    requires room { at + 4 ≤ length page.old }
+    ensures text { take result page.new ≡ take at page.old ++ two_digits (number / 100) ++ two_digits (number % 100) }
+    ensures end { result ≡ at + 4 }
+    ensures size { length page.new ≡ length page.old }
+{
+    let at = write_pair(page, at, number / 100);
+    write_pair(page, at, number % 100)
+}
+
+/// Writes a number of more than three digits, where there is room for the longest number.
+#[tactic(auto, using(crate::proofs::Lengths::length_of_decimal, crate::proofs::Digits::four_digits))]
+#[inline(never)]
+fn write_many_digits(page: &mut [u8], at: usize, number: u64) -> usize
+    requires many { 1000 ≤ number }
+    requires room { at + 20 ≤ length page.old }
+    ensures text { take result page.new ≡ take at page.old ++ decimal number }
+    ensures fits { result ≤ at + 20 }
+    ensures size { length page.new ≡ length page.old }
+{
+    if number < 10_000 {
+        return write_four_digits(page, at, number);
+    }
+    let mut digits = [0; 20];
+    let start = write_digits(number, &mut digits, 20);
+    copy_into(page, at, &digits[start..])
+}
+
+/// Writes `number` in decimal, without leading zeros, where there is room for the longest number.
+#[inline(always)]
+pub(crate) fn write_decimal(page: &mut [u8], at: usize, number: u64) -> usize
+    requires { at + 20 ≤ length page.old }
+    ensures text { take result page.new ≡ take at page.old ++ decimal number }
+    ensures fits { result ≤ at + 20 }
+    ensures size { length page.new ≡ length page.old }
+{
+    if number < 1000 {
+        return write_few_digits(page, at, number);
+    }
+    write_many_digits(page, at, number)
+}
+
+/// The two lower-case hexadecimal digits of a byte.
+#[tactic(auto, unfolding(crate::specs::Text::hex2, hex::specs::Hex::encode_with))]
+#[inline(always)]
+pub(crate) fn hex_digits(byte: u8) -> [u8; 2]
+    ensures { result ≡ hex2 byte }
+{
+    let mut digits = [0; 2];
+    hex::encode_to_slice([byte], &mut digits).unwrap();
+    digits
+}
+
+/// Writes `byte` as two lower-case hexadecimal digits.
+#[inline(always)]
+pub(crate) fn write_hex2(page: &mut [u8], at: usize, byte: u8) -> usize
+    requires { at + 2 ≤ length page.old }
+    ensures text { take result page.new ≡ take at page.old ++ hex2 byte }
+    ensures end { result ≡ at + 2 }
+    ensures size { length page.new ≡ length page.old }
+{
+    let [high, low] = hex_digits(byte);
+    let at = write_byte(page, at, high);
+    write_byte(page, at, low)
+}
+
+/// Writes `label` and `number` in decimal.
+#[tactic(auto, unfolding(crate::specs::Text::number_text))]
+#[inline(always)]
+pub(crate) fn write_number(page: &mut [u8], at: usize, label: &str, number: u64) -> usize
+    requires { at + length label.now + 20 ≤ length page.old }
+    ensures text { take result page.new ≡ take at page.old ++ number_text label.now number }
+    ensures fits { result ≤ at + length label.now + 20 }
+    ensures size { length page.new ≡ length page.old }
+{
+    let at = write_text(page, at, label);
+    write_decimal(page, at, number)
+}
