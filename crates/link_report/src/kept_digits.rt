@@ -1,6 +1,6 @@
 //! Digits that are kept from one number to the next.
 
-ghost use Rattle.std.specs.Prelude.{◌≡◌, ◌+◌, ◌≤◌, ◌++◌, length, take, decimal};
+ghost use Rattle.std.specs.Prelude.{◌≡◌, ◌+◌, ◌<◌, ◌≤◌, ◌++◌, length, take, decimal};
 
 use crate::page::{write_decimal, write_four_digits};
 use link_wire::copy_into;
@@ -14,24 +14,27 @@ pub struct KeptDigits {
     /// Its text, and bytes that mean nothing.
     text: [u8; 20],
     len: usize,
+    ghost some: { 0 < front },
     ghost within: { len ≤ 20 },
     ghost kept: { take len text ≡ decimal front },
 }
 
 impl KeptDigits {
-    /// The digits of a number of four.
+    /// The digit of a number of five.
     pub fn new() -> KeptDigits {
-        KeptDigits::of(0)
+        KeptDigits::of(1)
     }
 
     /// The digits of this number.
-    fn of(front: u64) -> KeptDigits {
+    fn of(front: u64) -> KeptDigits
+        requires { 0 < front }
+    {
         let mut text = [0; 20];
         let len = write_decimal(&mut text, 0, front);
         KeptDigits { front, text, len }
     }
 
-    /// Keeps the digits of a number.
+    /// Keeps the digits of a number of more than four.
     #[inline(always)]
     pub fn keep(&mut self, number: u64) {
         if number / 10_000 != self.front {
@@ -43,7 +46,9 @@ impl KeptDigits {
     #[cold]
     #[inline(never)]
     fn set(&mut self, front: u64) {
-        *self = KeptDigits::of(front);
+        if front > 0 {
+            *self = KeptDigits::of(front);
+        }
     }
 
     /// Writes a number in decimal, by the digits that are kept if they are its own.
@@ -55,14 +60,11 @@ impl KeptDigits {
         ensures size { length page.new ≡ length page.old }
     {
         let front = number / 10_000;
-        if front == 0 {
-            return write_decimal(page, at, number);
-        }
         if front != self.front {
             return write_decimal(page, at, number);
         }
         let text = self.text;
         copy_into(page, at, &text);
-        write_four_digits(page, at + self.len, number - front * 10_000)
+        write_four_digits(page, at + self.len, (number - front * 10_000) as u32)
     }
 }

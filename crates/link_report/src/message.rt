@@ -9,7 +9,7 @@ ghost use Rattle.link_report.specs.Text.{escaped, hex2, number_text};
 ghost use Rattle.link_report.specs.Message.{flags_text, reason_text, item_text, items_text, parameters_text, start_items_text, segment_text, body_text, contact_text, message_text};
 
 use crate::kept_digits::KeptDigits;
-use crate::page::{write_hex2, write_number, write_text};
+use crate::page::{write_bytes, write_hex2, write_number, write_text};
 use crate::put::{
     LINE_MAX, Line, put_bytes, put_escaped, put_hex2, put_hex4, put_number, put_text,
 };
@@ -49,9 +49,9 @@ fn write_reason(page: &mut [u8], at: usize, reason: u8, name: &str) -> usize
     ensures end { result ≡ at + 11 + length name.now }
     ensures size { length page.new ≡ length page.old }
 {
-    let at = write_text(page, at, " reason=");
+    let at = write_bytes(page, at, *b" reason=");
     let at = write_hex2(page, at, reason);
-    let at = write_text(page, at, "/");
+    let at = write_bytes(page, at, *b"/");
     write_text(page, at, name)
 }
 
@@ -153,7 +153,7 @@ fn write_start_items(page: &mut [u8], at: usize, flags: u8, items: &[Item]) -> u
         return at;
     }
     if items.is_empty() {
-        return write_text(page, at, " items=0");
+        return write_bytes(page, at, *b" items=0");
     }
     write_items(page, at, items)
 }
@@ -168,11 +168,11 @@ fn write_segment(page: &mut [u8], at: usize, flags: u8, id: u64, items: &[Item],
     ensures fits { result ≤ at + BODY_MAX }
     ensures size { length page.new ≡ length page.old }
 {
-    let at = write_text(page, at, " xfer-segment flags=");
+    let at = write_bytes(page, at, *b" xfer-segment flags=");
     let at = write_hex2(page, at, flags);
-    let at = write_number(page, at, " id=", id);
+    let at = write_number(page, at, *b" id=", id);
     let at = write_start_items(page, at, flags, items);
-    write_number(page, at, " length=", size)
+    write_number(page, at, *b" length=", size)
 }
 
 /// Writes what the line of an XFER_REFUSE says after its offset.
@@ -185,9 +185,9 @@ fn write_refuse(page: &mut [u8], at: usize, reason: u8, id: u64) -> usize
     ensures fits { result ≤ at + REASON_MAX }
     ensures size { length page.new ≡ length page.old }
 {
-    let at = write_text(page, at, " xfer-refuse");
+    let at = write_bytes(page, at, *b" xfer-refuse");
     let at = write_reason(page, at, reason, refuse_name(reason));
-    write_number(page, at, " id=", id)
+    write_number(page, at, *b" id=", id)
 }
 
 /// Writes what the line of a SESS_TERM says after its offset.
@@ -201,7 +201,7 @@ fn write_sess_term(page: &mut [u8], at: usize, flags: u8, reason: u8) -> usize
     ensures fits { result ≤ at + REASON_MAX }
     ensures size { length page.new ≡ length page.old }
 {
-    let at = write_text(page, at, " sess-term flags=");
+    let at = write_bytes(page, at, *b" sess-term flags=");
     let at = write_hex2(page, at, flags);
     write_reason(page, at, reason, term_name(reason))
 }
@@ -216,9 +216,9 @@ fn write_msg_reject(page: &mut [u8], at: usize, reason: u8, header: u8) -> usize
     ensures fits { result ≤ at + REASON_MAX }
     ensures size { length page.new ≡ length page.old }
 {
-    let at = write_text(page, at, " msg-reject");
+    let at = write_bytes(page, at, *b" msg-reject");
     let at = write_reason(page, at, reason, reject_name(reason));
-    let at = write_text(page, at, " header=");
+    let at = write_bytes(page, at, *b" header=");
     write_hex2(page, at, header)
 }
 
@@ -243,13 +243,13 @@ fn write_body(page: &mut [u8], at: usize, fields: &Fields, node: &[u8], items: &
         } => write_session(page, at, keepalive, segment_mru, transfer_mru, node, items),
         Fields::Segment { flags, id, length } => write_segment(page, at, flags, id, items, length),
         Fields::Ack { flags, id, length } => {
-            let at = write_text(page, at, " xfer-ack flags=");
+            let at = write_bytes(page, at, *b" xfer-ack flags=");
             let at = write_hex2(page, at, flags);
-            let at = write_number(page, at, " id=", id);
-            write_number(page, at, " length=", length)
+            let at = write_number(page, at, *b" id=", id);
+            write_number(page, at, *b" length=", length)
         }
         Fields::Refuse { reason, id } => write_refuse(page, at, reason, id),
-        Fields::Keepalive => write_text(page, at, " keepalive"),
+        Fields::Keepalive => write_bytes(page, at, *b" keepalive"),
         Fields::SessTerm { flags, reason } => write_sess_term(page, at, flags, reason),
         Fields::MsgReject { reason, header } => write_msg_reject(page, at, reason, header),
     }
@@ -277,7 +277,7 @@ fn write_message(
 {
     let at = kept.write(page, at, offset);
     let at = write_body(page, at, fields, node, items);
-    write_text(page, at, "\n")
+    write_bytes(page, at, *b"\n")
 }
 
 /// The line of the message in a buffer.

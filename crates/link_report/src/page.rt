@@ -21,6 +21,17 @@ pub(crate) fn write_text(page: &mut [u8], at: usize, text: &str) -> usize
     copy_into(page, at, text.as_bytes())
 }
 
+/// Writes a text whose length the compiler knows: then it is stores alone.
+#[inline(always)]
+pub(crate) fn write_bytes<const N: usize>(page: &mut [u8], at: usize, text: [u8; N]) -> usize
+    requires { at + N ≤ length page.old }
+    ensures text { take result page.new ≡ take at page.old ++ text.entry }
+    ensures end { result ≡ at + N }
+    ensures size { length page.new ≡ length page.old }
+{
+    copy_into(page, at, &text)
+}
+
 /// Writes a byte.
 #[tactic(auto, using(std::proofs::lemmas::List::take_more_set))]
 #[inline(always)]
@@ -49,7 +60,7 @@ fn write_digit(page: &mut [u8], at: usize, digit: u64) -> usize
 
 /// Writes two digits.
 #[inline(always)]
-pub(crate) fn write_pair(page: &mut [u8], at: usize, pair: u64) -> usize
+pub(crate) fn write_pair(page: &mut [u8], at: usize, pair: u32) -> usize
     requires pair { pair < 100 }
     requires room { at + 2 ≤ length page.old }
     ensures text { take result page.new ≡ take at page.old ++ two_digits pair }
@@ -74,17 +85,17 @@ fn write_few_digits(page: &mut [u8], at: usize, number: u64) -> usize
 {
     match number {
         0..10 => write_digit(page, at, number),
-        10..100 => write_pair(page, at, number),
+        10..100 => write_pair(page, at, number as u32),
         _ => {
             let at = write_digit(page, at, number / 100);
-            write_pair(page, at, number % 100)
+            write_pair(page, at, (number % 100) as u32)
         }
     }
 }
 
 /// Writes the four digits of a number below 10,000, zeros before it among them.
 #[inline(always)]
-pub(crate) fn write_four_digits(page: &mut [u8], at: usize, number: u64) -> usize
+pub(crate) fn write_four_digits(page: &mut [u8], at: usize, number: u32) -> usize
     requires few { number < 10000 }
     requires room { at + 4 ≤ length page.old }
     ensures text { take result page.new ≡ take at page.old ++ two_digits (number / 100) ++ two_digits (number % 100) }
@@ -106,7 +117,7 @@ fn write_many_digits(page: &mut [u8], at: usize, number: u64) -> usize
     ensures size { length page.new ≡ length page.old }
 {
     if number < 10_000 {
-        return write_four_digits(page, at, number);
+        return write_four_digits(page, at, number as u32);
     }
     let mut digits = [0; 20];
     let start = write_digits(number, &mut digits, 20);
@@ -154,12 +165,17 @@ pub(crate) fn write_hex2(page: &mut [u8], at: usize, byte: u8) -> usize
 /// Writes `label` and `number` in decimal.
 #[tactic(auto, unfolding(crate::specs::Text::number_text))]
 #[inline(always)]
-pub(crate) fn write_number(page: &mut [u8], at: usize, label: &str, number: u64) -> usize
-    requires { at + length label.now + 20 ≤ length page.old }
-    ensures text { take result page.new ≡ take at page.old ++ number_text label.now number }
-    ensures fits { result ≤ at + length label.now + 20 }
+pub(crate) fn write_number<const N: usize>(
+    page: &mut [u8],
+    at: usize,
+    label: [u8; N],
+    number: u64,
+) -> usize
+    requires { at + N + 20 ≤ length page.old }
+    ensures text { take result page.new ≡ take at page.old ++ number_text label.entry number }
+    ensures fits { result ≤ at + N + 20 }
     ensures size { length page.new ≡ length page.old }
 {
-    let at = write_text(page, at, label);
+    let at = write_bytes(page, at, label);
     write_decimal(page, at, number)
 }

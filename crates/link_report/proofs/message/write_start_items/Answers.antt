@@ -7,4 +7,4 @@ pub returns-then-is_empty-clause-text : goal.returns-then-is_empty-clause-text
 unfolding start_items_text
 returns-then-is_empty-clause-text c =
     let none : length c.args.items.now ≡ 0 = search rules in
-    rw (c.if-flags-ne-START.false, no_items c.args.items.now none) c.write_text.ensures.text
+    rw (c.if-flags-ne-START.false, no_items c.args.items.now none) c.write_bytes.ensures.text
