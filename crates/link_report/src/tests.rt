@@ -197,7 +197,7 @@ fn lines_of_messages_in_place(rt: HostRuntime) -> Result<(), Fail> {
         };
         let end = text.put(&mut page, 2);
         assert_eq!(rt; &page[2..end], want.as_bytes(), "{want}");
-        assert_eq!(rt; &page[..2], b"--");
+        assert_eq!(rt; &page[..2], b"--".as_slice());
     }
     Ok(())
 }
