@@ -1,8 +1,14 @@
 -- What a `TextWriter` has written.
-use Rattle.std.specs.Prelude.{ℕ, List, take}
-use Rattle.std.specs.Io.KnownBytes.{append_known}
+use Rattle.std.specs.Prelude.{ℕ, ◌<◌, List, length, take, Option}
+use Rattle.std.specs.Io.KnownBytes.{Appends, append_known}
 use Rattle.link_io.specs.Device.{Output}
 use Rattle.link_io.specs.declared.text_writer.TextWriter.{TextWriter}
+
+-- a prefix of these bytes was written, and not all
+pub record GivesPart (old new : Option (List ℕ)) (bytes : List ℕ) : Type 0 where
+  pub count : ℕ
+  pub part : count < length bytes
+  pub written : Appends old new (take count bytes)
 
 module _ {D : Type 0} where
   -- the device below, as it stands

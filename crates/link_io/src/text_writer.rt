@@ -12,8 +12,7 @@ use std::alloc::{AllocError, Global};
 const PAGE: usize = 64 << 10;
 
 /// A device that makes texts in a page of its own, so that none is copied, and hands a full page on to the device below. It
-/// counts as written what waits in the page.
-#[derive(Drop)]
+/// counts as written what waits in the page. So it cannot be let go: [`TextWriter::into_device`] hands on what waits.
 pub struct TextWriter<D> {
     device: D,
     page: Vec<u8>,
@@ -25,7 +24,6 @@ pub struct TextWriter<D> {
 
 impl<D: OutDevice + Drop> TextWriter<D> {
     ghost use Rattle.std.specs.Prelude.{◌≡◌, IfOk};
-    ghost use Rattle.std.specs.Io.KnownBytes.{Keeps};
     ghost use Rattle.link_io.specs.TextWriter.{output_of};
 
     /// A writer over the device. Its page is the only memory that it takes.
@@ -33,20 +31,6 @@ impl<D: OutDevice + Drop> TextWriter<D> {
         ensures { IfOk result (λ writer. output_of D.state writer ≡ D.state device) }
     {
         Ok(TextWriter::over(device, zeros(alloc, PAGE)?))
-    }
-
-    /// Hands on all that waits, and returns the device below.
-    pub fn into_device(mut self) -> Result<D, DeviceFault>
-        ensures bytes { IfOk result (λ device. Keeps (output_of D.state self).written (D.state device).written) }
-        ensures failed { IfOk result (λ device. (D.state device).failed ≡ (output_of D.state self).failed) }
-    {
-        self.pass()?;
-        let TextWriter {
-            device,
-            page: _,
-            end: _,
-        } = self;
-        Ok(device)
     }
 }
 
@@ -63,10 +47,27 @@ impl<D: OutDevice> TextWriter<D> {
         }
     }
 
-    ghost use Rattle.std.specs.Prelude.{◌≡◌, ◌+◌, ◌<◌, ◌≤◌, [], ◌++◌, length, OnOk, IfOk, IfErr, true, MatchResult};
+    ghost use Rattle.std.specs.Prelude.{◌≡◌, ◌+◌, ◌<◌, ◌≤◌, [], ◌++◌, length, OnOk, OnErr, IfOk, IfErr, true, MatchResult};
     ghost use Rattle.std.specs.Io.KnownBytes.{Keeps, WriteAppends};
     ghost use Rattle.link_io.specs.Writing.{Wrote, WroteFront};
-    ghost use Rattle.link_io.specs.TextWriter.{device_of, waiting, output_of};
+    ghost use Rattle.link_io.specs.TextWriter.{device_of, waiting, output_of, GivesPart};
+
+    /// Hands on all that waits, and returns the device below. After a fault a prefix of what waits was handed on.
+    pub fn into_device(self) -> (D, Result<(), DeviceFault>)
+        ensures ok { OnOk result.1 (Keeps (output_of D.state self).written (D.state result.0).written) }
+        ensures part { OnErr result.1 (GivesPart (D.state (device_of self)).written (D.state result.0).written (waiting self)) }
+        ensures failed { MatchResult result.1
+            (λ _. (D.state result.0).failed ≡ (output_of D.state self).failed)
+            (λ _. (D.state result.0).failed ≡ true) }
+    {
+        let TextWriter {
+            mut device,
+            page,
+            end,
+        } = self;
+        let (_, answer) = write_out(&mut device, &page[..end]);
+        (device, answer)
+    }
 
     /// Appends bytes for which the page has room.
     #[inline(always)]
@@ -133,7 +134,9 @@ impl<D: OutDevice> TextWriter<D> {
 }
 
 impl<D: OutDevice> OutDevice for TextWriter<D> {
-    ghost use Rattle.link_io.specs.TextWriter.{output_of};
+    ghost use Rattle.std.specs.Prelude.{◌≡◌, [], true, OnOk, MatchResult};
+    ghost use Rattle.std.specs.Io.KnownBytes.{Keeps};
+    ghost use Rattle.link_io.specs.TextWriter.{output_of, waiting};
 
     ghost state = { output_of D.state };
 
@@ -160,7 +163,14 @@ impl<D: OutDevice> OutDevice for TextWriter<D> {
         self.write_made(&page[..end])
     }
 
-    fn settle(&mut self) -> Result<(), DeviceFault> {
+    fn settle(&mut self) -> Result<(), DeviceFault>
+        ensures bytes { Keeps (output_of D.state self.old).written (output_of D.state self.new).written }
+        ensures failed { MatchResult result
+            (λ _. (output_of D.state self.new).failed ≡ (output_of D.state self.old).failed)
+            (λ _. (output_of D.state self.new).failed ≡ true) }
+        // What waited was handed on.
+        ensures empty { OnOk result (waiting self.new ≡ []) }
+    {
         self.pass()?;
         self.device.settle()
     }

@@ -51,7 +51,14 @@ pub fn run_buffered<R: Read + Drop, W: Write + Drop, E: Write + Drop>(
 {
     let reader = BufReader::with_capacity(alloc, INPUT_BUFFER, input)?;
     let output = TextWriter::new(alloc, Writer::new(output))?;
-    let report = TextWriter::new(alloc, Writer::new(report))?;
+    let report = match TextWriter::new(alloc, Writer::new(report)) {
+        Ok(report) => report,
+        Err(error) => {
+            // Nothing waits in it.
+            let _ = output.into_device();
+            return Err(error.into());
+        }
+    };
     let end = run_tool(alloc, options, BufferedReader::new(reader), output, report);
     let output = flushed(end.output);
     let report = flushed(end.report);
@@ -66,7 +73,9 @@ pub fn run_buffered<R: Read + Drop, W: Write + Drop, E: Write + Drop>(
 fn flushed<W: Write + Drop>(writer: TextWriter<Writer<W>>) -> Option<W>
     ensures { IfSome result (λ inner. Keeps (⟦<TextWriter<Writer<W>> as OutDevice>⟧.state writer).written (W.contents inner)) }
 {
-    let mut inner = writer.into_device().ok()?.into_inner();
+    let (device, passed) = writer.into_device();
+    passed.ok()?;
+    let mut inner = device.into_inner();
     inner.flush().ok()?;
     Some(inner)
 }
