@@ -1,6 +1,8 @@
--- The window of a source: the part of an array between two indices.
-use Rattle.std.proofs.Common.{◌≡◌, ℕ, ◌+◌, ◌-◌, ◌≤◌, List, [], take, drop, slice_range, arith, refl, ap, sym, ◌∙◌}
-use Rattle.std.proofs.lemmas.List.{drop-drop, drop-take}
+-- The window of a source: the part of an array between two indices, and what comes after it.
+use Rattle.std.proofs.Common.{◌≡◌, ℕ, ◌+◌, ◌-◌, ◌≤◌, List, [], ◌++◌, take, drop, slice_range, Option, None, Some, arith, refl, ap, sym, ◌∙◌, append_assoc}
+use Rattle.std.proofs.lemmas.List.{drop-drop, drop-take, take-append-drop}
+use Rattle.std.specs.Io.KnownBytes.{prepend_known}
+use Rattle.link_io.specs.Device.{BeginsWith}
 
 pub range_none : (window : List ℕ) (start end : ℕ) → start ≡ end → slice_range window start end ≡ []
 range_none window start end same =
@@ -15,3 +17,19 @@ range_rest window start end count within =
     ap (take rest) (sym (drop-drop count start window))
     ∙ sym (drop-take count rest (drop start window))
     ∙ ap (λ n. drop count (take n (drop start window))) (sym parts)
+
+-- the bytes of the window come next
+pub window_next : (left : Option (List ℕ)) (window : List ℕ) (count : ℕ) → BeginsWith (prepend_known window left) (take count window)
+window_next None window count = tt
+window_next (Some all) window count =
+    (drop count window ++ all, ap (λ bytes. bytes ++ all) (sym (take-append-drop count window)) ∙ append_assoc (take count window) (drop count window) all)
+
+-- and then those that the reader holds
+pub held_next : (left : Option (List ℕ)) (window held : List ℕ) (count : ℕ) → BeginsWith left held
+    → BeginsWith (prepend_known window left) (window ++ take count held)
+held_next None window held count next = tt
+held_next (Some all) window held count next =
+    let rest = drop count held ++ next.0 in
+    let parts : all ≡ take count held ++ rest =
+    next.1 ∙ ap (λ bytes. bytes ++ next.0) (sym (take-append-drop count held)) ∙ append_assoc (take count held) (drop count held) next.0 in
+    (rest, ap (λ bytes. window ++ bytes) parts ∙ sym (append_assoc window (take count held) rest))

@@ -1,5 +1,5 @@
 -- What a contract sees of a device.
-use Rattle.std.specs.Prelude.{ℕ, Bool, List, Option}
+use Rattle.std.specs.Prelude.{◌≡◌, ℕ, Bool, List, ◌++◌, Option, None, Some, ⊤}
 
 -- a reader: the bytes that it has left, `None` where they are not known, and whether it has failed
 pub record Input : Type 0 where
@@ -10,3 +10,8 @@ pub record Input : Type 0 where
 pub record Output : Type 0 where
   pub written : Option (List ℕ)
   pub failed : Bool
+
+-- known bytes begin with these
+abbrev pub BeginsWith : Option (List ℕ) → List ℕ → Type 0
+BeginsWith None bytes = ⊤
+BeginsWith (Some all) bytes = (rest : List ℕ) × (all ≡ bytes ++ rest)

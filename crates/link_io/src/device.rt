@@ -1,8 +1,8 @@
 //! Where bytes come from and go to: two traits, and devices made of std's readers and writers.
 
-ghost use Rattle.std.specs.Prelude.{◌≡◌, ◌<◌, ◌≤◌, true, false, length, OnOk, IfOk, IfErr, MatchResult};
+ghost use Rattle.std.specs.Prelude.{◌≡◌, ℕ, ◌<◌, ◌≤◌, true, false, List, length, Option, OnOk, IfOk, IfErr, MatchResult};
 ghost use Rattle.std.specs.Io.KnownBytes.{Keeps, ReadConsumes, WriteAppends};
-ghost use Rattle.link_io.specs.Device.{Input, Output};
+ghost use Rattle.link_io.specs.Device.{Input, Output, BeginsWith};
 ghost use Rattle.link_io.specs.Writing.{Wrote, WroteFront};
 
 use crate::fault::IoFault;
@@ -33,9 +33,11 @@ pub trait InDevice {
     fn failed(&self) -> bool
         ensures { result ≡ (state self.now).failed };
 
-    /// Whether the next read may have to wait for bytes to come. It does not where the device holds some.
-    fn may_wait(&self) -> bool {
-        true
+    /// The bytes that the device holds: where there are some, the next read gives of them, and does not have to wait.
+    fn held(&self) -> &[u8]
+        ensures { BeginsWith (state self.now).left result.now }
+    {
+        &[]
     }
 }
 
@@ -43,6 +45,9 @@ pub trait InDevice {
 pub trait OutDevice {
     /// The bytes written, where they are known, and whether the device has failed.
     ghost state: { Self → Output };
+
+    /// Those of the bytes written that the device holds back no more.
+    ghost handed: { Self → Option (List ℕ) };
 
     /// Writes a prefix of the bytes, and returns how many: at least one of a nonempty slice. A fault
     /// writes none.
@@ -81,12 +86,10 @@ pub trait OutDevice {
     /// Hands on what the device holds back of the bytes written.
     fn settle(&mut self) -> Result<(), DeviceFault>
         ensures bytes { Keeps (state self.old).written (state self.new).written }
+        ensures handed { OnOk result (handed self.new ≡ (state self.new).written) }
         ensures failed { MatchResult result
             (λ _. (state self.new).failed ≡ (state self.old).failed)
-            (λ _. (state self.new).failed ≡ true) }
-    {
-        Ok(())
-    }
+            (λ _. (state self.new).failed ≡ true) };
 }
 
 /// A device made of a reader of std. Each of its errors, `Interrupted` too, is a fault.
@@ -168,8 +171,8 @@ impl<R: Read> InDevice for BufferedReader<R> {
     }
 
     #[inline(always)]
-    fn may_wait(&self) -> bool {
-        self.buffered.inner.buffer().is_empty()
+    fn held(&self) -> &[u8] {
+        self.buffered.inner.buffer()
     }
 }
 
@@ -203,6 +206,9 @@ impl<W: Write> Writer<W> {
 
 impl<W: Write> OutDevice for Writer<W> {
     ghost state = { λ w. record { written = W.contents w.inner; failed = w.failed } };
+
+    // what std's writer itself holds back, nothing says
+    ghost handed = { λ w. W.contents w.inner };
 
     fn write(&mut self, bytes: &[u8]) -> Result<usize, DeviceFault> {
         match self.inner.write(bytes) {

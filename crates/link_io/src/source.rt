@@ -3,12 +3,14 @@
 //! A source reads ahead, [`WINDOW`] bytes at a time. What it *took* from the reader it *gives* on, each byte once: copied
 //! by [`Source::some`] and [`Source::fill`], or where the bytes lie, by [`Source::window`] and [`Source::give`].
 
-ghost use Rattle.std.specs.Prelude.{◌≡◌, ◌+◌, ◌-◌, ◌^◌, ◌<◌, ◌≤◌, true, length, slice_range, IfOk, MatchResult};
+ghost use Rattle.std.specs.Prelude.{◌≡◌, ◌+◌, ◌-◌, ◌^◌, ◌<◌, ◌≤◌, true, length, take, slice_range, IfOk, MatchResult};
 ghost use Rattle.link_io.specs.Bytes.{AreBytes};
+ghost use Rattle.link_io.specs.Device.{BeginsWith};
 ghost use Rattle.std.specs.Io.KnownBytes.{ReadConsumes};
 
 use crate::device::{DeviceFault, InDevice};
 use crate::fault::IoFault;
+use crate::text::copy_into;
 
 /// The most bytes that a source takes: offsets are counted in 63 bits.
 pub const INPUT_LIMIT: u64 = (1 << 63) - 1;
@@ -107,7 +109,24 @@ impl<R: InDevice> Source<R> {
     pub fn may_wait(&self) -> bool
         ensures { IsTrue result → length (window_of self.now) < window_size }
     {
-        self.reader.may_wait() && self.end - self.start < WINDOW
+        self.reader.held().is_empty() && self.end - self.start < WINDOW
+    }
+
+    /// Copies the next bytes that are here, in the window and then with the reader, as many as there is room for, and returns
+    /// how many.
+    pub fn peek(&self, bytes: &mut [u8]) -> usize
+        ensures fits { result ≤ length bytes.old }
+        ensures size { length bytes.new ≡ length bytes.old }
+        ensures next { BeginsWith (ahead R.state self.now) (take result bytes.new) }
+    {
+        let window = self.window();
+        if window.len() >= bytes.len() {
+            return copy_into(bytes, 0, &window[..bytes.len()]);
+        }
+        let at = copy_into(bytes, 0, window);
+        let held = self.reader.held();
+        let count = held.len().min(bytes.len() - at);
+        copy_into(bytes, at, &held[..count])
     }
 
     /// The bytes that were taken and not given.

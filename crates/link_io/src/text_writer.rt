@@ -140,6 +140,8 @@ impl<D: OutDevice> OutDevice for TextWriter<D> {
 
     ghost state = { output_of D.state };
 
+    ghost handed = { λ writer. D.handed writer.device };
+
     #[inline(always)]
     fn write(&mut self, bytes: &[u8]) -> Result<usize, DeviceFault> {
         if bytes.len() <= self.page.len() - self.end {
@@ -165,6 +167,7 @@ impl<D: OutDevice> OutDevice for TextWriter<D> {
 
     fn settle(&mut self) -> Result<(), DeviceFault>
         ensures bytes { Keeps (output_of D.state self.old).written (output_of D.state self.new).written }
+        ensures handed { OnOk result (D.handed self.new.device ≡ (output_of D.state self.new).written) }
         ensures failed { MatchResult result
             (λ _. (output_of D.state self.new).failed ≡ (output_of D.state self.old).failed)
             (λ _. (output_of D.state self.new).failed ≡ true) }

@@ -1,6 +1,6 @@
 //! Where a run writes: its output, its report, and the line that it writes next.
 
-ghost use Rattle.std.specs.Prelude.{◌≡◌, []};
+ghost use Rattle.std.specs.Prelude.{◌≡◌, [], OnOk};
 ghost use Rattle.link_report.specs.Fault.{fault_text};
 
 use crate::run::Status;
@@ -98,6 +98,8 @@ impl<W: OutDevice, E: OutDevice> Writers<W, E> {
     /// Hands on what the writers hold back of what was written.
     pub fn settle(&mut self) -> Result<(), IoFault>
         ensures gives { GivesHandedOn W.state E.state self.old self.new result }
+        ensures output { OnOk result (W.handed self.new.output ≡ (W.state self.new.output).written) }
+        ensures report { OnOk result (E.handed self.new.report ≡ (E.state self.new.report).written) }
         ensures line { next_line self.new ≡ next_line self.old }
     {
         if self.output.settle().is_err() {

@@ -4,8 +4,8 @@ use crate::fault::{Stop, WireFault};
 use crate::halt::Halt;
 use crate::head::{contact, fields, kind};
 use crate::message::{Contact, Fields, Message, MessageBuffer};
-use crate::plain::plain;
-use link_io::{InDevice, Source};
+use crate::plain::{PLAIN_MAX, plain};
+use link_io::{InDevice, Source, WINDOW};
 
 /// What may be read next.
 #[derive(Clone, Copy, Debug, PartialEq, Eq)]
@@ -82,14 +82,27 @@ impl<R: InDevice> Session<R> {
     pub fn may_wait(&self) -> bool
         ensures { IsTrue result → length (window_of (source_of self.now)) < window_size }
     {
-        if !self.source.may_wait() {
-            return false;
-        }
         let window = self.source.window();
         if self.left > 0 {
-            return window.is_empty();
+            return window.is_empty() && self.source.may_wait();
         }
-        plain(window).is_none()
+        // of a window that is long enough the first bytes of a head tell, and no number is read
+        if window.len() >= PLAIN_MAX && plain(window).is_some() {
+            return false;
+        }
+        self.lacks_head()
+    }
+
+    /// Whether the bytes that are here do not begin with a head that is read where it lies. A window of which nothing was given has just
+    /// come, and what came with it was not waited for.
+    #[cold]
+    #[inline(never)]
+    fn lacks_head(&self) -> bool
+        ensures { IsTrue result → length (window_of (source_of self.now)) < window_size }
+    {
+        let mut front = [0; PLAIN_MAX];
+        let count = self.source.peek(&mut front);
+        plain(&front[..count]).is_none() && self.source.window().len() < WINDOW
     }
 
     /// Reads the contact header: once, before all else.

@@ -1,1 +1,1 @@
-mod HandedOn
+mod Buffered

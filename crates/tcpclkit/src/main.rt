@@ -7,11 +7,13 @@
 mod ending;
 mod streams;
 
+use either::{Either, Left, Right};
 use ending::{Ending, ending_exit};
 use link_command::{Invocation, UsageFault, options};
 use link_tools::Options;
 use link_wire::IoFault;
-use std::io::{ErrorKind, Read};
+use std::fs::File;
+use std::io::{ErrorKind, Stdin};
 use std::process::ExitCode;
 use std::{env, fs, io};
 use streams::run_buffered;
@@ -43,12 +45,17 @@ fn run(rt: &HostRuntime) -> Ending {
         Err(fault) => return Ending::Usage(fault),
     };
     let Invocation { options, file } = invocation;
-    let Some(name) = file else {
-        return run_over(rt, options, rt.stdin());
-    };
-    match fs::open(rt, name.as_str()) {
+    match input(rt, file.as_deref()) {
         Ok(input) => run_over(rt, options, input),
         Err(_) => Ending::NoInput,
+    }
+}
+
+/// The file of that name, opened, or standard input. Both are of one type, so that the tools are compiled once.
+fn input(rt: &HostRuntime, file: Option<&str>) -> io::Result<Either<File, Stdin>> {
+    match file {
+        Some(name) => Ok(Left(fs::open(rt, name)?)),
+        None => Ok(Right(rt.stdin())),
     }
 }
 
@@ -57,8 +64,8 @@ fn words(rt: &HostRuntime) -> io::Result<Vec<String>> {
     Ok(env::args(rt)?.collect(rt.alloc())?)
 }
 
-/// Runs the tool over an input.
-fn run_over<R: Read + Drop>(rt: &HostRuntime, options: Options, input: R) -> Ending {
+/// Runs the tool over the input.
+fn run_over(rt: &HostRuntime, options: Options, input: Either<File, Stdin>) -> Ending {
     match run_buffered(rt.alloc(), options, input, rt.stdout(), rt.stderr()) {
         Ok(end) => Ending::Answer(end.answer),
         Err(_) => Ending::Answer(Err(IoFault::Memory)),

@@ -1,11 +1,9 @@
 //! The tools over buffered streams.
 
-ghost use Rattle.std.specs.Prelude.{◌≡◌, ℕ, false, List, IfOk, IfErr, IfSome, Ok, Some};
-ghost use Rattle.std.specs.Io.KnownBytes.{Keeps};
+ghost use Rattle.std.specs.Prelude.{◌≡◌, IfOk, IfErr};
 ghost use Rattle.std.specs.IoError.{error_kind};
-ghost use Rattle.link_tools.specs.Options.{tool_of};
-ghost use Rattle.link_run.specs.declared.run.Status.{Status};
-ghost use Rattle.tcpclkit.specs.BufferedEnd.{HasWritten, IsFlushed};
+ghost use Rattle.link_wire.specs.Device.{Output};
+ghost use Rattle.tcpclkit.specs.BufferedEnd.{GivesBuffered, HandsOn};
 
 use crate::ending::after_flush;
 use link_tools::{Options, Status, run_tool};
@@ -19,18 +17,16 @@ const INPUT_BUFFER: usize = 64 << 10;
 
 /// A run over buffered streams that has ended.
 #[derive(Drop)]
-pub struct BufferedEnd<W, E> {
+pub struct BufferedEnd<W: Write, E: Write> {
     /// The answer, in which a failed flush counts.
     pub answer: Result<Status, IoFault>,
-    /// Where the output went to, if all of it was handed on.
-    pub output: Option<W>,
-    /// Where the report went to, if all of it was handed on.
-    pub report: Option<E>,
+    /// Where the output went to.
+    pub output: Writer<W>,
+    /// Where the report went to.
+    pub report: Writer<E>,
 }
 
-/// Runs the tool that the options are for, and hands both texts on to their writers.
-///
-/// Where a device fails, nothing is said of how much of the texts has arrived.
+/// Runs the tool that the options are for, and hands both texts on to their writers, also after a fault or a failure.
 ///
 /// # Errors
 ///
@@ -42,11 +38,9 @@ pub fn run_buffered<R: Read + Drop, W: Write + Drop, E: Write + Drop>(
     output: W,
     report: E,
 ) -> io::Result<BufferedEnd<W, E>>
-    ensures whole { IfOk result (λ end. (status : Status) (bytes : List ℕ)
-        → end.answer ≡ Ok status → R.remaining input ≡ Some bytes
-        → HasWritten W.contents E.contents ((tool_of options).whole bytes) output report end status) }
-    ensures flushed { IfOk result (λ end. (status : Status)
-        → end.answer ≡ Ok status → IsFlushed end status) }
+    ensures ok { IfOk result (λ end. GivesBuffered options
+        (R.remaining input) (W.contents output) (E.contents report)
+        (⟦<Writer<W> as OutDevice>⟧.state end.output) (⟦<Writer<E> as OutDevice>⟧.state end.report) end.answer) }
     ensures err { IfErr result (λ error. error_kind error ≡ ErrorKind.OutOfMemory) }
 {
     let reader = BufReader::with_capacity(alloc, INPUT_BUFFER, input)?;
@@ -60,22 +54,24 @@ pub fn run_buffered<R: Read + Drop, W: Write + Drop, E: Write + Drop>(
         }
     };
     let end = run_tool(alloc, options, BufferedReader::new(reader), output, report);
-    let output = flushed(end.output);
-    let report = flushed(end.report);
+    let output = handed_on(end.output);
+    let report = handed_on(end.report);
+    let flushed = !output.failed() && !report.failed();
     Ok(BufferedEnd {
-        answer: after_flush(end.answer, output.is_some() && report.is_some()),
+        answer: after_flush(end.answer, flushed),
         output,
         report,
     })
 }
 
-/// Hands on what waits. Returns the writer below, or `None` where it failed.
-fn flushed<W: Write + Drop>(writer: TextWriter<Writer<W>>) -> Option<W>
-    ensures { IfSome result (λ inner. Keeps (⟦<TextWriter<Writer<W>> as OutDevice>⟧.state writer).written (W.contents inner)) }
+/// Hands on what waits. Returns the device below, which says whether it failed in that.
+fn handed_on<W: Write + Drop>(writer: TextWriter<Writer<W>>) -> Writer<W>
+    ensures { HandsOn (⟦<TextWriter<Writer<W>> as OutDevice>⟧.state writer) (⟦<Writer<W> as OutDevice>⟧.state result) }
 {
-    let (device, passed) = writer.into_device();
-    passed.ok()?;
-    let mut inner = device.into_inner();
-    inner.flush().ok()?;
-    Some(inner)
+    let (mut device, passed) = writer.into_device();
+    if passed.is_ok() {
+        // a failure stays with the device
+        let _ = device.settle();
+    }
+    device
 }

@@ -97,6 +97,8 @@ impl TestWriter {
 impl OutDevice for TestWriter {
     ghost state = { λ w. record { written = Some w.written.items; failed = w.pace.failed } };
 
+    ghost handed = { λ w. Some w.written.items };
+
     /// Want of memory is a fault too.
     fn write(&mut self, bytes: &[u8]) -> Result<usize, DeviceFault> {
         let count = self.pace.turn(bytes.len())?;
@@ -111,5 +113,9 @@ impl OutDevice for TestWriter {
 
     fn failed(&self) -> bool {
         self.pace.failed()
+    }
+
+    fn settle(&mut self) -> Result<(), DeviceFault> {
+        Ok(())
     }
 }

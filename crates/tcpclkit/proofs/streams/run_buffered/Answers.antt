@@ -1,17 +1,19 @@
-use Rattle.std.proofs.Common.{ap, sym, ◌∙◌}
-use Rattle.tcpclkit.proofs.HandedOn.{answered, has_run, had_memory, handed_on, buffered}
+use Rattle.std.proofs.Common.{◌≡◌, not, ◌&&◌, ap, sym, ◌∙◌, refl}
+use Rattle.tcpclkit.specs.Ending.{answer_after_flush}
+use Rattle.tcpclkit.proofs.Buffered.{gives_buffered, buffered}
 use Rattle.tcpclkit.proofs.streams.run_buffered.Goals as goal
+use Rattle.tcpclkit.proofs.streams.run_buffered.Goals.{then-not-failed, else-not-failed}
 
-pub returns-clause-whole : goal.returns-clause-whole
-returns-clause-whole g c status bytes is known =
+pub returns-clause-ok : goal.returns-clause-ok
+returns-clause-ok g c =
     let reader = c.in_ok-reader.ensures in
-    let left = buffered _ _ _ bytes reader.capacity reader.empty (ap g.R.Read.remaining reader.inner ∙ known) in
-    let is_run = answered _ _ status (sym c.after_flush.ensures ∙ is) in
-    let run = has_run _ _ _ _ _ _ _ status bytes (had_memory _ _ _ c.args.options _ _ _ status is_run c.run_tool-end.ensures) is_run (ap (λ state. state.left) c.new-5.ensures ∙ left) in
-    let no_output = ap (λ state. state.written) (c.in_ok-output.ensures ∙ c.new.ensures) in
-    let no_report = ap (λ state. state.written) (c.in-Ok.ensures ∙ c.new-3.ensures) in
-    record {
-      writes = handed_on g.W.Write.contents _ _ _ _ _ no_output run.writes c.flushed-output.ensures;
-      reports = handed_on g.E.Write.contents _ _ _ _ _ no_report run.reports c.flushed-report.ensures;
-      ends = run.ends;
-    }
+    let left = buffered _ _ _ _ reader.capacity reader.empty (ap g.R.Read.remaining reader.inner) in
+    let flushed : c.if-not-failed.flushed ≡ (not c.handed_on-output.result.failed && not c.handed_on-report.result.failed) =
+    elim c.if-not-failed.branch [
+      | then-not-failed w ↦ rw (w.flushed-is, w.failed-then-not-failed.ensures, sym c.failed.ensures ∙ w.if-not-failed.true) refl
+      | else-not-failed w ↦ rw (w.flushed-is, w.if-not-failed.false, sym c.failed.ensures ∙ w.if-not-failed.false) refl
+    ] in
+    gives_buffered _ _ _ _ _ _ _ _ _ _ _ _ _ _
+    c.new-5.ensures left (c.in_ok-output.ensures ∙ c.new.ensures) (c.in-Ok.ensures ∙ c.new-3.ensures)
+    c.run_tool-end.ensures c.handed_on-output.ensures c.handed_on-report.ensures
+    (c.after_flush.ensures ∙ ap (λ b. answer_after_flush c.run_tool-end.result.answer b) flushed)

@@ -1,0 +1,10 @@
+use Rattle.link_io.proofs.Windows.{window_next, held_next}
+use Rattle.link_io.proofs.source.Source.peek.Goals as goal
+
+pub returns-then-window-bytes-clause-next : goal.returns-then-window-bytes-clause-next
+returns-then-window-bytes-clause-next g c =
+    rw (c.copy_into.ensures.text, c.window-window.ensures.window) (window_next _ _ _)
+
+pub returns-clause-next : goal.returns-clause-next
+returns-clause-next g c =
+    rw (c.copy_into-2.ensures.text, c.copy_into-at.ensures.text, c.window-window.ensures.window) (held_next _ _ _ _ c.held-held.ensures)
