@@ -4,7 +4,9 @@
 ghost use Rattle.std.specs.Prelude.{◌≡◌, ◌<◌, length, slice_index, IfSome};
 ghost use Rattle.link_wire.specs.Plain.{IsHead};
 
-use crate::codes::{KEEPALIVE, MSG_REJECT, SESS_TERM, START, XFER_ACK, XFER_REFUSE, XFER_SEGMENT};
+use crate::codes::{
+    KEEPALIVE, MSG_REJECT, SESS_INIT, SESS_TERM, START, XFER_ACK, XFER_REFUSE, XFER_SEGMENT,
+};
 use crate::message::Fields;
 use byteorder::{BigEndian, ByteOrder};
 
@@ -115,5 +117,31 @@ pub fn plain(window: &[u8]) -> Option<(Fields, usize)>
         SESS_TERM => sess_term(window),
         MSG_REJECT => msg_reject(window),
         _ => None,
+    }
+}
+
+/// Whether the head of a segment is whole in these bytes, with its items if it has some.
+fn has_segment(bytes: &[u8]) -> bool {
+    if bytes.len() < 18 {
+        return false;
+    }
+    if bytes[1] & START != START {
+        return true;
+    }
+    let list = BigEndian::read_u32(&bytes[10..14]) as usize;
+    bytes.len() >= PLAIN_MAX && bytes.len() - PLAIN_MAX >= list
+}
+
+/// Whether these bytes are enough for the head that they begin with: it is whole, or its type shows a fault. It says no of each
+/// SESS_INIT.
+pub fn has_head(bytes: &[u8]) -> bool {
+    if bytes.is_empty() {
+        return false;
+    }
+    match bytes[0] {
+        XFER_SEGMENT => has_segment(bytes),
+        XFER_ACK | XFER_REFUSE | KEEPALIVE | SESS_TERM | MSG_REJECT => plain(bytes).is_some(),
+        SESS_INIT => false,
+        _ => true,
     }
 }

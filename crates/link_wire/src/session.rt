@@ -4,8 +4,11 @@ use crate::fault::{Stop, WireFault};
 use crate::halt::Halt;
 use crate::head::{contact, fields, kind};
 use crate::message::{Contact, Fields, Message, MessageBuffer};
-use crate::plain::{PLAIN_MAX, plain};
+use crate::plain::{PLAIN_MAX, has_head, plain};
 use link_io::{InDevice, Source, WINDOW};
+
+/// How many bytes are looked at to tell whether a head is here: more than one with a few items has.
+const FRONT: usize = 128;
 
 /// What may be read next.
 #[derive(Clone, Copy, Debug, PartialEq, Eq)]
@@ -93,16 +96,16 @@ impl<R: InDevice> Session<R> {
         self.lacks_head()
     }
 
-    /// Whether the bytes that are here do not begin with a head that is read where it lies. A window of which nothing was given has just
-    /// come, and what came with it was not waited for.
+    /// Whether the first of the bytes that are here are not enough for the next head. A window of which nothing was given has just come,
+    /// and what came with it was not waited for.
     #[cold]
     #[inline(never)]
     fn lacks_head(&self) -> bool
         ensures { IsTrue result → length (window_of (source_of self.now)) < window_size }
     {
-        let mut front = [0; PLAIN_MAX];
+        let mut front = [0; FRONT];
         let count = self.source.peek(&mut front);
-        plain(&front[..count]).is_none() && self.source.window().len() < WINDOW
+        !has_head(&front[..count]) && self.source.window().len() < WINDOW
     }
 
     /// Reads the contact header: once, before all else.

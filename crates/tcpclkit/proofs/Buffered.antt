@@ -16,50 +16,43 @@ use Rattle.tcpclkit.specs.Ending.{answer_after_flush}
 
 -- a run over devices is one over what is known of them
 run_of_states : {R W E : Type 0} (in_look : R → Input) (out_look : W → Output) (report_look : E → Output) (options : Options)
-    (start now : Devices R W E) (answer : Result Status IoFault) (known : Devices Input Output Output)
-    → states_of in_look out_look report_look start ≡ known
+    (start now : Devices R W E) (answer : Result Status IoFault)
     → GivesRun in_look out_look report_look options start now answer
-    → GivesRun itself itself itself options known (states_of in_look out_look report_look now) answer
-run_of_states in_look out_look report_look options start now answer known is (inl gives) =
-    inl (rw is at (answer_of_states in_look out_look report_look (tool_of options) start now answer gives))
-run_of_states in_look out_look report_look options start now answer known is (inr lacks) =
-    inr (lacks.0, record { unchanged = ap (states_of in_look out_look report_look) lacks.1.unchanged ∙ is; is = lacks.1.is })
+    → GivesRun itself itself itself options (states_of in_look out_look report_look start) (states_of in_look out_look report_look now) answer
+run_of_states in_look out_look report_look options start now answer (inl gives) =
+    inl (answer_of_states in_look out_look report_look (tool_of options) start now answer gives)
+run_of_states in_look out_look report_look options start now answer (inr lacks) =
+    inr (lacks.0, record { unchanged = ap (states_of in_look out_look report_look) lacks.1.unchanged; is = lacks.1.is })
 
-abbrev known_input : Option (List ℕ) → Input
-known_input left = record { left = left; failed = false }
-
-abbrev known_output : Option (List ℕ) → Output
-known_output written = record { written = written; failed = false }
-
--- what a run over devices gives that stood as the input and the streams
+-- what a run over devices gives, once its texts were handed on
 pub gives_buffered : {R W E : Type 0} (in_look : R → Input) (out_look : W → Output) (report_look : E → Output) (options : Options)
-    (start now : Devices R W E) (ends answer : Result Status IoFault) (left input output report : Option (List ℕ)) (new_output new_report : Output)
-    → in_look start.reader ≡ known_input left → left ≡ input → out_look start.output ≡ known_output output → report_look start.report ≡ known_output report
+    (start now : Devices R W E) (ends answer : Result Status IoFault) (new_output new_report : Output)
     → GivesRun in_look out_look report_look options start now ends
     → HandsOn (out_look now.output) new_output → HandsOn (report_look now.report) new_report
     → answer ≡ answer_after_flush ends (not new_output.failed && not new_report.failed)
-    → GivesBuffered options input output report new_output new_report answer
-gives_buffered in_look out_look report_look options start now ends answer left input output report new_output new_report reader same writes reports run handed_output handed_report answers =
-    let known : Devices Input Output Output = record { reader = known_input input; output = known_output output; report = known_output report } in
-    let stood : states_of in_look out_look report_look start ≡ known = rw (reader, same, writes, reports) refl in
-    record {
-      now = states_of in_look out_look report_look now;
-      ends = ends;
-      run = run_of_states in_look out_look report_look options start now ends known stood run;
-      writes = handed_output;
-      reports = handed_report;
-      answers = answers;
-    }
+    → GivesBuffered options (states_of in_look out_look report_look start) (record { reader = in_look now.reader; output = new_output; report = new_report }) answer
+gives_buffered in_look out_look report_look options start now ends answer new_output new_report run writes reports answers = record {
+  now = states_of in_look out_look report_look now;
+  ends = ends;
+  run = run_of_states in_look out_look report_look options start now ends run;
+  reads = refl;
+  writes = writes;
+  reports = reports;
+  answers = answers;
+}
 
 nothing_before : (rest : Option (List ℕ)) → prepend_known [] rest ≡ rest
 nothing_before None = refl
 nothing_before (Some bytes) = refl
 
--- what a reader with an empty buffer has left
-pub buffered : (capacity : ℕ) (buffer : List ℕ) (rest known : Option (List ℕ))
+abbrev known_input : Option (List ℕ) → Input
+known_input left = record { left = left; failed = false }
+
+-- a reader with an empty buffer has left what its input has
+pub read_input : (capacity : ℕ) (buffer : List ℕ) (rest known : Option (List ℕ))
     → capacity ≡ 65536 → buffer ≡ [] → rest ≡ known
-    → (if capacity == 0 then None else prepend_known buffer rest) ≡ known
-buffered capacity buffer rest known size empty is = rw (size, empty) (nothing_before rest ∙ is)
+    → known_input (if capacity == 0 then None else prepend_known buffer rest) ≡ known_input known
+read_input capacity buffer rest known size empty is = rw (size, empty) (ap known_input (nothing_before rest ∙ is))
 
 -- a part of what waited was handed on after what had been
 first_handed : (old new : Option (List ℕ)) (waiting : List ℕ) (count : ℕ)

@@ -1,5 +1,5 @@
 -- What a run over buffered streams has written.
-use Rattle.std.specs.Prelude.{◌≡◌, ℕ, ◌⊎◌, true, false, ◌&&◌, not, List, take, Option, Result}
+use Rattle.std.specs.Prelude.{◌≡◌, ℕ, ◌⊎◌, true, ◌&&◌, not, List, take, Option, Result}
 use Rattle.std.specs.Option.{option_map}
 use Rattle.std.specs.Io.KnownBytes.{Keeps}
 use Rattle.link_wire.specs.Device.{Input, Output}
@@ -19,18 +19,13 @@ pub record HandsOn (written handed : Output) : Type 0 where
   pub failed : written.failed ≡ true → handed.failed ≡ true
   pub bytes : Keeps written.written handed.written ⊎ ((handed.failed ≡ true) × AreFirst written.written handed.written)
 
--- The tool was run over an input and two streams that stood so. What it wrote was handed on, and the answer is its own, in which
--- a stream that failed then counts.
-pub record GivesBuffered (options : Options) (input output report : Option (List ℕ)) (new_output new_report : Output) (answer : Result Status IoFault) : Type 0 where
+-- The tool was run over devices that stood so. What it wrote was handed on, no more was read, and the answer is its own, in which a
+-- stream that failed then counts.
+pub record GivesBuffered (options : Options) (start end : Devices Input Output Output) (answer : Result Status IoFault) : Type 0 where
   pub now : Devices Input Output Output
   pub ends : Result Status IoFault
-  pub run : GivesRun itself itself itself options
-      (record {
-        reader = record { left = input; failed = false };
-        output = record { written = output; failed = false };
-        report = record { written = report; failed = false };
-      })
-      now ends
-  pub writes : HandsOn now.output new_output
-  pub reports : HandsOn now.report new_report
-  pub answers : answer ≡ answer_after_flush ends (not new_output.failed && not new_report.failed)
+  pub run : GivesRun itself itself itself options start now ends
+  pub reads : end.reader ≡ now.reader
+  pub writes : HandsOn now.output end.output
+  pub reports : HandsOn now.report end.report
+  pub answers : answer ≡ answer_after_flush ends (not end.output.failed && not end.report.failed)

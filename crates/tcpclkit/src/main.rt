@@ -16,7 +16,7 @@ use std::fs::File;
 use std::io::{ErrorKind, Stdin};
 use std::process::ExitCode;
 use std::{env, fs, io};
-use streams::run_buffered;
+use streams::{buffered, run_buffered};
 
 fn main(rt: HostRuntime) -> ExitCode {
     let ending = run(&rt);
@@ -66,8 +66,8 @@ fn words(rt: &HostRuntime) -> io::Result<Vec<String>> {
 
 /// Runs the tool over the input.
 fn run_over(rt: &HostRuntime, options: Options, input: Either<File, Stdin>) -> Ending {
-    match run_buffered(rt.alloc(), options, input, rt.stdout(), rt.stderr()) {
-        Ok(end) => Ending::Answer(end.answer),
+    match buffered(rt.alloc(), input, rt.stdout(), rt.stderr()) {
+        Ok(streams) => Ending::Answer(run_buffered(rt.alloc(), options, streams).answer),
         Err(_) => Ending::Answer(Err(IoFault::Memory)),
     }
 }

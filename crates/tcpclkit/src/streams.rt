@@ -1,13 +1,14 @@
 //! The tools over buffered streams.
 
-ghost use Rattle.std.specs.Prelude.{◌≡◌, IfOk, IfErr};
+ghost use Rattle.std.specs.Prelude.{◌≡◌, false, IfOk, IfErr};
 ghost use Rattle.std.specs.IoError.{error_kind};
-ghost use Rattle.link_wire.specs.Device.{Output};
+ghost use Rattle.link_wire.specs.Device.{Input, Output};
+ghost use Rattle.link_run.specs.Run.{Devices};
 ghost use Rattle.tcpclkit.specs.BufferedEnd.{GivesBuffered, HandsOn};
 
 use crate::ending::after_flush;
 use link_tools::{Options, Status, run_tool};
-use link_wire::{BufferedReader, IoFault, OutDevice, TextWriter, Writer};
+use link_wire::{BufferedReader, InDevice, IoFault, OutDevice, TextWriter, Writer};
 use std::alloc::Global;
 use std::io;
 use std::io::{BufReader, ErrorKind, Read, Write};
@@ -15,32 +16,40 @@ use std::io::{BufReader, ErrorKind, Read, Write};
 /// How many bytes of the input are read at once, below the window of its source.
 const INPUT_BUFFER: usize = 64 << 10;
 
+/// An input and two streams, with buffers over them.
+pub struct Streams<R: Read, W: Write, E: Write> {
+    input: BufferedReader<R>,
+    output: TextWriter<Writer<W>>,
+    report: TextWriter<Writer<E>>,
+}
+
 /// A run over buffered streams that has ended.
 #[derive(Drop)]
-pub struct BufferedEnd<W: Write, E: Write> {
+pub struct BufferedEnd<R: Read, W: Write, E: Write> {
     /// The answer, in which a failed flush counts.
     pub answer: Result<Status, IoFault>,
+    /// Where the input came from.
+    pub input: BufferedReader<R>,
     /// Where the output went to.
     pub output: Writer<W>,
     /// Where the report went to.
     pub report: Writer<E>,
 }
 
-/// Runs the tool that the options are for, and hands both texts on to their writers, also after a fault or a failure.
+/// Puts buffers over an input and two streams.
 ///
 /// # Errors
 ///
-/// Want of memory for the buffers: nothing was read and nothing written.
-pub fn run_buffered<R: Read + Drop, W: Write + Drop, E: Write + Drop>(
+/// Want of memory: nothing was read and nothing written.
+pub fn buffered<R: Read + Drop, W: Write + Drop, E: Write + Drop>(
     alloc: Global,
-    options: Options,
     input: R,
     output: W,
     report: E,
-) -> io::Result<BufferedEnd<W, E>>
-    ensures ok { IfOk result (λ end. GivesBuffered options
-        (R.remaining input) (W.contents output) (E.contents report)
-        (⟦<Writer<W> as OutDevice>⟧.state end.output) (⟦<Writer<E> as OutDevice>⟧.state end.report) end.answer) }
+) -> io::Result<Streams<R, W, E>>
+    ensures input { IfOk result (λ streams. ⟦<BufferedReader<R> as InDevice>⟧.state streams.input ≡ record { left = R.remaining input; failed = false }) }
+    ensures output { IfOk result (λ streams. ⟦<TextWriter<Writer<W>> as OutDevice>⟧.state streams.output ≡ record { written = W.contents output; failed = false }) }
+    ensures report { IfOk result (λ streams. ⟦<TextWriter<Writer<E>> as OutDevice>⟧.state streams.report ≡ record { written = E.contents report; failed = false }) }
     ensures err { IfErr result (λ error. error_kind error ≡ ErrorKind.OutOfMemory) }
 {
     let reader = BufReader::with_capacity(alloc, INPUT_BUFFER, input)?;
@@ -53,15 +62,50 @@ pub fn run_buffered<R: Read + Drop, W: Write + Drop, E: Write + Drop>(
             return Err(error.into());
         }
     };
-    let end = run_tool(alloc, options, BufferedReader::new(reader), output, report);
-    let output = handed_on(end.output);
-    let report = handed_on(end.report);
-    let flushed = !output.failed() && !report.failed();
-    Ok(BufferedEnd {
-        answer: after_flush(end.answer, flushed),
+    Ok(Streams {
+        input: BufferedReader::new(reader),
         output,
         report,
     })
+}
+
+/// Runs the tool that the options are for, and hands both texts on to their streams, also after a fault or a failure.
+pub fn run_buffered<R: Read + Drop, W: Write + Drop, E: Write + Drop>(
+    alloc: Global,
+    options: Options,
+    streams: Streams<R, W, E>,
+) -> BufferedEnd<R, W, E>
+    requires input { (⟦<BufferedReader<R> as InDevice>⟧.state streams.input).failed ≡ false }
+    requires output { (⟦<TextWriter<Writer<W>> as OutDevice>⟧.state streams.output).failed ≡ false }
+    requires report { (⟦<TextWriter<Writer<E>> as OutDevice>⟧.state streams.report).failed ≡ false }
+    ensures { GivesBuffered options
+        (record {
+          reader = ⟦<BufferedReader<R> as InDevice>⟧.state streams.input;
+          output = ⟦<TextWriter<Writer<W>> as OutDevice>⟧.state streams.output;
+          report = ⟦<TextWriter<Writer<E>> as OutDevice>⟧.state streams.report;
+        })
+        (record {
+          reader = ⟦<BufferedReader<R> as InDevice>⟧.state result.input;
+          output = ⟦<Writer<W> as OutDevice>⟧.state result.output;
+          report = ⟦<Writer<E> as OutDevice>⟧.state result.report;
+        })
+        result.answer }
+{
+    let Streams {
+        input,
+        output,
+        report,
+    } = streams;
+    let end = run_tool(alloc, options, input, output, report);
+    let output = handed_on(end.output);
+    let report = handed_on(end.report);
+    let flushed = !output.failed() && !report.failed();
+    BufferedEnd {
+        answer: after_flush(end.answer, flushed),
+        input: end.reader,
+        output,
+        report,
+    }
 }
 
 /// Hands on what waits. Returns the device below, which says whether it failed in that.

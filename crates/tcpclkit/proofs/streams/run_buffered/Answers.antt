@@ -1,19 +1,16 @@
 use Rattle.std.proofs.Common.{◌≡◌, not, ◌&&◌, ap, sym, ◌∙◌, refl}
 use Rattle.tcpclkit.specs.Ending.{answer_after_flush}
-use Rattle.tcpclkit.proofs.Buffered.{gives_buffered, buffered}
+use Rattle.tcpclkit.proofs.Buffered.{gives_buffered}
 use Rattle.tcpclkit.proofs.streams.run_buffered.Goals as goal
 use Rattle.tcpclkit.proofs.streams.run_buffered.Goals.{then-not-failed, else-not-failed}
 
-pub returns-clause-ok : goal.returns-clause-ok
-returns-clause-ok g c =
-    let reader = c.in_ok-reader.ensures in
-    let left = buffered _ _ _ _ reader.capacity reader.empty (ap g.R.Read.remaining reader.inner) in
+pub returns : goal.returns
+returns g c =
     let flushed : c.if-not-failed.flushed ≡ (not c.handed_on-output.result.failed && not c.handed_on-report.result.failed) =
     elim c.if-not-failed.branch [
       | then-not-failed w ↦ rw (w.flushed-is, w.failed-then-not-failed.ensures, sym c.failed.ensures ∙ w.if-not-failed.true) refl
       | else-not-failed w ↦ rw (w.flushed-is, w.if-not-failed.false, sym c.failed.ensures ∙ w.if-not-failed.false) refl
     ] in
-    gives_buffered _ _ _ _ _ _ _ _ _ _ _ _ _ _
-    c.new-5.ensures left (c.in_ok-output.ensures ∙ c.new.ensures) (c.in-Ok.ensures ∙ c.new-3.ensures)
+    gives_buffered _ _ _ _ _ _ _ _ _ _
     c.run_tool-end.ensures c.handed_on-output.ensures c.handed_on-report.ensures
     (c.after_flush.ensures ∙ ap (λ b. answer_after_flush c.run_tool-end.result.answer b) flushed)
