@@ -120,20 +120,33 @@ pub fn plain(window: &[u8]) -> Option<(Fields, usize)>
     }
 }
 
-/// Whether the head of a segment is whole in these bytes, with its items if it has some.
+/// Whether the bytes after the first `before` of these begin with a whole extension list: its length, and that many bytes.
+fn has_list(bytes: &[u8], before: usize) -> bool {
+    if bytes.len() < before || bytes.len() - before < 4 {
+        return false;
+    }
+    let length = BigEndian::read_u32(&bytes[before..before + 4]) as usize;
+    bytes.len() - before - 4 >= length
+}
+
+/// Whether the head of a segment is whole in these bytes, with its items if it has some: the data's length has 8 bytes.
 fn has_segment(bytes: &[u8]) -> bool {
     if bytes.len() < 18 {
         return false;
     }
-    if bytes[1] & START != START {
-        return true;
-    }
-    let list = BigEndian::read_u32(&bytes[10..14]) as usize;
-    bytes.len() >= PLAIN_MAX && bytes.len() - PLAIN_MAX >= list
+    bytes[1] & START != START || has_list(&bytes[..bytes.len() - 8], 10)
 }
 
-/// Whether these bytes are enough for the head that they begin with: it is whole, or its type shows a fault. It says no of each
-/// SESS_INIT.
+/// Whether a SESS_INIT is whole in these bytes: 21 bytes, the last two of them the length of the node ID, then the node ID and a list.
+fn has_sess_init(bytes: &[u8]) -> bool {
+    if bytes.len() < 21 {
+        return false;
+    }
+    let node = BigEndian::read_u16(&bytes[19..21]) as usize;
+    has_list(bytes, 21 + node)
+}
+
+/// Whether these bytes are enough for the head that they begin with: it is whole, or its type shows a fault.
 pub fn has_head(bytes: &[u8]) -> bool {
     if bytes.is_empty() {
         return false;
@@ -141,7 +154,7 @@ pub fn has_head(bytes: &[u8]) -> bool {
     match bytes[0] {
         XFER_SEGMENT => has_segment(bytes),
         XFER_ACK | XFER_REFUSE | KEEPALIVE | SESS_TERM | MSG_REJECT => plain(bytes).is_some(),
-        SESS_INIT => false,
+        SESS_INIT => has_sess_init(bytes),
         _ => true,
     }
 }
