@@ -331,6 +331,7 @@ impl<R: InDevice, W: OutDevice, E: OutDevice> Run<R, W, E> for ListRun<R, W, E> 
 
 /// Lists a recorded stream: the output has the line of the contact header and of each message, the
 /// report that of the fault which ended the stream, if any; status 3 at a fault, else 0.
+#[inline(never)]
 pub fn list<R: InDevice, W: OutDevice, E: OutDevice>(
     reader: R,
     output: W,

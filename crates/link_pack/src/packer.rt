@@ -58,6 +58,7 @@ impl Packer {
     ghost use Rattle.link_pack.specs.Packer.{Holds, Took, CutShort, found_by, accepted_of, is_whole};
 
     /// Nothing was packed. It takes memory once, for the cutter.
+    #[inline(never)]
     pub fn new(alloc: Global, options: PackOptions) -> Result<Packer, AllocError>
         ensures start { IfOk result (λ packer. Holds packer [] []) }
         ensures options { IfOk result (λ packer. packer.options ≡ options) }
@@ -106,6 +107,7 @@ impl Packer {
 
     /// Takes the next bytes of a piece that is not empty, and returns how many it took and what they make of the bundle:
     /// no more than the peer's limit leaves, and than fill a chunk.
+    #[inline(never)]
     pub fn take(&mut self, piece: &[u8]) -> (usize, Found)
         requires some { 0 < length piece.now }
         requires quiet { cut_waits self.old.cutter ≡ false }

@@ -95,6 +95,7 @@ fn put_prelude(head: &mut HeadBuf, options: &PackOptions)
 }
 
 /// Writes what comes before the bundles.
+#[inline(never)]
 fn write_prelude<W: OutDevice, E: OutDevice>(
     writers: &mut Writers<W, E>,
     packer: &Packer,
@@ -136,6 +137,7 @@ fn take_bytes<R: InDevice, W: OutDevice, E: OutDevice>(
 }
 
 /// Writes what is due once bytes have come.
+#[inline(never)]
 fn go_on<W: OutDevice, E: OutDevice>(
     found: Found,
     writers: &mut Writers<W, E>,
@@ -179,6 +181,7 @@ fn end_bundle<W: OutDevice, E: OutDevice>(writers: &mut Writers<W, E>, packer: &
 }
 
 /// The input has ended: inside a bundle that is a fault.
+#[inline(never)]
 fn finish<W: OutDevice, E: OutDevice>(
     writers: &mut Writers<W, E>,
     packer: &Packer,

@@ -453,6 +453,7 @@ impl<R: InDevice, W: OutDevice, E: OutDevice> Run<R, W, E> for UnpackRun<R, W, E
 /// Unpacks a recorded stream: the output has the data of the transfers that are wanted, joined, the
 /// report a line for each transfer, and that of the fault which ended the stream, if any; status 3
 /// at a fault, else 1 where a transfer is not good, else 0.
+#[inline(never)]
 pub fn unpack<R: InDevice, W: OutDevice, E: OutDevice>(
     wanted: Wanted,
     reader: R,
