@@ -34,10 +34,6 @@ pub record Devices (R W E : Type 0) : Type 0 where
   pub output : W
   pub report : E
 
--- what is known of a device of which nothing is known but that
-abbrev pub itself : {A : Type 0} → A → A
-itself known = known
-
 -- where a run stands: what it reads, over the reader, and what it writes to
 pub record Place (R W E : Type 0) : Type 0 where
   pub source : Source R

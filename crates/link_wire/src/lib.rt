@@ -19,6 +19,7 @@ mod codes;
 mod fault;
 mod halt;
 mod head;
+mod here;
 pub mod laws;
 mod list;
 mod message;

@@ -3,12 +3,10 @@
 use crate::fault::{Stop, WireFault};
 use crate::halt::Halt;
 use crate::head::{contact, fields, kind};
+use crate::here::{FRONT, has_head};
 use crate::message::{Contact, Fields, Message, MessageBuffer};
-use crate::plain::{PLAIN_MAX, has_head, plain};
+use crate::plain::{PLAIN_MAX, plain};
 use link_io::{InDevice, Source, WINDOW};
-
-/// How many bytes are looked at to tell whether a head is here: more than one with a few items has.
-const FRONT: usize = 128;
 
 /// What may be read next.
 #[derive(Clone, Copy, Debug, PartialEq, Eq)]

@@ -4,7 +4,7 @@ use Rattle.std.specs.Option.{option_map}
 use Rattle.std.specs.Io.KnownBytes.{Keeps}
 use Rattle.link_wire.specs.Device.{Input, Output}
 use Rattle.link_wire.specs.declared.IoFault.{IoFault}
-use Rattle.link_run.specs.Run.{Devices, itself}
+use Rattle.link_run.specs.Run.{Devices}
 use Rattle.link_run.specs.declared.run.Status.{Status}
 use Rattle.link_tools.specs.Options.{GivesRun}
 use Rattle.link_tools.specs.declared.options.Options.{Options}
@@ -19,13 +19,14 @@ pub record HandsOn (written handed : Output) : Type 0 where
   pub failed : written.failed ≡ true → handed.failed ≡ true
   pub bytes : Keeps written.written handed.written ⊎ ((handed.failed ≡ true) × AreFirst written.written handed.written)
 
--- The tool was run over devices that stood so. What it wrote was handed on, no more was read, and the answer is its own, in which a
--- stream that failed then counts.
-pub record GivesBuffered (options : Options) (start end : Devices Input Output Output) (answer : Result Status IoFault) : Type 0 where
-  pub now : Devices Input Output Output
-  pub ends : Result Status IoFault
-  pub run : GivesRun itself itself itself options start now ends
-  pub reads : end.reader ≡ now.reader
-  pub writes : HandsOn now.output end.output
-  pub reports : HandsOn now.report end.report
-  pub answers : answer ≡ answer_after_flush ends (not end.output.failed && not end.report.failed)
+module _ {R W E : Type 0} (in_look : R → Input) (out_look : W → Output) (report_look : E → Output) where
+  -- The tool was run over devices that stood so. What it wrote was handed on, no more was read, and the answer is its own, in which
+  -- a stream that failed then counts.
+  pub record GivesBuffered (options : Options) (start : Devices R W E) (input : R) (output report : Output) (answer : Result Status IoFault) : Type 0 where
+    pub now : Devices R W E
+    pub ends : Result Status IoFault
+    pub run : GivesRun in_look out_look report_look options start now ends
+    pub reads : input ≡ now.reader
+    pub writes : HandsOn (out_look now.output) output
+    pub reports : HandsOn (report_look now.report) report
+    pub answers : answer ≡ answer_after_flush ends (not output.failed && not report.failed)

@@ -2,7 +2,6 @@
 
 ghost use Rattle.std.specs.Prelude.{◌≡◌, false, IfOk, IfErr};
 ghost use Rattle.std.specs.IoError.{error_kind};
-ghost use Rattle.link_wire.specs.Device.{Input, Output};
 ghost use Rattle.link_run.specs.Run.{Devices};
 ghost use Rattle.tcpclkit.specs.BufferedEnd.{GivesBuffered, HandsOn};
 
@@ -78,17 +77,10 @@ pub fn run_buffered<R: Read + Drop, W: Write + Drop, E: Write + Drop>(
     requires input { (⟦<BufferedReader<R> as InDevice>⟧.state streams.input).failed ≡ false }
     requires output { (⟦<TextWriter<Writer<W>> as OutDevice>⟧.state streams.output).failed ≡ false }
     requires report { (⟦<TextWriter<Writer<E>> as OutDevice>⟧.state streams.report).failed ≡ false }
-    ensures { GivesBuffered options
-        (record {
-          reader = ⟦<BufferedReader<R> as InDevice>⟧.state streams.input;
-          output = ⟦<TextWriter<Writer<W>> as OutDevice>⟧.state streams.output;
-          report = ⟦<TextWriter<Writer<E>> as OutDevice>⟧.state streams.report;
-        })
-        (record {
-          reader = ⟦<BufferedReader<R> as InDevice>⟧.state result.input;
-          output = ⟦<Writer<W> as OutDevice>⟧.state result.output;
-          report = ⟦<Writer<E> as OutDevice>⟧.state result.report;
-        })
+    ensures { GivesBuffered
+        ⟦<BufferedReader<R> as InDevice>⟧.state ⟦<TextWriter<Writer<W>> as OutDevice>⟧.state ⟦<TextWriter<Writer<E>> as OutDevice>⟧.state
+        options (record { reader = streams.input; output = streams.output; report = streams.report })
+        result.input (⟦<Writer<W> as OutDevice>⟧.state result.output) (⟦<Writer<E> as OutDevice>⟧.state result.report)
         result.answer }
 {
     let Streams {

@@ -1,6 +1,5 @@
 use Rattle.std.proofs.Common.{◌≡◌, not, ◌&&◌, ap, sym, ◌∙◌, refl}
 use Rattle.tcpclkit.specs.Ending.{answer_after_flush}
-use Rattle.tcpclkit.proofs.Buffered.{gives_buffered}
 use Rattle.tcpclkit.proofs.streams.run_buffered.Goals as goal
 use Rattle.tcpclkit.proofs.streams.run_buffered.Goals.{then-not-failed, else-not-failed}
 
@@ -11,6 +10,12 @@ returns g c =
       | then-not-failed w ↦ rw (w.flushed-is, w.failed-then-not-failed.ensures, sym c.failed.ensures ∙ w.if-not-failed.true) refl
       | else-not-failed w ↦ rw (w.flushed-is, w.if-not-failed.false, sym c.failed.ensures ∙ w.if-not-failed.false) refl
     ] in
-    gives_buffered _ _ _ _ _ _ _ _ _ _
-    c.run_tool-end.ensures c.handed_on-output.ensures c.handed_on-report.ensures
-    (c.after_flush.ensures ∙ ap (λ b. answer_after_flush c.run_tool-end.result.answer b) flushed)
+    record {
+      now = record { reader = c.run_tool-end.result.reader; output = c.run_tool-end.result.output; report = c.run_tool-end.result.report };
+      ends = c.run_tool-end.result.answer;
+      run = c.run_tool-end.ensures;
+      reads = refl;
+      writes = c.handed_on-output.ensures;
+      reports = c.handed_on-report.ensures;
+      answers = c.after_flush.ensures ∙ ap (λ b. answer_after_flush c.run_tool-end.result.answer b) flushed;
+    }
