@@ -22,7 +22,8 @@ use Rattle.link_report.specs.Message.{contact_text, message_text}
 use Rattle.link_report.specs.Fault.{fault_text}
 use Rattle.link_report.specs.declared.fault.Fault.TheVariants.{Wire}
 use Rattle.link_run.specs.Ends.{end_lines, end_status, lasting_lines, is_shown}
-use Rattle.link_run.specs.Run.{Texts, Outcome, Devices, devices_at, NoneFailed, HasWritten, Ended, WentOn, Gave, GivesStep}
+use Rattle.link_run.specs.Run.{Texts, Outcome, Devices, devices_at, NoneFailed, HasWritten, Ended, WentOn, GivesStep}
+use Rattle.link_run.specs.Reading.{NotHandedOn}
 use Rattle.link_run.specs.Writers.{place_of, on_output, on_report, Writes, WritesPart, GivesTexts, GivesReport, Unsettled}
 use Rattle.link_list.specs.Listing.{contact_lines, message_lines, lines_of, listing, listing_by, listing_sofar, listing_sofar_by, listing_shows, list_tool}
 use Rattle.link_list.specs.ListRun.{most_given, IsWaiting, HasNoContent, IsWaitingAfter, progress_of, Begins, Lists, IsListing, IsDue, GivesStage, GivesNext, GivesLine, GoesOn, GivesEnd}
@@ -429,42 +430,45 @@ waiting_shown now items (Cut offset message content) waits = refl
 waiting_shown now items (Fault offset fault) waits = absurd waits
 
 module _ {R W E : Type 0} (in_look : R → Input) (out_look : W → Output) (report_look : E → Output) (start : Devices R W E)
-    (s : Session R) (old new : Writers W E) (line history : List ℕ) where
-  lists_on : (now : Stage) → Writes out_look report_look old new no_texts
-      → Lists in_look out_look report_look start now s old line history → Lists in_look out_look report_look start now s new line history
-  lists_on now writes at = record {
+    (now : Stage) (s new : Session R) (before mid : Writers W E) (last history : List ℕ) where
+  -- the run stands where it stood
+  pub settled : Writes out_look report_look before mid no_texts
+      → Lists in_look out_look report_look start now s before last history → Lists in_look out_look report_look start now s mid last history
+  settled writes at = record {
     session = at.session;
-    written = settle_kept out_look report_look in_look start (source_of s) old new history (listing_sofar history) at.written writes;
-    sound = sound_written in_look out_look report_look (source_of s) old new no_texts at.sound writes;
+    written = settle_kept out_look report_look in_look start (source_of s) before mid history (listing_sofar history) at.written writes;
+    sound = sound_written in_look out_look report_look (source_of s) before mid no_texts at.sound writes;
     waits = at.waits;
   }
 
-  -- the run stands where it stood
-  pub settled : (now : Stage) → Writes out_look report_look old new no_texts
-      → IsListing in_look out_look report_look start now s old line history → IsListing in_look out_look report_look start now s new line history
-  settled stage.Contact writes at = record {
-    nothing = at.nothing;
-    opens = at.opens;
-    written = settle_kept out_look report_look in_look start (source_of s) old new [] no_texts at.written writes;
-    sound = sound_written in_look out_look report_look (source_of s) old new no_texts at.sound writes;
+  -- what comes after it is of the same step
+  pub since : (after : Writers W E) (line : List ℕ) (next : Next)
+      → GivesNext in_look out_look report_look start now s new mid after line history next → GivesNext in_look out_look report_look start now s new before after line history next
+  since after line next.Line gives = gives
+  since after line (next.Stage stage.Contact) gives = absurd gives
+  since after line (next.Stage stage.Message) gives = record { given = gives.given; some = gives.some; size = gives.size; count = gives.count; window = gives.window; at = gives.at }
+  since after line (next.Stage stage.Data) gives = record { given = gives.given; some = gives.some; size = gives.size; count = gives.count; window = gives.window; at = gives.at }
+  since after line (next.Stage (stage.Ended answer)) gives = gives
+
+  -- a writer failed in it, and the run has ended
+  lost_now : (fault : IoFault) → Unsettled out_look report_look before mid fault → length (window_of (source_of s)) < window_size
+      → Lists in_look out_look report_look start now s before last history → Ended in_look out_look report_look list_tool start (devices_at (place_of (source_of s) mid)) (most_given now) history (Err fault)
+  lost_now fault part few at = record {
+    given = [];
+    size = omega arith;
+    gave = rw append-nil (settle_lost in_look out_look report_look list_tool start (source_of s) before mid history fault at.written at.sound
+        (shows_is history _ refl ∙ waiting_shown now last _ at.waits) few part);
   }
-  settled stage.Message writes at = lists_on stage.Message writes at
-  settled stage.Data writes at = lists_on stage.Data writes at
-  settled (stage.Ended answer) writes at = absurd at
 
-  lists_lost : (now : Stage) (fault : IoFault) → Unsettled out_look report_look old new fault → length (window_of (source_of s)) < window_size
-      → Lists in_look out_look report_look start now s old line history → Gave in_look out_look report_look list_tool start (devices_at (place_of (source_of s) new)) history (Err fault)
-  lists_lost now fault part few at =
-      settle_lost in_look out_look report_look list_tool start (source_of s) old new history fault at.written at.sound
-      (shows_is history _ refl ∙ waiting_shown now line _ at.waits) few part
+  lost_at : (fault : IoFault) (after : Writers W E) (line : List ℕ) (next : Stage)
+      → Ended in_look out_look report_look list_tool start (devices_at (place_of (source_of s) mid)) (most_given now) history (Err fault)
+      → GivesEnd out_look report_look (stop.Io fault) mid after next → GivesStage in_look out_look report_look start now s s before after line history next
+  lost_at fault after line stage.Contact ended gives = absurd gives
+  lost_at fault after line stage.Message ended gives = absurd gives
+  lost_at fault after line stage.Data ended gives = absurd gives
+  lost_at fault after line (stage.Ended answer) ended gives = rw (gives.0, gives.1) ended
 
-  -- a writer failed in it
-  pub settle_failed : (now : Stage) (fault : IoFault) → Unsettled out_look report_look old new fault → length (window_of (source_of s)) < window_size
-      → IsListing in_look out_look report_look start now s old line history → Gave in_look out_look report_look list_tool start (devices_at (place_of (source_of s) new)) history (Err fault)
-  settle_failed stage.Contact fault part few at =
-      settle_lost in_look out_look report_look list_tool start (source_of s) old new history fault
-      (written_as in_look out_look report_look at.written (sym at.nothing) (sym (ap listing_sofar at.nothing ∙ nothing_read))) at.sound
-      (ap listing_shows at.nothing ∙ shows_is [] _ reading-none) few part
-  settle_failed stage.Message fault part few at = lists_lost stage.Message fault part few at
-  settle_failed stage.Data fault part few at = lists_lost stage.Data fault part few at
-  settle_failed (stage.Ended answer) fault part few at = absurd at
+  pub not_handed_on : (after : Writers W E) (line : List ℕ) (why : Stop) (next : Stage) → NotHandedOn in_look out_look report_look s new before mid why → GivesEnd out_look report_look why mid after next
+      → Lists in_look out_look report_look start now s before last history → GivesStage in_look out_look report_look start now s new before after line history next
+  not_handed_on after line why next not_on gives at =
+      rw not_on.unread (lost_at not_on.fault after line next (lost_now not_on.fault not_on.unsettled not_on.few at) (rw not_on.is at gives))

@@ -1,15 +1,13 @@
 //! `list`: a line for the contact header and for each message of a recorded stream.
 
-ghost use Rattle.std.specs.Prelude.{◌≡◌, ◌<◌, false, true, IsTrue, List, ℕ, length, Err, OnOk, IfErr};
-ghost use Rattle.link_wire.specs.Limits.{window_size};
-ghost use Rattle.link_wire.specs.Source.{window_of};
-ghost use Rattle.link_wire.specs.Session.{source_of, may_open, may_read, is_opened, left_of};
+ghost use Rattle.std.specs.Prelude.{◌≡◌, false, IsTrue, List, ℕ, Err, OnOk, IfErr};
+ghost use Rattle.link_wire.specs.Session.{may_open, may_read, is_opened, left_of};
 ghost use Rattle.link_run.specs.Run.{Devices, GivesAnswer};
 ghost use Rattle.link_list.specs.Listing.{list_tool};
 ghost use Rattle.link_list.specs.ListRun.{may_go_on, may_go_next, latest_line, IsListing, GivesStage, GivesNext, GivesLine, GoesOn, GivesEnd};
 
 use link_report::{Fault, KeptDigits, MessageText, contact_line};
-use link_run::{Progress, Run, RunEnd, Status, Writers};
+use link_run::{Progress, Run, RunEnd, Status, Writers, load_data, next_message};
 use link_wire::{InDevice, IoFault, MessageBuffer, OutDevice, Session, Source, Stop};
 
 /// How many bytes of a segment's data one step is given at most.
@@ -147,7 +145,7 @@ fn read_message<R: InDevice, W: OutDevice, E: OutDevice>(
     ensures gives { (start : Devices R W E) (history : List ℕ) → IsListing R.state W.state E.state start Stage.Message session.old writers.old (latest_line latest.old) history →
         GivesNext R.state W.state E.state start Stage.Message session.old session.new writers.old writers.new (latest_line latest.new) history result }
 {
-    match session.read_next(&mut latest.message) {
+    match next_message(session, writers, &mut latest.message) {
         Ok(Some(offset)) => {
             latest.offset = offset;
             go_on(session)
@@ -168,7 +166,7 @@ fn pass_data<R: InDevice, W: OutDevice, E: OutDevice>(
     ensures gives { (start : Devices R W E) (line history : List ℕ) → IsListing R.state W.state E.state start Stage.Data session.old writers.old line history →
         GivesNext R.state W.state E.state start Stage.Data session.old session.new writers.old writers.new line history result }
 {
-    match session.load() {
+    match load_data(session, writers) {
         Ok(ready) => {
             session.pass(ready.min(PIECE));
             go_on(session)
@@ -227,17 +225,6 @@ fn end<W: OutDevice, E: OutDevice>(writers: &mut Writers<W, E>, stop: Stop) -> S
         Stop::Wire(offset, fault) => {
             Stage::Ended(writers.report_fault(&Fault::Wire(offset, fault)))
         }
-    }
-}
-
-/// Whether the step at this stage may have to wait for input.
-fn may_wait<R: InDevice>(stage: Stage, session: &Session<R>) -> bool
-    ensures few { IsTrue result → length (window_of (source_of session.now)) < window_size }
-    ensures ended { (answer : _) → stage ≡ Stage.Ended answer → result ≡ false }
-{
-    match stage {
-        Stage::Ended(_) => false,
-        _ => session.may_wait(),
     }
 }
 
@@ -304,17 +291,6 @@ impl<R: InDevice, W: OutDevice, E: OutDevice> Run<R, W, E> for ListRun<R, W, E> 
         );
         self.stage = next;
         next.progress()
-    }
-
-    fn settle(&mut self) -> Result<(), IoFault> {
-        if !may_wait(self.stage, &self.session) {
-            return Ok(());
-        }
-        let settled = self.writers.settle();
-        if let Err(fault) = settled {
-            self.stage = Stage::Ended(Err(fault));
-        }
-        settled
     }
 
     fn into_parts(self) -> (R, W, E) {

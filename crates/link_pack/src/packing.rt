@@ -1,8 +1,6 @@
 //! `pack`: bundles as the stream of a sender, and a line for each bundle.
 
 ghost use Rattle.std.specs.Prelude.{◌≡◌, ◌+◌, ◌^◌, ◌<◌, IsTrue, false, true, [], List, ℕ, length, ◌⊎◌, None, Ok};
-ghost use Rattle.link_wire.specs.Limits.{window_size};
-ghost use Rattle.link_wire.specs.Source.{window_of};
 ghost use Rattle.link_run.specs.Run.{Devices, GivesAnswer};
 ghost use Rattle.link_run.specs.Writers.{GivesTexts, on_output, on_report};
 ghost use Rattle.link_bundle.specs.Bundle.{verdict, bundle_goes};
@@ -71,7 +69,7 @@ fn take<R: InDevice, W: OutDevice, E: OutDevice>(
 {
     match stage {
         Stage::Prelude => write_prelude(writers, packer, head),
-        Stage::Bundles => take_bytes(source, writers, packer, head),
+        Stage::Bundles => take_bundles(source, writers, packer, head),
         Stage::Ended(answer) => Stage::Ended(answer),
     }
 }
@@ -110,6 +108,28 @@ fn write_prelude<W: OutDevice, E: OutDevice>(
         Ok(()) => Stage::Bundles,
         Err(fault) => Stage::Ended(Err(fault)),
     }
+}
+
+/// Reads bytes of bundles. What was written is handed on first, if the read may have to wait.
+fn take_bundles<R: InDevice, W: OutDevice, E: OutDevice>(
+    source: &mut Source<R>,
+    writers: &mut Writers<W, E>,
+    packer: &mut Packer,
+    head: &mut HeadBuf,
+) -> Stage
+    requires { cut_waits packer.old.cutter ≡ false }
+    ensures begun { IsTrue (is_begun result) }
+    ensures fits { IsTrue (may_go_on result packer.new) }
+    ensures gives { (start : Devices R W E) (history : List ℕ) → IsPacking R.state W.state E.state start Stage.Bundles source.old writers.old packer.old history →
+        GivesStage R.state W.state E.state start packer.old.options Stage.Bundles source.old source.new writers.old writers.new packer.new history result }
+    ensures options { packer.new.options ≡ packer.old.options }
+{
+    if source.window().is_empty() && source.may_wait() {
+        if let Err(fault) = writers.settle() {
+            return Stage::Ended(Err(fault));
+        }
+    }
+    take_bytes(source, writers, packer, head)
 }
 
 /// Reads bytes, as far as they belong to one chunk of one bundle.
@@ -227,18 +247,6 @@ pub struct PackRun<R, W, E> {
     head: HeadBuf,
     stage: Stage,
     ghost fits: { IsTrue (may_go_on stage packer) },
-}
-
-/// Whether the step at this stage may have to wait for input.
-fn may_wait<R: InDevice>(stage: Stage, source: &Source<R>) -> bool
-    ensures few { IsTrue result → length (window_of source.now) < window_size }
-    ensures begun { stage ≡ Stage.Prelude → result ≡ false }
-    ensures ended { (answer : _) → stage ≡ Stage.Ended answer → result ≡ false }
-{
-    match stage {
-        Stage::Bundles => source.window().is_empty() && source.may_wait(),
-        Stage::Prelude | Stage::Ended(_) => false,
-    }
 }
 
 impl<R: InDevice, W: OutDevice, E: OutDevice> PackRun<R, W, E> {
@@ -371,17 +379,6 @@ impl<R: InDevice, W: OutDevice, E: OutDevice> Run<R, W, E> for PackRun<R, W, E> 
         );
         self.stage = next;
         next.progress()
-    }
-
-    fn settle(&mut self) -> Result<(), IoFault> {
-        if !may_wait(self.stage, &self.source) {
-            return Ok(());
-        }
-        let settled = self.writers.settle();
-        if let Err(fault) = settled {
-            self.stage = Stage::Ended(Err(fault));
-        }
-        settled
     }
 
     fn into_parts(self) -> (R, W, E) {

@@ -1,3 +1,4 @@
 pub mod Run
 pub mod Writers
 pub mod Ends
+pub mod Reading

@@ -179,11 +179,6 @@ module _ {R W E : Type 0} (in_look : R → Input) (out_look : W → Output) (rep
   GivesStep tool start old new stands most history (Ok (Done status)) = Ended tool start (devices_at new) most history (Ok status)
   GivesStep tool start old new stands most history (Err fault) = Ended tool start (devices_at new) most history (Err fault)
 
-  -- What was written was handed on, and the run stands where it stood; or a writer failed in that, and the run has ended.
-  abbrev pub GivesSettled : Tool → Devices R W E → (old new : Place R W E) → (stands : List ℕ → Type 0) → (history : List ℕ) → Result (Unit {0}) IoFault → Type 0
-  GivesSettled tool start old new stands history (Ok done) = (new.source ≡ old.source) × stands history
-  GivesSettled tool start old new stands history (Err fault) = Gave tool start (devices_at new) history (Err fault)
-
 -- a step was the last of its run
 abbrev pub IsEnd : Result Progress IoFault → Type 0
 IsEnd (Ok More) = ⊥

@@ -1,8 +1,8 @@
 //! What every run of a tool is: steps, and the whole of them.
 
-ghost use Rattle.std.specs.Prelude.{◌≡◌, ℕ, List, [], Result, Err, IfErr, OnOk, IsOk};
+ghost use Rattle.std.specs.Prelude.{◌≡◌, ℕ, List, [], Result};
 ghost use Rattle.link_wire.specs.declared.IoFault.{IoFault};
-ghost use Rattle.link_run.specs.Run.{Tool, Devices, Place, devices_at, GivesStep, GivesSettled, GivesAnswer, IsEnd};
+ghost use Rattle.link_run.specs.Run.{Tool, Devices, Place, devices_at, GivesStep, GivesAnswer, IsEnd};
 ghost use Rattle.link_run.specs.declared.run.Progress.{Progress};
 
 use link_wire::{InDevice, IoFault, OutDevice};
@@ -59,8 +59,9 @@ pub trait Run<R: InDevice, W: OutDevice, E: OutDevice>: Sized {
     // it has ended with this answer
     ghost has_ended: { Self → Result Progress IoFault → Type 0 };
 
-    /// Reads the next part of the input, and writes what the bytes given determine. After the end, and
-    /// after a failure, it returns the same again and does no I/O.
+    /// Reads the next part of the input, and writes what the bytes given determine. Before a read that may have to wait it hands on what
+    /// was written, so that a reader of the texts sees all that the bytes so far determine. After the end, and after a failure, it returns
+    /// the same again and does no I/O.
     fn step(&mut self) -> Result<Progress, IoFault>
         ensures tool { tool self.new ≡ tool self.old }
         ensures gives { (start : Devices R W E) (history : List ℕ) → stands self.old start history →
@@ -68,16 +69,6 @@ pub trait Run<R: InDevice, W: OutDevice, E: OutDevice>: Sized {
         ensures goes_on { most self.new ≡ 0 → IsEnd result }
         ensures ends { IsEnd result → has_ended self.new result }
         ensures again { (answer : _) → has_ended self.old answer → (self.new ≡ self.old) × (result ≡ answer) };
-
-    /// Where the next step may have to wait for input, hands on what was written: so a reader of the texts sees all that the
-    /// bytes so far determine. A failure ends the run, as that of a step does. After the end it does nothing.
-    fn settle(&mut self) -> Result<(), IoFault>
-        ensures tool { tool self.new ≡ tool self.old }
-        ensures most { OnOk result (most self.new ≡ most self.old) }
-        ensures gives { (start : Devices R W E) (history : List ℕ) → stands self.old start history →
-            GivesSettled R.state W.state E.state (tool self.old) start (place self.old) (place self.new) (stands self.new start) history result }
-        ensures ends { IfErr result (λ fault. has_ended self.new (Err fault)) }
-        ensures again { (answer : _) → has_ended self.old answer → (self.new ≡ self.old) × (IsOk result) };
 
     /// The reader, the output and the report, as they stand.
     fn into_parts(self) -> (R, W, E)
@@ -91,10 +82,6 @@ pub trait Run<R: InDevice, W: OutDevice, E: OutDevice>: Sized {
     {
         let mut run = self;
         'steps: loop {
-            match run.settle() {
-                Ok(()) => {}
-                Err(failure) => return end(run, Err(failure)),
-            }
             match run.step() {
                 Ok(Progress::More) => {}
                 Ok(Progress::Done(status)) => return end(run, Ok(status)),

@@ -1,9 +1,7 @@
 //! `unpack`: the data of the transfers of a recorded stream, and a line for each transfer.
 
-ghost use Rattle.std.specs.Prelude.{◌≡◌, ◌+◌, ◌<◌, ◌&&◌, true, false, not, is_some, if◌then◌else◌, IsTrue, List, length, ℕ};
-ghost use Rattle.link_wire.specs.Limits.{window_size};
-ghost use Rattle.link_wire.specs.Source.{window_of};
-ghost use Rattle.link_wire.specs.Session.{source_of, may_open, may_read, is_opened, left_of};
+ghost use Rattle.std.specs.Prelude.{◌≡◌, ◌+◌, ◌&&◌, true, false, not, is_some, if◌then◌else◌, IsTrue, List, length, ℕ};
+ghost use Rattle.link_wire.specs.Session.{may_open, may_read, is_opened, left_of};
 ghost use Rattle.link_run.specs.Run.{Devices, GivesAnswer};
 ghost use Rattle.link_run.specs.Writers.{GivesTexts, on_report};
 ghost use Rattle.link_wire.specs.Codes.{is_start};
@@ -20,7 +18,7 @@ ghost use Rattle.link_unpack.specs.UnpackRun.{may_go_on, IsUnpacking, IsBeginnin
 use crate::transfer::TransferScan;
 use crate::wanted::Wanted;
 use link_report::Fault;
-use link_run::{Progress, Run, RunEnd, Status, Writers};
+use link_run::{Progress, Run, RunEnd, Status, Writers, load_data, next_message};
 use link_transfer::{Event, Joiner, Turn, announced};
 use link_wire::{Fields, InDevice, IoFault, MessageBuffer, OutDevice, Session, Source, Stop};
 
@@ -126,7 +124,7 @@ fn take_message<R: InDevice, W: OutDevice, E: OutDevice>(
         session.old session.new writers.old writers.new unpacker.new history result }
     ensures wanted { unpacker.new.latest.wanted ≡ unpacker.old.latest.wanted }
 {
-    let offset = match session.read_next(message) {
+    let offset = match next_message(session, writers, message) {
         Ok(Some(offset)) => offset,
         Ok(None) => return finish(writers, unpacker),
         Err(stop) => return end(writers, stop),
@@ -203,7 +201,7 @@ fn take_data<R: InDevice, W: OutDevice, E: OutDevice>(
         session.old session.new writers.old writers.new unpacker.new history result }
     ensures wanted { unpacker.new.latest.wanted ≡ unpacker.old.latest.wanted }
 {
-    let size = match session.load() {
+    let size = match load_data(session, writers) {
         Ok(ready) => ready.min(PIECE),
         Err(stop) => return end(writers, stop),
     };
@@ -341,17 +339,6 @@ pub struct UnpackRun<R, W, E> {
     ghost fits: { IsTrue (may_go_on stage session) },
 }
 
-/// Whether the step at this stage may have to wait for input.
-fn may_wait<R: InDevice>(stage: Stage, session: &Session<R>) -> bool
-    ensures few { IsTrue result → length (window_of (source_of session.now)) < window_size }
-    ensures ended { (answer : _) → stage ≡ Stage.Ended answer → result ≡ false }
-{
-    match stage {
-        Stage::Ended(_) => false,
-        _ => session.may_wait(),
-    }
-}
-
 impl<R: InDevice, W: OutDevice, E: OutDevice> UnpackRun<R, W, E> {
     ghost use Rattle.std.specs.Prelude.{◌≡◌, [], false};
     ghost use Rattle.link_run.specs.Run.{devices_at};
@@ -424,17 +411,6 @@ impl<R: InDevice, W: OutDevice, E: OutDevice> Run<R, W, E> for UnpackRun<R, W, E
         );
         self.stage = next;
         next.progress()
-    }
-
-    fn settle(&mut self) -> Result<(), IoFault> {
-        if !may_wait(self.stage, &self.session) {
-            return Ok(());
-        }
-        let settled = self.writers.settle();
-        if let Err(fault) = settled {
-            self.stage = Stage::Ended(Err(fault));
-        }
-        settled
     }
 
     fn into_parts(self) -> (R, W, E) {

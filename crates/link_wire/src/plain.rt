@@ -8,9 +8,6 @@ use crate::codes::{KEEPALIVE, MSG_REJECT, SESS_TERM, START, XFER_ACK, XFER_REFUS
 use crate::message::Fields;
 use byteorder::{BigEndian, ByteOrder};
 
-/// The most bytes of such a head: those of a segment with START.
-pub const PLAIN_MAX: usize = 22;
-
 /// XFER_SEGMENT: type, flags and ID, then the data's length; with START a list of no bytes before it.
 #[inline(always)]
 fn segment(window: &[u8]) -> Option<(Fields, usize)>

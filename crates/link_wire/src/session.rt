@@ -5,7 +5,7 @@ use crate::halt::Halt;
 use crate::head::{contact, fields, kind};
 use crate::here::{FRONT, has_head};
 use crate::message::{Contact, Fields, Message, MessageBuffer};
-use crate::plain::{PLAIN_MAX, plain};
+use crate::plain::plain;
 use link_io::{InDevice, Source, WINDOW};
 
 /// What may be read next.
@@ -34,7 +34,7 @@ impl<R: InDevice> Session<R> {
     ghost use Rattle.std.specs.Prelude.{◌≡◌, ◌<◌, true, false, [], ℕ, List, length, IfOk, IfErr, IfSome, Some, None, Ok, Err, IsTrue};
     ghost use Rattle.link_wire.specs.Halt.{stop_at};
     ghost use Rattle.link_io.specs.Limits.{window_size};
-    ghost use Rattle.link_io.specs.Source.{is_fresh, window_of};
+    ghost use Rattle.link_io.specs.Source.{is_fresh, reader_of, window_of};
     ghost use Rattle.link_wire.specs.Plain.{IsHead};
     ghost use Rattle.link_wire.specs.Message.{MessageHasTotals};
     ghost use Rattle.link_wire.specs.MessageBuffer.{message_of, SegmentHasTotals};
@@ -78,29 +78,14 @@ impl<R: InDevice> Session<R> {
         self.left
     }
 
-    /// Whether the next call may have to wait for the reader: it needs more than lies in the window.
-    #[inline(always)]
+    /// Whether the next call may have to wait for the reader: the bytes that are here are not enough for it. A window of which nothing was
+    /// given has just come, and what came with it was not waited for.
     pub fn may_wait(&self) -> bool
         ensures { IsTrue result → length (window_of (source_of self.now)) < window_size }
     {
-        let window = self.source.window();
         if self.left > 0 {
-            return window.is_empty() && self.source.may_wait();
+            return self.source.window().is_empty() && self.source.may_wait();
         }
-        // of a window that is long enough the first bytes of a head tell, and no number is read
-        if window.len() >= PLAIN_MAX && plain(window).is_some() {
-            return false;
-        }
-        self.lacks_head()
-    }
-
-    /// Whether the first of the bytes that are here are not enough for the next head. A window of which nothing was given has just come,
-    /// and what came with it was not waited for.
-    #[cold]
-    #[inline(never)]
-    fn lacks_head(&self) -> bool
-        ensures { IsTrue result → length (window_of (source_of self.now)) < window_size }
-    {
         let mut front = [0; FRONT];
         let count = self.source.peek(&mut front);
         !has_head(&front[..count]) && self.source.window().len() < WINDOW
@@ -162,12 +147,32 @@ impl<R: InDevice> Session<R> {
         ensures stopped { (stop : _) → HasStopped self.old stop
             → (self.new ≡ self.old) × (result ≡ Err stop) }
     {
-        if let Phase::Stopped(stop) = self.phase {
-            return Err(stop);
+        match self.next_here(message) {
+            Some(offset) => Ok(Some(offset)),
+            None => self.read_fields(message),
+        }
+    }
+
+    /// As `read_next`, of a frequent head that lies whole in the window: nothing is read. `None` where there is none, and after a stop:
+    /// nothing is given then.
+    #[inline(always)]
+    pub fn next_here(&mut self, message: &mut MessageBuffer) -> Option<u64>
+        requires { IsTrue (may_read self.old) }
+        ensures none { result ≡ None → (self.new ≡ self.old) × (message.new ≡ message.old) }
+        ensures reader { reader_of (source_of self.new) ≡ reader_of (source_of self.old) }
+        ensures gives { (history : List ℕ) → IsSessionAt R.state self.old history
+            → IfSome result (λ offset. GaveMessage R.state self.old self.new history offset (message_of message.new)) }
+        ensures totals { IfSome result (λ offset. SegmentHasTotals message.new) }
+        ensures opened { IsTrue (is_opened self.new) }
+        ensures again { HasEndedBetween self.old → result ≡ None }
+        ensures stopped { (stop : _) → HasStopped self.old stop → result ≡ None }
+    {
+        if let Phase::Stopped(_) = self.phase {
+            return None;
         }
         match plain(self.source.window()) {
-            Some((fields, size)) => Ok(Some(self.give_head(fields, size, message))),
-            None => self.read_fields(message),
+            Some((fields, size)) => Some(self.give_head(fields, size, message)),
+            None => None,
         }
     }
 
@@ -178,6 +183,7 @@ impl<R: InDevice> Session<R> {
         requires may_read { IsTrue (may_read self.old) }
         requires head { IsHead (window_of self.old.source) fields size }
         ensures opened { IsTrue (is_opened self.new) }
+        ensures reader { reader_of self.new.source ≡ reader_of self.old.source }
         ensures gives { (history : List ℕ) → IsSessionAt R.state self.old history
             → GaveMessage R.state self.old self.new history result (message_of message.new) }
         ensures totals { SegmentHasTotals message.new }
@@ -190,12 +196,11 @@ impl<R: InDevice> Session<R> {
         offset
     }
 
-    /// `read_next` for a head that is read field by field.
+    /// `read_next` for a head that is read field by field, or after a stop.
     #[cold]
     #[inline(never)]
     fn read_fields(&mut self, message: &mut MessageBuffer) -> Result<Option<u64>, Stop>
-        requires may_read { IsTrue (may_read self.old) }
-        requires going { (stop : _) → HasStopped self.old stop → ⊥ }
+        requires { IsTrue (may_read self.old) }
         ensures settles { IfErr result (HasStopped self.new) }
         ensures again { HasEndedBetween self.old → (self.new ≡ self.old) × (result ≡ Ok None) }
         ensures opened { IsTrue (is_opened self.new) }
@@ -203,7 +208,12 @@ impl<R: InDevice> Session<R> {
             → GivesNext R.state self.old self.new history
             (with_message_read (message_of message.new) result) }
         ensures totals { IfOk result (λ got. IfSome got (λ offset. SegmentHasTotals message.new)) }
+        ensures stopped { (stop : _) → HasStopped self.old stop
+            → (self.new ≡ self.old) × (result ≡ Err stop) }
     {
+        if let Phase::Stopped(stop) = self.phase {
+            return Err(stop);
+        }
         let offset = self.source.given();
         let kind = match kind(&mut self.source) {
             Ok(Some(kind)) => kind,

@@ -15,34 +15,25 @@ falls limit before after size (suc most) (suc next) count within some goes_on = 
 pub steps-smaller : goal.steps-smaller
 steps-smaller g c =
     let stood = c.steps.invariant.1 in
-    let settled = c.in-Ok.ensures.gives _ stood.0 stood.1 in
-    let went = rw c.in-Ok-More.field-0-is at (c.in-Ok-More.ensures.gives _ stood.0 settled.1) in
+    let went = rw c.in-Ok-More.field-0-is at (c.in-Ok-More.ensures.gives _ stood.0 stood.1) in
     let within = (g.Self.Run.place c.step.new.self).source.within in
-    falls (2 ^ 63) _ _ (length went.given) _ _ (rw settled.0 at went.count) (omega arith) (rw c.in-Ok.ensures.most at went.some)
+    falls (2 ^ 63) _ _ (length went.given) _ _ went.count (omega arith) went.some
     (λ none. rw c.in-Ok-More.field-0-is at (c.in-Ok-More.ensures.goes_on none))
 
 pub steps-preserved : goal.steps-preserved
 steps-preserved g c =
     let stood = c.steps.invariant.1 in
-    let settled = c.in-Ok.ensures.gives _ stood.0 stood.1 in
-    let went = rw c.in-Ok-More.field-0-is at (c.in-Ok-More.ensures.gives _ stood.0 settled.1) in
-    (c.in-Ok-More.ensures.tool ∙ c.in-Ok.ensures.tool ∙ c.steps.invariant.0, (stood.0 ++ went.given, went.at))
+    let went = rw c.in-Ok-More.field-0-is at (c.in-Ok-More.ensures.gives _ stood.0 stood.1) in
+    (c.in-Ok-More.ensures.tool ∙ c.steps.invariant.0, (stood.0 ++ went.given, went.at))
 
 pub returns-in-Ok-Done : goal.returns-in-Ok-Done
 returns-in-Ok-Done g c =
     let stood = c.steps.invariant.1 in
-    let settled = c.in-Ok.ensures.gives _ stood.0 stood.1 in
-    let ended = rw c.in-Ok-Done.field-0-is at (c.in-Ok-Done.ensures.gives _ stood.0 settled.1) in
-    handed_back g.R.InDevice.state g.W.OutDevice.state g.E.OutDevice.state _ _ _ _ _ (stood.0 ++ ended.given) (Ok c.in-Ok-Done.status) _ ended.gave (c.in-Ok.ensures.tool ∙ c.steps.invariant.0) c.end-in-Ok-Done.ensures.devices c.end-in-Ok-Done.ensures.answer
+    let ended = rw c.in-Ok-Done.field-0-is at (c.in-Ok-Done.ensures.gives _ stood.0 stood.1) in
+    handed_back g.R.InDevice.state g.W.OutDevice.state g.E.OutDevice.state _ _ _ _ _ (stood.0 ++ ended.given) (Ok c.in-Ok-Done.status) _ ended.gave c.steps.invariant.0 c.end.ensures.devices c.end.ensures.answer
 
 pub returns-in-Err : goal.returns-in-Err
 returns-in-Err g c =
     let stood = c.steps.invariant.1 in
-    handed_back g.R.InDevice.state g.W.OutDevice.state g.E.OutDevice.state _ _ _ _ _ stood.0 (Err c.in-Err.failure) _ (c.in-Err.ensures.gives _ stood.0 stood.1) c.steps.invariant.0 c.end.ensures.devices c.end.ensures.answer
-
-pub returns-in-Err-step : goal.returns-in-Err-step
-returns-in-Err-step g c =
-    let stood = c.steps.invariant.1 in
-    let settled = c.in-Ok.ensures.gives _ stood.0 stood.1 in
-    let ended = c.in-Err-step.ensures.gives _ stood.0 settled.1 in
-    handed_back g.R.InDevice.state g.W.OutDevice.state g.E.OutDevice.state _ _ _ _ _ (stood.0 ++ ended.given) (Err c.in-Err-step.fault) _ ended.gave (c.in-Ok.ensures.tool ∙ c.steps.invariant.0) c.end-in-Err-step.ensures.devices c.end-in-Err-step.ensures.answer
+    let ended = c.in-Err.ensures.gives _ stood.0 stood.1 in
+    handed_back g.R.InDevice.state g.W.OutDevice.state g.E.OutDevice.state _ _ _ _ _ (stood.0 ++ ended.given) (Err c.in-Err.fault) _ ended.gave c.steps.invariant.0 c.end-in-Err.ensures.devices c.end-in-Err.ensures.answer

@@ -7,7 +7,7 @@ returns-in-Ok-clause-gives g c = λ history at.
     let old = c.args.self.now in
     let first = rw c.in-Ok-Some.field-0-is at (c.in-Ok-Some.ensures.gives at.live) in
     let here : c.given-offset.result ≡ length history = c.given-offset.ensures ∙ at.at.given in
-    rw here (message_came old history at (none_left old at.going c.requires.may_read) first _ _ (c.in-Ok.ensures.gets first.live) refl c.data_length-self.ensures at.going)
+    rw here (message_came old history at (none_left old at.going c.requires) first _ _ (c.in-Ok.ensures.gets first.live) refl c.data_length-self.ensures at.going)
 
 pub returns-in-Err-fields-clause-gives : goal.returns-in-Err-fields-clause-gives
 returns-in-Err-fields-clause-gives g c = λ history at.
@@ -15,4 +15,4 @@ returns-in-Err-fields-clause-gives g c = λ history at.
     let first = rw c.in-Ok-Some.field-0-is at (c.in-Ok-Some.ensures.gives at.live) in
     let here : c.given-offset.result ≡ length history = c.given-offset.ensures ∙ at.at.given in
     let state = c.stop_at-in-Err-fields.ensures.state in
-    message_refused old history at (none_left old at.going c.requires.may_read) first c.stop_at-in-Err-fields.new.self _ c.in-Err-fields.halt _ _ (c.in-Err-fields.ensures.gets first.live) (ap (λ s. s.source) state) (ap (λ s. s.phase) state) c.stop_at-in-Err-fields.ensures.stop here
+    message_refused old history at (none_left old at.going c.requires) first c.stop_at-in-Err-fields.new.self _ c.in-Err-fields.halt _ _ (c.in-Err-fields.ensures.gets first.live) (ap (λ s. s.source) state) (ap (λ s. s.phase) state) c.stop_at-in-Err-fields.ensures.stop here

@@ -1,6 +1,6 @@
 use Rattle.std.proofs.Common.{length, ap, arith}
 use Rattle.link_io.proofs.Sources.{ended_window}
-use Rattle.link_wire.proofs.session.Session.read_next.Goals as goal
+use Rattle.link_wire.proofs.session.Session.next_here.Goals as goal
 
 -- after the end the window is empty, and no head lies in it
 pub returns-in-Some-clause-again : goal.returns-in-Some-clause-again

@@ -1,0 +1,14 @@
+use Rattle.std.proofs.Common.{[]}
+use Rattle.link_run.specs.Writers.{on_output, Writes}
+use Rattle.link_run.proofs.Readings.{data_given}
+use Rattle.link_run.proofs.Runs.{writes_none}
+use Rattle.link_run.proofs.reading.load_data.Goals as goal
+use Rattle.link_run.proofs.reading.load_data.Goals.{then-is_empty+in_ok-settle_before, else-is_empty}
+
+pub returns-clause-gives : goal.returns-clause-gives
+returns-clause-gives g c = λ history at.
+    let writes : Writes g.W.OutDevice.state g.E.OutDevice.state c.args.writers.now c.if-is_empty.writers (on_output []) = elim c.if-is_empty.branch [
+      | then-is_empty+in_ok-settle_before w ↦ rw w.writers-is w.in_ok-settle_before.ensures
+      | else-is_empty w ↦ rw w.writers-is (writes_none g.W.OutDevice.state g.E.OutDevice.state c.args.writers.now)
+    ] in
+    data_given g.R.InDevice.state g.W.OutDevice.state g.E.OutDevice.state c.args.session.now c.load.new.self c.args.writers.now c.if-is_empty.writers history writes _ (c.load.ensures.gives history at)

@@ -1,0 +1,87 @@
+//! How a run reads a session: before a read that may have to wait it hands on what was written, so that a reader of the texts sees
+//! all that the bytes so far determine.
+
+ghost use Rattle.std.specs.Prelude.{◌≡◌, ℕ, List, [], length, IfOk, IfSome, IsTrue, MatchResult};
+ghost use Rattle.link_wire.specs.MessageBuffer.{message_of, SegmentHasTotals};
+ghost use Rattle.link_wire.specs.Session.{may_read, is_opened, data_in, IsSessionAt, with_message_read};
+ghost use Rattle.link_run.specs.Reading.{NotHandedOn, GivesMessage, GivesData};
+ghost use Rattle.link_run.specs.Writers.{on_output, Writes};
+
+use crate::writers::Writers;
+use link_wire::{InDevice, MessageBuffer, OutDevice, Session, Stop};
+
+/// The next message, as `Session::read_next` reads it. Where its head does not lie whole in the window, what was written is handed on
+/// first if the read may have to wait; a failure in that is a stop too, and nothing is read then.
+#[inline(always)]
+pub fn next_message<R: InDevice, W: OutDevice, E: OutDevice>(
+    session: &mut Session<R>,
+    writers: &mut Writers<W, E>,
+    message: &mut MessageBuffer,
+) -> Result<Option<u64>, Stop>
+    requires { IsTrue (may_read session.old) }
+    ensures opened { IsTrue (is_opened session.new) }
+    ensures gives { (history : List ℕ) → IsSessionAt R.state session.old history
+        → GivesMessage R.state W.state E.state session.old session.new writers.old writers.new history (with_message_read (message_of message.new) result) }
+    ensures totals { IfOk result (λ got. IfSome got (λ offset. SegmentHasTotals message.new)) }
+{
+    match session.next_here(message) {
+        Some(offset) => Ok(Some(offset)),
+        None => read_message(session, writers, message),
+    }
+}
+
+/// `next_message` for a head that does not lie whole in the window, or is rare.
+#[cold]
+#[inline(never)]
+fn read_message<R: InDevice, W: OutDevice, E: OutDevice>(
+    session: &mut Session<R>,
+    writers: &mut Writers<W, E>,
+    message: &mut MessageBuffer,
+) -> Result<Option<u64>, Stop>
+    requires { IsTrue (may_read session.old) }
+    ensures opened { IsTrue (is_opened session.new) }
+    ensures gives { (history : List ℕ) → IsSessionAt R.state session.old history
+        → GivesMessage R.state W.state E.state session.old session.new writers.old writers.new history (with_message_read (message_of message.new) result) }
+    ensures totals { IfOk result (λ got. IfSome got (λ offset. SegmentHasTotals message.new)) }
+{
+    settle_before(session, writers)?;
+    session.read_next(message)
+}
+
+/// Data of the segment, as `Session::load` has it lie in the window. Where none lies there yet, what was written is handed on first if
+/// the read may have to wait; a failure in that is a stop too, and nothing is read then.
+#[inline(always)]
+pub fn load_data<R: InDevice, W: OutDevice, E: OutDevice>(
+    session: &mut Session<R>,
+    writers: &mut Writers<W, E>,
+) -> Result<usize, Stop>
+    ensures size { IfOk result (λ n. n ≡ length (data_in session.new)) }
+    ensures opened { IsTrue (is_opened session.old) → IsTrue (is_opened session.new) }
+    ensures gives { (history : List ℕ) → IsSessionAt R.state session.old history
+        → GivesData R.state W.state E.state session.old session.new writers.old writers.new history result }
+{
+    if session.loaded().is_empty() {
+        settle_before(session, writers)?;
+    }
+    session.load()
+}
+
+/// Hands on what was written, if the next call of the session may have to wait.
+#[cold]
+#[inline(never)]
+fn settle_before<R: InDevice, W: OutDevice, E: OutDevice>(
+    session: &Session<R>,
+    writers: &mut Writers<W, E>,
+) -> Result<(), Stop>
+    ensures { MatchResult result
+        (λ _. Writes W.state E.state writers.old writers.new (on_output []))
+        (NotHandedOn R.state W.state E.state session.now session.now writers.old writers.new) }
+{
+    if !session.may_wait() {
+        return Ok(());
+    }
+    match writers.settle() {
+        Ok(()) => Ok(()),
+        Err(fault) => Err(Stop::Io(fault)),
+    }
+}
