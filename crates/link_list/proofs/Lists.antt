@@ -34,8 +34,8 @@ use Rattle.link_list.specs.declared.listing.Stage.TheVariants as stage
 use Rattle.link_run.specs.declared.run.Progress.{Progress}
 use Rattle.link_run.specs.declared.run.Status.{Status}
 use Rattle.link_run.specs.declared.writers.Writers.{Writers}
-use Rattle.link_run.proofs.Runs.{◌then◌, no_texts, texts_as, written_as, written_given, written_more, sound_given, sound_written, few_over, all_given, answered, writer_lost, settle_lost, settle_kept}
-use Rattle.link_run.proofs.Ends.{undecided_lines, undecided_shown, standing_lines, standing_shown, lasts, lasting_as, few_at_fault, reported, read_failed}
+use Rattle.link_run.proofs.Runs.{◌then◌, ReportsFaults, no_texts, texts_as, written_as, written_given, written_more, sound_given, sound_written, few_over, all_given, answered, writer_lost, settle_lost, settle_kept}
+use Rattle.link_run.proofs.Ends.{end_reports, undecided_lines, undecided_shown, standing_lines, standing_shown, lasts, lasting_as, few_at_fault, reported, read_failed}
 
 -- ---- the texts that bytes determine
 
@@ -50,6 +50,11 @@ shows_is bytes reading is = ap (λ (r : Reading). is_shown r.end) is
 whole_is : (bytes : List ℕ) (reading : Reading) → reading_of bytes ≡ reading → listing bytes ≡ listing_by reading
 unfolding listing
 whole_is bytes reading is = ap listing_by is
+
+-- a fault of the wire has a line in the report
+list_reports : ReportsFaults list_tool
+unfolding listing listing_sofar listing_shows
+list_reports given fault = ⊎_elim (λ shown. inl (shown.0, texts_as refl shown.1)) (λ more. inr more) (end_reports (reading_of given).end fault)
 
 -- the lines of a reading that has gone on
 lines_joined : (reading : Reading) (more : Stream) → lines_of (joined reading more) ≡ lines_of reading ++ message_lines more.entries
@@ -108,7 +113,7 @@ module _ {R W E : Type 0} (in_look : R → Input) (out_look : W → Output) (rep
 
     -- its line waits for data
     pub waits : listing_sofar (history ++ given) ≡ listing_sofar history → IsWaiting stage.Data line (reading_of (history ++ given)).end
-        → IsWaitingAfter now (reading_of (history ++ given)).end → GivesStage in_look out_look report_look start now old new before mid line history stage.Data
+        → IsWaitingAfter now (reading_of (history ++ given)).end → GivesStage in_look out_look report_look start now old new mid line history stage.Data
     waits texts waiting after_step = record {
       given = given;
       some = λ may. some;
@@ -135,13 +140,13 @@ module _ {R W E : Type 0} (in_look : R → Input) (out_look : W → Output) (rep
     }
 
   -- the line that was due
-  module _ (now : Stage) (old new : Session R) (before mid after : Writers W E) (text line history : List ℕ) (at : IsDue in_look out_look report_look start now old new mid text history) where
+  module _ (now : Stage) (old new : Session R) (mid after : Writers W E) (text line history : List ℕ) (at : IsDue in_look out_look report_look start now old new mid text history) where
     due_texts : listing_sofar (history ++ at.given) ≡ listing_sofar history then on_output text
     due_texts = at.texts ∙ texts_as refl (sym (append-nil _))
 
     -- was written
     wrote : Writes out_look report_look mid after (on_output text)
-        → WentOn in_look out_look report_look (place_of (source_of old) before) (place_of (source_of new) after) (Lists in_look out_look report_look start stage.Message new after line) (most_given now) history
+        → WentOn (source_of old) (source_of new) (Lists in_look out_look report_look start stage.Message new after line) (most_given now) history
     wrote writes =
         let P : End → Type 0 = λ end. IsWaiting stage.Message line end in
         record {
@@ -164,11 +169,11 @@ module _ {R W E : Type 0} (in_look : R → Input) (out_look : W → Output) (rep
     lost fault part = record {
       given = at.given;
       size = at.size;
-      gave = writer_lost in_look out_look report_look list_tool start (source_of new) mid after (history ++ at.given) (listing_sofar history) (on_output text) (listing_sofar (history ++ at.given)) fault at.written at.sound (sym due_texts) (inl refl) at.window
+      gave = writer_lost in_look out_look report_look list_tool list_reports start (source_of new) mid after (history ++ at.given) (listing_sofar history) (on_output text) (listing_sofar (history ++ at.given)) fault at.written at.sound (sym due_texts) (inl refl) at.window
           (λ some_output. inr (record { front = history; rest = at.given; parts = refl; is = refl })) part;
     }
 
-    pub line_given : (next : Stage) → GivesLine out_look report_look text mid after next → GivesStage in_look out_look report_look start now old new before after line history next
+    pub line_given : (next : Stage) → GivesLine out_look report_look text mid after next → GivesStage in_look out_look report_look start now old new after line history next
     line_given stage.Contact gives = absurd gives
     line_given stage.Message gives = wrote gives
     line_given stage.Data gives = absurd gives
@@ -208,7 +213,7 @@ module _ {R W E : Type 0} (in_look : R → Input) (out_look : W → Output) (rep
 
       pub fault_reported : (answer : Result Status IoFault) → length given ≤ most_given now → length (window_of (source_of new)) < window_size → GivesReport out_look report_look before after line answer → Ended in_look out_look report_look list_tool start (devices_at (place_of (source_of new) after)) (most_given now) history answer
       fault_reported answer size few gives =
-          reported in_look out_look report_look list_tool start (most_given now) (source_of old) (source_of new) before after history given texts written sound size line takes
+          reported in_look out_look report_look list_tool start (most_given now) (source_of old) (source_of new) before after history given texts written sound size list_reports line takes
           whole_texts (ap (λ (o : Outcome). o.status) (whole_is (history ++ given) reading here) ∙ ends_with) shown few answer gives
 
 -- ---- the contact header
@@ -228,7 +233,7 @@ module _ {R W E : Type 0} (in_look : R → Input) (out_look : W → Output) (rep
     begun = written_as in_look out_look report_look fresh.written refl (sym nothing_read)
 
     pub contact_step : (mid after : Writers W E) (line : List ℕ) (contact : Contact) (next : Stage) → mid.output ≡ before.output → mid.report ≡ before.report
-        → GaveContact in_look old new contact → GivesLine out_look report_look (contact_text contact) mid after next → GivesStage in_look out_look report_look start stage.Contact old new before after line [] next
+        → GaveContact in_look old new contact → GivesLine out_look report_look (contact_text contact) mid after next → GivesStage in_look out_look report_look start stage.Contact old new after line [] next
     contact_step mid after line contact next output report got gives =
         let given = got.given in
         let size = got.size in
@@ -236,9 +241,9 @@ module _ {R W E : Type 0} (in_look : R → Input) (out_look : W → Output) (rep
         let texts : listing_sofar given ≡ listing_sofar [] then on_output text =
         sofar_is given _ got.reading ∙ texts_as (ap (λ xs. text ++ xs) no_lines ∙ append-nil text ∙ ap (λ (t : Texts). t.output ++ text) (sym nothing_read)) (ap (λ (t : Texts). t.report ++ []) (sym nothing_read)) in
         let is_due = due in_look out_look report_look start stage.Contact old new before mid text [] given output report begun fresh.sound got.takes (omega arith) (omega arith) got.at texts (ap (λ (r : Reading). r.end) got.reading) in
-        line_given in_look out_look report_look start stage.Contact old new before mid after text line [] is_due next gives
+        line_given in_look out_look report_look start stage.Contact old new mid after text line [] is_due next gives
 
-    pub contact_ended : (after : Writers W E) (line : List ℕ) (why : Stop) (next : Stage) → GivesContact in_look old new (Err why) → GivesEnd out_look report_look why before after next → GivesStage in_look out_look report_look start stage.Contact old new before after line [] next
+    pub contact_ended : (after : Writers W E) (line : List ℕ) (why : Stop) (next : Stage) → GivesContact in_look old new (Err why) → GivesEnd out_look report_look why before after next → GivesStage in_look out_look report_look start stage.Contact old new after line [] next
     contact_ended after line (stop.Wire offset fault) stage.Contact got gives = absurd gives
     contact_ended after line (stop.Wire offset fault) stage.Message got gives = absurd gives
     contact_ended after line (stop.Wire offset fault) stage.Data got gives = absurd gives
@@ -270,7 +275,7 @@ module _ {R W E : Type 0} (in_look : R → Input) (out_look : W → Output) (rep
       read_head : (test : Bool) → nat_lt 0 (data_length message) ≡ test → reading_of (history ++ got.given) ≡ joined (reading_of history) (if test then ended (Cut offset message []) else with_entry (record { offset = offset; message = message; content = [] }) (ended Clean))
       read_head test is = got.reading ∙ ap (λ b. joined (reading_of history) (if b then ended (Cut offset message []) else with_entry (record { offset = offset; message = message; content = [] }) (ended Clean))) is
 
-      pub message_step : (next : Next) → GoesOn (left_of new) next → GivesNext in_look out_look report_look start stage.Message old new before before text history next
+      pub message_step : (next : Next) → GoesOn (left_of new) next → GivesNext in_look out_look report_look start stage.Message old new before text history next
       message_step next.Line none =
           let reading = read_head false (le-ltb 0 (data_length message) (omega (arith, got.left))) in
           due in_look out_look report_look start stage.Message old new before before text history got.given refl refl at.written at.sound got.takes got.some got.size got.at
@@ -302,7 +307,7 @@ module _ {R W E : Type 0} (in_look : R → Input) (out_look : W → Output) (rep
               (few_over in_look (source_of new) got.over);
         })
 
-    pub message_ended : (after : Writers W E) (line : List ℕ) (why : Stop) (next : Stage) → SessionGivesNext in_look old new history (Err why) → GivesEnd out_look report_look why before after next → GivesStage in_look out_look report_look start stage.Message old new before after line history next
+    pub message_ended : (after : Writers W E) (line : List ℕ) (why : Stop) (next : Stage) → SessionGivesNext in_look old new history (Err why) → GivesEnd out_look report_look why before after next → GivesStage in_look out_look report_look start stage.Message old new after line history next
     message_ended after line (stop.Wire offset fault) stage.Contact got gives = absurd gives
     message_ended after line (stop.Wire offset fault) stage.Message got gives = absurd gives
     message_ended after line (stop.Wire offset fault) stage.Data got gives = absurd gives
@@ -365,7 +370,7 @@ module _ {R W E : Type 0} (in_look : R → Input) (out_look : W → Output) (rep
       takes : 0 < length bytes → Takes in_look (source_of old) (source_of new) bytes
       takes some = Readies-takes in_look (source_of old) (source_of mid) (source_of new) bytes ready gave.takes some
 
-      pub data_step : (next : Next) → 0 < length bytes → length bytes ≤ most_given stage.Data → GoesOn (left_of new) next → GivesNext in_look out_look report_look start stage.Data old new before before line history next
+      pub data_step : (next : Next) → 0 < length bytes → length bytes ≤ most_given stage.Data → GoesOn (left_of new) next → GivesNext in_look out_look report_look start stage.Data old new before line history next
       data_step next.Line some size none =
           let reading = read_data false (le-ltb 0 (left_of new) (omega arith)) in
           due in_look out_look report_look start stage.Data old new before before line history bytes refl refl at.written at.sound (takes some) some size gave.at
@@ -379,7 +384,7 @@ module _ {R W E : Type 0} (in_look : R → Input) (out_look : W → Output) (rep
           (sofar_same history bytes _ reading refl refl standing_data) (subst P (sym (ap (λ (r : Reading). r.end) reading)) (refl, inside.shown)) tt
       data_step (next.Stage (stage.Ended answer)) some size goes = absurd goes
 
-    pub data_ended : (new : Session R) (after : Writers W E) (why : Stop) (next : Stage) → GivesLoad in_look old new history (Err why) → GivesEnd out_look report_look why before after next → GivesStage in_look out_look report_look start stage.Data old new before after line history next
+    pub data_ended : (new : Session R) (after : Writers W E) (why : Stop) (next : Stage) → GivesLoad in_look old new history (Err why) → GivesEnd out_look report_look why before after next → GivesStage in_look out_look report_look start stage.Data old new after line history next
     data_ended new after (stop.Wire offset fault) stage.Contact got gives = absurd gives
     data_ended new after (stop.Wire offset fault) stage.Message got gives = absurd gives
     data_ended new after (stop.Wire offset fault) stage.Data got gives = absurd gives
@@ -409,7 +414,7 @@ module _ {W E : Type 0} (out_look : W → Output) (report_look : E → Output) w
 
 module _ {R W E : Type 0} (in_look : R → Input) (out_look : W → Output) (report_look : E → Output) (start : Devices R W E) where
   -- what a stage gives, in the words of every run
-  stage_step : (now next : Stage) (old new : Session R) (before after : Writers W E) (line history : List ℕ) → GivesStage in_look out_look report_look start now old new before after line history next
+  stage_step : (now next : Stage) (old new : Session R) (before after : Writers W E) (line history : List ℕ) → GivesStage in_look out_look report_look start now old new after line history next
       → GivesStep in_look out_look report_look list_tool start (place_of (source_of old) before) (place_of (source_of new) after) (IsListing in_look out_look report_look start next new after line) (most_given now) history (progress_of next)
   stage_step now stage.Contact old new before after line history gives = absurd gives
   stage_step now stage.Message old new before after line history gives = gives
@@ -417,7 +422,7 @@ module _ {R W E : Type 0} (in_look : R → Input) (out_look : W → Output) (rep
   stage_step now (stage.Ended (Ok status)) old new before after line history gives = gives
   stage_step now (stage.Ended (Err fault)) old new before after line history gives = gives
 
-  pub step_gives : (now next : Stage) (old new : Session R) (before after : Writers W E) (line history : List ℕ) (result : Result Progress IoFault) → GivesStage in_look out_look report_look start now old new before after line history next → result ≡ progress_of next
+  pub step_gives : (now next : Stage) (old new : Session R) (before after : Writers W E) (line history : List ℕ) (result : Result Progress IoFault) → GivesStage in_look out_look report_look start now old new after line history next → result ≡ progress_of next
       → GivesStep in_look out_look report_look list_tool start (place_of (source_of old) before) (place_of (source_of new) after) (IsListing in_look out_look report_look start next new after line) (most_given now) history result
   step_gives now next old new before after line history result gives is = rw is (stage_step now next old new before after line history gives)
 
@@ -441,34 +446,25 @@ module _ {R W E : Type 0} (in_look : R → Input) (out_look : W → Output) (rep
     waits = at.waits;
   }
 
-  -- what comes after it is of the same step
-  pub since : (after : Writers W E) (line : List ℕ) (next : Next)
-      → GivesNext in_look out_look report_look start now s new mid after line history next → GivesNext in_look out_look report_look start now s new before after line history next
-  since after line next.Line gives = gives
-  since after line (next.Stage stage.Contact) gives = absurd gives
-  since after line (next.Stage stage.Message) gives = record { given = gives.given; some = gives.some; size = gives.size; count = gives.count; window = gives.window; at = gives.at }
-  since after line (next.Stage stage.Data) gives = record { given = gives.given; some = gives.some; size = gives.size; count = gives.count; window = gives.window; at = gives.at }
-  since after line (next.Stage (stage.Ended answer)) gives = gives
-
   -- a writer failed in it, and the run has ended
   lost_now : (fault : IoFault) → Unsettled out_look report_look before mid fault → length (window_of (source_of s)) < window_size
       → Lists in_look out_look report_look start now s before last history → Ended in_look out_look report_look list_tool start (devices_at (place_of (source_of s) mid)) (most_given now) history (Err fault)
   lost_now fault part few at = record {
     given = [];
     size = omega arith;
-    gave = rw append-nil (settle_lost in_look out_look report_look list_tool start (source_of s) before mid history fault at.written at.sound
+    gave = rw append-nil (settle_lost in_look out_look report_look list_tool list_reports start (source_of s) before mid history fault at.written at.sound
         (shows_is history _ refl ∙ waiting_shown now last _ at.waits) few part);
   }
 
   lost_at : (fault : IoFault) (after : Writers W E) (line : List ℕ) (next : Stage)
       → Ended in_look out_look report_look list_tool start (devices_at (place_of (source_of s) mid)) (most_given now) history (Err fault)
-      → GivesEnd out_look report_look (stop.Io fault) mid after next → GivesStage in_look out_look report_look start now s s before after line history next
+      → GivesEnd out_look report_look (stop.Io fault) mid after next → GivesStage in_look out_look report_look start now s s after line history next
   lost_at fault after line stage.Contact ended gives = absurd gives
   lost_at fault after line stage.Message ended gives = absurd gives
   lost_at fault after line stage.Data ended gives = absurd gives
   lost_at fault after line (stage.Ended answer) ended gives = rw (gives.0, gives.1) ended
 
   pub not_handed_on : (after : Writers W E) (line : List ℕ) (why : Stop) (next : Stage) → NotHandedOn in_look out_look report_look s new before mid why → GivesEnd out_look report_look why mid after next
-      → Lists in_look out_look report_look start now s before last history → GivesStage in_look out_look report_look start now s new before after line history next
+      → Lists in_look out_look report_look start now s before last history → GivesStage in_look out_look report_look start now s new after line history next
   not_handed_on after line why next not_on gives at =
       rw not_on.unread (lost_at not_on.fault after line next (lost_now not_on.fault not_on.unsettled not_on.few at) (rw not_on.is at gives))

@@ -13,7 +13,7 @@ use Rattle.link_wire.specs.declared.session.Session.{Session}
 use Rattle.link_report.specs.Fault.{fault_text}
 use Rattle.link_report.specs.declared.fault.Fault.TheVariants.{Wire}
 use Rattle.link_report.specs.Message.{message_text}
-use Rattle.link_run.specs.Run.{Texts, Devices, devices_at, NoneFailed, HasWritten, WentOn, Ended, answer_of}
+use Rattle.link_run.specs.Run.{Devices, devices_at, NoneFailed, HasWritten, WentOn, Ended, answer_of}
 use Rattle.link_list.specs.Listing.{list_tool, listing_sofar}
 use Rattle.link_run.specs.Writers.{place_of, on_output, Writes, WritesPart, GivesReport}
 use Rattle.link_list.specs.declared.listing.Latest.{Latest}
@@ -99,11 +99,11 @@ module _ {R W E : Type 0} where
     IsListing (stage.Ended answer) session writers line history = ⊥
 
     -- what a step at the stage `now` gives, that leaves the stage `next`
-    abbrev pub GivesStage : (now : Stage) → (old new : Session R) → (before after : Writers W E) → (line history : List ℕ) → (next : Stage) → Type 0
-    GivesStage now old new before after line history (stage.Ended answer) = Ended in_look out_look report_look list_tool start (devices_at (place_of (source_of new) after)) (most_given now) history answer
-    GivesStage now old new before after line history stage.Contact = ⊥
-    GivesStage now old new before after line history stage.Message = WentOn in_look out_look report_look (place_of (source_of old) before) (place_of (source_of new) after) (Lists stage.Message new after line) (most_given now) history
-    GivesStage now old new before after line history stage.Data = WentOn in_look out_look report_look (place_of (source_of old) before) (place_of (source_of new) after) (λ bytes. Lists stage.Data new after line bytes × IsWaitingAfter now (reading_of bytes).end) (most_given now) history
+    abbrev pub GivesStage : (now : Stage) → (old new : Session R) → (after : Writers W E) → (line history : List ℕ) → (next : Stage) → Type 0
+    GivesStage now old new after line history (stage.Ended answer) = Ended in_look out_look report_look list_tool start (devices_at (place_of (source_of new) after)) (most_given now) history answer
+    GivesStage now old new after line history stage.Contact = ⊥
+    GivesStage now old new after line history stage.Message = WentOn (source_of old) (source_of new) (Lists stage.Message new after line) (most_given now) history
+    GivesStage now old new after line history stage.Data = WentOn (source_of old) (source_of new) (λ bytes. Lists stage.Data new after line bytes × IsWaitingAfter now (reading_of bytes).end) (most_given now) history
 
     -- The message that a step at the stage `now` was given is whole: nothing but its line is still to be written.
     pub record IsDue (now : Stage) (old new : Session R) (w : Writers W E) (line history : List ℕ) : Type 0 where
@@ -119,9 +119,9 @@ module _ {R W E : Type 0} where
       pub clean : (reading_of (history ++ given)).end ≡ Clean
 
     -- what the first part of a step gives
-    abbrev pub GivesNext : (now : Stage) → (old new : Session R) → (before after : Writers W E) → (line history : List ℕ) → Next → Type 0
-    GivesNext now old new before after line history next.Line = IsDue now old new after line history
-    GivesNext now old new before after line history (next.Stage stage) = GivesStage now old new before after line history stage
+    abbrev pub GivesNext : (now : Stage) → (old new : Session R) → (after : Writers W E) → (line history : List ℕ) → Next → Type 0
+    GivesNext now old new after line history next.Line = IsDue now old new after line history
+    GivesNext now old new after line history (next.Stage stage) = GivesStage now old new after line history stage
 
 -- what the parts of a step do
 module _ {W E : Type 0} (out_look : W → Output) (report_look : E → Output) where

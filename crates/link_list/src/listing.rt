@@ -80,7 +80,7 @@ fn take<R: InDevice, W: OutDevice, E: OutDevice>(
     requires { IsTrue (may_go_on stage session.old) }
     ensures fits { IsTrue (may_go_on result session.new) }
     ensures gives { (start : Devices R W E) (history : List ℕ) → IsListing R.state W.state E.state start stage session.old writers.old (latest_line latest.old) history →
-        GivesStage R.state W.state E.state start stage session.old session.new writers.old writers.new (latest_line latest.new) history result }
+        GivesStage R.state W.state E.state start stage session.old session.new writers.new (latest_line latest.new) history result }
     ensures ended { (answer : _) → stage ≡ Stage.Ended answer → (session.new ≡ session.old) × (writers.new ≡ writers.old) × (latest.new ≡ latest.old) × (result ≡ stage) }
 {
     match read(stage, session, writers, latest) {
@@ -100,7 +100,7 @@ fn read<R: InDevice, W: OutDevice, E: OutDevice>(
     requires { IsTrue (may_go_on stage session.old) }
     ensures fits { IsTrue (may_go_next result session.new) }
     ensures gives { (start : Devices R W E) (history : List ℕ) → IsListing R.state W.state E.state start stage session.old writers.old (latest_line latest.old) history →
-        GivesNext R.state W.state E.state start stage session.old session.new writers.old writers.new (latest_line latest.new) history result }
+        GivesNext R.state W.state E.state start stage session.old session.new writers.new (latest_line latest.new) history result }
     ensures ended { (answer : _) → stage ≡ Stage.Ended answer → (session.new ≡ session.old) × (writers.new ≡ writers.old) × (latest.new ≡ latest.old) × (result ≡ Next.Stage stage) }
 {
     match stage {
@@ -121,7 +121,7 @@ fn take_contact<R: InDevice, W: OutDevice, E: OutDevice>(
     requires { IsTrue (may_open session.old) }
     ensures fits { IsTrue (may_go_on result session.new) }
     ensures gives { (start : Devices R W E) (line history : List ℕ) → IsListing R.state W.state E.state start Stage.Contact session.old writers.old line history →
-        GivesStage R.state W.state E.state start Stage.Contact session.old session.new writers.old writers.new line history result }
+        GivesStage R.state W.state E.state start Stage.Contact session.old session.new writers.new line history result }
 {
     match session.open() {
         Ok(contact) => {
@@ -143,7 +143,7 @@ fn read_message<R: InDevice, W: OutDevice, E: OutDevice>(
     requires { IsTrue (may_read session.old) }
     ensures fits { IsTrue (may_go_next result session.new) }
     ensures gives { (start : Devices R W E) (history : List ℕ) → IsListing R.state W.state E.state start Stage.Message session.old writers.old (latest_line latest.old) history →
-        GivesNext R.state W.state E.state start Stage.Message session.old session.new writers.old writers.new (latest_line latest.new) history result }
+        GivesNext R.state W.state E.state start Stage.Message session.old session.new writers.new (latest_line latest.new) history result }
 {
     match next_message(session, writers, &mut latest.message) {
         Ok(Some(offset)) => {
@@ -164,7 +164,7 @@ fn pass_data<R: InDevice, W: OutDevice, E: OutDevice>(
     requires { IsTrue (is_opened session.old) }
     ensures fits { IsTrue (may_go_next result session.new) }
     ensures gives { (start : Devices R W E) (line history : List ℕ) → IsListing R.state W.state E.state start Stage.Data session.old writers.old line history →
-        GivesNext R.state W.state E.state start Stage.Data session.old session.new writers.old writers.new line history result }
+        GivesNext R.state W.state E.state start Stage.Data session.old session.new writers.new line history result }
 {
     match load_data(session, writers) {
         Ok(ready) => {

@@ -58,7 +58,7 @@ module _ {R W E : Type 0} (in_look : R → Input) (out_look : W → Output) (rep
 
       part_came : Grows mid at.begun run false → bundle_goes (at.begun ++ run) ≡ true
           → GivesRun out_look report_look before after (record { output = run_segments mid.options mid.number at.begun run false; report = [] }) (Holds packed at.bundles (at.begun ++ run)) next
-          → GivesStage in_look out_look report_look start options stage.Bundles old new before after packed history next
+          → GivesStage in_look out_look report_look start options stage.Bundles old new after packed history next
       part_came grows goes gives =
           let few = at.few in
           goes_on in_look out_look report_look start old before packer history at new run takes live some size
@@ -82,7 +82,7 @@ module _ {R W E : Type 0} (in_look : R → Input) (out_look : W → Output) (rep
 
       whole_came : Grows mid at.begun run true → (info : BundleInfo) → verdict (at.begun ++ run) ≡ Ok info
           → GivesRun out_look report_look before after (record { output = run_segments mid.options mid.number at.begun run true; report = line_of mid.options mid.number (bundle_of info) }) (Holds packed (at.bundles ++ bundle_of info ∷ []) []) next
-          → GivesStage in_look out_look report_look start options stage.Bundles old new before after packed history next
+          → GivesStage in_look out_look report_look start options stage.Bundles old new after packed history next
       whole_came grows info is gives =
           let few = at.few in
           let come = whole_divides grows info is in
@@ -122,7 +122,7 @@ module _ {R W E : Type 0} (in_look : R → Input) (out_look : W → Output) (rep
         whole_is bytes is = whole_refused options bytes at.bundles (at.begun ++ refuses.accepted) refuses.refusal refuses.lasts is
 
         refused_came : GivesLast out_look report_look before after (record { output = run_segments mid.options mid.number at.begun refuses.accepted false; report = fault_text fault }) 3 next
-            → GivesStage in_look out_look report_look start options stage.Bundles old new before after packed history next
+            → GivesStage in_look out_look report_look start options stage.Bundles old new after packed history next
         refused_came gives =
             let now = whole_is (history ++ run) refused_now in
             ended in_look out_look report_look start old before packer history at new run takes size refused_texts 3
@@ -136,7 +136,7 @@ module _ {R W E : Type 0} (in_look : R → Input) (out_look : W → Output) (rep
             (as_stood (λ o n. GivesLast out_look report_look before after (record { output = run_segments o n at.begun refuses.accepted false; report = fault_text fault }) 3 next) gives)
 
       pub came : (what : Found) (took : Took mid at.begun run what) → GivesFound out_look report_look mid at.bundles at.begun run before after packed what took next
-          → GivesStage in_look out_look report_look start options stage.Bundles old new before after packed history next
+          → GivesStage in_look out_look report_look start options stage.Bundles old new after packed history next
       came found.Part took gives = part_came took.0 took.1 gives
       came found.Whole took gives = whole_came took.0 took.1.0 took.1.1 gives
       came (found.Refused fault) took gives = refused_came fault took gives
@@ -148,14 +148,14 @@ module _ {R W E : Type 0} (in_look : R → Input) (out_look : W → Output) (rep
       at_end f = ap f (append-nil history)
 
       finished_by : (more : Texts) (outcome : Outcome) → packing options history ≡ outcome → texts then more ≡ outcome.texts → GivesLast out_look report_look before after more outcome.status next
-          → GivesStage in_look out_look report_look start options stage.Bundles old new before after packer history next
+          → GivesStage in_look out_look report_look start options stage.Bundles old new after packer history next
       finished_by more outcome is same gives =
           let now : packing options (history ++ []) ≡ outcome = at_end (packing options) ∙ is in
           ended in_look out_look report_look start old before packer history at new [] takes (omega arith) more outcome.status
           (same ∙ sym (ap (λ (o : Outcome). o.texts) now)) (ap (λ (o : Outcome). o.status) now) (inl over) (few_over in_look new over) after packer next gives
 
       finished_short : (short : Option Fault) → CutShort packer.number at.begun short → GivesShort out_look report_look options before after short next
-          → GivesStage in_look out_look report_look start options stage.Bundles old new before after packer history next
+          → GivesStage in_look out_look report_look start options stage.Bundles old new after packer history next
       finished_short None why gives =
           finished_by (on_output (end_bytes options None)) (clean options at.bundles at.begun)
           (whole_clean options history at.bundles at.begun at.holds.front at.holds.goes at.holds.within (divided_so in_look out_look report_look start old before packer history at) why)
@@ -168,5 +168,5 @@ module _ {R W E : Type 0} (in_look : R → Input) (out_look : W → Output) (rep
           (ap (λ (xs : List ℕ). texts then on_report xs) line) gives
 
       pub finished : GivesFinish out_look report_look packer at.begun before after next
-          → GivesStage in_look out_look report_look start options stage.Bundles old new before after packer history next
+          → GivesStage in_look out_look report_look start options stage.Bundles old new after packer history next
       finished gives = finished_short gives.short gives.why gives.gave

@@ -1,11 +1,13 @@
 -- What comes of an input that is divided so far.
-use Rattle.std.proofs.Common.{◌≡◌, ℕ, ◌<◌, ◌≤◌, Bool, true, false, List, [], ◌∷◌, ◌++◌, length, Option, Some, None, if◌then◌else◌, refl, ap, sym, ◌∙◌, append-nil, arith}
+use Rattle.std.proofs.Common.{◌≡◌, ℕ, ◌<◌, ◌≤◌, ◌⊎◌, inl, inr, Bool, true, false, List, [], ◌∷◌, ◌++◌, length, Option, Some, None, if◌then◌else◌, ⊎_elim, refl, ap, sym, ◌∙◌, append-nil, arith}
 use Rattle.link_bundle.specs.Bundle.{bundle_goes}
 use Rattle.link_run.specs.Run.{Texts, Outcome}
 use Rattle.link_run.specs.Writers.{on_output, on_report}
-use Rattle.link_run.proofs.Runs.{◌then◌, texts_as}
-use Rattle.link_pack.specs.Bundles.{Packed, Refusal, Faulty, Rest, Divided, front_of, divided, joined}
-use Rattle.link_pack.specs.Packing.{prelude_bytes, segment_size, sending, transfers_of, rest_segments, end_bytes, lines_of, refusal_line, rest_line, lasting, is_shown, packing, packing_by, packing_sofar, packing_sofar_by, packing_shows}
+use Rattle.link_report.proofs.Faults.{some_fault}
+use Rattle.link_run.proofs.Ends.{after_lines}
+use Rattle.link_run.proofs.Runs.{◌then◌, ReportsFaults, texts_as}
+use Rattle.link_pack.specs.Bundles.{Packed, Refusal, Longer, Faulty, Rest, Divided, front_of, divided, joined}
+use Rattle.link_pack.specs.Packing.{prelude_bytes, segment_size, sending, transfers_of, rest_segments, end_bytes, lines_of, refusal_line, rest_line, lasting, is_shown, rest_status, bundles_output, pack_tool, packing, packing_by, packing_sofar, packing_sofar_by, packing_shows}
 use Rattle.link_pack.specs.Packer.{IsCut}
 use Rattle.link_pack.specs.PackRun.{texts_of}
 use Rattle.link_pack.specs.Segments.{segments_of}
@@ -30,6 +32,15 @@ unshown_rest : (begun : List ℕ) (cut : IsCut begun) → is_shown (rest_of begu
 unshown_rest [] cut = refl
 unshown_rest (byte ∷ bytes) cut = cut.mends
 
+some_refusal : (number : ℕ) (refusal : Refusal) → 0 < length (refusal_line number refusal)
+some_refusal number (Longer limit) = some_fault _
+some_refusal number (Faulty fault place) = some_fault _
+
+refusal_reports : (number : ℕ) (refusal : Refusal) (shown : Bool)
+    → ((shown ≡ true) × ((if shown then refusal_line number refusal else []) ≡ refusal_line number refusal)) ⊎ (length (if shown then refusal_line number refusal else []) < length (refusal_line number refusal))
+refusal_reports number refusal true = inl (refl, refl)
+refusal_reports number refusal false = inr (some_refusal number refusal)
+
 module _ (options : PackOptions) where
   pub whole_as : (bytes : List ℕ) (input : Divided) → divided options.peer_transfer bytes ≡ input → packing options bytes ≡ packing_by options input
   unfolding packing
@@ -42,6 +53,26 @@ module _ (options : PackOptions) where
   pub shows_as : (bytes : List ℕ) (input : Divided) → divided options.peer_transfer bytes ≡ input → packing_shows options bytes ≡ is_shown input.rest
   unfolding packing_shows
   shows_as bytes input is = ap (λ (d : Divided). is_shown d.rest) is
+
+  -- the line of a refusal lasts where it is shown, and is not there before the end where it is not
+  rest_reports : (number : ℕ) (rest : Option Rest) → rest_status rest ≡ 3
+      → ((is_shown rest ≡ true) × ((if is_shown rest then rest_line number rest else []) ≡ rest_line number rest)) ⊎ (length (if is_shown rest then rest_line number rest else []) < length (rest_line number rest))
+  rest_reports number None is = absurd (omega (arith, is))
+  rest_reports number (Some rest) is = refusal_reports number rest.refusal (lasting rest.refusal)
+
+  -- after a refusal nothing ends the session
+  no_end : (rest : Option Rest) → rest_status rest ≡ 3 → end_bytes options rest ≡ []
+  no_end None is = absurd (omega (arith, is))
+  no_end (Some rest) is = refl
+
+  pub pack_reports : ReportsFaults (pack_tool options)
+  unfolding packing packing_sofar packing_shows
+  pack_reports given fault =
+      let input = divided options.peer_transfer given in
+      ⊎_elim
+      (λ shown. inl (shown.0, texts_as (sym (ap (λ (xs : List ℕ). bundles_output options input ++ xs) (no_end input.rest fault) ∙ append-nil (bundles_output options input))) shown.1))
+      (λ more. inr more)
+      (after_lines (lines_of options 0 input.bundles) (rest_reports (length input.bundles) input.rest fault))
 
   -- ---- a bundle that has begun
 

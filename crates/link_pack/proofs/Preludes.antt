@@ -14,7 +14,7 @@ use Rattle.link_pack.specs.declared.options.PackOptions.{PackOptions}
 use Rattle.link_pack.specs.declared.packer.Packer.{Packer}
 use Rattle.link_pack.specs.declared.packing.Stage.{Stage}
 use Rattle.link_pack.specs.declared.packing.Stage.TheVariants as stage
-use Rattle.link_pack.proofs.Outcomes.{sofar_going}
+use Rattle.link_pack.proofs.Outcomes.{pack_reports, sofar_going}
 use Rattle.link_pack.proofs.Sending.{segments_none}
 
 -- what is written before any bundle
@@ -32,7 +32,7 @@ module _ {R W E : Type 0} (in_look : R → Input) (out_look : W → Output) (rep
     few = let none = ap length fresh.unread in omega arith
 
     from_none : (next : Stage) → GivesRun out_look report_look before after (on_output (prelude_bytes packer.options)) (Unit {0}) next
-        → GivesStage in_look out_look report_look start packer.options stage.Prelude source source before after packer [] next
+        → GivesStage in_look out_look report_look start packer.options stage.Prelude source source after packer [] next
     from_none stage.Prelude gives = absurd gives
     from_none stage.Bundles gives = record {
       given = [];
@@ -56,14 +56,14 @@ module _ {R W E : Type 0} (in_look : R → Input) (out_look : W → Output) (rep
     from_none (stage.Ended (Err fault)) gives = record {
       given = [];
       size = omega arith;
-      gave = writer_lost in_look out_look report_look (pack_tool packer.options) start source before after [] no_texts (on_output (prelude_bytes packer.options)) _ fault fresh.written fresh.sound
+      gave = writer_lost in_look out_look report_look (pack_tool packer.options) (pack_reports packer.options) start source before after [] no_texts (on_output (prelude_bytes packer.options)) _ fault fresh.written fresh.sound
           (prelude_texts packer.options ∙ sym (sofar_going packer.options [] [] [] fresh.holds.front fresh.holds.goes fresh.holds.within refl)) (inl refl) few (λ some. inl refl) gives;
     }
 
   pub begun : (source : Source R) (before after : Writers W E) (packer : Packer) (history : List ℕ) (next : Stage) → Begins in_look out_look report_look start source before packer history
       → GivesRun out_look report_look before after (on_output (prelude_bytes packer.options)) (Unit {0}) next
-      → GivesStage in_look out_look report_look start packer.options stage.Prelude source source before after packer history next
+      → GivesStage in_look out_look report_look start packer.options stage.Prelude source source after packer history next
   begun source before after packer history next begins gives =
       let Q : List ℕ → Type 0 = λ h. Begins in_look out_look report_look start source before packer h in
-      let P : List ℕ → Type 0 = λ h. GivesStage in_look out_look report_look start packer.options stage.Prelude source source before after packer h next in
+      let P : List ℕ → Type 0 = λ h. GivesStage in_look out_look report_look start packer.options stage.Prelude source source after packer h next in
       subst P (sym begins.nothing) (from_none source before after packer (subst Q begins.nothing begins) next gives)

@@ -10,10 +10,10 @@ use Rattle.link_run.specs.Writers.{place_of, Writes, Unsettled}
 use Rattle.link_run.specs.declared.writers.Writers.{Writers}
 use Rattle.link_run.proofs.Runs.{no_texts, written_as, sound_written, settle_lost, settle_kept}
 use Rattle.link_pack.specs.Packing.{pack_tool}
-use Rattle.link_pack.specs.PackRun.{most_given, texts_of, Packs, GivesStage}
+use Rattle.link_pack.specs.PackRun.{most_given, texts_of, Packs}
 use Rattle.link_pack.specs.declared.packer.Packer.{Packer}
-use Rattle.link_pack.specs.declared.packing.Stage.{Stage}
 use Rattle.link_pack.specs.declared.packing.Stage.TheVariants as stage
+use Rattle.link_pack.proofs.Outcomes.{pack_reports}
 use Rattle.link_pack.proofs.Steps.{due, unshown}
 
 module _ {R W E : Type 0} (in_look : R → Input) (out_look : W → Output) (report_look : E → Output) (start : Devices R W E)
@@ -33,20 +33,13 @@ module _ {R W E : Type 0} (in_look : R → Input) (out_look : W → Output) (rep
     sound = sound_written in_look out_look report_look s before mid no_texts at.sound writes;
   }
 
-  -- what comes after it is of the same step
-  pub since : (after : Writers W E) (packed : Packer) (next : Stage)
-      → GivesStage in_look out_look report_look start packer.options stage.Bundles s new mid after packed history next → GivesStage in_look out_look report_look start packer.options stage.Bundles s new before after packed history next
-  since after packed stage.Prelude gives = absurd gives
-  since after packed stage.Bundles gives = record { given = gives.given; some = gives.some; size = gives.size; count = gives.count; window = gives.window; at = gives.at }
-  since after packed (stage.Ended answer) gives = gives
-
   -- a writer failed in it, and the run has ended
   pub lost_now : (fault : IoFault) → Unsettled out_look report_look before mid fault → length (window_of s) < window_size
       → Packs in_look out_look report_look start s before packer history → Ended in_look out_look report_look (pack_tool packer.options) start (devices_at (place_of s mid)) (most_given stage.Bundles) history (Err fault)
   lost_now fault part few at = record {
     given = [];
     size = omega arith;
-    gave = rw append-nil (settle_lost in_look out_look report_look (pack_tool packer.options) start s before mid history fault
+    gave = rw append-nil (settle_lost in_look out_look report_look (pack_tool packer.options) (pack_reports packer.options) start s before mid history fault
         (written_as in_look out_look report_look at.written refl (sym (due in_look out_look report_look start s before packer history at))) at.sound
         (unshown in_look out_look report_look start s before packer history at) few part);
   }

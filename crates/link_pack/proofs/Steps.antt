@@ -18,7 +18,7 @@ use Rattle.link_pack.specs.declared.options.PackOptions.{PackOptions}
 use Rattle.link_pack.specs.declared.packer.Packer.{Packer}
 use Rattle.link_pack.specs.declared.packing.Stage.{Stage}
 use Rattle.link_pack.specs.declared.packing.Stage.TheVariants as stage
-use Rattle.link_pack.proofs.Outcomes.{sofar_going, unshown_going}
+use Rattle.link_pack.proofs.Outcomes.{pack_reports, sofar_going, unshown_going}
 
 module _ {R W E : Type 0} (in_look : R → Input) (out_look : W → Output) (report_look : E → Output) (start : Devices R W E) where
   module _ (old : Source R) (before : Writers W E) (packer : Packer) (history : List ℕ) (at : Packs in_look out_look report_look start old before packer history) where
@@ -72,7 +72,7 @@ module _ {R W E : Type 0} (in_look : R → Input) (out_look : W → Output) (rep
             }
 
         pub goes_on : (after : Writers W E) (packed : Packer) (next : Stage) → packed.options ≡ options → GivesRun out_look report_look before after more (Holds packed bundles begun) next
-            → GivesStage in_look out_look report_look start options stage.Bundles old new before after packed history next
+            → GivesStage in_look out_look report_look start options stage.Bundles old new after packed history next
         goes_on after packed stage.Prelude same gives = absurd gives
         goes_on after packed stage.Bundles same gives =
             record { given = run; some = λ may. some; size = size; count = takes.count; window = takes.window.less some; at = stands after packed same gives.0 gives.1 }
@@ -81,7 +81,7 @@ module _ {R W E : Type 0} (in_look : R → Input) (out_look : W → Output) (rep
             record {
               given = run;
               size = size;
-              gave = writer_lost in_look out_look report_look (pack_tool options) start new before after (history ++ run) texts more _ fault mid sound (grown ∙ sym now_due) (inl refl) (takes.window.less some) (λ more_output. stood run) gives;
+              gave = writer_lost in_look out_look report_look (pack_tool options) (pack_reports options) start new before after (history ++ run) texts more _ fault mid sound (grown ∙ sym now_due) (inl refl) (takes.window.less some) (λ more_output. stood run) gives;
             }
 
     -- ---- the run ends
@@ -94,7 +94,7 @@ module _ {R W E : Type 0} (in_look : R → Input) (out_look : W → Output) (rep
       last = written_given in_look out_look report_look start old new before history run texts at.written takes
 
       pub ended : (after : Writers W E) (packed : Packer) (next : Stage) → GivesLast out_look report_look before after more status next
-          → GivesStage in_look out_look report_look start options stage.Bundles old new before after packed history next
+          → GivesStage in_look out_look report_look start options stage.Bundles old new after packed history next
       ended after packed stage.Prelude gives = absurd gives
       ended after packed stage.Bundles gives = absurd gives
       ended after packed (stage.Ended (Ok is)) gives =
@@ -113,14 +113,14 @@ module _ {R W E : Type 0} (in_look : R → Input) (out_look : W → Output) (rep
             given = run;
             size = size;
             gave = ⊎_elim
-                (λ over. writer_lost in_look out_look report_look (pack_tool options) start new before after (history ++ run) texts more _ fault last (sound_given in_look out_look report_look old new before run at.sound takes) refl (inr (all_given in_look out_look report_look new after over, whole)) few (λ some. stood run) gives)
-                (λ shows. writer_lost in_look out_look report_look (pack_tool options) start new before after (history ++ run) texts more _ fault last (sound_given in_look out_look report_look old new before run at.sound takes) refl (inl shows.0) few (λ some. stood run) gives)
+                (λ over. writer_lost in_look out_look report_look (pack_tool options) (pack_reports options) start new before after (history ++ run) texts more _ fault last (sound_given in_look out_look report_look old new before run at.sound takes) refl (inr (all_given in_look out_look report_look new after over, whole)) few (λ some. stood run) gives)
+                (λ shows. writer_lost in_look out_look report_look (pack_tool options) (pack_reports options) start new before after (history ++ run) texts more _ fault last (sound_given in_look out_look report_look old new before run at.sound takes) refl (inl shows.0) few (λ some. stood run) gives)
                 shown;
           }
 
     -- the reader failed
     pub read_lost : (new : Source R) (packed : Packer) (fault : IoFault) → StopsAfter in_look old new [] fault
-        → GivesStage in_look out_look report_look start options stage.Bundles old new before before packed history (stage.Ended (Err fault))
+        → GivesStage in_look out_look report_look start options stage.Bundles old new before packed history (stage.Ended (Err fault))
     read_lost new packed fault stops =
         let same : history ++ [] ≡ history = append-nil history in
         record {

@@ -87,10 +87,10 @@ module _ {R W E : Type 0} (in_look : R → Input) (out_look : W → Output) (rep
   IsPacking (stage.Ended answer) source writers packer history = ⊥
 
   -- what a step at the stage `now` gives, that leaves the stage `next`
-  abbrev pub GivesStage : PackOptions → (now : Stage) → (old new : Source R) → (before after : Writers W E) → Packer → (history : List ℕ) → (next : Stage) → Type 0
-  GivesStage options now old new before after packer history (stage.Ended answer) = Ended in_look out_look report_look (pack_tool options) start (devices_at (place_of new after)) (most_given now) history answer
-  GivesStage options now old new before after packer history stage.Prelude = ⊥
-  GivesStage options now old new before after packer history stage.Bundles = WentOn in_look out_look report_look (place_of old before) (place_of new after) (Packs new after packer) (most_given now) history
+  abbrev pub GivesStage : PackOptions → (now : Stage) → (old new : Source R) → (after : Writers W E) → Packer → (history : List ℕ) → (next : Stage) → Type 0
+  GivesStage options now old new after packer history (stage.Ended answer) = Ended in_look out_look report_look (pack_tool options) start (devices_at (place_of new after)) (most_given now) history answer
+  GivesStage options now old new after packer history stage.Prelude = ⊥
+  GivesStage options now old new after packer history stage.Bundles = WentOn old new (Packs new after packer) (most_given now) history
 
 -- ---- what the parts of a step do
 

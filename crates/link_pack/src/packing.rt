@@ -62,7 +62,7 @@ fn take<R: InDevice, W: OutDevice, E: OutDevice>(
     ensures begun { IsTrue (is_begun result) }
     ensures fits { IsTrue (may_go_on result packer.new) }
     ensures gives { (start : Devices R W E) (history : List ℕ) → IsPacking R.state W.state E.state start stage source.old writers.old packer.old history →
-        GivesStage R.state W.state E.state start packer.old.options stage source.old source.new writers.old writers.new packer.new history result }
+        GivesStage R.state W.state E.state start packer.old.options stage source.old source.new writers.new packer.new history result }
     ensures options { packer.new.options ≡ packer.old.options }
     ensures ended { (answer : _) → stage ≡ Stage.Ended answer → (source.new ≡ source.old) × (writers.new ≡ writers.old)
         × (packer.new ≡ packer.old) × (head.new ≡ head.old) × (result ≡ stage) }
@@ -121,7 +121,7 @@ fn take_bundles<R: InDevice, W: OutDevice, E: OutDevice>(
     ensures begun { IsTrue (is_begun result) }
     ensures fits { IsTrue (may_go_on result packer.new) }
     ensures gives { (start : Devices R W E) (history : List ℕ) → IsPacking R.state W.state E.state start Stage.Bundles source.old writers.old packer.old history →
-        GivesStage R.state W.state E.state start packer.old.options Stage.Bundles source.old source.new writers.old writers.new packer.new history result }
+        GivesStage R.state W.state E.state start packer.old.options Stage.Bundles source.old source.new writers.new packer.new history result }
     ensures options { packer.new.options ≡ packer.old.options }
 {
     if source.window().is_empty() && source.may_wait() {
@@ -143,7 +143,7 @@ fn take_bytes<R: InDevice, W: OutDevice, E: OutDevice>(
     ensures begun { IsTrue (is_begun result) }
     ensures fits { IsTrue (may_go_on result packer.new) }
     ensures gives { (start : Devices R W E) (history : List ℕ) → IsPacking R.state W.state E.state start Stage.Bundles source.old writers.old packer.old history →
-        GivesStage R.state W.state E.state start packer.old.options Stage.Bundles source.old source.new writers.old writers.new packer.new history result }
+        GivesStage R.state W.state E.state start packer.old.options Stage.Bundles source.old source.new writers.new packer.new history result }
     ensures options { packer.new.options ≡ packer.old.options }
 {
     let ready = match source.ready() {

@@ -1,3 +1,4 @@
+pub mod Faults
 mod Digits
 mod Lengths
 mod Escapes

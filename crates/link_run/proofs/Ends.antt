@@ -1,5 +1,5 @@
 -- How a run ends that reports a fault, and one whose reader fails.
-use Rattle.std.proofs.Common.{◌≡◌, ℕ, ◌<◌, ◌≤◌, ◌⊎◌, inl, inr, true, false, List, [], ◌∷◌, ◌++◌, length, Result, Ok, Err, ⊎_elim, refl, ap, sym, ◌∙◌, subst, append-nil, arith}
+use Rattle.std.proofs.Common.{◌≡◌, ℕ, ◌<◌, ◌≤◌, ◌⊎◌, inl, inr, true, false, List, [], ◌∷◌, ◌++◌, length, Result, Ok, Err, ⊎_elim, refl, ap, sym, ◌∙◌, subst, length-append, append-nil, arith}
 use Rattle.link_wire.specs.Device.{Input, Output}
 use Rattle.link_wire.specs.Limits.{window_size}
 use Rattle.link_wire.specs.Source.{window_of, Takes, StopsAfter, IsOver}
@@ -11,12 +11,13 @@ use Rattle.link_wire.specs.declared.fault.WireFault.{WireFault}
 use Rattle.link_wire.specs.declared.fault.WireFault.TheVariants as wire
 use Rattle.link_report.specs.Fault.{fault_text}
 use Rattle.link_report.specs.declared.fault.Fault.TheVariants.{Wire}
-use Rattle.link_run.specs.Ends.{lasting_line, lasting_lines, is_lasting, is_shown}
+use Rattle.link_report.proofs.Faults.{some_fault}
+use Rattle.link_run.specs.Ends.{end_lines, end_status, lasting_line, lasting_lines, is_lasting, is_shown}
 use Rattle.link_run.specs.Run.{Texts, Tool, Devices, devices_at, NoneFailed, HasWritten, AreDue, Ended, Gave}
 use Rattle.link_run.specs.Writers.{place_of, on_report, WritesPart, Reports, GivesReport}
 use Rattle.link_run.specs.declared.run.Status.{Status}
 use Rattle.link_run.specs.declared.writers.Writers.{Writers}
-use Rattle.link_run.proofs.Runs.{◌then◌, written_as, written_given, written_more, sound_given, sound_written, few_over, all_given, answered, writer_lost, reader_lost}
+use Rattle.link_run.proofs.Runs.{◌then◌, ReportsFaults, written_as, written_given, written_more, sound_given, sound_written, few_over, all_given, answered, writer_lost, reader_lost}
 
 -- ---- the line of the fault that ends a stream
 
@@ -54,6 +55,19 @@ lasting_shown : (fault : WireFault) → (fault ≡ wire.Truncated → ⊥) → i
 lasting_shown wire.Truncated other = absurd (other refl)
 lasting_shown fault other = refl
 
+-- the line of a fault lasts where it is shown, and is not there before the end where it is not
+pub end_reports : (end : End) → end_status end ≡ 3 → ((is_shown end ≡ true) × (lasting_lines end ≡ end_lines end)) ⊎ (length (lasting_lines end) < length (end_lines end))
+end_reports Clean is = absurd (omega (arith, is))
+end_reports (Cut offset message content) is = inr (some_fault _)
+end_reports (Fault offset wire.Truncated) is = inr (some_fault _)
+end_reports (Fault offset fault) is = inl (refl, refl)
+
+-- the same after other lines
+pub after_lines : {A : Type 0} {lasting whole : List ℕ} (lines : List ℕ) → (A × (lasting ≡ whole)) ⊎ (length lasting < length whole)
+    → (A × (lines ++ lasting ≡ lines ++ whole)) ⊎ (length (lines ++ lasting) < length (lines ++ whole))
+after_lines {A} {lasting} {whole} lines by =
+    ⊎_elim (λ same. inl (same.0, ap (λ xs. lines ++ xs) same.1)) (λ more. inr (omega (arith, more, length-append lines lasting, length-append lines whole))) by
+
 -- a fault that was not there before was shown by bytes
 shown_by : (history given : List ℕ) (offset : ℕ) (fault : WireFault) (reading : Reading) → (fault ≡ wire.Truncated → ⊥) → reading_of (history ++ given) ≡ reading
     → reading.end ≡ Fault offset fault → is_shown (reading_of history).end ≡ false → 0 < length given
@@ -83,7 +97,7 @@ module _ {R W E : Type 0} (in_look : R → Input) (out_look : W → Output) (rep
     (sound : NoneFailed in_look out_look report_look (devices_at (place_of old before)))
     (size : length given ≤ most) where
   -- the line of a fault was written to the report
-  module _ (line : List ℕ) (takes : Takes in_look old new given)
+  module _ (faults : ReportsFaults tool) (line : List ℕ) (takes : Takes in_look old new given)
       (whole : texts then on_report line ≡ (tool.whole (history ++ given)).texts) (ends : (tool.whole (history ++ given)).status ≡ 3)
       (shown : IsOver in_look new ⊎ ((texts then on_report line ≡ tool.sofar (history ++ given)) × ((more : List ℕ) → tool.whole ((history ++ given) ++ more) ≡ tool.whole (history ++ given))))
       (few : length (window_of new) < window_size) where
@@ -93,7 +107,7 @@ module _ {R W E : Type 0} (in_look : R → Input) (out_look : W → Output) (rep
     lost_due : AreDue in_look out_look report_look tool (devices_at (place_of new after)) (history ++ given) (window_of new) (texts then on_report line)
         → (failure : IoFault) → WritesPart out_look report_look before after (on_report line) failure → Gave in_look out_look report_look tool start (devices_at (place_of new after)) (history ++ given) (Err failure)
     lost_due due failure part =
-        writer_lost in_look out_look report_look tool start new before after (history ++ given) texts (on_report line) _ failure mid (sound_given in_look out_look report_look old new before given sound takes) refl due few (λ some. absurd (omega arith)) part
+        writer_lost in_look out_look report_look tool faults start new before after (history ++ given) texts (on_report line) _ failure mid (sound_given in_look out_look report_look old new before given sound takes) refl due few (λ some. absurd (omega arith)) part
 
     lost : (failure : IoFault) → WritesPart out_look report_look before after (on_report line) failure → Gave in_look out_look report_look tool start (devices_at (place_of new after)) (history ++ given) (Err failure)
     lost failure part =
@@ -103,11 +117,11 @@ module _ {R W E : Type 0} (in_look : R → Input) (out_look : W → Output) (rep
         shown
 
     done : (status : Status) → Reports out_look report_look before after line status → Gave in_look out_look report_look tool start (devices_at (place_of new after)) (history ++ given) (Ok status)
-    done status reports =
+    done status wrote =
         answered in_look out_look report_look tool start new after (history ++ given) status
-        (written_as in_look out_look report_look (written_more in_look out_look report_look start new before after (history ++ given) texts (on_report line) mid reports.writes) refl whole)
-        (sound_written in_look out_look report_look new before after (on_report line) (sound_given in_look out_look report_look old new before given sound takes) reports.writes)
-        (reports.ends ∙ sym ends)
+        (written_as in_look out_look report_look (written_more in_look out_look report_look start new before after (history ++ given) texts (on_report line) mid wrote.writes) refl whole)
+        (sound_written in_look out_look report_look new before after (on_report line) (sound_given in_look out_look report_look old new before given sound takes) wrote.writes)
+        (wrote.ends ∙ sym ends)
         (⊎_elim
         (λ over. inl (all_given in_look out_look report_look new after over))
         (λ shows. inr shows.1)

@@ -1,5 +1,6 @@
 -- What the steps of a run write in turn the run writes in all, and how a run ends.
-use Rattle.std.proofs.Common.{◌≡◌, ℕ, ◌+◌, ◌-◌, min, ◌<◌, ◌⊎◌, inl, inr, false, List, [], ◌++◌, length, take, drop, Option, Some, None, Result, Err, ⊎_elim, refl, ap, sym, ◌∙◌, subst, length-append, append-nil, append_assoc, take_all, arith}
+use Rattle.std.proofs.Common.{◌≡◌, ℕ, ◌+◌, ◌-◌, min, ◌<◌, ◌≤◌, ◌⊎◌, inl, inr, true, false, List, [], ◌++◌, length, take, drop, Option, Some, None, Result, Err, ⊎_elim, refl, ap, sym, ◌∙◌, subst, length-append, append-nil, append_assoc, take_all, arith}
+use Rattle.std.proofs.lemmas.Bool.{false≢true}
 use Rattle.std.proofs.Math.Nat.{min-le_right}
 use Rattle.std.proofs.Math.Seq.{take-append-add}
 use Rattle.std.proofs.lemmas.List.{take-append-le, take_min}
@@ -41,6 +42,13 @@ then_assoc first second third = texts_as (sym (append_assoc first.output second.
 
 pub then_none : (texts : Texts) → texts then no_texts ≡ texts
 then_none texts = texts_as (append-nil texts.output) (append-nil texts.report)
+
+-- The line of a fault that ends a run stands in the report: of one that the bytes show it is in the texts that they determine, of
+-- another only in those of the whole input.
+abbrev pub ReportsFaults : Tool → Type 0
+ReportsFaults tool =
+    (given : List ℕ) → (tool.whole given).status ≡ 3
+    → ((tool.shows given ≡ true) × (tool.sofar given ≡ (tool.whole given).texts)) ⊎ (length (tool.sofar given).report < length (tool.whole given).texts.report)
 
 module _ {R W E : Type 0} (in_look : R → Input) (out_look : W → Output) (report_look : E → Output) where
   pub moves_none : (p : Place R W E) → Moves in_look out_look report_look p p [] no_texts
@@ -184,13 +192,27 @@ module _ {R W E : Type 0} (in_look : R → Input) (out_look : W → Output) (rep
       }))
       stood
 
+  -- where a text that is due lacks some bytes, and the input ends in a fault, one of the whole texts does
+  lacking : (tool : Tool) (now : Devices R W E) (given unread : List ℕ) (due : Texts) (output report : ℕ) → ReportsFaults tool → AreDue in_look out_look report_look tool now given unread due
+      → report ≤ length due.report → (output < length due.output) ⊎ (report < length due.report) → (tool.whole given).status ≡ 3
+      → (output < length (tool.whole given).texts.output) ⊎ (report < length (tool.whole given).texts.report)
+  lacking tool now given unread due output report faults (inl is) most less is_fault =
+      let P : Texts → Type 0 = λ t. (output < length t.output) ⊎ (report < length t.report) in
+      ⊎_elim
+      (λ shown. subst P (is ∙ shown.1) less)
+      (λ more. inr (omega (arith, more, ap (λ (t : Texts). length t.report) is)))
+      (faults given is_fault)
+  lacking tool now given unread due output report faults (inr is) most less is_fault =
+      let P : Texts → Type 0 = λ t. (output < length t.output) ⊎ (report < length t.report) in
+      subst P is.1 less
+
   -- a writer failed in texts that are due
-  pub writer_lost : (tool : Tool) (start : Devices R W E) (s : Source R) (old new : Writers W E) (given : List ℕ) (before texts due : Texts) (fault : IoFault)
+  pub writer_lost : (tool : Tool) → ReportsFaults tool → (start : Devices R W E) (s : Source R) (old new : Writers W E) (given : List ℕ) (before texts due : Texts) (fault : IoFault)
       → HasWritten in_look out_look report_look start (place_of s old) given before → NoneFailed in_look out_look report_look (devices_at (place_of s old)) → before then texts ≡ due
       → AreDue in_look out_look report_look tool (devices_at (place_of s new)) given (window_of s) due
       → length (window_of s) < window_size → (0 < length texts.output → Stood tool given before)
       → WritesPart out_look report_look old new texts fault → Gave in_look out_look report_look tool start (devices_at (place_of s new)) given (Err fault)
-  writer_lost tool start s old new given before texts due fault written sound same are_due few stood part =
+  writer_lost tool faults start s old new given before texts due fault written sound same are_due few stood part =
       let last : Moves in_look out_look report_look (place_of s old) (place_of s new) [] (record { output = take part.output_count texts.output; report = take part.report_count texts.report }) = record {
         takes = Consumes-nil (ahead in_look s);
         count = omega arith;
@@ -221,16 +243,19 @@ module _ {R W E : Type 0} (in_look : R → Input) (out_look : W → Output) (rep
             part.failed;
         unended = λ shown. ⊎_elim
             (λ lost. let less = lost.part in inl (omega arith))
-            (λ lost. let less = lost.part in inr (omega arith))
+            (λ lost. let less = lost.part in inr (lost.failed, omega arith))
             part.failed;
+        unreported = λ all. lacking tool (devices_at (place_of s new)) given (window_of s) due output report faults are_due
+            (⊎_elim (λ lost. let none = lost.none in omega arith) (λ lost. let less = lost.part in omega arith) part.failed)
+            (⊎_elim (λ lost. let less = lost.part in inl (omega arith)) (λ lost. let less = lost.part in inr (omega arith)) part.failed);
       })
 
   -- a writer failed when what was written was handed on
-  pub settle_lost : (tool : Tool) (start : Devices R W E) (s : Source R) (old new : Writers W E) (given : List ℕ) (fault : IoFault)
+  pub settle_lost : (tool : Tool) → ReportsFaults tool → (start : Devices R W E) (s : Source R) (old new : Writers W E) (given : List ℕ) (fault : IoFault)
       → HasWritten in_look out_look report_look start (place_of s old) given (tool.sofar given) → NoneFailed in_look out_look report_look (devices_at (place_of s old))
       → tool.shows given ≡ false → length (window_of s) < window_size
       → Unsettled out_look report_look old new fault → Gave in_look out_look report_look tool start (devices_at (place_of s new)) given (Err fault)
-  settle_lost tool start s old new given fault written sound unshown few part =
+  settle_lost tool faults start s old new given fault written sound unshown few part =
       let due = tool.sofar given in
       let kept : Moves in_look out_look report_look (place_of s old) (place_of s new) [] no_texts = record {
         takes = Consumes-nil (ahead in_look s);
@@ -255,6 +280,7 @@ module _ {R W E : Type 0} (in_look : R → Input) (out_look : W → Output) (rep
             (λ is. inr (is.0, is.1 ∙ sound.output, omega arith))
             part.failed;
         unended = λ shown. absurd (cc);
+        unreported = λ all is. ⊎_elim (λ shown. absurd (false≢true (sym unshown ∙ shown.0))) (λ more. inr more) (faults given is);
       })
 
   -- the source stopped after some bytes, and what is due was written

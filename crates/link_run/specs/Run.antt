@@ -56,6 +56,17 @@ pub record IsBehind (tool : Tool) (given : List ℕ) (output_count report_count 
   pub output : length (tool.sofar front).output ≤ output_count
   pub report : report_count ≤ length (tool.sofar front).report
 
+module _ {R : Type 0} where
+  -- A step went on: it was given at most so many bytes, some if it may be given any, and the run stands after them. No more
+  -- was read than is needed: less than a window lies ahead.
+  pub record WentOn (old new : Source R) (stands : List ℕ → Type 0) (most : ℕ) (history : List ℕ) : Type 0 where
+    pub given : List ℕ
+    pub some : 0 < most → 0 < length given
+    pub size : length given ≤ most
+    pub count : given_by new ≡ given_by old + length given
+    pub window : length (window_of new) < window_size
+    pub at : stands (history ++ given)
+
 module _ {R W E : Type 0} (in_look : R → Input) (out_look : W → Output) (report_look : E → Output) where
   -- no device has failed
   pub record NoneFailed (devices : Devices R W E) : Type 0 where
@@ -129,7 +140,8 @@ module _ {R W E : Type 0} (in_look : R → Input) (out_look : W → Output) (rep
       ⊎ (((report_look now.report).failed ≡ true) × ((out_look now.output).failed ≡ false) × (length due.output ≤ output))
 
   -- One writer failed, and not the reader: the texts are prefixes of those that the bytes given determine. Where these show a
-  -- fault, its text is not whole.
+  -- fault, it is the writer that failed which lacks some of its text. Where they are all of an input that ends in a fault, some
+  -- of its texts is missing. So a failure does not take the place of a fault that was reported.
   pub record LostWriter (tool : Tool) (start now : Devices R W E) (given : List ℕ) : Type 0 where
     pub unread : List ℕ
     pub few : length unread < window_size
@@ -140,7 +152,9 @@ module _ {R W E : Type 0} (in_look : R → Input) (out_look : W → Output) (rep
     pub written : HandedBack start now (given ++ unread) (record { output = take output due.output; report = take report due.report })
     pub reader : (in_look now.reader).failed ≡ false
     pub failed : IsLost tool now given due output report
-    pub unended : tool.shows given ≡ true → (output < length due.output) ⊎ (report < length due.report)
+    pub unended : tool.shows given ≡ true → (output < length due.output) ⊎ (((report_look now.report).failed ≡ true) × (report < length due.report))
+    pub unreported : AllGiven now unread → (tool.whole given).status ≡ 3
+        → (output < length (tool.whole given).texts.output) ⊎ (report < length (tool.whole given).texts.report)
 
   abbrev pub GaveFailure : Tool → Devices R W E → Devices R W E → List ℕ → IoFault → Type 0
   GaveFailure tool start now given io.Read = LostReader tool start now given
@@ -157,16 +171,6 @@ module _ {R W E : Type 0} (in_look : R → Input) (out_look : W → Output) (rep
     pub given : List ℕ
     pub gave : Gave tool start now given answer
 
-  -- A step went on: it was given at most so many bytes, some if it may be given any, and the run stands after them. No more
-  -- was read than is needed: less than a window lies ahead.
-  pub record WentOn (old new : Place R W E) (stands : List ℕ → Type 0) (most : ℕ) (history : List ℕ) : Type 0 where
-    pub given : List ℕ
-    pub some : 0 < most → 0 < length given
-    pub size : length given ≤ most
-    pub count : given_by new.source ≡ given_by old.source + length given
-    pub window : length (window_of new.source) < window_size
-    pub at : stands (history ++ given)
-
   -- a step was the last: it was given at most so many bytes
   pub record Ended (tool : Tool) (start now : Devices R W E) (most : ℕ) (history : List ℕ) (answer : Result Status IoFault) : Type 0 where
     pub given : List ℕ
@@ -175,7 +179,7 @@ module _ {R W E : Type 0} (in_look : R → Input) (out_look : W → Output) (rep
 
   -- what a step gives after these bytes
   abbrev pub GivesStep : Tool → Devices R W E → (old new : Place R W E) → (stands : List ℕ → Type 0) → (most : ℕ) → (history : List ℕ) → Result Progress IoFault → Type 0
-  GivesStep tool start old new stands most history (Ok More) = WentOn old new stands most history
+  GivesStep tool start old new stands most history (Ok More) = WentOn old.source new.source stands most history
   GivesStep tool start old new stands most history (Ok (Done status)) = Ended tool start (devices_at new) most history (Ok status)
   GivesStep tool start old new stands most history (Err fault) = Ended tool start (devices_at new) most history (Err fault)
 

@@ -1,17 +1,17 @@
 //! How a run reads a session: before a read that may have to wait it hands on what was written, so that a reader of the texts sees
 //! all that the bytes so far determine.
 
-ghost use Rattle.std.specs.Prelude.{◌≡◌, ℕ, List, [], length, IfOk, IfSome, IsTrue, MatchResult};
+ghost use Rattle.std.specs.Prelude.{◌≡◌, ℕ, List, [], length, Err, IfOk, IfSome, IsOk, IsTrue, MatchResult};
 ghost use Rattle.link_wire.specs.MessageBuffer.{message_of, SegmentHasTotals};
-ghost use Rattle.link_wire.specs.Session.{may_read, is_opened, data_in, IsSessionAt, with_message_read};
+ghost use Rattle.link_wire.specs.Session.{may_read, is_opened, data_in, IsSessionAt, HasStopped, with_message_read};
 ghost use Rattle.link_run.specs.Reading.{NotHandedOn, GivesMessage, GivesData};
-ghost use Rattle.link_run.specs.Writers.{on_output, Writes};
+ghost use Rattle.link_run.specs.Writers.{on_output, next_line, Writes};
 
 use crate::writers::Writers;
 use link_wire::{InDevice, MessageBuffer, OutDevice, Session, Stop};
 
 /// The next message, as `Session::read_next` reads it. Where its head does not lie whole in the window, what was written is handed on
-/// first if the read may have to wait; a failure in that is a stop too, and nothing is read then.
+/// first if the read may have to wait; a failure in that is a stop too, and nothing is read then. After a stop it returns that stop again.
 #[inline(always)]
 pub fn next_message<R: InDevice, W: OutDevice, E: OutDevice>(
     session: &mut Session<R>,
@@ -23,6 +23,9 @@ pub fn next_message<R: InDevice, W: OutDevice, E: OutDevice>(
     ensures gives { (history : List ℕ) → IsSessionAt R.state session.old history
         → GivesMessage R.state W.state E.state session.old session.new writers.old writers.new history (with_message_read (message_of message.new) result) }
     ensures totals { IfOk result (λ got. IfSome got (λ offset. SegmentHasTotals message.new)) }
+    ensures line { next_line writers.new ≡ next_line writers.old }
+    ensures stopped { (stop : _) → HasStopped session.old stop
+        → (session.new ≡ session.old) × (writers.new ≡ writers.old) × (result ≡ Err stop) }
 {
     match session.next_here(message) {
         Some(offset) => Ok(Some(offset)),
@@ -43,13 +46,16 @@ fn read_message<R: InDevice, W: OutDevice, E: OutDevice>(
     ensures gives { (history : List ℕ) → IsSessionAt R.state session.old history
         → GivesMessage R.state W.state E.state session.old session.new writers.old writers.new history (with_message_read (message_of message.new) result) }
     ensures totals { IfOk result (λ got. IfSome got (λ offset. SegmentHasTotals message.new)) }
+    ensures line { next_line writers.new ≡ next_line writers.old }
+    ensures stopped { (stop : _) → HasStopped session.old stop
+        → (session.new ≡ session.old) × (writers.new ≡ writers.old) × (result ≡ Err stop) }
 {
     settle_before(session, writers)?;
     session.read_next(message)
 }
 
 /// Data of the segment, as `Session::load` has it lie in the window. Where none lies there yet, what was written is handed on first if
-/// the read may have to wait; a failure in that is a stop too, and nothing is read then.
+/// the read may have to wait; a failure in that is a stop too, and nothing is read then. After a stop it returns that stop again.
 #[inline(always)]
 pub fn load_data<R: InDevice, W: OutDevice, E: OutDevice>(
     session: &mut Session<R>,
@@ -59,6 +65,9 @@ pub fn load_data<R: InDevice, W: OutDevice, E: OutDevice>(
     ensures opened { IsTrue (is_opened session.old) → IsTrue (is_opened session.new) }
     ensures gives { (history : List ℕ) → IsSessionAt R.state session.old history
         → GivesData R.state W.state E.state session.old session.new writers.old writers.new history result }
+    ensures line { next_line writers.new ≡ next_line writers.old }
+    ensures stopped { (stop : _) → HasStopped session.old stop
+        → (session.new ≡ session.old) × (writers.new ≡ writers.old) × (result ≡ Err stop) }
 {
     if session.loaded().is_empty() {
         settle_before(session, writers)?;
@@ -73,9 +82,11 @@ fn settle_before<R: InDevice, W: OutDevice, E: OutDevice>(
     session: &Session<R>,
     writers: &mut Writers<W, E>,
 ) -> Result<(), Stop>
-    ensures { MatchResult result
+    ensures gives { MatchResult result
         (λ _. Writes W.state E.state writers.old writers.new (on_output []))
         (NotHandedOn R.state W.state E.state session.now session.now writers.old writers.new) }
+    ensures line { next_line writers.new ≡ next_line writers.old }
+    ensures stopped { (stop : _) → HasStopped session.now stop → (writers.new ≡ writers.old) × (IsOk result) }
 {
     if !session.may_wait() {
         return Ok(());

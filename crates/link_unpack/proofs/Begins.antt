@@ -24,6 +24,7 @@ use Rattle.link_unpack.specs.UnpackRun.{texts_of, last_lines, IsOpen, IsJoining,
 use Rattle.link_unpack.specs.declared.transfer.TransferScan.{TransferScan}
 use Rattle.link_unpack.specs.declared.unpacking.Unpacker.{Unpacker}
 use Rattle.link_unpack.specs.declared.wanted.Wanted.{Wanted}
+use Rattle.link_unpack.proofs.Outcomes.{unpack_reports}
 use Rattle.link_unpack.proofs.Joins.{after_lines}
 use Rattle.link_unpack.proofs.Transfers.{part_of-begun}
 use Rattle.link_unpack.proofs.Texts.{unlined, texts_lined, parts_more, sofar_in_order, good_more, texts_open, texts_closed}
@@ -125,11 +126,11 @@ module _ {R W E : Type 0} (in_look : R → Input) (out_look : W → Output) (rep
         → Gave in_look out_look report_look (unpack_tool u.latest.wanted) start (devices_at (place_of (source_of s) after)) history (Err fault)
     abandon_lost_by true is after fault part =
         let more = on_report (line_of u.latest.wanted new at.transfers) in
-        writer_lost in_look out_look report_look (unpack_tool u.latest.wanted) start (source_of s) w after history _ _ _ fault at.written at.sound
+        writer_lost in_look out_look report_look (unpack_tool u.latest.wanted) (unpack_reports u.latest.wanted) start (source_of s) w after history _ _ _ fault at.written at.sound
         (then_assoc (texts_of u.latest.wanted at.transfers) (on_report (last_lines u.latest.wanted at.transfers)) more ∙ ap (λ (t : Texts). t then more) mid_texts ∙ texts_closed u.latest.wanted new at.transfers is ∙ ap (texts_of u.latest.wanted) (sym at.are) ∙ sym sofar)
         (inl refl) at.window (λ none. absurd (omega arith)) (part_of_more out_look report_look w after _ more fault (λ some. refl) part)
     abandon_lost_by false is after fault part =
-        writer_lost in_look out_look report_look (unpack_tool u.latest.wanted) start (source_of s) w after history _ _ _ fault at.written at.sound
+        writer_lost in_look out_look report_look (unpack_tool u.latest.wanted) (unpack_reports u.latest.wanted) start (source_of s) w after history _ _ _ fault at.written at.sound
         (mid_texts ∙ sym (texts_open u.latest.wanted new at.transfers is) ∙ ap (texts_of u.latest.wanted) (sym at.are) ∙ sym sofar) (inl refl) at.window (λ none. absurd (omega arith)) part
 
     pub abandon_lost : (after : Writers W E) (fault : IoFault) → WritesPart out_look report_look w after (on_report (last_lines u.latest.wanted at.transfers)) fault

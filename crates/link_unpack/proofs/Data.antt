@@ -30,6 +30,7 @@ use Rattle.link_unpack.specs.declared.transfer.TransferScan.{TransferScan}
 use Rattle.link_unpack.specs.declared.unpacking.Stage.{Stage}
 use Rattle.link_unpack.specs.declared.unpacking.Stage.TheVariants as stage
 use Rattle.link_unpack.specs.declared.unpacking.Unpacker.{Unpacker}
+use Rattle.link_unpack.proofs.Outcomes.{unpack_reports}
 use Rattle.link_unpack.proofs.Heads.{entry, heads_cut, heads_with_data, messages_push, transfers_push, transfer_grows, is_whole}
 use Rattle.link_unpack.proofs.Joins.{after_lines}
 use Rattle.link_unpack.proofs.Orders.{in_order_more, in_order_parts}
@@ -218,11 +219,11 @@ module _ {R W E : Type 0} (in_look : R → Input) (out_look : W → Output) (rep
             → Gave in_look out_look report_look (unpack_tool u.latest.wanted) start (devices_at (place_of (source_of new) written)) (history ++ bytes) (Err fault)
         lost_by true is written fault lost =
             let more = on_report (line_of u.latest.wanted (grown transfer bytes closing) earlier) in
-            writer_lost in_look out_look report_look (unpack_tool u.latest.wanted) start (source_of new) before written (history ++ bytes) _ _ _ fault given_written given_sound
+            writer_lost in_look out_look report_look (unpack_tool u.latest.wanted) (unpack_reports u.latest.wanted) start (source_of new) before written (history ++ bytes) _ _ _ fault given_written given_sound
             (then_assoc (texts_of u.latest.wanted transfers) (on_output part) more ∙ ap (λ (t : Texts). t then more) part_texts ∙ texts_closed u.latest.wanted (grown transfer bytes closing) earlier is ∙ sym sofar)
             (inl refl) (takes.window.less some) (λ some_output. stood) (part_of_more out_look report_look before written _ more fault (λ none. absurd (omega arith)) lost)
         lost_by false is written fault lost =
-            writer_lost in_look out_look report_look (unpack_tool u.latest.wanted) start (source_of new) before written (history ++ bytes) _ _ _ fault given_written given_sound
+            writer_lost in_look out_look report_look (unpack_tool u.latest.wanted) (unpack_reports u.latest.wanted) start (source_of new) before written (history ++ bytes) _ _ _ fault given_written given_sound
             (part_texts ∙ sym (texts_open u.latest.wanted (grown transfer bytes closing) earlier is) ∙ sym sofar) (inl refl) (takes.window.less some) (λ some_output. stood) lost
 
         pub part_lost : (written : Writers W E) (fault : IoFault) → WritesPart out_look report_look before written (on_output part) fault
@@ -230,7 +231,7 @@ module _ {R W E : Type 0} (in_look : R → Input) (out_look : W → Output) (rep
         part_lost written fault lost = lost_by closing refl written fault lost
 
     -- the input ends inside the data, or the reader fails
-    pub data_ended : (new : Session R) (written : Writers W E) (why : Stop) (next : Stage) → GivesLoad in_look old new history (Err why) → GivesEnd out_look report_look why before written next → GivesStage in_look out_look report_look start u.latest.wanted (stage.Data last) old new before written u history next
+    pub data_ended : (new : Session R) (written : Writers W E) (why : Stop) (next : Stage) → GivesLoad in_look old new history (Err why) → GivesEnd out_look report_look why before written next → GivesStage in_look out_look report_look start u.latest.wanted (stage.Data last) old new written u history next
     data_ended new written (stop.Wire offset fault) stage.Contact got gives = absurd gives
     data_ended new written (stop.Wire offset fault) stage.Message got gives = absurd gives
     data_ended new written (stop.Wire offset fault) (stage.Data l) got gives = absurd gives

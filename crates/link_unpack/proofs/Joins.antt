@@ -19,6 +19,7 @@ use Rattle.link_unpack.specs.declared.transfer.TransferScan.{TransferScan}
 use Rattle.link_unpack.specs.declared.unpacking.Stage.{Stage}
 use Rattle.link_unpack.specs.declared.unpacking.Stage.TheVariants as stage
 use Rattle.link_unpack.specs.declared.unpacking.Unpacker.{Unpacker}
+use Rattle.link_unpack.proofs.Outcomes.{unpack_reports}
 use Rattle.link_unpack.proofs.Texts.{closes_none, closes_some, parts_sum, texts_open, texts_closed, sofar_in_order, good_more, settled_open, settled_closed}
 
 -- where data is to come, the reading ends inside a segment, and where none is, between two messages
@@ -111,4 +112,4 @@ module _ {R W E : Type 0} (in_look : R → Input) (out_look : W → Output) (rep
           let standing : lasting_lines (reading_of history).end ≡ [] = after_lines last (left_of s) (reading_of history).end at.after in
           let sofar : texts_of u.latest.wanted (at.transfer ∷ at.earlier) ≡ unpacking_sofar u.latest.wanted history =
           ap (texts_of u.latest.wanted) (sym at.are) ∙ sym (sofar_in_order u.latest.wanted history at.in_order standing) in
-          writer_lost in_look out_look report_look (unpack_tool u.latest.wanted) start (source_of s) w after history _ _ _ fault at.written at.sound (due ∙ sofar) (inl refl) at.window (λ none. absurd (omega arith)) part
+          writer_lost in_look out_look report_look (unpack_tool u.latest.wanted) (unpack_reports u.latest.wanted) start (source_of s) w after history _ _ _ fault at.written at.sound (due ∙ sofar) (inl refl) at.window (λ none. absurd (omega arith)) part

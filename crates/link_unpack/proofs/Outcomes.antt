@@ -1,5 +1,5 @@
 -- What comes of a stream that ends at a fault.
-use Rattle.std.proofs.Common.{◌≡◌, ℕ, Bool, true, false, nat_lt, List, [], ◌∷◌, ◌++◌, Some, if◌then◌else◌, refl, ap, sym, ◌∙◌, append-nil, append_assoc, arith}
+use Rattle.std.proofs.Common.{◌≡◌, ℕ, ◌<◌, ◌⊎◌, inl, inr, Bool, true, false, nat_lt, List, [], ◌∷◌, ◌++◌, length, Option, Some, None, if◌then◌else◌, ⊎_elim, refl, ap, sym, ◌∙◌, append-nil, append_assoc, arith}
 use Rattle.link_wire.specs.Message.{data_length}
 use Rattle.link_wire.specs.Session.{joined, with_message, rest_after}
 use Rattle.link_wire.specs.Stream.{Entry, End, Clean, Cut, Fault, Stream, ended, with_entry, Reading, reading_of}
@@ -12,9 +12,10 @@ use Rattle.link_report.specs.declared.fault.Fault.TheVariants.{Order}
 use Rattle.link_run.specs.Ends.{end_lines, end_status, lasting_lines, is_shown}
 use Rattle.link_run.specs.Run.{Texts, Outcome}
 use Rattle.link_run.specs.Writers.{on_report}
-use Rattle.link_run.proofs.Runs.{◌then◌, texts_as}
+use Rattle.link_run.proofs.Ends.{after_lines, end_reports}
+use Rattle.link_run.proofs.Runs.{◌then◌, ReportsFaults, texts_as}
 use Rattle.link_unpack.specs.Transfers.{Ordered, ordered, cut_heads, heads_of, Transfer, transfers_of, settled}
-use Rattle.link_unpack.specs.Unpacking.{parts_of, lines_of, unpacking, unpacking_by, unpacking_sofar, unpacking_sofar_by, unpacking_shows, unpacking_shows_by}
+use Rattle.link_unpack.specs.Unpacking.{parts_of, lines_of, are_good, over, stop_lines, stop_status, lasting_stop, is_stopped, unpack_tool, unpacking, unpacking_by, unpacking_sofar, unpacking_sofar_by, unpacking_shows, unpacking_shows_by}
 use Rattle.link_unpack.specs.UnpackRun.{messages_of, AreInOrder, texts_of}
 use Rattle.link_unpack.specs.declared.wanted.Wanted.{Wanted}
 use Rattle.link_unpack.proofs.Heads.{entry, heads_joined, stays_first}
@@ -26,7 +27,30 @@ unfolding unpacking_shows
 unshown_at bytes reading is in_order none =
     ap (λ (r : Reading). unpacking_shows_by r.end (ordered (heads_of r))) is ∙ ap (unpacking_shows_by reading.end) in_order ∙ none
 
+-- a clean end is no fault
+no_fault : (good : Bool) → ◌≡◌ {A = ℕ} (if good then 0 else 1) 3 → ⊥
+no_fault true is = omega (arith, is)
+no_fault false is = omega (arith, is)
+
 module _ (wanted : Wanted) where
+  -- the line of a stop lasts where it is shown, and is not there before the end where it is not
+  stop_reports : (refused : Option (ℕ × OrderFault)) (end : End) (transfers : List Transfer) → stop_status refused end transfers ≡ 3
+      → ((is_stopped refused end ≡ true) × (lines_of wanted (settled transfers) ++ lasting_stop refused end ≡ lines_of wanted (over refused end transfers) ++ stop_lines refused end))
+      ⊎ (length (lines_of wanted (settled transfers) ++ lasting_stop refused end) < length (lines_of wanted (over refused end transfers) ++ stop_lines refused end))
+  stop_reports (Some (offset, fault)) end transfers is = inl (refl, refl)
+  stop_reports None Clean transfers is = absurd (no_fault (are_good transfers) is)
+  stop_reports None (Cut offset message content) transfers is = after_lines (lines_of wanted (settled transfers)) (end_reports (Cut offset message content) refl)
+  stop_reports None (Fault offset fault) transfers is = after_lines (lines_of wanted (settled transfers)) (end_reports (Fault offset fault) refl)
+
+  pub unpack_reports : ReportsFaults (unpack_tool wanted)
+  unfolding unpacking unpacking_sofar unpacking_shows
+  unpack_reports given fault =
+      let order = ordered (heads_of (reading_of given)) in
+      ⊎_elim
+      (λ shown. inl (shown.0, texts_as refl shown.1))
+      (λ more. inr more)
+      (stop_reports order.refused (reading_of given).end (transfers_of order.heads) fault)
+
   pub whole_is : (bytes : List ℕ) (reading : Reading) → reading_of bytes ≡ reading → unpacking wanted bytes ≡ unpacking_by wanted reading.end (ordered (heads_of reading))
   unfolding unpacking
   whole_is bytes reading is = ap (λ (r : Reading). unpacking_by wanted r.end (ordered (heads_of r))) is

@@ -22,8 +22,7 @@ use Rattle.link_unpack.specs.declared.transfer.TransferScan.{TransferScan}
 use Rattle.link_unpack.specs.declared.unpacking.Stage.{Stage}
 use Rattle.link_unpack.specs.declared.unpacking.Stage.TheVariants as stage
 use Rattle.link_unpack.specs.declared.unpacking.Unpacker.{Unpacker}
-use Rattle.link_unpack.specs.declared.wanted.Wanted.{Wanted}
-use Rattle.link_unpack.proofs.Outcomes.{unshown_at}
+use Rattle.link_unpack.proofs.Outcomes.{unpack_reports, unshown_at}
 use Rattle.link_unpack.proofs.Texts.{sofar_in_order}
 
 -- where the run goes on no fault was shown
@@ -54,34 +53,26 @@ module _ {R W E : Type 0} (in_look : R → Input) (out_look : W → Output) (rep
     waits = at.waits;
   }
 
-  -- what comes after it is of the same step
-  pub since : (wanted : Wanted) (after : Writers W E) (v : Unpacker) (next : Stage)
-      → GivesStage in_look out_look report_look start wanted now s new mid after v history next → GivesStage in_look out_look report_look start wanted now s new before after v history next
-  since wanted after v stage.Contact gives = absurd gives
-  since wanted after v stage.Message gives = record { given = gives.given; some = gives.some; size = gives.size; count = gives.count; window = gives.window; at = gives.at }
-  since wanted after v (stage.Data last) gives = record { given = gives.given; some = gives.some; size = gives.size; count = gives.count; window = gives.window; at = gives.at }
-  since wanted after v (stage.Ended answer) gives = gives
-
   -- a writer failed in it, and the run has ended
   lost_now : (fault : IoFault) → Unsettled out_look report_look before mid fault → length (window_of (source_of s)) < window_size
       → Unpacks in_look out_look report_look start now s before u history → Ended in_look out_look report_look (unpack_tool u.latest.wanted) start (devices_at (place_of (source_of s) mid)) (most_given now) history (Err fault)
   lost_now fault part few at = record {
     given = [];
     size = omega arith;
-    gave = rw append-nil (settle_lost in_look out_look report_look (unpack_tool u.latest.wanted) start (source_of s) before mid history fault
+    gave = rw append-nil (settle_lost in_look out_look report_look (unpack_tool u.latest.wanted) (unpack_reports u.latest.wanted) start (source_of s) before mid history fault
         (written_as in_look out_look report_look at.written refl (sym (sofar_in_order u.latest.wanted history at.in_order (waiting_lines now _ u.latest _ _ at.waits)))) at.sound
         (unshown_at history _ refl at.in_order (waiting_shown now _ u.latest _ _ at.waits)) few part);
   }
 
   lost_at : (fault : IoFault) (after : Writers W E) (next : Stage)
       → Ended in_look out_look report_look (unpack_tool u.latest.wanted) start (devices_at (place_of (source_of s) mid)) (most_given now) history (Err fault)
-      → GivesEnd out_look report_look (stop.Io fault) mid after next → GivesStage in_look out_look report_look start u.latest.wanted now s s before after u history next
+      → GivesEnd out_look report_look (stop.Io fault) mid after next → GivesStage in_look out_look report_look start u.latest.wanted now s s after u history next
   lost_at fault after stage.Contact ended gives = absurd gives
   lost_at fault after stage.Message ended gives = absurd gives
   lost_at fault after (stage.Data last) ended gives = absurd gives
   lost_at fault after (stage.Ended answer) ended gives = rw (gives.0, gives.1) ended
 
   pub not_handed_on : (after : Writers W E) (why : Stop) (next : Stage) → NotHandedOn in_look out_look report_look s new before mid why → GivesEnd out_look report_look why mid after next
-      → Unpacks in_look out_look report_look start now s before u history → GivesStage in_look out_look report_look start u.latest.wanted now s new before after u history next
+      → Unpacks in_look out_look report_look start now s before u history → GivesStage in_look out_look report_look start u.latest.wanted now s new after u history next
   not_handed_on after why next not_on gives at =
       rw not_on.unread (lost_at not_on.fault after next (lost_now not_on.fault not_on.unsettled not_on.few at) (rw not_on.is at gives))

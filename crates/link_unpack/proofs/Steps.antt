@@ -41,12 +41,12 @@ use Rattle.link_unpack.proofs.Heads.{heads_clean, no_transfers}
 use Rattle.link_unpack.proofs.Joins.{stands}
 use Rattle.link_unpack.proofs.Messages.{between}
 use Rattle.link_unpack.proofs.Orders.{all, in_order_none}
-use Rattle.link_unpack.proofs.Outcomes.{whole_is, stopped, whole_at, sofar_at, order_whole, order_sofar, HasHead, head_stays, unshown_at}
+use Rattle.link_unpack.proofs.Outcomes.{unpack_reports, whole_is, stopped, whole_at, sofar_at, order_whole, order_sofar, HasHead, head_stays, unshown_at}
 
 -- what stands at a stage, as its step gives it
 module _ {R W E : Type 0} (in_look : R → Input) (out_look : W → Output) (report_look : E → Output) (start : Devices R W E) where
   pub stage_given : (wanted : Wanted) (now next : Stage) (old new : Session R) (before after : Writers W E) (u : Unpacker) (history given : List ℕ) → Takes in_look (source_of old) (source_of new) given → 0 < length given → length given ≤ most_given now → IsWaitingAfter now (reading_of (history ++ given)).end
-      → StandsAfter in_look out_look report_look start wanted next new after u (history ++ given) → GivesStage in_look out_look report_look start wanted now old new before after u history next
+      → StandsAfter in_look out_look report_look start wanted next new after u (history ++ given) → GivesStage in_look out_look report_look start wanted now old new after u history next
   stage_given wanted now stage.Contact old new before after u history given takes some size waiting stood = absurd stood
   stage_given wanted now stage.Message old new before after u history given takes some size waiting stood = record { given = given; some = λ may. some; size = size; count = takes.count; window = takes.window.less some; at = stood }
   stage_given wanted now (stage.Data last) old new before after u history given takes some size waiting stood = record { given = given; some = λ may. some; size = size; count = takes.count; window = takes.window.less some; at = (stood, waiting) }
@@ -80,7 +80,7 @@ module _ {R W E : Type 0} (in_look : R → Input) (out_look : W → Output) (rep
 
       pub fault_reported : (answer : Result Status IoFault) → length (window_of (source_of new)) < window_size → GivesReport out_look report_look before after line answer → Ended in_look out_look report_look (unpack_tool wanted) start (devices_at (place_of (source_of new) after)) (most_given now) history answer
       fault_reported answer few gives =
-          reported in_look out_look report_look (unpack_tool wanted) start (most_given now) (source_of old) (source_of new) before after history given (texts_of wanted transfers) written sound size line takes
+          reported in_look out_look report_look (unpack_tool wanted) start (most_given now) (source_of old) (source_of new) before after history given (texts_of wanted transfers) written sound size (unpack_reports wanted) line takes
           (ap (λ (o : Outcome). o.texts) (sym whole)) (ap (λ (o : Outcome). o.status) whole) shown few answer gives
 
     -- a failed read: no head has come, and no fault is shown
@@ -128,7 +128,7 @@ module _ {R W E : Type 0} (in_look : R → Input) (out_look : W → Output) (rep
       mid : HasWritten in_look out_look report_look start (place_of (source_of new) before) (history ++ []) (texts_of u.latest.wanted transfers)
       mid = written_given in_look out_look report_look start (source_of old) (source_of new) before history [] _ at.written got.takes
 
-      pub finished : (after : Writers W E) (v : Unpacker) (next : Stage) → GivesFinish out_look report_look u transfers before after next → GivesStage in_look out_look report_look start u.latest.wanted stage.Message old new before after v history next
+      pub finished : (after : Writers W E) (v : Unpacker) (next : Stage) → GivesFinish out_look report_look u transfers before after next → GivesStage in_look out_look report_look start u.latest.wanted stage.Message old new after v history next
       finished after v stage.Contact gives = absurd gives
       finished after v stage.Message gives = absurd gives
       finished after v (stage.Data last) gives = absurd gives
@@ -145,12 +145,12 @@ module _ {R W E : Type 0} (in_look : R → Input) (out_look : W → Output) (rep
       finished after v (stage.Ended (Err fault)) gives = record {
         given = [];
         size = omega arith;
-        gave = writer_lost in_look out_look report_look (unpack_tool u.latest.wanted) start (source_of new) before after (history ++ []) _ _ _ fault mid (sound_given in_look out_look report_look (source_of old) (source_of new) before [] at.sound got.takes) last_texts
+        gave = writer_lost in_look out_look report_look (unpack_tool u.latest.wanted) (unpack_reports u.latest.wanted) start (source_of new) before after (history ++ []) _ _ _ fault mid (sound_given in_look out_look report_look (source_of old) (source_of new) before [] at.sound got.takes) last_texts
             (inr (all_given in_look out_look report_look (source_of new) after got.over, refl)) (few_over in_look (source_of new) got.over) (λ none. absurd (omega arith)) gives;
       }
 
     -- a fault of the wire, or a failure of the reader
-    pub message_ended : (after : Writers W E) (why : Stop) (next : Stage) → GivesNext in_look old new history (Err why) → GivesEnd out_look report_look why before after next → GivesStage in_look out_look report_look start u.latest.wanted stage.Message old new before after u history next
+    pub message_ended : (after : Writers W E) (why : Stop) (next : Stage) → GivesNext in_look old new history (Err why) → GivesEnd out_look report_look why before after next → GivesStage in_look out_look report_look start u.latest.wanted stage.Message old new after u history next
     message_ended after (stop.Wire offset fault) stage.Contact got gives = absurd gives
     message_ended after (stop.Wire offset fault) stage.Message got gives = absurd gives
     message_ended after (stop.Wire offset fault) (stage.Data last) got gives = absurd gives
@@ -200,7 +200,7 @@ module _ {R W E : Type 0} (in_look : R → Input) (out_look : W → Output) (rep
 
       pub order_reported : (after : Writers W E) (answer : Result Status IoFault) → GivesReport out_look report_look before after order_line answer → Ended in_look out_look report_look (unpack_tool u.latest.wanted) start (devices_at (place_of (source_of new) after)) (most_given stage.Message) history answer
       order_reported after answer gives =
-          reported in_look out_look report_look (unpack_tool u.latest.wanted) start (most_given stage.Message) (source_of old) (source_of new) before after history got.given (texts_of u.latest.wanted transfers) at.written at.sound got.size order_line got.takes
+          reported in_look out_look report_look (unpack_tool u.latest.wanted) start (most_given stage.Message) (source_of old) (source_of new) before after history got.given (texts_of u.latest.wanted transfers) at.written at.sound got.size (unpack_reports u.latest.wanted) order_line got.takes
           (ap (λ (o : Outcome). o.texts) (sym whole_now)) (ap (λ (o : Outcome). o.status) whole_now)
           (inr (sym sofar_now, λ more. whole_order more ∙ sym whole_now)) (got.takes.window.less got.some) answer gives
 
@@ -254,12 +254,12 @@ module _ {R W E : Type 0} (in_look : R → Input) (out_look : W → Output) (rep
           (fresh.sum ∙ sym (no_parts u.latest.wanted)) (omega arith) (fresh.good ∙ sym none_bad)
           (subst Q (sym got.reading) (refl, subst B (sym none_open) refl))
 
-      pub contact_step : WentOn in_look out_look report_look (place_of (source_of old) before) (place_of (source_of new) before) (Unpacks in_look out_look report_look start stage.Message new before u) 6 []
+      pub contact_step : WentOn (source_of old) (source_of new) (Unpacks in_look out_look report_look start stage.Message new before u) 6 []
       contact_step =
           let size = got.size in
           record { given = got.given; some = λ may. omega arith; size = omega arith; count = got.takes.count; window = got.takes.window.less (omega arith); at = contact_read }
 
-    pub contact_ended : (after : Writers W E) (why : Stop) (next : Stage) → GivesContact in_look old new (Err why) → GivesEnd out_look report_look why before after next → GivesStage in_look out_look report_look start u.latest.wanted stage.Contact old new before after u [] next
+    pub contact_ended : (after : Writers W E) (why : Stop) (next : Stage) → GivesContact in_look old new (Err why) → GivesEnd out_look report_look why before after next → GivesStage in_look out_look report_look start u.latest.wanted stage.Contact old new after u [] next
     contact_ended after (stop.Wire offset fault) stage.Contact got gives = absurd gives
     contact_ended after (stop.Wire offset fault) stage.Message got gives = absurd gives
     contact_ended after (stop.Wire offset fault) (stage.Data last) got gives = absurd gives
@@ -280,7 +280,7 @@ module _ {R W E : Type 0} (in_look : R → Input) (out_look : W → Output) (rep
 
 module _ {R W E : Type 0} (in_look : R → Input) (out_look : W → Output) (report_look : E → Output) (start : Devices R W E) where
   -- what a stage gives, in the words of every run
-  stage_step : (wanted : Wanted) (now next : Stage) (old new : Session R) (before after : Writers W E) (u : Unpacker) (history : List ℕ) → GivesStage in_look out_look report_look start wanted now old new before after u history next
+  stage_step : (wanted : Wanted) (now next : Stage) (old new : Session R) (before after : Writers W E) (u : Unpacker) (history : List ℕ) → GivesStage in_look out_look report_look start wanted now old new after u history next
       → GivesStep in_look out_look report_look (unpack_tool wanted) start (place_of (source_of old) before) (place_of (source_of new) after) (IsUnpacking in_look out_look report_look start next new after u) (most_given now) history (progress_of next)
   stage_step wanted now stage.Contact old new before after u history gives = absurd gives
   stage_step wanted now stage.Message old new before after u history gives = gives
@@ -289,6 +289,6 @@ module _ {R W E : Type 0} (in_look : R → Input) (out_look : W → Output) (rep
   stage_step wanted now (stage.Ended (Ok status)) old new before after u history gives = gives
   stage_step wanted now (stage.Ended (Err fault)) old new before after u history gives = gives
 
-  pub step_gives : (wanted : Wanted) (now next : Stage) (old new : Session R) (before after : Writers W E) (u : Unpacker) (history : List ℕ) (result : Result Progress IoFault) → GivesStage in_look out_look report_look start wanted now old new before after u history next → result ≡ progress_of next
+  pub step_gives : (wanted : Wanted) (now next : Stage) (old new : Session R) (before after : Writers W E) (u : Unpacker) (history : List ℕ) (result : Result Progress IoFault) → GivesStage in_look out_look report_look start wanted now old new after u history next → result ≡ progress_of next
       → GivesStep in_look out_look report_look (unpack_tool wanted) start (place_of (source_of old) before) (place_of (source_of new) after) (IsUnpacking in_look out_look report_look start next new after u) (most_given now) history result
   step_gives wanted now next old new before after u history result gives is = rw is (stage_step wanted now next old new before after u history gives)

@@ -148,11 +148,11 @@ module _ {R W E : Type 0} (in_look : R → Input) (out_look : W → Output) (rep
   IsUnpacking (stage.Ended answer) session writers unpacker history = ⊥
 
   -- what a step at the stage `now` gives, that leaves the stage `next`
-  abbrev pub GivesStage : Wanted → (now : Stage) → (old new : Session R) → (before after : Writers W E) → Unpacker → (history : List ℕ) → (next : Stage) → Type 0
-  GivesStage wanted now old new before after unpacker history (stage.Ended answer) = Ended in_look out_look report_look (unpack_tool wanted) start (devices_at (place_of (source_of new) after)) (most_given now) history answer
-  GivesStage wanted now old new before after unpacker history stage.Contact = ⊥
-  GivesStage wanted now old new before after unpacker history stage.Message = WentOn in_look out_look report_look (place_of (source_of old) before) (place_of (source_of new) after) (Unpacks stage.Message new after unpacker) (most_given now) history
-  GivesStage wanted now old new before after unpacker history (stage.Data last) = WentOn in_look out_look report_look (place_of (source_of old) before) (place_of (source_of new) after) (λ bytes. Unpacks (stage.Data last) new after unpacker bytes × IsWaitingAfter now (reading_of bytes).end) (most_given now) history
+  abbrev pub GivesStage : Wanted → (now : Stage) → (old new : Session R) → (after : Writers W E) → Unpacker → (history : List ℕ) → (next : Stage) → Type 0
+  GivesStage wanted now old new after unpacker history (stage.Ended answer) = Ended in_look out_look report_look (unpack_tool wanted) start (devices_at (place_of (source_of new) after)) (most_given now) history answer
+  GivesStage wanted now old new after unpacker history stage.Contact = ⊥
+  GivesStage wanted now old new after unpacker history stage.Message = WentOn (source_of old) (source_of new) (Unpacks stage.Message new after unpacker) (most_given now) history
+  GivesStage wanted now old new after unpacker history (stage.Data last) = WentOn (source_of old) (source_of new) (λ bytes. Unpacks (stage.Data last) new after unpacker bytes × IsWaitingAfter now (reading_of bytes).end) (most_given now) history
 
   -- what stands once these bytes were given, at the stage `next`
   abbrev pub StandsAfter : Wanted → (next : Stage) → Session R → Writers W E → Unpacker → (history : List ℕ) → Type 0

@@ -76,7 +76,7 @@ fn take<R: InDevice, W: OutDevice, E: OutDevice>(
     ensures gives { (start : Devices R W E) (history : List ℕ) → IsUnpacking R.state W.state
         E.state start stage session.old writers.old unpacker.old history →
         GivesStage R.state W.state E.state start unpacker.old.latest.wanted stage session.old
-        session.new writers.old writers.new unpacker.new history result }
+        session.new writers.new unpacker.new history result }
     ensures wanted { unpacker.new.latest.wanted ≡ unpacker.old.latest.wanted }
     ensures ended { (answer : _) → stage ≡ Stage.Ended answer → (session.new ≡ session.old) ×
         (writers.new ≡ writers.old) × (message.new ≡ message.old) × (unpacker.new ≡ unpacker.old)
@@ -101,7 +101,7 @@ fn take_contact<R: InDevice, W: OutDevice, E: OutDevice>(
     ensures gives { (start : Devices R W E) (history : List ℕ) → IsUnpacking R.state W.state
         E.state start Stage.Contact session.old writers.old unpacker.now history →
         GivesStage R.state W.state E.state start unpacker.now.latest.wanted Stage.Contact
-        session.old session.new writers.old writers.new unpacker.now history result }
+        session.old session.new writers.new unpacker.now history result }
 {
     match session.open() {
         Ok(_) => Stage::Message,
@@ -121,7 +121,7 @@ fn take_message<R: InDevice, W: OutDevice, E: OutDevice>(
     ensures gives { (start : Devices R W E) (history : List ℕ) → IsUnpacking R.state W.state
         E.state start Stage.Message session.old writers.old unpacker.old history →
         GivesStage R.state W.state E.state start unpacker.old.latest.wanted Stage.Message
-        session.old session.new writers.old writers.new unpacker.new history result }
+        session.old session.new writers.new unpacker.new history result }
     ensures wanted { unpacker.new.latest.wanted ≡ unpacker.old.latest.wanted }
 {
     let offset = match next_message(session, writers, message) {
@@ -198,7 +198,7 @@ fn take_data<R: InDevice, W: OutDevice, E: OutDevice>(
     ensures gives { (start : Devices R W E) (history : List ℕ) → IsUnpacking R.state W.state
         E.state start (Stage.Data last) session.old writers.old unpacker.old history →
         GivesStage R.state W.state E.state start unpacker.old.latest.wanted (Stage.Data last)
-        session.old session.new writers.old writers.new unpacker.new history result }
+        session.old session.new writers.new unpacker.new history result }
     ensures wanted { unpacker.new.latest.wanted ≡ unpacker.old.latest.wanted }
 {
     let size = match load_data(session, writers) {

@@ -79,10 +79,14 @@ impl<R: InDevice> Session<R> {
     }
 
     /// Whether the next call may have to wait for the reader: the bytes that are here are not enough for it. A window of which nothing was
-    /// given has just come, and what came with it was not waited for.
+    /// given has just come, and what came with it was not waited for. After a stop nothing is read.
     pub fn may_wait(&self) -> bool
-        ensures { IsTrue result → length (window_of (source_of self.now)) < window_size }
+        ensures few { IsTrue result → length (window_of (source_of self.now)) < window_size }
+        ensures stopped { (stop : _) → HasStopped self.now stop → result ≡ false }
     {
+        if let Phase::Stopped(_) = self.phase {
+            return false;
+        }
         if self.left > 0 {
             return self.source.window().is_empty() && self.source.may_wait();
         }

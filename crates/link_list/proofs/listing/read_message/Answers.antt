@@ -1,8 +1,7 @@
 use Rattle.std.proofs.Common.{⊎_elim, refl}
 use Rattle.link_list.specs.ListRun.{latest_line}
-use Rattle.link_list.specs.declared.listing.Next.TheVariants as next
 use Rattle.link_list.specs.declared.listing.Stage.TheVariants as stage
-use Rattle.link_list.proofs.Lists.{message_step, message_end, message_ended, settled, since, not_handed_on}
+use Rattle.link_list.proofs.Lists.{message_step, message_end, message_ended, settled, not_handed_on}
 use Rattle.link_list.proofs.listing.read_message.Goals as goal
 
 pub returns-in-Ok-Some-clause-gives : goal.returns-in-Ok-Some-clause-gives
@@ -12,8 +11,7 @@ returns-in-Ok-Some-clause-gives g c = λ start history at.
     let mid = c.next_message.new.writers in
     let got = rw c.in-Ok-Some.field-0-is at (c.in-Ok-Some.ensures.gives history at.session) in
     let stood = settled g.R.InDevice.state g.W.OutDevice.state g.E.OutDevice.state start stage.Message s new c.args.writers.now mid _ history got.0 at in
-    since g.R.InDevice.state g.W.OutDevice.state g.E.OutDevice.state start stage.Message s new c.args.writers.now mid (latest_line c.args.latest.now) history mid _ _
-    (message_step g.R.InDevice.state g.W.OutDevice.state g.E.OutDevice.state start s new mid _ history stood c.in-Ok-Some.offset _ got.1 _ c.go_on.ensures.goes)
+    message_step g.R.InDevice.state g.W.OutDevice.state g.E.OutDevice.state start s new mid _ history stood c.in-Ok-Some.offset _ got.1 _ c.go_on.ensures.goes
 
 pub returns-in-Ok-None-clause-gives : goal.returns-in-Ok-None-clause-gives
 returns-in-Ok-None-clause-gives g c = λ start history at.
@@ -32,7 +30,6 @@ returns-in-Err-clause-gives g c = λ start history at.
     ⊎_elim
     (λ got.
     let stood = settled g.R.InDevice.state g.W.OutDevice.state g.E.OutDevice.state start stage.Message s new c.args.writers.now mid _ history got.0 at in
-    since g.R.InDevice.state g.W.OutDevice.state g.E.OutDevice.state start stage.Message s new c.args.writers.now mid (latest_line c.args.latest.now) history c.end.new.writers _ (next.Stage c.end.result)
-    (message_ended g.R.InDevice.state g.W.OutDevice.state g.E.OutDevice.state start s new mid _ history stood c.end.new.writers _ c.in-Err.stop _ got.1 c.end.ensures))
+    message_ended g.R.InDevice.state g.W.OutDevice.state g.E.OutDevice.state start s new mid _ history stood c.end.new.writers _ c.in-Err.stop _ got.1 c.end.ensures)
     (λ not_on. not_handed_on g.R.InDevice.state g.W.OutDevice.state g.E.OutDevice.state start stage.Message s new c.args.writers.now mid (latest_line c.args.latest.now) history c.end.new.writers _ c.in-Err.stop _ not_on c.end.ensures at)
     (c.in-Err.ensures.gives history at.session)

@@ -1,7 +1,7 @@
 use Rattle.std.proofs.Common.{refl}
 use Rattle.link_run.specs.Writers.{Writes}
 use Rattle.link_run.proofs.Runs.{no_texts, writes_none}
-use Rattle.link_pack.proofs.Settling.{settled, since, lost_now}
+use Rattle.link_pack.proofs.Settling.{settled, lost_now}
 use Rattle.link_pack.proofs.packing.take_bundles.Goals as goal
 use Rattle.link_pack.proofs.packing.take_bundles.Goals.{then-is_empty+then-may_wait+in_default, else-is_empty}
 
@@ -21,5 +21,4 @@ returns-clause-gives g c = λ start history at.
       | then-is_empty+then-may_wait+in_default w ↦ rw w.writers-is w.in_default.ensures.gives
       | else-is_empty w ↦ rw w.writers-is (writes_none g.W.OutDevice.state g.E.OutDevice.state before)
     ] in
-    since g.R.InDevice.state g.W.OutDevice.state g.E.OutDevice.state start s new before mid packer history c.take_bytes.new.writers c.take_bytes.new.packer c.take_bytes.result
-    (c.take_bytes.ensures.gives start history (settled g.R.InDevice.state g.W.OutDevice.state g.E.OutDevice.state start s new before mid packer history writes at))
+    c.take_bytes.ensures.gives start history (settled g.R.InDevice.state g.W.OutDevice.state g.E.OutDevice.state start s new before mid packer history writes at)

@@ -1,4 +1,4 @@
-use Rattle.std.proofs.Common.{◌∷◌, [], ◌++◌, ap, ◌∙◌, take, append_assoc}
+use Rattle.std.proofs.Common.{◌∙◌, take, append_assoc}
 use Rattle.link_report.proofs.Pairs.{pair_at}
 use Rattle.link_report.proofs.page.write_pair.Goals as goal
 

@@ -8,7 +8,7 @@ use Rattle.link_run.proofs.reading.load_data.Goals.{then-is_empty+in_ok-settle_b
 pub returns-clause-gives : goal.returns-clause-gives
 returns-clause-gives g c = λ history at.
     let writes : Writes g.W.OutDevice.state g.E.OutDevice.state c.args.writers.now c.if-is_empty.writers (on_output []) = elim c.if-is_empty.branch [
-      | then-is_empty+in_ok-settle_before w ↦ rw w.writers-is w.in_ok-settle_before.ensures
+      | then-is_empty+in_ok-settle_before w ↦ rw w.writers-is w.in_ok-settle_before.ensures.gives
       | else-is_empty w ↦ rw w.writers-is (writes_none g.W.OutDevice.state g.E.OutDevice.state c.args.writers.now)
     ] in
     data_given g.R.InDevice.state g.W.OutDevice.state g.E.OutDevice.state c.args.session.now c.load.new.self c.args.writers.now c.if-is_empty.writers history writes _ (c.load.ensures.gives history at)

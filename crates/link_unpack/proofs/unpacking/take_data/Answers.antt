@@ -8,7 +8,7 @@ use Rattle.link_io.proofs.Sources.{Readies-takes}
 use Rattle.link_wire.specs.Session.{source_of}
 use Rattle.link_unpack.proofs.Data.{data_ended, here, some_left, room, closing, grows, part_lost}
 use Rattle.link_unpack.proofs.Steps.{stage_given}
-use Rattle.link_unpack.proofs.Settling.{settled, since, not_handed_on}
+use Rattle.link_unpack.proofs.Settling.{settled, not_handed_on}
 use Rattle.link_unpack.proofs.unpacking.take_data.Goals as goal
 
 pub returns-in-Err-clause-gives : goal.returns-in-Err-clause-gives
@@ -19,8 +19,7 @@ returns-in-Err-clause-gives g c = λ start history at.
     ⊎_elim
     (λ both.
     let at_data = settled g.R.InDevice.state g.W.OutDevice.state g.E.OutDevice.state start (stage.Data c.args.last) s new c.args.writers.now mid c.args.unpacker.now history both.0 at in
-    since g.R.InDevice.state g.W.OutDevice.state g.E.OutDevice.state start (stage.Data c.args.last) s new c.args.writers.now mid c.args.unpacker.now history c.args.unpacker.now.latest.wanted c.end.new.writers c.args.unpacker.now c.end.result
-    (data_ended g.R.InDevice.state g.W.OutDevice.state g.E.OutDevice.state start c.args.last s mid c.args.unpacker.now history at_data new c.end.new.writers c.in-Err.stop _ both.1 c.end.ensures))
+    data_ended g.R.InDevice.state g.W.OutDevice.state g.E.OutDevice.state start c.args.last s mid c.args.unpacker.now history at_data new c.end.new.writers c.in-Err.stop _ both.1 c.end.ensures)
     (λ not_on. not_handed_on g.R.InDevice.state g.W.OutDevice.state g.E.OutDevice.state start (stage.Data c.args.last) s new c.args.writers.now mid c.args.unpacker.now history c.end.new.writers c.in-Err.stop _ not_on c.end.ensures at)
     (c.in-Err.ensures.gives history at.session)
 
@@ -48,9 +47,8 @@ returns-in-Ok-written-clause-gives g c = λ start history at.
     c.take-part.result.now part c.write_output-written.new.self v c.in-Ok-written.ensures.gives follows c.take-part.ensures.wanted c.take-part.ensures.total refl refl in
     let Q : Wanted → Type 0 = λ w. StandsAfter g.R.InDevice.state g.W.OutDevice.state g.E.OutDevice.state start w c.go_on.result c.pass.new.self c.go_on.new.writers c.go_on.new.unpacker (history ++ bytes) in
     let stood = subst Q c.take-part.ensures.wanted (c.go_on.ensures.gives start (history ++ bytes) joins) in
-    since g.R.InDevice.state g.W.OutDevice.state g.E.OutDevice.state start (stage.Data c.args.last) s c.pass.new.self c.args.writers.now mid c.args.unpacker.now history c.args.unpacker.now.latest.wanted c.go_on.new.writers c.go_on.new.unpacker c.go_on.result
-    (stage_given g.R.InDevice.state g.W.OutDevice.state g.E.OutDevice.state start c.args.unpacker.now.latest.wanted (stage.Data c.args.last) c.go_on.result s c.pass.new.self mid c.go_on.new.writers c.go_on.new.unpacker history bytes
-    (Readies-takes g.R.InDevice.state (source_of s) (source_of loaded) (source_of c.pass.new.self) bytes got.readies gave.takes some) some (omega (arith, size, c.min-size.ensures)) tt stood)
+    stage_given g.R.InDevice.state g.W.OutDevice.state g.E.OutDevice.state start c.args.unpacker.now.latest.wanted (stage.Data c.args.last) c.go_on.result s c.pass.new.self mid c.go_on.new.writers c.go_on.new.unpacker history bytes
+    (Readies-takes g.R.InDevice.state (source_of s) (source_of loaded) (source_of c.pass.new.self) bytes got.readies gave.takes some) some (omega (arith, size, c.min-size.ensures)) tt stood
 
 pub returns-in-Err-written-clause-gives : goal.returns-in-Err-written-clause-gives
 returns-in-Err-written-clause-gives g c = λ start history at.

@@ -12,7 +12,7 @@ use Rattle.link_wire.specs.Stream.{reading_of}
 use Rattle.link_unpack.proofs.Messages.{between, alone, beginning, continuing, passed, no_left}
 use Rattle.link_unpack.proofs.Orders.{accepted, refused_for, begins, continues, no_segment, segment_of}
 use Rattle.link_unpack.proofs.Steps.{stage_given, finished, message_ended, order_reported}
-use Rattle.link_unpack.proofs.Settling.{settled, since, not_handed_on}
+use Rattle.link_unpack.proofs.Settling.{settled, not_handed_on}
 use Rattle.link_unpack.proofs.unpacking.take_message.Goals as goal
 
 pub returns-in-Ok-None-clause-gives : goal.returns-in-Ok-None-clause-gives
@@ -24,9 +24,8 @@ returns-in-Ok-None-clause-gives g c = λ start history at.
     let got = both.1 in
     let stood = settled g.R.InDevice.state g.W.OutDevice.state g.E.OutDevice.state start stage.Message s new c.args.writers.now mid c.args.unpacker.now history both.0 at in
     let before = messages_of (heads_of (reading_of history)) in
-    since g.R.InDevice.state g.W.OutDevice.state g.E.OutDevice.state start stage.Message s new c.args.writers.now mid c.args.unpacker.now history c.args.unpacker.now.latest.wanted c.finish.new.writers c.finish.new.unpacker c.finish.result
-    (finished g.R.InDevice.state g.W.OutDevice.state g.E.OutDevice.state start s new mid c.args.unpacker.now history stood got
-    c.finish.new.writers c.finish.new.unpacker c.finish.result (c.finish.ensures.gives _ before stood.joiner (between _ c.args.unpacker.now.latest _ _ stood.waits).1))
+    finished g.R.InDevice.state g.W.OutDevice.state g.E.OutDevice.state start s new mid c.args.unpacker.now history stood got
+    c.finish.new.writers c.finish.new.unpacker c.finish.result (c.finish.ensures.gives _ before stood.joiner (between _ c.args.unpacker.now.latest _ _ stood.waits).1)
 
 pub returns-in-Err-clause-gives : goal.returns-in-Err-clause-gives
 returns-in-Err-clause-gives g c = λ start history at.
@@ -36,8 +35,7 @@ returns-in-Err-clause-gives g c = λ start history at.
     ⊎_elim
     (λ both.
     let stood = settled g.R.InDevice.state g.W.OutDevice.state g.E.OutDevice.state start stage.Message s new c.args.writers.now mid c.args.unpacker.now history both.0 at in
-    since g.R.InDevice.state g.W.OutDevice.state g.E.OutDevice.state start stage.Message s new c.args.writers.now mid c.args.unpacker.now history c.args.unpacker.now.latest.wanted c.end.new.writers c.args.unpacker.now c.end.result
-    (message_ended g.R.InDevice.state g.W.OutDevice.state g.E.OutDevice.state start s new mid c.args.unpacker.now history stood c.end.new.writers c.in-Err.stop _ both.1 c.end.ensures))
+    message_ended g.R.InDevice.state g.W.OutDevice.state g.E.OutDevice.state start s new mid c.args.unpacker.now history stood c.end.new.writers c.in-Err.stop _ both.1 c.end.ensures)
     (λ not_on. not_handed_on g.R.InDevice.state g.W.OutDevice.state g.E.OutDevice.state start stage.Message s new c.args.writers.now mid c.args.unpacker.now history c.end.new.writers c.in-Err.stop _ not_on c.end.ensures at)
     (c.in-Err.ensures.gives history at.session)
 
@@ -62,9 +60,8 @@ returns-in-Ok-Begin-clause-gives g c = λ start history at.
     let P : Bool → Type 0 = λ b. IsBeginning g.R.InDevice.state g.W.OutDevice.state g.E.OutDevice.state start b c.in-Ok-Begin.last new mid u c.next_message.new.message (history ++ got.given) in
     let begun = beginning g.R.InDevice.state g.W.OutDevice.state g.E.OutDevice.state start s new mid c.args.unpacker.now history stood c.in-Ok-Some.offset sent got
     segment.head segment.is c.in-Ok-Begin.last (turns.ends ∙ sym (ap is_end segment.has_flags)) c.in-Ok-Begin.abandoned c.next_message.new.message c.event.new.self refl (ap is_start segment.has_flags ∙ turns.starts) turns.abandons may.0 joins in
-    since g.R.InDevice.state g.W.OutDevice.state g.E.OutDevice.state start stage.Message s new c.args.writers.now mid c.args.unpacker.now history c.args.unpacker.now.latest.wanted c.begin.new.writers c.begin.new.unpacker c.begin.result
-    (stage_given g.R.InDevice.state g.W.OutDevice.state g.E.OutDevice.state start c.args.unpacker.now.latest.wanted stage.Message _ s new mid c.begin.new.writers c.begin.new.unpacker history got.given
-    got.takes got.some got.size (alone g.R.InDevice.state g.W.OutDevice.state g.E.OutDevice.state start s new mid c.args.unpacker.now history stood c.in-Ok-Some.offset sent got) (c.begin.ensures.gives start (history ++ got.given) (subst P (sym c.is_some.ensures) begun)))
+    stage_given g.R.InDevice.state g.W.OutDevice.state g.E.OutDevice.state start c.args.unpacker.now.latest.wanted stage.Message _ s new mid c.begin.new.writers c.begin.new.unpacker history got.given
+    got.takes got.some got.size (alone g.R.InDevice.state g.W.OutDevice.state g.E.OutDevice.state start s new mid c.args.unpacker.now history stood c.in-Ok-Some.offset sent got) (c.begin.ensures.gives start (history ++ got.given) (subst P (sym c.is_some.ensures) begun))
 
 pub returns-in-Ok-Continue-clause-gives : goal.returns-in-Ok-Continue-clause-gives
 returns-in-Ok-Continue-clause-gives g c = λ start history at.
@@ -85,9 +82,8 @@ returns-in-Ok-Continue-clause-gives g c = λ start history at.
     let segment = segment_of sent turns.flags turns.id turns.is in
     let went = continuing g.R.InDevice.state g.W.OutDevice.state g.E.OutDevice.state start s new mid c.args.unpacker.now history stood c.in-Ok-Some.offset sent got
     segment.head segment.is c.in-Ok-Continue.last (turns.ends ∙ sym (ap is_end segment.has_flags)) c.event.new.self (ap is_start segment.has_flags ∙ turns.starts) may.0 joins in
-    since g.R.InDevice.state g.W.OutDevice.state g.E.OutDevice.state start stage.Message s new c.args.writers.now mid c.args.unpacker.now history c.args.unpacker.now.latest.wanted c.go_on.new.writers c.go_on.new.unpacker c.go_on.result
-    (stage_given g.R.InDevice.state g.W.OutDevice.state g.E.OutDevice.state start c.args.unpacker.now.latest.wanted stage.Message _ s new mid c.go_on.new.writers c.go_on.new.unpacker history got.given
-    got.takes got.some got.size (alone g.R.InDevice.state g.W.OutDevice.state g.E.OutDevice.state start s new mid c.args.unpacker.now history stood c.in-Ok-Some.offset sent got) (c.go_on.ensures.gives start (history ++ got.given) went))
+    stage_given g.R.InDevice.state g.W.OutDevice.state g.E.OutDevice.state start c.args.unpacker.now.latest.wanted stage.Message _ s new mid c.go_on.new.writers c.go_on.new.unpacker history got.given
+    got.takes got.some got.size (alone g.R.InDevice.state g.W.OutDevice.state g.E.OutDevice.state start s new mid c.args.unpacker.now history stood c.in-Ok-Some.offset sent got) (c.go_on.ensures.gives start (history ++ got.given) went)
 
 pub returns-in-Ok-Other-clause-gives : goal.returns-in-Ok-Other-clause-gives
 returns-in-Ok-Other-clause-gives g c = λ start history at.
@@ -108,8 +104,7 @@ returns-in-Ok-Other-clause-gives g c = λ start history at.
     let none = no_left g.R.InDevice.state g.W.OutDevice.state g.E.OutDevice.state start s new mid c.args.unpacker.now history stood c.in-Ok-Some.offset sent got c.event.new.self other may.0 joins in
     let stood = passed g.R.InDevice.state g.W.OutDevice.state g.E.OutDevice.state start s new mid c.args.unpacker.now history stood c.in-Ok-Some.offset sent got c.event.new.self other may.0 joins in
     let same = c.go_on-in-Ok-Other.ensures.other refl none in
-    since g.R.InDevice.state g.W.OutDevice.state g.E.OutDevice.state start stage.Message s new c.args.writers.now mid c.args.unpacker.now history c.args.unpacker.now.latest.wanted c.go_on-in-Ok-Other.new.writers c.go_on-in-Ok-Other.new.unpacker c.go_on-in-Ok-Other.result
-    (rw (same.0, same.1, same.2) (record { given = got.given; some = λ may. got.some; size = got.size; count = got.takes.count; window = got.takes.window.less got.some; at = stood }))
+    rw (same.0, same.1, same.2) (record { given = got.given; some = λ may. got.some; size = got.size; count = got.takes.count; window = got.takes.window.less got.some; at = stood })
 
 pub returns-in-Err-event-clause-gives : goal.returns-in-Err-event-clause-gives
 returns-in-Err-event-clause-gives g c = λ start history at.

@@ -1,0 +1,9 @@
+-- The lines of faults.
+use Rattle.std.proofs.Common.{◌<◌, length, arith}
+use Rattle.link_report.specs.Fault.{fault_text}
+use Rattle.link_report.specs.declared.fault.Fault.{Fault}
+
+-- none is empty
+pub some_fault : (fault : Fault) → 0 < length (fault_text fault)
+unfolding fault_text
+some_fault fault = omega arith
