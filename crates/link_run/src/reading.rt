@@ -1,9 +1,9 @@
 //! How a run reads a session: before a read that may have to wait it hands on what was written, so that a reader of the texts sees
 //! all that the bytes so far determine.
 
-ghost use Rattle.std.specs.Prelude.{◌≡◌, ℕ, List, [], length, Err, IfOk, IfSome, IsOk, IsTrue, MatchResult};
+ghost use Rattle.std.specs.Prelude.{◌≡◌, ◌<◌, ℕ, List, [], length, Err, IfErr, IfOk, IfSome, IsOk, IsTrue, MatchResult};
 ghost use Rattle.link_wire.specs.MessageBuffer.{message_of, SegmentHasTotals};
-ghost use Rattle.link_wire.specs.Session.{may_read, is_opened, data_in, IsSessionAt, HasStopped, with_message_read};
+ghost use Rattle.link_wire.specs.Session.{may_read, is_opened, data_in, left_of, IsSessionAt, HasStopped, with_message_read};
 ghost use Rattle.link_run.specs.Reading.{NotHandedOn, GivesMessage, GivesData};
 ghost use Rattle.link_run.specs.Writers.{on_output, next_line, Writes};
 
@@ -11,7 +11,8 @@ use crate::writers::Writers;
 use link_wire::{InDevice, MessageBuffer, OutDevice, Session, Stop};
 
 /// The next message, as `Session::read_next` reads it. Where its head does not lie whole in the window, what was written is handed on
-/// first if the read may have to wait; a failure in that is a stop too, and nothing is read then. After a stop it returns that stop again.
+/// first if the read may have to wait. A failure in that is returned as a stop, and nothing is read then; the session has not stopped. Where
+/// it has, that stop is returned again.
 #[inline(always)]
 pub fn next_message<R: InDevice, W: OutDevice, E: OutDevice>(
     session: &mut Session<R>,
@@ -23,6 +24,7 @@ pub fn next_message<R: InDevice, W: OutDevice, E: OutDevice>(
     ensures gives { (history : List ℕ) → IsSessionAt R.state session.old history
         → GivesMessage R.state W.state E.state session.old session.new writers.old writers.new history (with_message_read (message_of message.new) result) }
     ensures totals { IfOk result (λ got. IfSome got (λ offset. SegmentHasTotals message.new)) }
+    ensures left { IfErr result (λ _. left_of session.new ≡ left_of session.old) }
     ensures line { next_line writers.new ≡ next_line writers.old }
     ensures stopped { (stop : _) → HasStopped session.old stop
         → (session.new ≡ session.old) × (writers.new ≡ writers.old) × (result ≡ Err stop) }
@@ -46,6 +48,7 @@ fn read_message<R: InDevice, W: OutDevice, E: OutDevice>(
     ensures gives { (history : List ℕ) → IsSessionAt R.state session.old history
         → GivesMessage R.state W.state E.state session.old session.new writers.old writers.new history (with_message_read (message_of message.new) result) }
     ensures totals { IfOk result (λ got. IfSome got (λ offset. SegmentHasTotals message.new)) }
+    ensures left { IfErr result (λ _. left_of session.new ≡ left_of session.old) }
     ensures line { next_line writers.new ≡ next_line writers.old }
     ensures stopped { (stop : _) → HasStopped session.old stop
         → (session.new ≡ session.old) × (writers.new ≡ writers.old) × (result ≡ Err stop) }
@@ -55,16 +58,20 @@ fn read_message<R: InDevice, W: OutDevice, E: OutDevice>(
 }
 
 /// Data of the segment, as `Session::load` has it lie in the window. Where none lies there yet, what was written is handed on first if
-/// the read may have to wait; a failure in that is a stop too, and nothing is read then. After a stop it returns that stop again.
+/// the read may have to wait. A failure in that is returned as a stop, and nothing is read then; the session has not stopped. Where it
+/// has, that stop is returned again.
 #[inline(always)]
 pub fn load_data<R: InDevice, W: OutDevice, E: OutDevice>(
     session: &mut Session<R>,
     writers: &mut Writers<W, E>,
 ) -> Result<usize, Stop>
     ensures size { IfOk result (λ n. n ≡ length (data_in session.new)) }
+    // Where some lies there, nothing is handed on.
+    ensures here { 0 < length (data_in session.old) → writers.new ≡ writers.old }
     ensures opened { IsTrue (is_opened session.old) → IsTrue (is_opened session.new) }
     ensures gives { (history : List ℕ) → IsSessionAt R.state session.old history
         → GivesData R.state W.state E.state session.old session.new writers.old writers.new history result }
+    ensures left { IfErr result (λ _. left_of session.new ≡ left_of session.old) }
     ensures line { next_line writers.new ≡ next_line writers.old }
     ensures stopped { (stop : _) → HasStopped session.old stop
         → (session.new ≡ session.old) × (writers.new ≡ writers.old) × (result ≡ Err stop) }

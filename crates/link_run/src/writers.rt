@@ -116,6 +116,7 @@ impl<W: OutDevice, E: OutDevice> Writers<W, E> {
     pub fn report_fault(&mut self, fault: &Fault) -> Result<Status, IoFault>
         ensures gives { GivesReport W.state E.state self.old self.new (fault_text fault.now) result }
         ensures output { self.new.output ≡ self.old.output }
+        ensures line { next_line self.new ≡ fault_text fault.now }
     {
         self.clear_line();
         fault_line(&mut self.line, fault);

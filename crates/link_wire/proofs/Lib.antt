@@ -6,6 +6,7 @@ mod Skips
 mod Items
 pub mod Shrinks
 mod Within
+mod Heres
 pub mod Contacts
 pub mod Streams
 mod Rests

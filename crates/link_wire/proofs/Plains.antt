@@ -33,7 +33,7 @@ field_is k field size =
     }
 
 -- a byte of a window, as a number
-byte_of : (window : List ℕ) (at : ℕ) → at < length window
+pub byte_of : (window : List ℕ) (at : ℕ) → at < length window
     → big_number 1 (take 1 (drop at window)) ≡ slice_index window at
 byte_of [] at within = absurd (omega arith)
 byte_of (b ∷ window) zero within = let one : b * 1 + 0 ≡ b = omega arith in one

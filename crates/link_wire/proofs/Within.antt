@@ -22,7 +22,7 @@ pub record Within {A : Type 0} (most : ℕ) (part : List ℕ → Part A) : Type 
   pub cut : (bytes : List ℕ) → part bytes ≡ Err Truncated → length bytes < most
 
 -- what was cut was cut in its first step, or in what goes on from it
-both_cut : {A B : Type 0} (read : Result A WireFault) (next : A → Result B WireFault) (fault : WireFault) → read >>= next ≡ Err fault → (read ≡ Err fault) ⊎ ((first : A) × (read ≡ Ok first) × (next first ≡ Err fault))
+pub both_cut : {A B : Type 0} (read : Result A WireFault) (next : A → Result B WireFault) (fault : WireFault) → read >>= next ≡ Err fault → (read ≡ Err fault) ⊎ ((first : A) × (read ≡ Ok first) × (next first ≡ Err fault))
 both_cut (Ok first) next fault is = inr (first, refl, is)
 both_cut {A} (Err other) next fault is = inl (let same : other ≡ fault = cc in ap (λ f. let r : Result A WireFault = Err f in r) same)
 
@@ -69,7 +69,7 @@ module _ {A : Type 0} where
   within_if most true part other p q = p refl
   within_if most false part other p q = q refl
 
-within_bytes : (n : ℕ) → Within n (bytes_at n)
+pub within_bytes : (n : ℕ) → Within n (bytes_at n)
 within_bytes n = record {
   read = λ bytes value rest is. ⊎_elim
       (λ short. let never = sym (bytes_at-short n bytes short) ∙ is in absurd (cc))
@@ -81,7 +81,7 @@ within_bytes n = record {
       (cases_lt (length bytes) n);
 }
 
-within_number : (n : ℕ) → Within n (number_at n)
+pub within_number : (n : ℕ) → Within n (number_at n)
 unfolding number_at
 within_number n = loosely (n + 0) n _ (omega arith) (within_then n 0 _ _ (within_bytes n) (λ field. within_pure _))
 
@@ -166,7 +166,7 @@ within_items of (suc room) left =
     (within_then head.length (rest + 0) _ _ (within_total of head.kind head.length) (λ total.
     within_then rest 0 _ _ (within_items of room rest) (λ others. within_pure _)))))
 
-within_items_of : (of : ListOf) (size : ℕ) → Within size (items_of of size)
+pub within_items_of : (of : ListOf) (size : ℕ) → Within size (items_of of size)
 unfolding items_of
 within_items_of of size = loosely (size + 0) size _ (omega arith) (within_then size 0 _ _ (within_items of most_items size) (λ items. within_pure _))
 

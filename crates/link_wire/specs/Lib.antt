@@ -16,3 +16,4 @@ pub mod Spelled
 pub mod SpelledStream
 pub mod Spelling
 pub mod Plain
+pub mod Here

@@ -1,5 +1,9 @@
 //! Whether the head of the next message is here, so that reading it need not wait (RFC 9174 sections 4.6 and 5.1 to 6.1).
 
+ghost use Rattle.std.specs.Prelude.{◌≡◌, ◌<◌, length, slice_index, IsTrue};
+ghost use Rattle.link_wire.specs.Here.{IsHere};
+ghost use Rattle.link_wire.specs.Message.{list_at, message_at};
+
 use crate::codes::{
     KEEPALIVE, MSG_REJECT, SESS_INIT, SESS_TERM, START, XFER_ACK, XFER_REFUSE, XFER_SEGMENT,
 };
@@ -9,34 +13,49 @@ use byteorder::{BigEndian, ByteOrder};
 /// How many bytes are looked at to tell: more than a head with a few items has.
 pub const FRONT: usize = 128;
 
-/// Whether the bytes after the first `before` of these begin with a whole extension list: its length, and that many bytes.
-fn has_list(bytes: &[u8], before: usize) -> bool {
-    if bytes.len() < before || bytes.len() - before < 4 {
+/// Whether these bytes begin with a whole extension list, its length and that many bytes, and so many bytes follow it.
+fn has_list(bytes: &[u8], after: usize) -> bool
+    ensures { (of : _) → IsTrue result → IsHere after (list_at of bytes.now) }
+{
+    if bytes.len() < 4 || bytes.len() - 4 < after {
         return false;
     }
-    let length = BigEndian::read_u32(&bytes[before..before + 4]) as usize;
-    bytes.len() - before - 4 >= length
+    let length = BigEndian::read_u32(&bytes[..4]) as usize;
+    bytes.len() - 4 - after >= length
 }
 
 /// Whether the head of a segment is whole in these bytes, with its items if it has some: the data's length has 8 bytes.
-fn has_segment(bytes: &[u8]) -> bool {
+fn has_segment(bytes: &[u8]) -> bool
+    requires some { 0 < length bytes.now }
+    requires kind { slice_index bytes.now 0 ≡ XFER_SEGMENT }
+    ensures { IsTrue result → IsHere 0 (message_at bytes.now) }
+{
     if bytes.len() < 18 {
         return false;
     }
-    bytes[1] & START != START || has_list(&bytes[..bytes.len() - 8], 10)
+    bytes[1] & START != START || has_list(&bytes[10..], 8)
 }
 
 /// Whether a SESS_INIT is whole in these bytes: 21 bytes, the last two of them the length of the node ID, then the node ID and a list.
-fn has_sess_init(bytes: &[u8]) -> bool {
+fn has_sess_init(bytes: &[u8]) -> bool
+    requires some { 0 < length bytes.now }
+    requires kind { slice_index bytes.now 0 ≡ SESS_INIT }
+    ensures { IsTrue result → IsHere 0 (message_at bytes.now) }
+{
     if bytes.len() < 21 {
         return false;
     }
     let node = BigEndian::read_u16(&bytes[19..21]) as usize;
-    has_list(bytes, 21 + node)
+    if bytes.len() - 21 < node {
+        return false;
+    }
+    has_list(&bytes[21 + node..], 0)
 }
 
-/// Whether these bytes are enough for the head that they begin with: it is whole, or its type shows a fault.
-pub fn has_head(bytes: &[u8]) -> bool {
+/// Whether these bytes are enough for the head that they begin with: it is whole, or they show a fault that more bytes do not mend.
+pub fn has_head(bytes: &[u8]) -> bool
+    ensures { IsTrue result → IsHere 0 (message_at bytes.now) }
+{
     if bytes.is_empty() {
         return false;
     }

@@ -38,7 +38,7 @@ impl<R: InDevice> Session<R> {
     ghost use Rattle.link_wire.specs.Plain.{IsHead};
     ghost use Rattle.link_wire.specs.Message.{MessageHasTotals};
     ghost use Rattle.link_wire.specs.MessageBuffer.{message_of, SegmentHasTotals};
-    ghost use Rattle.link_wire.specs.Session.{source_of, may_open, may_read, is_opened, IsSessionAt, HasEndedBetween, HasStopped, left_of, with_message_read, GivesContact, GaveMessage, GivesNext};
+    ghost use Rattle.link_wire.specs.Session.{source_of, may_open, may_read, is_opened, IsSessionAt, HasEndedBetween, HasStopped, left_of, data_in, with_message_read, GivesContact, GaveMessage, GivesNext};
     ghost use Rattle.link_wire.specs.declared.session.Phase.TheVariants as phase;
 
     /// A session over a source that has taken nothing.
@@ -68,7 +68,7 @@ impl<R: InDevice> Session<R> {
         source
     }
 
-    /// How many bytes of the segment's data have not come.
+    /// How many bytes of the segment's data have not come. A stop leaves that as it is.
     #[inline(always)]
     pub fn left(&self) -> u64
         ensures left { result ≡ left_of self.now }
@@ -82,6 +82,7 @@ impl<R: InDevice> Session<R> {
     /// given has just come, and what came with it was not waited for. After a stop nothing is read.
     pub fn may_wait(&self) -> bool
         ensures few { IsTrue result → length (window_of (source_of self.now)) < window_size }
+        ensures data { IsTrue result → 0 < left_of self.now → data_in self.now ≡ [] }
         ensures stopped { (stop : _) → HasStopped self.now stop → result ≡ false }
     {
         if let Phase::Stopped(_) = self.phase {
@@ -99,6 +100,7 @@ impl<R: InDevice> Session<R> {
     pub fn open(&mut self) -> Result<Contact, Stop>
         requires { IsTrue (may_open self.old) }
         ensures settles { IfErr result (HasStopped self.new) }
+        ensures left { IfErr result (λ _. left_of self.new ≡ left_of self.old) }
         ensures gives { GivesContact R.state self.old self.new result }
         ensures opened { IsTrue (is_opened self.new) }
         ensures may_read { IsTrue (may_read self.new) }
@@ -119,6 +121,7 @@ impl<R: InDevice> Session<R> {
     pub fn next(&mut self) -> Result<Option<(u64, Message)>, Stop>
         requires { IsTrue (may_read self.old) }
         ensures settles { IfErr result (HasStopped self.new) }
+        ensures left { IfErr result (λ _. left_of self.new ≡ left_of self.old) }
         ensures again { HasEndedBetween self.old → (self.new ≡ self.old) × (result ≡ Ok None) }
         ensures gives { (history : List ℕ) → IsSessionAt R.state self.old history
             → GivesNext R.state self.old self.new history result }
@@ -141,6 +144,7 @@ impl<R: InDevice> Session<R> {
     pub fn read_next(&mut self, message: &mut MessageBuffer) -> Result<Option<u64>, Stop>
         requires { IsTrue (may_read self.old) }
         ensures settles { IfErr result (HasStopped self.new) }
+        ensures left { IfErr result (λ _. left_of self.new ≡ left_of self.old) }
         ensures again { HasEndedBetween self.old → (self.new ≡ self.old) × (result ≡ Ok None) }
         ensures gives { (history : List ℕ) → IsSessionAt R.state self.old history
             → GivesNext R.state self.old self.new history
@@ -206,6 +210,7 @@ impl<R: InDevice> Session<R> {
     fn read_fields(&mut self, message: &mut MessageBuffer) -> Result<Option<u64>, Stop>
         requires { IsTrue (may_read self.old) }
         ensures settles { IfErr result (HasStopped self.new) }
+        ensures left { IfErr result (λ _. left_of self.new ≡ left_of self.old) }
         ensures again { HasEndedBetween self.old → (self.new ≡ self.old) × (result ≡ Ok None) }
         ensures opened { IsTrue (is_opened self.new) }
         ensures gives { (history : List ℕ) → IsSessionAt R.state self.old history
@@ -259,6 +264,7 @@ impl<R: InDevice> Session<R> {
     pub fn data(&mut self, buffer: &mut [u8]) -> Result<usize, Stop>
         ensures bound { IfOk result (λ n. n ≤ length buffer.new) }
         ensures settles { IfErr result (HasStopped self.new) }
+        ensures left { IfErr result (λ _. left_of self.new ≡ left_of self.old) }
         ensures gives { (history : List ℕ) → IsSessionAt R.state self.old history
             → GivesData R.state self.old self.new history buffer.new result }
         ensures opened { IsTrue (is_opened self.old) → IsTrue (is_opened self.new) }
@@ -313,6 +319,7 @@ impl<R: InDevice> Session<R> {
     pub fn load(&mut self) -> Result<usize, Stop>
         ensures size { IfOk result (λ n. n ≡ length (data_in self.new)) }
         ensures settles { IfErr result (HasStopped self.new) }
+        ensures left { IfErr result (λ _. left_of self.new ≡ left_of self.old) }
         ensures gives { (history : List ℕ) → IsSessionAt R.state self.old history
             → GivesLoad R.state self.old self.new history result }
         ensures opened { IsTrue (is_opened self.old) → IsTrue (is_opened self.new) }
@@ -334,6 +341,7 @@ impl<R: InDevice> Session<R> {
     fn load_on(&mut self) -> Result<usize, Stop>
         ensures size { IfOk result (λ n. n ≡ length (data_in self.new)) }
         ensures settles { IfErr result (HasStopped self.new) }
+        ensures left { IfErr result (λ _. left_of self.new ≡ left_of self.old) }
         ensures gives { (history : List ℕ) → IsSessionAt R.state self.old history
             → GivesLoad R.state self.old self.new history result }
         ensures opened { IsTrue (is_opened self.old) → IsTrue (is_opened self.new) }
