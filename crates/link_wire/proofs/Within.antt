@@ -69,7 +69,7 @@ module _ {A : Type 0} where
   within_if most true part other p q = p refl
   within_if most false part other p q = q refl
 
-pub within_bytes : (n : ℕ) → Within n (bytes_at n)
+within_bytes : (n : ℕ) → Within n (bytes_at n)
 within_bytes n = record {
   read = λ bytes value rest is. ⊎_elim
       (λ short. let never = sym (bytes_at-short n bytes short) ∙ is in absurd (cc))
@@ -81,7 +81,7 @@ within_bytes n = record {
       (cases_lt (length bytes) n);
 }
 
-pub within_number : (n : ℕ) → Within n (number_at n)
+within_number : (n : ℕ) → Within n (number_at n)
 unfolding number_at
 within_number n = loosely (n + 0) n _ (omega arith) (within_then n 0 _ _ (within_bytes n) (λ field. within_pure _))
 

@@ -13,7 +13,7 @@ use byteorder::{BigEndian, ByteOrder};
 /// How many bytes are looked at to tell: more than a head with a few items has.
 pub const FRONT: usize = 128;
 
-/// Whether these bytes begin with a whole extension list, its length and that many bytes, and so many bytes follow it.
+/// Whether these bytes begin with a whole extension list, its length and that many bytes, and `after` bytes follow it.
 fn has_list(bytes: &[u8], after: usize) -> bool
     ensures { (of : _) → IsTrue result → IsHere after (list_at of bytes.now) }
 {
