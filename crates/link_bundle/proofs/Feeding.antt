@@ -5,7 +5,7 @@ use Rattle.std.proofs.lemmas.List.{drop-drop, drop_all, length-take, length-take
 use Rattle.std.proofs.Math.Seq.{take-add, take-length}
 use Rattle.link_cbor.specs.declared.head.Head.{Head as HeadItem}
 use Rattle.link_cbor.specs.Head.{HeadFront, Cut as CutHead, IllFormed, Whole, head_front}
-use Rattle.link_cbor.specs.HeadLaws.{whole_stays, ill_formed_stays}
+use Rattle.link_cbor.proofs.HeadLaws.{whole_stays, ill_formed_stays}
 use Rattle.link_cbor.specs.Pieces.{taken}
 use Rattle.link_cbor.specs.PieceLaws.{taken-cons, taken-nil, taken-idle}
 use Rattle.link_bundle.specs.declared.cursor.Cursor.{Cursor}

@@ -6,7 +6,7 @@ use Rattle.std.proofs.lemmas.Bool.{cases_Bool, cases_lt, false≢true}
 use Rattle.std.proofs.lemmas.List.{length-take-le, take-append-drop}
 use Rattle.link_cbor.specs.declared.head.Head.{Head}
 use Rattle.link_cbor.specs.Head.{HeadFront, Cut, IllFormed, Whole, big_endian, with_argument, argument_front, no_argument, front_by, head_front, whole_of, is_cut}
-use Rattle.link_cbor.specs.HeadLaws.{uncut_stays, argument_front-cut, argument_front-there, front_by-small, front_by-argument, front_by-reserved, front_by-none}
+use Rattle.link_cbor.proofs.HeadLaws.{uncut_stays, argument_front-cut, argument_front-there, front_by-small, front_by-argument, front_by-reserved, front_by-none}
 
 -- a whole head has at least this many bytes
 abbrev pub EndsFrom : ℕ → HeadFront → Type 0

@@ -6,7 +6,7 @@ use Rattle.std.proofs.lemmas.List.{get_or-drop, length-drop}
 use Rattle.std.specs.Prelude.{◌==◌}
 use Rattle.link_cbor.specs.declared.check.CheckKind.{CheckKind}
 use Rattle.link_cbor.specs.declared.head.Head.{Head}
-use Rattle.link_cbor.specs.HeadLaws.{front_by-small}
+use Rattle.link_cbor.proofs.HeadLaws.{front_by-small}
 use Rattle.link_cbor.specs.Head.{HeadFront, Cut, IllFormed, Whole, head_front, whole_of}
 use Rattle.link_bundle_rows.specs.Rows.{unsigned, array, pair, check_width, check_field, closing}
 use Rattle.link_bundle.specs.Reading.{placed, head_at, row_at, bytes_at}

@@ -10,7 +10,7 @@ use Rattle.std.proofs.Math.Seq.{drop-append_seam, drop-length, take-length}
 use Rattle.std.proofs.lemmas.List.Elements.{All-nil, All-push, All-append}
 use Rattle.link_cbor.specs.declared.head.Head.{Head as HeadItem}
 use Rattle.link_cbor.specs.Head.{AreBytes, Cut as CutHead, IllFormed, Whole, head_front}
-use Rattle.link_cbor.specs.HeadLaws.{whole_stays, ill_formed_stays}
+use Rattle.link_cbor.proofs.HeadLaws.{whole_stays, ill_formed_stays}
 use Rattle.link_cbor.specs.HeadScan.{HasScanned as HasScannedHead}
 use Rattle.link_bundle.specs.declared.checks.BlockChecks.{BlockChecks}
 use Rattle.link_bundle.specs.declared.cursor.Cursor.{Cursor}
@@ -31,7 +31,7 @@ use Rattle.link_bundle.specs.Covers.{Covers}
 use Rattle.link_bundle.specs.Fits.{is_block, KeepsCheck}
 use Rattle.link_bundle.specs.Bundle.{Bundle, judged}
 use Rattle.link_bundle.specs.Reading.{Stop, stopped, head_at}
-use Rattle.link_bundle.specs.Left.{block_start, field_left, ends_of, with_known_payload, stage_left, goes_on, JudgesFrom}
+use Rattle.link_bundle.specs.Left.{block_start, field_left, ends_of, with_known_payload, stage_left, goes_on, AsReadFrom}
 use Rattle.link_bundle.proofs.Heads.{ends_of-stopped}
 use Rattle.link_bundle.proofs.Stops.{field_left-stopped}
 use Rattle.link_bundle.specs.Scan.{HasCome, HeadCame, Stands, IsInHead, IsInside, IsInStored}
@@ -271,7 +271,7 @@ bad_head which cursor draft seen come told = record {
 -- a head that is whole and judged
 judged_head : (which : Field) (cursor : Cursor) (draft new : Draft) (head : HeadItem) (result : Result Stage BundleFault) (seen : List ℕ)
     → (come : HeadCame which cursor draft seen) → head_front (drop cursor.place seen) ≡ Whole head (length (drop cursor.place seen))
-    → JudgesFrom cursor.place cursor.count which draft head result new
+    → AsReadFrom cursor.place cursor.count which draft head result new
     → (more : List ℕ) → judged (seen ++ more)
     ≡ goes_on result new (block_start which come.start cursor.place) cursor.place (length seen) (seen ++ more)
 unfolding stage_left
@@ -284,7 +284,7 @@ judged_head which cursor draft new head result seen come told judges more =
 
 pub went_on : (which : Field) (old cursor : Cursor) (draft new : Draft) (head : HeadItem) (stage : Stage) (seen : List ℕ)
     → HeadCame which old draft seen → head_front (drop old.place seen) ≡ Whole head (length (drop old.place seen))
-    → JudgesFrom old.place old.count which draft head (Ok stage) new
+    → AsReadFrom old.place old.count which draft head (Ok stage) new
     → KeepsCheck draft.check stage new.check → Enters stage old cursor → HasCome stage cursor new seen
 went_on which old cursor draft new head stage seen come told judges keeps enters =
     entered stage old cursor draft.check new (block_start which come.start old.place) seen come.all_bytes come.count
@@ -293,7 +293,7 @@ went_on which old cursor draft new head stage seen come told judges keeps enters
 
 pub refused : (which : Field) (cursor : Cursor) (draft new : Draft) (head : HeadItem) (fault : BundleFault) (seen : List ℕ)
     → HeadCame which cursor draft seen → head_front (drop cursor.place seen) ≡ Whole head (length (drop cursor.place seen))
-    → JudgesFrom cursor.place cursor.count which draft head (Err fault) new
+    → AsReadFrom cursor.place cursor.count which draft head (Err fault) new
     → HasCome (Failed fault cursor.place) cursor new seen
 unfolding stage_left
 refused which cursor draft new head fault seen come told judges = record {

@@ -7,7 +7,7 @@ use Rattle.link_bundle.specs.declared.draft.Draft.{Draft}
 use Rattle.link_bundle.specs.declared.stage.Stage.{Stage}
 use Rattle.link_bundle.specs.declared.stage.Field.{Field}
 use Rattle.link_bundle.specs.Fits.{Follows, KeepsCheck}
-use Rattle.link_bundle.specs.Left.{JudgesFrom}
+use Rattle.link_bundle.specs.Left.{AsReadFrom}
 
 -- the head is judged as the reading judges it (`reading` says so); what follows keeps the scan in bounds, and keeps what
 -- the checks cover
@@ -18,14 +18,14 @@ pub record IsJudged (reading : Type 0) (old : Draft) (result : Result Stage Bund
 
 -- the head at `place`, with `next` after it
 abbrev pub JudgedFrom : ℕ → ℕ → Field → Draft → HeadItem → Result Stage BundleFault → Draft → Type 0
-JudgedFrom place next which old head result new = IsJudged (JudgesFrom place next which old head result new) old result new
+JudgedFrom place next which old head result new = IsJudged (AsReadFrom place next which old head result new) old result new
 
 -- wherever it begins
 abbrev pub JudgedAt : ℕ → Field → Draft → HeadItem → Result Stage BundleFault → Draft → Type 0
 JudgedAt next which old head result new =
-    IsJudged ((place : ℕ) → JudgesFrom place next which old head result new) old result new
+    IsJudged ((place : ℕ) → AsReadFrom place next which old head result new) old result new
 
 -- and wherever it ends
 abbrev pub Judged : Field → Draft → HeadItem → Result Stage BundleFault → Draft → Type 0
 Judged which old head result new =
-    IsJudged ((next place : ℕ) → JudgesFrom place next which old head result new) old result new
+    IsJudged ((next place : ℕ) → AsReadFrom place next which old head result new) old result new

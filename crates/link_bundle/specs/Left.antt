@@ -335,8 +335,8 @@ goes_on (Err fault) draft start place next bytes = with_known_payload draft.payl
 
 -- the head at this offset, with `next` after it, is judged as the reading judges it: the stage and the draft are those
 -- after it
-abbrev pub JudgesFrom : ℕ → ℕ → Field → Draft → HeadItem → Result Stage BundleFault → Draft → Type 0
-JudgesFrom place next which old head result new =
+abbrev pub AsReadFrom : ℕ → ℕ → Field → Draft → HeadItem → Result Stage BundleFault → Draft → Type 0
+AsReadFrom place next which old head result new =
     (bytes : List ℕ) (start : ℕ) → head_at bytes place ≡ Ok (head, next) → next ≤ length bytes →
     ends_of bytes (with_known_payload old.payload (field_left which old (block_start which start place) bytes place))
     ≡ goes_on result new (block_start which start place) place next bytes

@@ -578,7 +578,7 @@ fn a_large_payload_cut_in_its_last_eighth(rt: HostRuntime) -> Result<(), Fail> {
     cut_in_eighth(&rt, 7)
 }
 
-/// The plain bundle with so many blocks before its payload block, from number 2 on.
+/// The plain bundle with this many blocks before its payload block, from number 2 on.
 fn with_blocks(alloc: Global, blocks: u8) -> Result<Vec<u8>, AllocError>
     requires { blocks ≤ 64 }
 {

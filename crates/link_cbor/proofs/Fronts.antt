@@ -8,7 +8,7 @@ use Rattle.std.proofs.lemmas.Nat.{and_mask}
 use Rattle.std.proofs.Math.Nat.{pow-suc}
 use Rattle.std.proofs.Math.Seq.{take-length}
 use Rattle.link_cbor.specs.Head.{Cut, big_endian, argument_front, front_by, head_front}
-use Rattle.link_cbor.specs.HeadLaws.{front_by-argument}
+use Rattle.link_cbor.proofs.HeadLaws.{front_by-argument}
 
 pub empty : (bytes : List ℕ) → (length bytes == 0) ≡ true → head_front bytes ≡ Cut
 unfolding head_front

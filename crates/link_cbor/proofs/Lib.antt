@@ -1,6 +1,7 @@
 mod CrcLaws
 mod Feeding
 mod Fronts
+pub mod HeadLaws
 mod Joins
 mod Linear
 mod LookUps

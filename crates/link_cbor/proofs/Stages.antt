@@ -12,7 +12,7 @@ use Rattle.link_cbor.specs.declared.head_scan.Stage.TheVariants.{Start, Argument
 use Rattle.link_cbor.specs.declared.head.HeadStep.{HeadStep}
 use Rattle.link_cbor.specs.declared.head.HeadStep.TheVariants.{More, Done, Bad}
 use Rattle.link_cbor.specs.Head.{Cut, Whole, big_endian, head_front, front_of, step_at, step_of, argument_front, with_argument, no_argument, front_by}
-use Rattle.link_cbor.specs.HeadLaws.{argument_front-cut, argument_front-there, front_by-small, front_by-argument, front_by-reserved, front_by-none}
+use Rattle.link_cbor.proofs.HeadLaws.{argument_front-cut, argument_front-there, front_by-small, front_by-argument, front_by-reserved, front_by-none}
 use Rattle.link_cbor.specs.Stage.{front_from, outcome_at, stage_fits, StandsAt}
 
 -- what `stage_fits` says of an argument

@@ -1,7 +1,6 @@
 pub mod Crc
 pub mod CrcTables
 pub mod Head
-pub mod HeadLaws
 pub mod HeadScan
 pub mod PieceLaws
 pub mod Pieces

@@ -16,9 +16,10 @@ const HELP: &str = "Each command reads FILE, or standard input without it, and h
 Exit status:
   0  the input was read to its end, and nothing was wrong with it; or help was asked for
   1  unpack: some transfer is not good
-  2  the words are not a command, or the node ID is too long
+  2  the arguments are wrong; standard error says how
   3  a fault of the input stopped the run
-  4  reading or writing failed, the file could not be opened, or there was no memory
+  4  the file could not be opened, reading or writing failed, the input is too long,
+     or there was no memory
 
 Example:
   $ tcpclkit list session.tcpcl
@@ -30,9 +31,10 @@ const LIST_ABOUT: &str = "Writes a line for the contact header and each message 
 
 const LIST_HELP: &str = "Exit status:
   0  the recording was read to its end, and nothing was wrong with it
-  2  the words are not a command
+  2  the arguments are wrong; standard error says how
   3  a fault of the recording stopped the run
-  4  reading or writing failed, the file could not be opened, or there was no memory
+  4  the file could not be opened, reading or writing failed, the input is too long,
+     or there was no memory
 
 Example:
   $ tcpclkit list session.tcpcl
@@ -46,9 +48,10 @@ const UNPACK_ABOUT: &str =
 const UNPACK_HELP: &str = "Exit status:
   0  each transfer is good, and nothing was wrong with the recording
   1  the recording was read to its end, and some transfer is not good
-  2  the words are not a command
+  2  the arguments are wrong; standard error says how
   3  a fault of the recording stopped the run
-  4  reading or writing failed, the file could not be opened, or there was no memory
+  4  the file could not be opened, reading or writing failed, the input is too long,
+     or there was no memory
 
 Example:
   $ tcpclkit unpack --payload session.tcpcl > payloads
@@ -59,9 +62,10 @@ const PACK_ABOUT: &str =
 
 const PACK_HELP: &str = "Exit status:
   0  the bundles were read to their end, and all of them were packed
-  2  the words are not a command, or the node ID is too long
+  2  the arguments are wrong; standard error says how
   3  a bundle that is not whole, is bad or is too long for the peer stopped the run
-  4  reading or writing failed, the file could not be opened, or there was no memory
+  4  the file could not be opened, reading or writing failed, the input is too long,
+     or there was no memory
 
 Example:
   $ tcpclkit pack --node ipn:1.0 --peer-segment 17 bundles > session.tcpcl
@@ -143,7 +147,7 @@ fn with_sender<'a>(alloc: Global, tool: Command<'a>) -> Result<Command<'a>, Allo
         alloc,
         "node",
         "TEXT",
-        "The sender's node ID, of at most 1024 bytes",
+        "The sender's node ID, of at most 1024 bytes of UTF-8; empty for none",
     );
     let keepalive = number(
         alloc,

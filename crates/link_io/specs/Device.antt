@@ -1,5 +1,5 @@
 -- What a contract sees of a device.
-use Rattle.std.specs.Prelude.{◌≡◌, ℕ, Bool, List, ◌++◌, Option, None, Some, ⊤}
+use Rattle.std.specs.Prelude.{◌≡◌, ℕ, ◌<◌, Bool, List, ◌++◌, length, Option, None, Some, ⊤}
 
 -- a reader: the bytes that it has left, `None` where they are not known, and whether it has failed
 pub record Input : Type 0 where
@@ -15,3 +15,8 @@ pub record Output : Type 0 where
 abbrev pub BeginsWith : Option (List ℕ) → List ℕ → Type 0
 BeginsWith None bytes = ⊤
 BeginsWith (Some all) bytes = (rest : List ℕ) × (all ≡ bytes ++ rest)
+
+-- known bytes are not none
+abbrev pub HasBytes : Option (List ℕ) → Type 0
+HasBytes None = ⊤
+HasBytes (Some all) = 0 < length all

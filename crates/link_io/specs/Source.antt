@@ -113,43 +113,43 @@ module _ {R : Type 0} where
     pub failed : HasFailed new fault
 
   -- What a call gives that makes the window ready: some bytes lie in it, or the input has ended.
-  pub record GaveReady (look : R → Input) (old new : Source R) (n : ℕ) : Type 0 where
+  pub record ReadyWindow (look : R → Input) (old new : Source R) (n : ℕ) : Type 0 where
     pub readies : Readies look old new
     pub live : IsLive look new
     pub size : n ≡ length (window_of new)
     pub over : n ≡ 0 → IsOver look new
 
   abbrev pub GivesReady : (R → Input) → Source R → Source R → Result ℕ IoFault → Type 0
-  GivesReady look old new (Ok n) = GaveReady look old new n
+  GivesReady look old new (Ok n) = ReadyWindow look old new n
   GivesReady look old new (Err fault) = StopsAfter look old new [] fault
 
   -- What one call of `some` gives.
-  pub record GaveSome (look : R → Input) (old new : Source R) (buffer : List ℕ) (n : ℕ) : Type 0 where
+  pub record SomeBytes (look : R → Input) (old new : Source R) (buffer : List ℕ) (n : ℕ) : Type 0 where
     pub room : n ≤ length buffer
     pub takes : Takes look old new (take n buffer)
     pub live : IsLive look new
     pub over : n ≡ 0 → 0 < length buffer → IsOver look new
 
   abbrev pub GivesSome : (R → Input) → Source R → Source R → List ℕ → Result ℕ IoFault → Type 0
-  GivesSome look old new buffer (Ok n) = GaveSome look old new buffer n
+  GivesSome look old new buffer (Ok n) = SomeBytes look old new buffer n
   GivesSome look old new buffer (Err fault) = StopsAfter look old new [] fault
 
   -- What a `fill` gives: the whole slice, or what the input still had, or what came before a fault.
-  pub record GaveWhole (look : R → Input) (old new : Source R) (buffer : List ℕ) : Type 0 where
+  pub record WholeSlice (look : R → Input) (old new : Source R) (buffer : List ℕ) : Type 0 where
     pub takes : Takes look old new buffer
     pub live : IsLive look new
 
-  pub record GavePart (look : R → Input) (old new : Source R) (buffer : List ℕ) (n : ℕ) : Type 0 where
+  pub record EndedSlice (look : R → Input) (old new : Source R) (buffer : List ℕ) (n : ℕ) : Type 0 where
     pub part : n < length buffer
     pub takes : Takes look old new (take n buffer)
     pub over : IsOver look new
 
-  pub record GaveBefore (look : R → Input) (old new : Source R) (buffer : List ℕ) (fault : IoFault) : Type 0 where
+  pub record StoppedSlice (look : R → Input) (old new : Source R) (buffer : List ℕ) (fault : IoFault) : Type 0 where
     pub count : ℕ
     pub part : count < length buffer
     pub stops : StopsAfter look old new (take count buffer) fault
 
   abbrev pub GivesFill : (R → Input) → Source R → Source R → List ℕ → Result Filled IoFault → Type 0
-  GivesFill look old new buffer (Ok filled.Whole) = GaveWhole look old new buffer
-  GivesFill look old new buffer (Ok (filled.Ended n)) = GavePart look old new buffer n
-  GivesFill look old new buffer (Err fault) = GaveBefore look old new buffer fault
+  GivesFill look old new buffer (Ok filled.Whole) = WholeSlice look old new buffer
+  GivesFill look old new buffer (Ok (filled.Ended n)) = EndedSlice look old new buffer n
+  GivesFill look old new buffer (Err fault) = StoppedSlice look old new buffer fault

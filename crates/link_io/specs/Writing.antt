@@ -7,12 +7,12 @@ use Rattle.link_io.specs.declared.fault.IoFault.TheVariants as io
 
 module _ {W : Type 0} where
   -- the bytes were written, and the device did not fail
-  pub record Wrote (look : W → Output) (old new : W) (bytes : List ℕ) : Type 0 where
+  pub record WritesWhole (look : W → Output) (old new : W) (bytes : List ℕ) : Type 0 where
     pub written : Appends (look old).written (look new).written bytes
     pub device : (look new).failed ≡ (look old).failed
 
   -- the first bytes were written, and then the device failed
-  pub record WroteFront (look : W → Output) (old new : W) (bytes : List ℕ) (fault : IoFault) : Type 0 where
+  pub record WritesFront (look : W → Output) (old new : W) (bytes : List ℕ) (fault : IoFault) : Type 0 where
     pub kind : fault ≡ io.Write
     pub count : ℕ
     pub front : count < length bytes

@@ -5,7 +5,7 @@
 
 ghost use Rattle.std.specs.Prelude.{◌≡◌, ◌+◌, ◌-◌, ◌^◌, ◌<◌, ◌≤◌, true, length, take, slice_range, IfOk, MatchResult};
 ghost use Rattle.link_io.specs.Bytes.{AreBytes};
-ghost use Rattle.link_io.specs.Device.{BeginsWith};
+ghost use Rattle.link_io.specs.Device.{BeginsWith, HasBytes};
 ghost use Rattle.std.specs.Io.KnownBytes.{ReadConsumes};
 
 use crate::device::{DeviceFault, InDevice};
@@ -107,7 +107,9 @@ impl<R: InDevice> Source<R> {
     /// Whether a call that needs more bytes than the window has may have to wait for the reader.
     #[inline(always)]
     pub fn may_wait(&self) -> bool
-        ensures { IsTrue result → length (window_of self.now) < window_size }
+        ensures few { IsTrue result → length (window_of self.now) < window_size }
+        // Where a read need not wait, the reader has bytes left.
+        ensures held { result ≡ false → length (window_of self.now) < window_size → HasBytes (R.state (reader_of self.now)).left }
     {
         self.reader.held().is_empty() && self.end - self.start < WINDOW
     }

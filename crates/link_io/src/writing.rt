@@ -2,7 +2,7 @@
 
 ghost use Rattle.std.specs.Prelude.{◌≡◌, ◌<◌, ◌≤◌, true, length, take, drop, ℕ, OnOk, OnErr, IfErr, MatchResult};
 ghost use Rattle.std.specs.Io.KnownBytes.{Appends};
-ghost use Rattle.link_io.specs.Writing.{Wrote, WroteFront};
+ghost use Rattle.link_io.specs.Writing.{WritesWhole, WritesFront};
 
 use crate::device::{DeviceFault, OutDevice};
 use crate::fault::IoFault;
@@ -10,8 +10,8 @@ use crate::fault::IoFault;
 /// Writes all of the bytes, by repeated writes. After a fault a prefix of them was written.
 #[inline(always)]
 pub fn write_whole<W: OutDevice>(out: &mut W, bytes: &[u8]) -> Result<(), IoFault>
-    ensures ok { OnOk result (Wrote W.state out.old out.new bytes.now) }
-    ensures err { IfErr result (WroteFront W.state out.old out.new bytes.now) }
+    ensures ok { OnOk result (WritesWhole W.state out.old out.new bytes.now) }
+    ensures err { IfErr result (WritesFront W.state out.old out.new bytes.now) }
 {
     if bytes.is_empty() {
         return Ok(());
@@ -27,8 +27,8 @@ pub fn write_whole<W: OutDevice>(out: &mut W, bytes: &[u8]) -> Result<(), IoFaul
 #[cold]
 #[inline(never)]
 fn write_rest<W: OutDevice>(out: &mut W, bytes: &[u8]) -> Result<(), IoFault>
-    ensures ok { OnOk result (Wrote W.state out.old out.new bytes.now) }
-    ensures err { IfErr result (WroteFront W.state out.old out.new bytes.now) }
+    ensures ok { OnOk result (WritesWhole W.state out.old out.new bytes.now) }
+    ensures err { IfErr result (WritesFront W.state out.old out.new bytes.now) }
 {
     match write_out(out, bytes) {
         (_, Ok(())) => Ok(()),

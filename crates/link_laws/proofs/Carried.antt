@@ -41,7 +41,7 @@ due_within segment hold count size some few =
 
 -- ---- the transfers
 
--- so many chunks of a bundle that goes on
+-- the transfers, with `count` chunks sent of a bundle that goes on
 abbrev pub partly : (id : ℕ) → Sending → (count : ℕ) → List Transfer → List Transfer
 partly id sending zero earlier = earlier
 partly id sending (suc count) earlier = sent id sending (suc count) false ∷ earlier

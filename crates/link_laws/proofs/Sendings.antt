@@ -25,7 +25,7 @@ module _ (id : ℕ) (sending : Sending) where
 
   -- ---- in order
 
-  -- so many chunks were sent, one at least
+  -- `count` + 1 chunks were sent
   abbrev pub SentSo : (earlier : List Transfer) → (count : ℕ) → List Entry → Type 0
   SentSo earlier count heads = Stands heads (carrying (open_by id (last_at id sending count))) (sent id sending (suc count) (last_at id sending count) ∷ earlier)
 

@@ -63,7 +63,7 @@ head_of id sending k = record {
 closes_as : (head : SegmentHead) (content : List ℕ) (last : Bool) → is_end head.flags ≡ last → length content ≡ head.length → closes head content ≡ last
 closes_as head content last ends size = rw (ends, eq-eqb (length content) head.length size) (and_true last)
 
--- a transfer of which so many chunks were sent
+-- a transfer of which `count` chunks were sent
 abbrev pub sent : (id : ℕ) → Sending → (count : ℕ) → (closed : Bool) → Transfer
 sent id sending count closed = record { first = head_of id sending 0; content = take (count * sending.segment) sending.bundle; closed = closed }
 

@@ -7,7 +7,7 @@ use Rattle.link_wire.specs.Limits.{window_size}
 use Rattle.link_wire.specs.Message.{data_length}
 use Rattle.link_wire.specs.Source.{window_of, Takes, Readies, IsOver}
 use Rattle.link_wire.specs.Stream.{Entry, End, Clean, Cut, Fault, Stream, ended, with_entry, Reading, reading_of}
-use Rattle.link_wire.specs.Session.{source_of, left_of, joined, data_after, IsSessionAt, IsLeft, IsRead, IsUndecided, SameMessages, GaveContact, GivesContact, GaveMessage, GaveEnd, GivesNext as SessionGivesNext, GaveBytes, GivesLoad}
+use Rattle.link_wire.specs.Session.{source_of, left_of, joined, data_after, IsSessionAt, IsLeft, IsRead, IsUndecided, SameMessages, ReadContact, GivesContact, ReadMessage, CleanEnd, GivesNext, PassedBytes, GivesLoad}
 use Rattle.link_wire.proofs.Contacts.{reading-none}
 use Rattle.link_io.proofs.Sources.{Readies-takes}
 use Rattle.link_wire.specs.declared.IoFault.{IoFault}
@@ -22,11 +22,11 @@ use Rattle.link_report.specs.Message.{contact_text, message_text}
 use Rattle.link_report.specs.Fault.{fault_text}
 use Rattle.link_report.specs.declared.fault.Fault.TheVariants.{Wire}
 use Rattle.link_run.specs.Ends.{end_lines, end_status, lasting_lines, is_shown}
-use Rattle.link_run.specs.Run.{Texts, Outcome, Devices, devices_at, NoneFailed, HasWritten, Ended, WentOn, GivesStep}
+use Rattle.link_run.specs.Run.{Texts, Outcome, Devices, devices_at, NoneFailed, HasWritten, LastStep, WentOn, GivesStep}
 use Rattle.link_run.specs.Reading.{NotHandedOn}
 use Rattle.link_run.specs.Writers.{place_of, on_output, on_report, Writes, WritesPart, GivesTexts, GivesReport, Unsettled}
 use Rattle.link_list.specs.Listing.{contact_lines, message_lines, lines_of, listing, listing_by, listing_sofar, listing_sofar_by, listing_shows, list_tool}
-use Rattle.link_list.specs.ListRun.{most_given, IsWaiting, HasNoContent, IsWaitingAfter, progress_of, Begins, Lists, IsListing, IsDue, GivesStage, GivesNext, GivesLine, GoesOn, GivesEnd}
+use Rattle.link_list.specs.ListRun.{most_given, IsWaiting, HasNoContent, IsWaitingAfter, progress_of, Begins, Lists, IsListing, IsDue, GivesStage, GivesRead, GivesLine, GoesOn, GivesEnd}
 use Rattle.link_list.specs.declared.listing.Next.{Next}
 use Rattle.link_list.specs.declared.listing.Next.TheVariants as next
 use Rattle.link_list.specs.declared.listing.Stage.{Stage}
@@ -165,7 +165,7 @@ module _ {R W E : Type 0} (in_look : R → Input) (out_look : W → Output) (rep
 
     -- the output failed in it
     lost : (fault : IoFault) → WritesPart out_look report_look mid after (on_output text) fault
-        → Ended in_look out_look report_look list_tool start (devices_at (place_of (source_of new) after)) (most_given now) history (Err fault)
+        → LastStep in_look out_look report_look list_tool start (devices_at (place_of (source_of new) after)) (most_given now) history (Err fault)
     lost fault part = record {
       given = at.given;
       size = at.size;
@@ -211,7 +211,7 @@ module _ {R W E : Type 0} (in_look : R → Input) (out_look : W → Output) (rep
           (λ is. inr (sofar_texts is.0, λ more. whole_is ((history ++ given) ++ more) reading (read.all more (λ e. absurd (is.0 e))) ∙ sym (whole_is (history ++ given) reading here)))
           (lasts offset fault)
 
-      pub fault_reported : (answer : Result Status IoFault) → length given ≤ most_given now → length (window_of (source_of new)) < window_size → GivesReport out_look report_look before after line answer → Ended in_look out_look report_look list_tool start (devices_at (place_of (source_of new) after)) (most_given now) history answer
+      pub fault_reported : (answer : Result Status IoFault) → length given ≤ most_given now → length (window_of (source_of new)) < window_size → GivesReport out_look report_look before after line answer → LastStep in_look out_look report_look list_tool start (devices_at (place_of (source_of new) after)) (most_given now) history answer
       fault_reported answer size few gives =
           reported in_look out_look report_look list_tool start (most_given now) (source_of old) (source_of new) before after history given texts written sound size list_reports line takes
           whole_texts (ap (λ (o : Outcome). o.status) (whole_is (history ++ given) reading here) ∙ ends_with) shown few answer gives
@@ -233,7 +233,7 @@ module _ {R W E : Type 0} (in_look : R → Input) (out_look : W → Output) (rep
     begun = written_as in_look out_look report_look fresh.written refl (sym nothing_read)
 
     pub contact_step : (mid after : Writers W E) (line : List ℕ) (contact : Contact) (next : Stage) → mid.output ≡ before.output → mid.report ≡ before.report
-        → GaveContact in_look old new contact → GivesLine out_look report_look (contact_text contact) mid after next → GivesStage in_look out_look report_look start stage.Contact old new after line [] next
+        → ReadContact in_look old new contact → GivesLine out_look report_look (contact_text contact) mid after next → GivesStage in_look out_look report_look start stage.Contact old new after line [] next
     contact_step mid after line contact next output report got gives =
         let given = got.given in
         let size = got.size in
@@ -268,14 +268,14 @@ module _ {R W E : Type 0} (in_look : R → Input) (out_look : W → Output) (rep
     standing : lasting_lines (reading_of history).end ≡ []
     standing = standing_lines old.offset old.left (reading_of history).end at.session.left
 
-    module _ (offset : ℕ) (message : Message) (got : GaveMessage in_look old new history offset message) where
+    module _ (offset : ℕ) (message : Message) (got : ReadMessage in_look old new history offset message) where
       abbrev pub text : List ℕ
       text = message_text offset message
 
       read_head : (test : Bool) → nat_lt 0 (data_length message) ≡ test → reading_of (history ++ got.given) ≡ joined (reading_of history) (if test then ended (Cut offset message []) else with_entry (record { offset = offset; message = message; content = [] }) (ended Clean))
       read_head test is = got.reading ∙ ap (λ b. joined (reading_of history) (if b then ended (Cut offset message []) else with_entry (record { offset = offset; message = message; content = [] }) (ended Clean))) is
 
-      pub message_step : (next : Next) → GoesOn (left_of new) next → GivesNext in_look out_look report_look start stage.Message old new before text history next
+      pub message_step : (next : Next) → GoesOn (left_of new) next → GivesRead in_look out_look report_look start stage.Message old new before text history next
       message_step next.Line none =
           let reading = read_head false (le-ltb 0 (data_length message) (omega (arith, got.left))) in
           due in_look out_look report_look start stage.Message old new before before text history got.given refl refl at.written at.sound got.takes got.some got.size got.at
@@ -290,9 +290,9 @@ module _ {R W E : Type 0} (in_look : R → Input) (out_look : W → Output) (rep
           (sofar_same history got.given _ reading refl refl standing) waiting.0 waiting.1
       message_step (next.Stage (stage.Ended answer)) goes = absurd goes
 
-    pub message_end : (after : Writers W E) → after ≡ before → GaveEnd in_look old new history → Ended in_look out_look report_look list_tool start (devices_at (place_of (source_of new) after)) (most_given stage.Message) history (Ok (record { 0 = 0 }))
+    pub message_end : (after : Writers W E) → after ≡ before → CleanEnd in_look old new history → LastStep in_look out_look report_look list_tool start (devices_at (place_of (source_of new) after)) (most_given stage.Message) history (Ok (record { 0 = 0 }))
     message_end after same got =
-        let P : Writers W E → Type 0 = λ w. Ended in_look out_look report_look list_tool start (devices_at (place_of (source_of new) w)) (most_given stage.Message) history (Ok (record { 0 = 0 })) in
+        let P : Writers W E → Type 0 = λ w. LastStep in_look out_look report_look list_tool start (devices_at (place_of (source_of new) w)) (most_given stage.Message) history (Ok (record { 0 = 0 })) in
         let reading : reading_of (history ++ []) ≡ reading_of history = ap reading_of (append-nil history) in
         let texts : listing_sofar history ≡ (listing (history ++ [])).texts =
         sofar_is history _ refl ∙ texts_as refl (ap lasting_lines got.clean ∙ sym (ap end_lines got.clean)) ∙ sym (ap (λ (t : Outcome). t.texts) (whole_is (history ++ []) _ reading)) in
@@ -307,7 +307,7 @@ module _ {R W E : Type 0} (in_look : R → Input) (out_look : W → Output) (rep
               (few_over in_look (source_of new) got.over);
         })
 
-    pub message_ended : (after : Writers W E) (line : List ℕ) (why : Stop) (next : Stage) → SessionGivesNext in_look old new history (Err why) → GivesEnd out_look report_look why before after next → GivesStage in_look out_look report_look start stage.Message old new after line history next
+    pub message_ended : (after : Writers W E) (line : List ℕ) (why : Stop) (next : Stage) → GivesNext in_look old new history (Err why) → GivesEnd out_look report_look why before after next → GivesStage in_look out_look report_look start stage.Message old new after line history next
     message_ended after line (stop.Wire offset fault) stage.Contact got gives = absurd gives
     message_ended after line (stop.Wire offset fault) stage.Message got gives = absurd gives
     message_ended after line (stop.Wire offset fault) stage.Data got gives = absurd gives
@@ -359,7 +359,7 @@ module _ {R W E : Type 0} (in_look : R → Input) (out_look : W → Output) (rep
     standing_data : lasting_lines (reading_of history).end ≡ []
     standing_data = ap lasting_lines inside.end
 
-    module _ (mid new : Session R) (bytes : List ℕ) (ready : Readies in_look (source_of old) (source_of mid)) (gave : GaveBytes in_look mid new history bytes) where
+    module _ (mid new : Session R) (bytes : List ℕ) (ready : Readies in_look (source_of old) (source_of mid)) (gave : PassedBytes in_look mid new history bytes) where
       -- the reading with these bytes
       read_data : (test : Bool) → nat_lt 0 (left_of new) ≡ test → reading_of (history ++ bytes) ≡ joined (reading_of history) (if test then ended (Cut inside.offset inside.message (inside.content ++ bytes)) else with_entry (record { offset = inside.offset; message = inside.message; content = inside.content ++ bytes }) (ended Clean))
       read_data test is =
@@ -370,7 +370,7 @@ module _ {R W E : Type 0} (in_look : R → Input) (out_look : W → Output) (rep
       takes : 0 < length bytes → Takes in_look (source_of old) (source_of new) bytes
       takes some = Readies-takes in_look (source_of old) (source_of mid) (source_of new) bytes ready gave.takes some
 
-      pub data_step : (next : Next) → 0 < length bytes → length bytes ≤ most_given stage.Data → GoesOn (left_of new) next → GivesNext in_look out_look report_look start stage.Data old new before line history next
+      pub data_step : (next : Next) → 0 < length bytes → length bytes ≤ most_given stage.Data → GoesOn (left_of new) next → GivesRead in_look out_look report_look start stage.Data old new before line history next
       data_step next.Line some size none =
           let reading = read_data false (le-ltb 0 (left_of new) (omega arith)) in
           due in_look out_look report_look start stage.Data old new before before line history bytes refl refl at.written at.sound (takes some) some size gave.at
@@ -448,7 +448,7 @@ module _ {R W E : Type 0} (in_look : R → Input) (out_look : W → Output) (rep
 
   -- a writer failed in it, and the run has ended
   lost_now : (fault : IoFault) → Unsettled out_look report_look before mid fault → length (window_of (source_of s)) < window_size
-      → Lists in_look out_look report_look start now s before last history → Ended in_look out_look report_look list_tool start (devices_at (place_of (source_of s) mid)) (most_given now) history (Err fault)
+      → Lists in_look out_look report_look start now s before last history → LastStep in_look out_look report_look list_tool start (devices_at (place_of (source_of s) mid)) (most_given now) history (Err fault)
   lost_now fault part few at = record {
     given = [];
     size = omega arith;
@@ -457,7 +457,7 @@ module _ {R W E : Type 0} (in_look : R → Input) (out_look : W → Output) (rep
   }
 
   lost_at : (fault : IoFault) (after : Writers W E) (line : List ℕ) (next : Stage)
-      → Ended in_look out_look report_look list_tool start (devices_at (place_of (source_of s) mid)) (most_given now) history (Err fault)
+      → LastStep in_look out_look report_look list_tool start (devices_at (place_of (source_of s) mid)) (most_given now) history (Err fault)
       → GivesEnd out_look report_look (stop.Io fault) mid after next → GivesStage in_look out_look report_look start now s s after line history next
   lost_at fault after line stage.Contact ended gives = absurd gives
   lost_at fault after line stage.Message ended gives = absurd gives

@@ -13,7 +13,7 @@ use Rattle.link_wire.specs.declared.session.Session.{Session}
 use Rattle.link_report.specs.Fault.{fault_text}
 use Rattle.link_report.specs.declared.fault.Fault.TheVariants.{Wire}
 use Rattle.link_report.specs.Message.{message_text}
-use Rattle.link_run.specs.Run.{Devices, devices_at, NoneFailed, HasWritten, WentOn, Ended, answer_of}
+use Rattle.link_run.specs.Run.{Devices, devices_at, NoneFailed, HasWritten, WentOn, LastStep, answer_of}
 use Rattle.link_list.specs.Listing.{list_tool, listing_sofar}
 use Rattle.link_run.specs.Writers.{place_of, on_output, Writes, WritesPart, GivesReport}
 use Rattle.link_list.specs.declared.listing.Latest.{Latest}
@@ -32,14 +32,14 @@ most_given stage.Message = longest_head
 most_given stage.Data = 4096
 most_given (stage.Ended answer) = 0
 
--- what a session may be asked for at each stage
+-- the session may be asked for what a step at this stage asks for
 abbrev pub may_go_on : {R : Type 0} → Stage → Session R → Bool
 may_go_on stage.Contact session = may_open session
 may_go_on stage.Message session = may_read session
 may_go_on stage.Data session = is_opened session
 may_go_on (stage.Ended answer) session = true
 
--- what a session may be asked for, whatever comes next: after a line a message does
+-- the same of what comes next: after a line a message is read
 abbrev pub may_go_next : {R : Type 0} → Next → Session R → Bool
 may_go_next next.Line session = may_read session
 may_go_next (next.Stage stage) session = may_go_on stage session
@@ -48,8 +48,8 @@ may_go_next (next.Stage stage) session = may_go_on stage session
 abbrev pub latest_line : Latest → List ℕ
 latest_line latest = message_text latest.offset (message_of latest.message)
 
--- What waits, by how the reading of the bytes so far ends: between two messages nothing does, and inside the data of a
--- segment its line.
+-- The stage and what waits, by how the reading of the bytes so far ends: between two messages a message comes next, and nothing waits;
+-- inside the data of a segment data does, and the segment's line waits.
 abbrev pub IsWaiting : Stage → List ℕ → End → Type 0
 IsWaiting now line Clean = (now ≡ stage.Message)
 IsWaiting now line (Cut offset message content) = (now ≡ stage.Data) × (line ≡ message_text offset message)
@@ -61,14 +61,14 @@ HasNoContent Clean = Unit {0}
 HasNoContent (Cut offset message content) = content ≡ []
 HasNoContent (Fault offset fault) = Unit {0}
 
--- how the reading ends where data waits after a step at this stage: the step at a message gives no data
+-- how the reading ends where data waits after a step at this stage: a step at a message is given none of it
 abbrev pub IsWaitingAfter : Stage → End → Type 0
 IsWaitingAfter stage.Contact end = Unit {0}
 IsWaitingAfter stage.Message end = HasNoContent end
 IsWaitingAfter stage.Data end = Unit {0}
 IsWaitingAfter (stage.Ended answer) end = Unit {0}
 
--- what the step returns that leaves this stage
+-- what the step returns that leads to this stage
 abbrev pub progress_of : Stage → Result Progress IoFault
 progress_of stage.Contact = Ok More
 progress_of stage.Message = Ok More
@@ -98,9 +98,9 @@ module _ {R W E : Type 0} where
     IsListing stage.Data session writers line history = Lists stage.Data session writers line history
     IsListing (stage.Ended answer) session writers line history = ⊥
 
-    -- what a step at the stage `now` gives, that leaves the stage `next`
+    -- what a step at the stage `now` gives that leads to the stage `next`
     abbrev pub GivesStage : (now : Stage) → (old new : Session R) → (after : Writers W E) → (line history : List ℕ) → (next : Stage) → Type 0
-    GivesStage now old new after line history (stage.Ended answer) = Ended in_look out_look report_look list_tool start (devices_at (place_of (source_of new) after)) (most_given now) history answer
+    GivesStage now old new after line history (stage.Ended answer) = LastStep in_look out_look report_look list_tool start (devices_at (place_of (source_of new) after)) (most_given now) history answer
     GivesStage now old new after line history stage.Contact = ⊥
     GivesStage now old new after line history stage.Message = WentOn (source_of old) (source_of new) (Lists stage.Message new after line) (most_given now) history
     GivesStage now old new after line history stage.Data = WentOn (source_of old) (source_of new) (λ bytes. Lists stage.Data new after line bytes × IsWaitingAfter now (reading_of bytes).end) (most_given now) history
@@ -119,13 +119,13 @@ module _ {R W E : Type 0} where
       pub clean : (reading_of (history ++ given)).end ≡ Clean
 
     -- what the first part of a step gives
-    abbrev pub GivesNext : (now : Stage) → (old new : Session R) → (after : Writers W E) → (line history : List ℕ) → Next → Type 0
-    GivesNext now old new after line history next.Line = IsDue now old new after line history
-    GivesNext now old new after line history (next.Stage stage) = GivesStage now old new after line history stage
+    abbrev pub GivesRead : (now : Stage) → (old new : Session R) → (after : Writers W E) → (line history : List ℕ) → Next → Type 0
+    GivesRead now old new after line history next.Line = IsDue now old new after line history
+    GivesRead now old new after line history (next.Stage stage) = GivesStage now old new after line history stage
 
 -- what the parts of a step do
 module _ {W E : Type 0} (out_look : W → Output) (report_look : E → Output) where
-  -- the line was written, and a message comes next
+  -- the line was written, and a message comes next; or a prefix of it was, and the run ends with that failure
   abbrev pub GivesLine : (line : List ℕ) → (old new : Writers W E) → (next : Stage) → Type 0
   GivesLine line old new stage.Contact = ⊥
   GivesLine line old new stage.Message = Writes out_look report_look old new (on_output line)

@@ -4,7 +4,7 @@ ghost use Rattle.std.specs.Prelude.{◌≡◌, false, IsTrue, List, ℕ, Err, On
 ghost use Rattle.link_wire.specs.Session.{may_open, may_read, is_opened, left_of};
 ghost use Rattle.link_run.specs.Run.{Devices, GivesAnswer};
 ghost use Rattle.link_list.specs.Listing.{list_tool};
-ghost use Rattle.link_list.specs.ListRun.{may_go_on, may_go_next, latest_line, IsListing, GivesStage, GivesNext, GivesLine, GoesOn, GivesEnd};
+ghost use Rattle.link_list.specs.ListRun.{may_go_on, may_go_next, latest_line, IsListing, GivesStage, GivesRead, GivesLine, GoesOn, GivesEnd};
 
 use link_report::{Fault, KeptDigits, MessageText, contact_line};
 use link_run::{Progress, Run, RunEnd, Status, Writers, load_data, next_message};
@@ -100,7 +100,7 @@ fn read<R: InDevice, W: OutDevice, E: OutDevice>(
     requires { IsTrue (may_go_on stage session.old) }
     ensures fits { IsTrue (may_go_next result session.new) }
     ensures gives { (start : Devices R W E) (history : List ℕ) → IsListing R.state W.state E.state start stage session.old writers.old (latest_line latest.old) history →
-        GivesNext R.state W.state E.state start stage session.old session.new writers.new (latest_line latest.new) history result }
+        GivesRead R.state W.state E.state start stage session.old session.new writers.new (latest_line latest.new) history result }
     ensures ended { (answer : _) → stage ≡ Stage.Ended answer → (session.new ≡ session.old) × (writers.new ≡ writers.old) × (latest.new ≡ latest.old) × (result ≡ Next.Stage stage) }
 {
     match stage {
@@ -143,7 +143,7 @@ fn read_message<R: InDevice, W: OutDevice, E: OutDevice>(
     requires { IsTrue (may_read session.old) }
     ensures fits { IsTrue (may_go_next result session.new) }
     ensures gives { (start : Devices R W E) (history : List ℕ) → IsListing R.state W.state E.state start Stage.Message session.old writers.old (latest_line latest.old) history →
-        GivesNext R.state W.state E.state start Stage.Message session.old session.new writers.new (latest_line latest.new) history result }
+        GivesRead R.state W.state E.state start Stage.Message session.old session.new writers.new (latest_line latest.new) history result }
 {
     match next_message(session, writers, &mut latest.message) {
         Ok(Some(offset)) => {
@@ -164,7 +164,7 @@ fn pass_data<R: InDevice, W: OutDevice, E: OutDevice>(
     requires { IsTrue (is_opened session.old) }
     ensures fits { IsTrue (may_go_next result session.new) }
     ensures gives { (start : Devices R W E) (line history : List ℕ) → IsListing R.state W.state E.state start Stage.Data session.old writers.old line history →
-        GivesNext R.state W.state E.state start Stage.Data session.old session.new writers.new line history result }
+        GivesRead R.state W.state E.state start Stage.Data session.old session.new writers.new line history result }
 {
     match load_data(session, writers) {
         Ok(ready) => {

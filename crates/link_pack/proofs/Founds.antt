@@ -13,8 +13,8 @@ use Rattle.link_run.specs.declared.writers.Writers.{Writers}
 use Rattle.link_run.proofs.Runs.{◌then◌, few_over}
 use Rattle.link_pack.specs.Bundles.{Packed, Faulty, divided, joined}
 use Rattle.link_pack.specs.Packing.{end_bytes, line_of, refusal_line, packing}
-use Rattle.link_pack.specs.Packer.{Holds, Grows, Refuses, Took, IsCut, CutShort}
-use Rattle.link_pack.specs.PackRun.{texts_of, run_segments, Packs, GivesStage, GivesRun, GivesLast, GivesFound, GivesShort, GivesFinish}
+use Rattle.link_pack.specs.Packer.{Holds, Grows, Refuses, MakesOf, IsCut, CutShort}
+use Rattle.link_pack.specs.PackRun.{texts_of, run_segments, Packs, GivesStage, GivesWritten, GivesLast, GivesFound, GivesShort, GivesFinish}
 use Rattle.link_pack.specs.declared.options.PackOptions.{PackOptions}
 use Rattle.link_pack.specs.declared.packer.Found.{Found}
 use Rattle.link_pack.specs.declared.packer.Found.TheVariants as found
@@ -57,7 +57,7 @@ module _ {R W E : Type 0} (in_look : R → Input) (out_look : W → Output) (rep
       within is = subst (λ (o : PackOptions). length (at.begun ++ run) ≤ o.peer_transfer) same is
 
       part_came : Grows mid at.begun run false → bundle_goes (at.begun ++ run) ≡ true
-          → GivesRun out_look report_look before after (record { output = run_segments mid.options mid.number at.begun run false; report = [] }) (Holds packed at.bundles (at.begun ++ run)) next
+          → GivesWritten out_look report_look before after (record { output = run_segments mid.options mid.number at.begun run false; report = [] }) (Holds packed at.bundles (at.begun ++ run)) next
           → GivesStage in_look out_look report_look start options stage.Bundles old new after packed history next
       part_came grows goes gives =
           let few = at.few in
@@ -68,7 +68,7 @@ module _ {R W E : Type 0} (in_look : R → Input) (out_look : W → Output) (rep
           (sofar_going options (history ++ run) at.bundles (at.begun ++ run) grows.front goes (within grows.within)
           (ap (divided limit) (sym (append-nil (history ++ run))) ∙ divides [] ∙ ap (λ (bytes : List ℕ). joined at.bundles (divided limit bytes)) (append-nil (at.begun ++ run))))
           after packed next (kept ∙ same)
-          (as_stood (λ o n. GivesRun out_look report_look before after (record { output = run_segments o n at.begun run false; report = [] }) (Holds packed at.bundles (at.begun ++ run)) next) gives)
+          (as_stood (λ o n. GivesWritten out_look report_look before after (record { output = run_segments o n at.begun run false; report = [] }) (Holds packed at.bundles (at.begun ++ run)) next) gives)
 
       -- the bundle that has come
       abbrev bundle_of : BundleInfo → Packed
@@ -81,7 +81,7 @@ module _ {R W E : Type 0} (in_look : R → Input) (out_look : W → Output) (rep
           ∙ joined_push at.bundles (bundle_of info) (divided limit rest)
 
       whole_came : Grows mid at.begun run true → (info : BundleInfo) → verdict (at.begun ++ run) ≡ Ok info
-          → GivesRun out_look report_look before after (record { output = run_segments mid.options mid.number at.begun run true; report = line_of mid.options mid.number (bundle_of info) }) (Holds packed (at.bundles ++ bundle_of info ∷ []) []) next
+          → GivesWritten out_look report_look before after (record { output = run_segments mid.options mid.number at.begun run true; report = line_of mid.options mid.number (bundle_of info) }) (Holds packed (at.bundles ++ bundle_of info ∷ []) []) next
           → GivesStage in_look out_look report_look start options stage.Bundles old new after packed history next
       whole_came grows info is gives =
           let few = at.few in
@@ -94,7 +94,7 @@ module _ {R W E : Type 0} (in_look : R → Input) (out_look : W → Output) (rep
           (sofar_going options (history ++ run) (at.bundles ++ bundle_of info ∷ []) [] none_front none_goes (omega arith)
           (ap (divided limit) (sym (append-nil (history ++ run))) ∙ come []))
           after packed next (kept ∙ same)
-          (as_stood (λ o n. GivesRun out_look report_look before after (record { output = run_segments o n at.begun run true; report = line_of o n (bundle_of info) }) (Holds packed (at.bundles ++ bundle_of info ∷ []) []) next) gives)
+          (as_stood (λ o n. GivesWritten out_look report_look before after (record { output = run_segments o n at.begun run true; report = line_of o n (bundle_of info) }) (Holds packed (at.bundles ++ bundle_of info ∷ []) []) next) gives)
 
       module _ (fault : Fault) (refuses : Refuses mid at.begun run fault) where
         refused_divides : (rest : List ℕ) → divided limit ((history ++ run) ++ rest) ≡ refused_so options at.bundles (at.begun ++ refuses.accepted) refuses.refusal
@@ -135,7 +135,7 @@ module _ {R W E : Type 0} (in_look : R → Input) (out_look : W → Output) (rep
             (takes.window.less some) after packed next
             (as_stood (λ o n. GivesLast out_look report_look before after (record { output = run_segments o n at.begun refuses.accepted false; report = fault_text fault }) 3 next) gives)
 
-      pub came : (what : Found) (took : Took mid at.begun run what) → GivesFound out_look report_look mid at.bundles at.begun run before after packed what took next
+      pub came : (what : Found) (took : MakesOf mid at.begun run what) → GivesFound out_look report_look mid at.bundles at.begun run before after packed what took next
           → GivesStage in_look out_look report_look start options stage.Bundles old new after packed history next
       came found.Part took gives = part_came took.0 took.1 gives
       came found.Whole took gives = whole_came took.0 took.1.0 took.1.1 gives

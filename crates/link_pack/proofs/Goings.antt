@@ -13,8 +13,8 @@ use Rattle.link_run.specs.declared.writers.Writers.{Writers}
 use Rattle.link_run.proofs.Runs.{◌then◌, texts_as, writes_then, part_of_more, part_behind}
 use Rattle.link_pack.specs.Bundles.{Packed}
 use Rattle.link_pack.specs.Packing.{segment_size, line_of}
-use Rattle.link_pack.specs.Packer.{cutting, Took}
-use Rattle.link_pack.specs.PackRun.{GivesRun, GivesFound}
+use Rattle.link_pack.specs.Packer.{cutting, MakesOf}
+use Rattle.link_pack.specs.PackRun.{GivesWritten, GivesFound}
 use Rattle.link_pack.specs.Segments.{segments_left, all_given}
 use Rattle.link_pack.specs.declared.packer.Found.{Found}
 use Rattle.link_pack.specs.declared.packer.Found.TheVariants as found
@@ -45,7 +45,7 @@ module _ {W E : Type 0} (out_look : W → Output) (report_look : E → Output) w
 
   module _ (old : Packer) (bundles : List Packed) (begun run : List ℕ) (numbered : old.number ≡ length bundles) (some : 0 < length run) (before mid : Writers W E) where
     -- the run ends, since a writer failed in the segments
-    pub lost : (what : Found) (took : Took old begun run what) (packed : Packer) (fault : IoFault)
+    pub lost : (what : Found) (took : MakesOf old begun run what) (packed : Packer) (fault : IoFault)
         → ((so_far : Cutting) → IsCutterAt old.cutter so_far → WritesPart out_look report_look before mid (on_output (segments_left old.number so_far)) fault)
         → GivesFound out_look report_look old bundles begun run before mid packed what took (stage.Ended (Err fault))
     lost found.Part took packed fault gives = gives _ took.0.cut
@@ -53,7 +53,7 @@ module _ {W E : Type 0} (out_look : W → Output) (report_look : E → Output) w
     lost (found.Refused why) took packed fault gives = segments_lost before mid _ _ fault (gives _ took.cut)
 
     -- the bundle goes on
-    pub grown : (took : Took old begun run found.Part) (packed : Packer) → packed.options ≡ old.options → packed.number ≡ old.number → packed.scan ≡ old.scan
+    pub grown : (took : MakesOf old begun run found.Part) (packed : Packer) → packed.options ≡ old.options → packed.number ≡ old.number → packed.scan ≡ old.scan
         → IsCutterAt packed.cutter (all_given (with_bytes run false (cutting old.options begun)))
         → Writes out_look report_look before mid (on_output (segments_left old.number (with_bytes run false (cutting old.options begun))))
         → GivesFound out_look report_look old bundles begun run before mid packed found.Part took stage.Bundles
@@ -70,10 +70,10 @@ module _ {W E : Type 0} (out_look : W → Output) (report_look : E → Output) w
     )
 
     -- it is whole
-    pub ended : (took : Took old begun run found.Whole) (after : Writers W E) (packed : Packer) (next : Stage) → packed.options ≡ old.options
+    pub ended : (took : MakesOf old begun run found.Whole) (after : Writers W E) (packed : Packer) (next : Stage) → packed.options ≡ old.options
         → IsCutterAt packed.cutter (all_given (with_bytes run true (cutting old.options begun)))
         → Writes out_look report_look before mid (on_output (segments_left old.number (with_bytes run true (cutting old.options begun))))
-        → GivesRun out_look report_look mid after (on_report (line_of old.options old.number (record { bytes = begun ++ run; info = took.1.0 }))) (HasScanned packed.scan [] × (packed.number ≡ old.number + 1)) next
+        → GivesWritten out_look report_look mid after (on_report (line_of old.options old.number (record { bytes = begun ++ run; info = took.1.0 }))) (HasScanned packed.scan [] × (packed.number ≡ old.number + 1)) next
         → GivesFound out_look report_look old bundles begun run before after packed found.Whole took next
     ended took after packed stage.Prelude options cut writes gives = absurd gives
     ended took after packed stage.Bundles options cut writes gives = (
@@ -91,7 +91,7 @@ module _ {W E : Type 0} (out_look : W → Output) (report_look : E → Output) w
     ended took after packed (stage.Ended (Err fault)) options cut writes gives = line_lost before mid after _ _ fault writes gives
 
     -- it is refused
-    pub refused : (why : Fault) (took : Took old begun run (found.Refused why)) (after : Writers W E) (packed : Packer) (answer : Result Status IoFault)
+    pub refused : (why : Fault) (took : MakesOf old begun run (found.Refused why)) (after : Writers W E) (packed : Packer) (answer : Result Status IoFault)
         → Writes out_look report_look before mid (on_output (segments_left old.number (with_bytes took.accepted false (cutting old.options begun))))
         → GivesReport out_look report_look mid after (fault_text why) answer
         → GivesFound out_look report_look old bundles begun run before after packed (found.Refused why) took (stage.Ended answer)

@@ -9,7 +9,7 @@ use Rattle.link_run.specs.Writers.{on_output}
 use Rattle.link_run.specs.declared.writers.Writers.{Writers}
 use Rattle.link_run.proofs.Runs.{◌then◌, no_texts, texts_as, written_as, written_more, sound_written, writer_lost}
 use Rattle.link_pack.specs.Packing.{prelude_bytes, segment_size, transfers_of, lines_of, pack_tool}
-use Rattle.link_pack.specs.PackRun.{texts_of, Begins, GivesStage, GivesRun}
+use Rattle.link_pack.specs.PackRun.{texts_of, Begins, GivesStage, GivesWritten}
 use Rattle.link_pack.specs.declared.options.PackOptions.{PackOptions}
 use Rattle.link_pack.specs.declared.packer.Packer.{Packer}
 use Rattle.link_pack.specs.declared.packing.Stage.{Stage}
@@ -31,7 +31,7 @@ module _ {R W E : Type 0} (in_look : R → Input) (out_look : W → Output) (rep
     few : length (window_of source) < window_size
     few = let none = ap length fresh.unread in omega arith
 
-    from_none : (next : Stage) → GivesRun out_look report_look before after (on_output (prelude_bytes packer.options)) (Unit {0}) next
+    from_none : (next : Stage) → GivesWritten out_look report_look before after (on_output (prelude_bytes packer.options)) (Unit {0}) next
         → GivesStage in_look out_look report_look start packer.options stage.Prelude source source after packer [] next
     from_none stage.Prelude gives = absurd gives
     from_none stage.Bundles gives = record {
@@ -61,7 +61,7 @@ module _ {R W E : Type 0} (in_look : R → Input) (out_look : W → Output) (rep
     }
 
   pub begun : (source : Source R) (before after : Writers W E) (packer : Packer) (history : List ℕ) (next : Stage) → Begins in_look out_look report_look start source before packer history
-      → GivesRun out_look report_look before after (on_output (prelude_bytes packer.options)) (Unit {0}) next
+      → GivesWritten out_look report_look before after (on_output (prelude_bytes packer.options)) (Unit {0}) next
       → GivesStage in_look out_look report_look start packer.options stage.Prelude source source after packer history next
   begun source before after packer history next begins gives =
       let Q : List ℕ → Type 0 = λ h. Begins in_look out_look report_look start source before packer h in

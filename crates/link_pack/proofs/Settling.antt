@@ -5,7 +5,7 @@ use Rattle.link_wire.specs.Limits.{window_size}
 use Rattle.link_wire.specs.Source.{window_of}
 use Rattle.link_wire.specs.declared.IoFault.{IoFault}
 use Rattle.link_wire.specs.declared.Source.{Source}
-use Rattle.link_run.specs.Run.{Devices, devices_at, Ended}
+use Rattle.link_run.specs.Run.{Devices, devices_at, LastStep}
 use Rattle.link_run.specs.Writers.{place_of, Writes, Unsettled}
 use Rattle.link_run.specs.declared.writers.Writers.{Writers}
 use Rattle.link_run.proofs.Runs.{no_texts, written_as, sound_written, settle_lost, settle_kept}
@@ -35,7 +35,7 @@ module _ {R W E : Type 0} (in_look : R → Input) (out_look : W → Output) (rep
 
   -- a writer failed in it, and the run has ended
   pub lost_now : (fault : IoFault) → Unsettled out_look report_look before mid fault → length (window_of s) < window_size
-      → Packs in_look out_look report_look start s before packer history → Ended in_look out_look report_look (pack_tool packer.options) start (devices_at (place_of s mid)) (most_given stage.Bundles) history (Err fault)
+      → Packs in_look out_look report_look start s before packer history → LastStep in_look out_look report_look (pack_tool packer.options) start (devices_at (place_of s mid)) (most_given stage.Bundles) history (Err fault)
   lost_now fault part few at = record {
     given = [];
     size = omega arith;

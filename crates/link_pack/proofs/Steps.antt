@@ -13,7 +13,7 @@ use Rattle.link_run.proofs.Runs.{◌then◌, written_as, written_given, written_
 use Rattle.link_pack.specs.Bundles.{Packed, divided, joined}
 use Rattle.link_pack.specs.Packing.{packing, packing_sofar, packing_shows, pack_tool}
 use Rattle.link_pack.specs.Packer.{Holds}
-use Rattle.link_pack.specs.PackRun.{texts_of, Packs, GivesStage, GivesRun, GivesLast}
+use Rattle.link_pack.specs.PackRun.{texts_of, Packs, GivesStage, GivesWritten, GivesLast}
 use Rattle.link_pack.specs.declared.options.PackOptions.{PackOptions}
 use Rattle.link_pack.specs.declared.packer.Packer.{Packer}
 use Rattle.link_pack.specs.declared.packing.Stage.{Stage}
@@ -71,7 +71,7 @@ module _ {R W E : Type 0} (in_look : R → Input) (out_look : W → Output) (rep
               sound = sound_written in_look out_look report_look new before after more sound writes;
             }
 
-        pub goes_on : (after : Writers W E) (packed : Packer) (next : Stage) → packed.options ≡ options → GivesRun out_look report_look before after more (Holds packed bundles begun) next
+        pub goes_on : (after : Writers W E) (packed : Packer) (next : Stage) → packed.options ≡ options → GivesWritten out_look report_look before after more (Holds packed bundles begun) next
             → GivesStage in_look out_look report_look start options stage.Bundles old new after packed history next
         goes_on after packed stage.Prelude same gives = absurd gives
         goes_on after packed stage.Bundles same gives =

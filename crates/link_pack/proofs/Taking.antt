@@ -21,7 +21,7 @@ use Rattle.link_transfer.proofs.Due.{fits, fits_back}
 use Rattle.link_report.specs.declared.fault.Fault.TheVariants.{TooLong}
 use Rattle.link_report.specs.Packed.{packed_text}
 use Rattle.link_pack.specs.Bundles.{Packed, Longer, Faulty, front_of}
-use Rattle.link_pack.specs.Packer.{Holds, Grows, Refuses, Took, cutting, found_by, accepted_of, is_whole}
+use Rattle.link_pack.specs.Packer.{Holds, Grows, Refuses, MakesOf, cutting, found_by, accepted_of, is_whole}
 use Rattle.link_pack.specs.Packing.{segment_size, line_of}
 use Rattle.link_pack.specs.declared.options.PackOptions.{PackOptions}
 use Rattle.link_pack.specs.declared.packer.Found.{Found}
@@ -102,7 +102,7 @@ module _ (packer : Packer) (begun run : List ℕ) (here : Comes packer begun run
 
   took_fault : (fault : BundleFault) (place : ℕ) (test : Bool) → lasts fault ≡ test → verdict (begun ++ run) ≡ Err (fault, place)
       → Cuts (found_by packer.number (if test then state.Failed fault place else state.Going))
-      → Took packer begun run (found_by packer.number (if test then state.Failed fault place else state.Going))
+      → MakesOf packer begun run (found_by packer.number (if test then state.Failed fault place else state.Going))
   unfolding Cuts
   took_fault fault place true lasting told cut = record {
     accepted = take (length run - 1) run;
@@ -119,15 +119,15 @@ module _ (packer : Packer) (begun run : List ℕ) (here : Comes packer begun run
   )
 
   took_told : (told : Result BundleInfo (BundleFault × ℕ)) → verdict (begun ++ run) ≡ told
-      → Cuts (found_by packer.number (state_of told)) → Took packer begun run (found_by packer.number (state_of told))
+      → Cuts (found_by packer.number (state_of told)) → MakesOf packer begun run (found_by packer.number (state_of told))
   unfolding Cuts
   took_told (Ok info) told cut = (grows true cut, (info, told))
   took_told (Err (fault, place)) told cut = took_fault fault place (lasts fault) refl told cut
 
   pub took : (found : Found) → found ≡ found_by packer.number (state_of (verdict (begun ++ run)))
-      → IsCutterAt packer.cutter (with_bytes (accepted_of found run) (is_whole found) (cutting packer.options begun)) → Took packer begun run found
+      → IsCutterAt packer.cutter (with_bytes (accepted_of found run) (is_whole found) (cutting packer.options begun)) → MakesOf packer begun run found
   unfolding Cuts
-  took found is cut = subst (Took packer begun run) (sym is) (took_told (verdict (begun ++ run)) refl (subst Cuts is cut))
+  took found is cut = subst (MakesOf packer begun run) (sym is) (took_told (verdict (begun ++ run)) refl (subst Cuts is cut))
 
 -- the cutter took a whole run, with the bundle's last byte
 pub whole_pushed : (cutter : Cutter) (so_far : Cutting) (run : List ℕ) (count : ℕ) → count ≡ length run
@@ -143,7 +143,7 @@ rounded_up : (segment size count : ℕ) → 0 < segment → size ≤ count * seg
 rounded_up segment size count some least most =
     grind (arith, fits_back segment count (size + (segment - 1)) some, fits segment (count + 1) (size + (segment - 1)) some)
 
--- the chunks of so many bytes, counted by a division that rounds up
+-- the chunks of `size` bytes, counted by a division that rounds up
 pub chunks_counted : (segment size : ℕ) → 0 < segment → size / segment + min 1 (size % segment) ≡ chunk_count segment size
 chunks_counted segment size some =
     let within = div_ceil_times size segment some in

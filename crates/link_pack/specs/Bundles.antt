@@ -34,7 +34,7 @@ abbrev pub refused_by : Result BundleInfo (BundleFault × ℕ) → Result Bundle
 refused_by (Ok info) = Ok info
 refused_by (Err (fault, place)) = Err (Faulty fault place)
 
--- whether they are a bundle that the peer takes: of at most so many bytes (RFC 9174 section 4.6)
+-- whether they are a bundle that the peer takes: of at most `limit` bytes (RFC 9174 section 4.6)
 abbrev pub judged_front : (limit : ℕ) → (front : List ℕ) → Result BundleInfo Refusal
 judged_front limit front = if nat_lt limit (length front) then Err (Longer limit) else refused_by (verdict front)
 

@@ -9,7 +9,7 @@ use Rattle.link_transfer.specs.Cutter.{cut_waits}
 use Rattle.link_transfer.specs.Cutting.{with_bytes}
 use Rattle.link_report.specs.Fault.{fault_text}
 use Rattle.link_report.specs.declared.fault.Fault.{Fault}
-use Rattle.link_run.specs.Run.{Texts, Devices, devices_at, NoneFailed, HasWritten, WentOn, Ended, answer_of}
+use Rattle.link_run.specs.Run.{Texts, Devices, devices_at, NoneFailed, HasWritten, WentOn, LastStep, answer_of}
 use Rattle.link_run.specs.Writers.{place_of, on_output, on_report, Writes, WritesPart}
 use Rattle.link_run.specs.declared.run.Progress.{Progress}
 use Rattle.link_run.specs.declared.run.Progress.TheVariants.{More}
@@ -18,7 +18,7 @@ use Rattle.link_run.specs.declared.writers.Writers.{Writers}
 use Rattle.link_pack.specs.Bundles.{Packed, divided, joined}
 use Rattle.link_pack.specs.Segments.{segments_of, segments_left}
 use Rattle.link_pack.specs.Packing.{prelude_bytes, sending, transfers_of, end_bytes, line_of, lines_of, pack_tool}
-use Rattle.link_pack.specs.Packer.{cutting, Holds, Took, CutShort}
+use Rattle.link_pack.specs.Packer.{cutting, Holds, MakesOf, CutShort}
 use Rattle.link_pack.specs.declared.options.PackOptions.{PackOptions}
 use Rattle.link_pack.specs.declared.packer.Found.{Found}
 use Rattle.link_pack.specs.declared.packer.Found.TheVariants as found
@@ -44,7 +44,7 @@ is_begun stage.Prelude = false
 is_begun stage.Bundles = true
 is_begun (stage.Ended answer) = true
 
--- what the step returns that leaves this stage
+-- what the step returns that leads to this stage
 abbrev pub progress_of : Stage → Result Progress IoFault
 progress_of stage.Prelude = Ok More
 progress_of stage.Bundles = Ok More
@@ -86,9 +86,9 @@ module _ {R W E : Type 0} (in_look : R → Input) (out_look : W → Output) (rep
   IsPacking stage.Bundles source writers packer history = Packs source writers packer history
   IsPacking (stage.Ended answer) source writers packer history = ⊥
 
-  -- what a step at the stage `now` gives, that leaves the stage `next`
+  -- what a step at the stage `now` gives that leads to the stage `next`
   abbrev pub GivesStage : PackOptions → (now : Stage) → (old new : Source R) → (after : Writers W E) → Packer → (history : List ℕ) → (next : Stage) → Type 0
-  GivesStage options now old new after packer history (stage.Ended answer) = Ended in_look out_look report_look (pack_tool options) start (devices_at (place_of new after)) (most_given now) history answer
+  GivesStage options now old new after packer history (stage.Ended answer) = LastStep in_look out_look report_look (pack_tool options) start (devices_at (place_of new after)) (most_given now) history answer
   GivesStage options now old new after packer history stage.Prelude = ⊥
   GivesStage options now old new after packer history stage.Bundles = WentOn old new (Packs new after packer) (most_given now) history
 
@@ -100,11 +100,11 @@ run_segments options number begun run whole = segments_left number (with_bytes r
 
 module _ {W E : Type 0} (out_look : W → Output) (report_look : E → Output) where
   -- these texts were written, and the run goes on with the packer as it stands; or a writer failed in them
-  abbrev pub GivesRun : (old new : Writers W E) → Texts → (stands : Type 0) → (next : Stage) → Type 0
-  GivesRun old new texts stands stage.Prelude = ⊥
-  GivesRun old new texts stands stage.Bundles = Writes out_look report_look old new texts × stands
-  GivesRun old new texts stands (stage.Ended (Ok status)) = ⊥
-  GivesRun old new texts stands (stage.Ended (Err fault)) = WritesPart out_look report_look old new texts fault
+  abbrev pub GivesWritten : (old new : Writers W E) → Texts → (stands : Type 0) → (next : Stage) → Type 0
+  GivesWritten old new texts stands stage.Prelude = ⊥
+  GivesWritten old new texts stands stage.Bundles = Writes out_look report_look old new texts × stands
+  GivesWritten old new texts stands (stage.Ended (Ok status)) = ⊥
+  GivesWritten old new texts stands (stage.Ended (Err fault)) = WritesPart out_look report_look old new texts fault
 
   -- these texts were written, and the run has ended with this status; or a writer failed in them
   abbrev pub GivesLast : (old new : Writers W E) → Texts → (status : ℕ) → (next : Stage) → Type 0
@@ -114,12 +114,12 @@ module _ {W E : Type 0} (out_look : W → Output) (report_look : E → Output) w
   GivesLast old new texts status (stage.Ended (Err fault)) = WritesPart out_look report_look old new texts fault
 
   -- what is written once a run of bytes has come, after these bundles
-  abbrev pub GivesFound : (old : Packer) → (bundles : List Packed) → (begun run : List ℕ) → (before after : Writers W E) → (new : Packer) → (what : Found) → Took old begun run what → (next : Stage) → Type 0
+  abbrev pub GivesFound : (old : Packer) → (bundles : List Packed) → (begun run : List ℕ) → (before after : Writers W E) → (new : Packer) → (what : Found) → MakesOf old begun run what → (next : Stage) → Type 0
   GivesFound old bundles begun run before after new found.Part took next =
-      GivesRun before after (record { output = run_segments old.options old.number begun run false; report = [] }) (Holds new bundles (begun ++ run)) next
+      GivesWritten before after (record { output = run_segments old.options old.number begun run false; report = [] }) (Holds new bundles (begun ++ run)) next
   GivesFound old bundles begun run before after new found.Whole took next =
       let bundle : Packed = record { bytes = begun ++ run; info = took.1.0 } in
-      GivesRun before after (record { output = run_segments old.options old.number begun run true; report = line_of old.options old.number bundle }) (Holds new (bundles ++ bundle ∷ []) []) next
+      GivesWritten before after (record { output = run_segments old.options old.number begun run true; report = line_of old.options old.number bundle }) (Holds new (bundles ++ bundle ∷ []) []) next
   GivesFound old bundles begun run before after new (found.Refused fault) took next =
       GivesLast before after (record { output = run_segments old.options old.number begun took.accepted false; report = fault_text fault }) 3 next
 

@@ -51,10 +51,10 @@ pub record Refuses (packer : Packer) (begun run : List ℕ) (fault : Fault) : Ty
   pub divides : (more : List ℕ) → divided packer.options.peer_transfer ((begun ++ run) ++ more) ≡ record { bundles = []; rest = Some (record { accepted = begun ++ accepted; refusal = refusal }) }
 
 -- what a run of bytes makes of the bundle
-abbrev pub Took : Packer → (begun run : List ℕ) → Found → Type 0
-Took packer begun run found.Part = Grows packer begun run false × (bundle_goes (begun ++ run) ≡ true)
-Took packer begun run found.Whole = Grows packer begun run true × ((info : BundleInfo) × (verdict (begun ++ run) ≡ Ok info))
-Took packer begun run (found.Refused fault) = Refuses packer begun run fault
+abbrev pub MakesOf : Packer → (begun run : List ℕ) → Found → Type 0
+MakesOf packer begun run found.Part = Grows packer begun run false × (bundle_goes (begun ++ run) ≡ true)
+MakesOf packer begun run found.Whole = Grows packer begun run true × ((info : BundleInfo) × (verdict (begun ++ run) ≡ Ok info))
+MakesOf packer begun run (found.Refused fault) = Refuses packer begun run fault
 
 -- these bytes end inside a bundle
 pub record IsCut (bytes : List ℕ) : Type 0 where

@@ -19,7 +19,7 @@ pub struct PackOptions {
     pub peer_segment: u64,
     /// The longest transfer that the peer takes, in bytes.
     pub peer_transfer: u64,
-    /// The length of bundles is announced (RFC 9174 section 5.2.5.1) that have more than one segment and at most so many
+    /// The length of bundles is announced (RFC 9174 section 5.2.5.1) that have more than one segment and at most this many
     /// bytes: at most 1,048,576, and 0 for none.
     pub announce: u64,
     /// Whether the stream ends with SESS_TERM (RFC 9174 section 6.1).

@@ -55,7 +55,7 @@ impl Packer {
     ghost use Rattle.link_transfer.specs.Cutting.{Cutting, beginning, with_bytes};
     ghost use Rattle.link_pack.specs.Bundles.{Packed};
     ghost use Rattle.link_pack.specs.Packing.{line_of};
-    ghost use Rattle.link_pack.specs.Packer.{Holds, Took, CutShort, found_by, accepted_of, is_whole};
+    ghost use Rattle.link_pack.specs.Packer.{Holds, MakesOf, CutShort, found_by, accepted_of, is_whole};
 
     /// Nothing was packed. It takes memory once, for the cutter.
     #[inline(never)]
@@ -115,7 +115,7 @@ impl Packer {
         ensures some { (bundles : List Packed) (begun : List ℕ) → Holds self.old bundles begun → length begun + length piece.now < 2 ^ 63
             → 0 < result.0 }
         ensures took { (bundles : List Packed) (begun : List ℕ) → Holds self.old bundles begun → length begun + length piece.now < 2 ^ 63
-            → Took self.new begun (take result.0 piece.now) result.1 }
+            → MakesOf self.new begun (take result.0 piece.now) result.1 }
         ensures options { self.new.options ≡ self.old.options }
         ensures number { self.new.number ≡ self.old.number }
     {

@@ -9,8 +9,8 @@ ghost use Rattle.link_bundle_types.specs.declared.info.BundleInfo.{BundleInfo};
 ghost use Rattle.link_transfer.specs.Cutter.{cut_waits};
 ghost use Rattle.link_pack.specs.Bundles.{Packed};
 ghost use Rattle.link_pack.specs.Packing.{prelude_bytes, end_bytes, line_of, pack_tool};
-ghost use Rattle.link_pack.specs.Packer.{Took};
-ghost use Rattle.link_pack.specs.PackRun.{may_go_on, is_begun, IsPacking, GivesStage, GivesRun, GivesFound, GivesFinish, LacksMemory};
+ghost use Rattle.link_pack.specs.Packer.{MakesOf};
+ghost use Rattle.link_pack.specs.PackRun.{may_go_on, is_begun, IsPacking, GivesStage, GivesWritten, GivesFound, GivesFinish, LacksMemory};
 
 use crate::options::PackOptions;
 use crate::packer::{Found, Packer};
@@ -100,7 +100,7 @@ fn write_prelude<W: OutDevice, E: OutDevice>(
     head: &mut HeadBuf,
 ) -> Stage
     ensures begun { IsTrue (is_begun result) }
-    ensures gives { GivesRun W.state E.state writers.old writers.new (on_output (prelude_bytes packer.now.options)) (Unit {0}) result }
+    ensures gives { GivesWritten W.state E.state writers.old writers.new (on_output (prelude_bytes packer.now.options)) (Unit {0}) result }
 {
     head.clear();
     put_prelude(head, &packer.options);
@@ -167,7 +167,7 @@ fn go_on<W: OutDevice, E: OutDevice>(
     ensures begun { IsTrue (is_begun result) }
     ensures fits { IsTrue (may_go_on result packer.new) }
     ensures gives { (bundles : List Packed) (begun run : List ℕ) → packer.old.number ≡ length bundles → length bundles + 1 < 2 ^ 64 → 0 < length run
-        → (took : Took packer.old begun run found) → GivesFound W.state E.state packer.old bundles begun run writers.old writers.new packer.new found took result }
+        → (took : MakesOf packer.old begun run found) → GivesFound W.state E.state packer.old bundles begun run writers.old writers.new packer.new found took result }
     ensures options { packer.new.options ≡ packer.old.options }
 {
     if let Err(fault) = write_segments(packer.number, &mut packer.cutter, head, writers) {
@@ -186,7 +186,7 @@ fn end_bundle<W: OutDevice, E: OutDevice>(writers: &mut Writers<W, E>, packer: &
     ensures begun { IsTrue (is_begun result) }
     ensures fits { IsTrue (may_go_on result packer.new) }
     ensures gives { (bytes : List ℕ) (info : BundleInfo) → HasScanned packer.old.scan bytes → verdict bytes ≡ Ok info → packer.old.number + 1 < 2 ^ 64 →
-        GivesRun W.state E.state writers.old writers.new (on_report (line_of packer.old.options packer.old.number (record { bytes = bytes; info = info })))
+        GivesWritten W.state E.state writers.old writers.new (on_report (line_of packer.old.options packer.old.number (record { bytes = bytes; info = info })))
         (HasScanned packer.new.scan [] × (packer.new.number ≡ packer.old.number + 1)) result }
     ensures options { packer.new.options ≡ packer.old.options }
     ensures cutter { packer.new.cutter ≡ packer.old.cutter }

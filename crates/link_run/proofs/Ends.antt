@@ -13,7 +13,7 @@ use Rattle.link_report.specs.Fault.{fault_text}
 use Rattle.link_report.specs.declared.fault.Fault.TheVariants.{Wire}
 use Rattle.link_report.proofs.Faults.{some_fault}
 use Rattle.link_run.specs.Ends.{end_lines, end_status, lasting_line, lasting_lines, is_lasting, is_shown}
-use Rattle.link_run.specs.Run.{Texts, Tool, Devices, devices_at, NoneFailed, HasWritten, AreDue, Ended, Gave}
+use Rattle.link_run.specs.Run.{Texts, Tool, Devices, devices_at, NoneFailed, HasWritten, AreDue, LastStep, EndedRun}
 use Rattle.link_run.specs.Writers.{place_of, on_report, WritesPart, Reports, GivesReport}
 use Rattle.link_run.specs.declared.run.Status.{Status}
 use Rattle.link_run.specs.declared.writers.Writers.{Writers}
@@ -105,18 +105,18 @@ module _ {R W E : Type 0} (in_look : R → Input) (out_look : W → Output) (rep
     mid = written_given in_look out_look report_look start old new before history given texts written takes
 
     lost_due : AreDue in_look out_look report_look tool (devices_at (place_of new after)) (history ++ given) (window_of new) (texts then on_report line)
-        → (failure : IoFault) → WritesPart out_look report_look before after (on_report line) failure → Gave in_look out_look report_look tool start (devices_at (place_of new after)) (history ++ given) (Err failure)
+        → (failure : IoFault) → WritesPart out_look report_look before after (on_report line) failure → EndedRun in_look out_look report_look tool start (devices_at (place_of new after)) (history ++ given) (Err failure)
     lost_due due failure part =
         writer_lost in_look out_look report_look tool faults start new before after (history ++ given) texts (on_report line) _ failure mid (sound_given in_look out_look report_look old new before given sound takes) refl due few (λ some. absurd (omega arith)) part
 
-    lost : (failure : IoFault) → WritesPart out_look report_look before after (on_report line) failure → Gave in_look out_look report_look tool start (devices_at (place_of new after)) (history ++ given) (Err failure)
+    lost : (failure : IoFault) → WritesPart out_look report_look before after (on_report line) failure → EndedRun in_look out_look report_look tool start (devices_at (place_of new after)) (history ++ given) (Err failure)
     lost failure part =
         ⊎_elim
         (λ over. lost_due (inr (all_given in_look out_look report_look new after over, whole)) failure part)
         (λ shows. lost_due (inl shows.0) failure part)
         shown
 
-    done : (status : Status) → Reports out_look report_look before after line status → Gave in_look out_look report_look tool start (devices_at (place_of new after)) (history ++ given) (Ok status)
+    done : (status : Status) → Reports out_look report_look before after line status → EndedRun in_look out_look report_look tool start (devices_at (place_of new after)) (history ++ given) (Ok status)
     done status wrote =
         answered in_look out_look report_look tool start new after (history ++ given) status
         (written_as in_look out_look report_look (written_more in_look out_look report_look start new before after (history ++ given) texts (on_report line) mid wrote.writes) refl whole)
@@ -128,15 +128,15 @@ module _ {R W E : Type 0} (in_look : R → Input) (out_look : W → Output) (rep
         shown)
         few
 
-    pub reported : (answer : Result Status IoFault) → GivesReport out_look report_look before after line answer → Ended in_look out_look report_look tool start (devices_at (place_of new after)) most history answer
+    pub reported : (answer : Result Status IoFault) → GivesReport out_look report_look before after line answer → LastStep in_look out_look report_look tool start (devices_at (place_of new after)) most history answer
     reported (Ok status) gives = record { given = given; size = size; gave = done status gives }
     reported (Err failure) gives = record { given = given; size = size; gave = lost failure gives }
 
   -- the reader failed
   pub read_failed : (fault : IoFault) (answer : Result Status IoFault) → StopsAfter in_look old new given fault → texts ≡ tool.sofar (history ++ given) → tool.shows (history ++ given) ≡ false
-      → answer ≡ Err fault → after ≡ before → Ended in_look out_look report_look tool start (devices_at (place_of new after)) most history answer
+      → answer ≡ Err fault → after ≡ before → LastStep in_look out_look report_look tool start (devices_at (place_of new after)) most history answer
   read_failed fault answer stops due unshown is same =
       let gave = reader_lost in_look out_look report_look tool start old new before history given texts fault written sound due unshown stops in
-      let P : Writers W E → Type 0 = λ w. Ended in_look out_look report_look tool start (devices_at (place_of new w)) most history answer in
-      let Q : Result Status IoFault → Type 0 = λ a. Ended in_look out_look report_look tool start (devices_at (place_of new before)) most history a in
+      let P : Writers W E → Type 0 = λ w. LastStep in_look out_look report_look tool start (devices_at (place_of new w)) most history answer in
+      let Q : Result Status IoFault → Type 0 = λ a. LastStep in_look out_look report_look tool start (devices_at (place_of new before)) most history a in
       subst P (sym same) (subst Q (sym is) (record { given = given; size = size; gave = gave }))

@@ -12,7 +12,7 @@ use Rattle.link_wire.specs.Source.{reader_of, window_of, ahead, Takes, StopsAfte
 use Rattle.link_wire.specs.declared.IoFault.{IoFault}
 use Rattle.link_wire.specs.declared.IoFault.TheVariants as io
 use Rattle.link_wire.specs.declared.Source.{Source}
-use Rattle.link_run.specs.Run.{Texts, Tool, Devices, Place, devices_at, NoneFailed, Moves, HasWritten, HandedBack, AllGiven, GaveAnswer, AreDue, IsBehind, Gave, GivesAnswer}
+use Rattle.link_run.specs.Run.{Texts, Tool, Devices, Place, devices_at, NoneFailed, Moves, HasWritten, HandedBack, AllGiven, FinishedRun, AreDue, IsBehind, EndedRun, GivesAnswer}
 use Rattle.link_run.specs.Writers.{place_of, on_output, Writes, WritesPart, Unsettled}
 use Rattle.link_run.specs.declared.run.Status.{Status}
 use Rattle.link_run.specs.declared.writers.Writers.{Writers}
@@ -90,7 +90,7 @@ module _ {R W E : Type 0} (in_look : R → Input) (out_look : W → Output) (rep
   }
 
   -- the answer with the devices that were handed back
-  pub handed_back : (tool other : Tool) (start now devices : Devices R W E) (given : List ℕ) (answer result : Result Status IoFault) → Gave in_look out_look report_look tool start now given answer → tool ≡ other → devices ≡ now → result ≡ answer → GivesAnswer in_look out_look report_look other start devices result
+  pub handed_back : (tool other : Tool) (start now devices : Devices R W E) (given : List ℕ) (answer result : Result Status IoFault) → EndedRun in_look out_look report_look tool start now given answer → tool ≡ other → devices ≡ now → result ≡ answer → GivesAnswer in_look out_look report_look other start devices result
   handed_back tool other start now devices given answer result gave same back is =
       let P : Tool → Type 0 = λ t. GivesAnswer in_look out_look report_look t start devices result in
       let Q : Devices R W E → Type 0 = λ d. GivesAnswer in_look out_look report_look tool start d result in
@@ -167,7 +167,7 @@ module _ {R W E : Type 0} (in_look : R → Input) (out_look : W → Output) (rep
   -- the run has written all that there is
   pub answered : (tool : Tool) (start : Devices R W E) (s : Source R) (w : Writers W E) (given : List ℕ) (status : Status) → HasWritten in_look out_look report_look start (place_of s w) given (tool.whole given).texts → NoneFailed in_look out_look report_look (devices_at (place_of s w)) → status.0 ≡ (tool.whole given).status
       → AllGiven in_look out_look report_look (devices_at (place_of s w)) (window_of s) ⊎ ((more : List ℕ) → tool.whole (given ++ more) ≡ tool.whole given)
-      → length (window_of s) < window_size → GaveAnswer in_look out_look report_look tool start (devices_at (place_of s w)) given status
+      → length (window_of s) < window_size → FinishedRun in_look out_look report_look tool start (devices_at (place_of s w)) given status
   answered tool start s w given status written sound ends settled few = record {
     unread = window_of s;
     few = few;
@@ -211,7 +211,7 @@ module _ {R W E : Type 0} (in_look : R → Input) (out_look : W → Output) (rep
       → HasWritten in_look out_look report_look start (place_of s old) given before → NoneFailed in_look out_look report_look (devices_at (place_of s old)) → before then texts ≡ due
       → AreDue in_look out_look report_look tool (devices_at (place_of s new)) given (window_of s) due
       → length (window_of s) < window_size → (0 < length texts.output → Stood tool given before)
-      → WritesPart out_look report_look old new texts fault → Gave in_look out_look report_look tool start (devices_at (place_of s new)) given (Err fault)
+      → WritesPart out_look report_look old new texts fault → EndedRun in_look out_look report_look tool start (devices_at (place_of s new)) given (Err fault)
   writer_lost tool faults start s old new given before texts due fault written sound same are_due few stood part =
       let last : Moves in_look out_look report_look (place_of s old) (place_of s new) [] (record { output = take part.output_count texts.output; report = take part.report_count texts.report }) = record {
         takes = Consumes-nil (ahead in_look s);
@@ -254,7 +254,7 @@ module _ {R W E : Type 0} (in_look : R → Input) (out_look : W → Output) (rep
   pub settle_lost : (tool : Tool) → ReportsFaults tool → (start : Devices R W E) (s : Source R) (old new : Writers W E) (given : List ℕ) (fault : IoFault)
       → HasWritten in_look out_look report_look start (place_of s old) given (tool.sofar given) → NoneFailed in_look out_look report_look (devices_at (place_of s old))
       → tool.shows given ≡ false → length (window_of s) < window_size
-      → Unsettled out_look report_look old new fault → Gave in_look out_look report_look tool start (devices_at (place_of s new)) given (Err fault)
+      → Unsettled out_look report_look old new fault → EndedRun in_look out_look report_look tool start (devices_at (place_of s new)) given (Err fault)
   settle_lost tool faults start s old new given fault written sound unshown few part =
       let due = tool.sofar given in
       let kept : Moves in_look out_look report_look (place_of s old) (place_of s new) [] no_texts = record {
@@ -286,7 +286,7 @@ module _ {R W E : Type 0} (in_look : R → Input) (out_look : W → Output) (rep
   -- the source stopped after some bytes, and what is due was written
   pub reader_lost : (tool : Tool) (start : Devices R W E) (old new : Source R) (w : Writers W E) (history given : List ℕ) (texts : Texts) (fault : IoFault)
       → HasWritten in_look out_look report_look start (place_of old w) history texts → NoneFailed in_look out_look report_look (devices_at (place_of old w)) → texts ≡ tool.sofar (history ++ given) → tool.shows (history ++ given) ≡ false
-      → StopsAfter in_look old new given fault → Gave in_look out_look report_look tool start (devices_at (place_of new w)) (history ++ given) (Err fault)
+      → StopsAfter in_look old new given fault → EndedRun in_look out_look report_look tool start (devices_at (place_of new w)) (history ++ given) (Err fault)
   reader_lost tool start old new w history given texts io.Read written sound due unshown stops =
       let none : given ++ stops.past ≡ given = rw stops.cause.0 (append-nil given) in
       record {

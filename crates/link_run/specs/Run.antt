@@ -48,7 +48,8 @@ abbrev pub answer_of : Result Status IoFault → Result Progress IoFault
 answer_of (Ok status) = Ok (Done status)
 answer_of (Err fault) = Err fault
 
--- the first bytes of the report are no more than some of these bytes determine of which all output is written
+-- The first `report_count` bytes of the report are not ahead of the output: a prefix of the bytes given determines at least
+-- as much of the report, and the first `output_count` bytes of the output hold all output that this prefix determines.
 pub record IsBehind (tool : Tool) (given : List ℕ) (output_count report_count : ℕ) : Type 0 where
   pub front : List ℕ
   pub rest : List ℕ
@@ -57,8 +58,8 @@ pub record IsBehind (tool : Tool) (given : List ℕ) (output_count report_count 
   pub report : report_count ≤ length (tool.sofar front).report
 
 module _ {R : Type 0} where
-  -- A step went on: it was given at most so many bytes, some if it may be given any, and the run stands after them. No more
-  -- was read than is needed: less than a window lies ahead.
+  -- A step went on: it was given at most `most` bytes, at least one where `most` is not 0, and the run stands after them. No
+  -- more was read than is needed: less than a window was read and not given.
   pub record WentOn (old new : Source R) (stands : List ℕ → Type 0) (most : ℕ) (history : List ℕ) : Type 0 where
     pub given : List ℕ
     pub some : 0 < most → 0 < length given
@@ -67,6 +68,7 @@ module _ {R : Type 0} where
     pub window : length (window_of new) < window_size
     pub at : stands (history ++ given)
 
+-- `in_look`, `out_look` and `report_look` are what a contract sees of the devices.
 module _ {R W E : Type 0} (in_look : R → Input) (out_look : W → Output) (report_look : E → Output) where
   -- no device has failed
   pub record NoneFailed (devices : Devices R W E) : Type 0 where
@@ -81,7 +83,7 @@ module _ {R W E : Type 0} (in_look : R → Input) (out_look : W → Output) (rep
     pub writes : Appends (out_look old.output).written (out_look new.output).written texts.output
     pub reports : Appends (report_look old.report).written (report_look new.report).written texts.report
 
-  -- since the devices stood so, these bytes were given, and these texts were written
+  -- since the devices stood as in `start`, these bytes were given, and these texts were written
   pub record HasWritten (start : Devices R W E) (now : Place R W E) (bytes : List ℕ) (texts : Texts) : Type 0 where
     pub takes : Consumes (in_look start.reader).left (ahead in_look now.source) bytes
     pub count : given_by now.source ≡ length bytes
@@ -98,9 +100,9 @@ module _ {R W E : Type 0} (in_look : R → Input) (out_look : W → Output) (rep
   abbrev pub AllGiven : Devices R W E → (unread : List ℕ) → Type 0
   AllGiven now unread = (unread ≡ []) × IsAtEnd (in_look now.reader).left
 
-  -- The run has written what comes of the bytes that it was given. They are all of the input, or bytes that no others
-  -- after them change. Nothing was read that was not needed: less than a window of bytes was read and not given.
-  pub record GaveAnswer (tool : Tool) (start now : Devices R W E) (given : List ℕ) (status : Status) : Type 0 where
+  -- The run has written what comes of the bytes that it was given, and no device failed. They are all of the input, or what comes of
+  -- them is the same however they go on. Nothing was read that was not needed: less than a window of bytes was read and not given.
+  pub record FinishedRun (tool : Tool) (start now : Devices R W E) (given : List ℕ) (status : Status) : Type 0 where
     pub unread : List ℕ
     pub few : length unread < window_size
     pub written : HandedBack start now (given ++ unread) (tool.whole given).texts
@@ -108,8 +110,8 @@ module _ {R W E : Type 0} (in_look : R → Input) (out_look : W → Output) (rep
     pub ends : status.0 ≡ (tool.whole given).status
     pub settled : AllGiven now unread ⊎ ((more : List ℕ) → tool.whole (given ++ more) ≡ tool.whole given)
 
-  -- The reader failed, and no writer: all that it gave was given, it shows no fault, and the texts are those that these
-  -- bytes determine.
+  -- The reader failed, and no writer: all bytes that were read were given, they show no fault, and the texts are those that
+  -- they determine.
   pub record LostReader (tool : Tool) (start now : Devices R W E) (given : List ℕ) : Type 0 where
     pub unshown : tool.shows given ≡ false
     pub written : HandedBack start now given (tool.sofar given)
@@ -117,8 +119,8 @@ module _ {R W E : Type 0} (in_look : R → Input) (out_look : W → Output) (rep
     pub output : (out_look now.output).failed ≡ false
     pub report : (report_look now.report).failed ≡ false
 
-  -- The reader gave a byte past the limit, and no writer failed: the last bytes that it gave were not given, the others show
-  -- no fault, and the texts are those that they determine.
+  -- A byte past the limit was read, and no writer failed: the bytes `past` of the last read were not given, those before them
+  -- show no fault, and the texts are those that these determine.
   pub record PassedLimit (tool : Tool) (start now : Devices R W E) (given : List ℕ) : Type 0 where
     pub unshown : tool.shows given ≡ false
     pub past : List ℕ
@@ -128,7 +130,7 @@ module _ {R W E : Type 0} (in_look : R → Input) (out_look : W → Output) (rep
     pub output : (out_look now.output).failed ≡ false
     pub report : (report_look now.report).failed ≡ false
 
-  -- the texts that the bytes given determine; where they are all of the input, those of the whole input
+  -- the texts that the bytes given determine; where they are all of the input, it may be those of the whole input
   abbrev pub AreDue : Tool → Devices R W E → (given unread : List ℕ) → Texts → Type 0
   AreDue tool now given unread texts = (texts ≡ tool.sofar given) ⊎ (AllGiven now unread × (texts ≡ (tool.whole given).texts))
 
@@ -139,8 +141,8 @@ module _ {R W E : Type 0} (in_look : R → Input) (out_look : W → Output) (rep
       (((out_look now.output).failed ≡ true) × ((report_look now.report).failed ≡ false) × ((report ≡ 0) ⊎ IsBehind tool given output report))
       ⊎ (((report_look now.report).failed ≡ true) × ((out_look now.output).failed ≡ false) × (length due.output ≤ output))
 
-  -- One writer failed, and not the reader: the texts are prefixes of those that the bytes given determine. Where these show a
-  -- fault, it is the writer that failed which lacks some of its text. Where they are all of an input that ends in a fault, some
+  -- One writer failed, and not the reader: the texts are prefixes of those that are due (`AreDue`). Where the bytes given show a
+  -- fault, it is the writer that failed which lacks some of its text. Where they are all of an input that ends in a fault, part
   -- of its texts is missing. So a failure does not take the place of a fault that was reported.
   pub record LostWriter (tool : Tool) (start now : Devices R W E) (given : List ℕ) : Type 0 where
     pub unread : List ℕ
@@ -156,34 +158,36 @@ module _ {R W E : Type 0} (in_look : R → Input) (out_look : W → Output) (rep
     pub unreported : AllGiven now unread → (tool.whole given).status ≡ 3
         → (output < length (tool.whole given).texts.output) ⊎ (report < length (tool.whole given).texts.report)
 
-  abbrev pub GaveFailure : Tool → Devices R W E → Devices R W E → List ℕ → IoFault → Type 0
-  GaveFailure tool start now given io.Read = LostReader tool start now given
-  GaveFailure tool start now given io.InputTooLong = PassedLimit tool start now given
-  GaveFailure tool start now given io.Write = LostWriter tool start now given
-  GaveFailure tool start now given io.Memory = ⊥
+  -- what holds after each failure; want of memory is none of a run
+  abbrev pub FailedRun : Tool → Devices R W E → Devices R W E → List ℕ → IoFault → Type 0
+  FailedRun tool start now given io.Read = LostReader tool start now given
+  FailedRun tool start now given io.InputTooLong = PassedLimit tool start now given
+  FailedRun tool start now given io.Write = LostWriter tool start now given
+  FailedRun tool start now given io.Memory = ⊥
 
-  abbrev pub Gave : Tool → Devices R W E → Devices R W E → List ℕ → Result Status IoFault → Type 0
-  Gave tool start now given (Ok status) = GaveAnswer tool start now given status
-  Gave tool start now given (Err fault) = GaveFailure tool start now given fault
+  -- what holds at each end
+  abbrev pub EndedRun : Tool → Devices R W E → Devices R W E → List ℕ → Result Status IoFault → Type 0
+  EndedRun tool start now given (Ok status) = FinishedRun tool start now given status
+  EndedRun tool start now given (Err fault) = FailedRun tool start now given fault
 
   -- what a whole run gives
   pub record GivesAnswer (tool : Tool) (start now : Devices R W E) (answer : Result Status IoFault) : Type 0 where
     pub given : List ℕ
-    pub gave : Gave tool start now given answer
+    pub gave : EndedRun tool start now given answer
 
-  -- a step was the last: it was given at most so many bytes
-  pub record Ended (tool : Tool) (start now : Devices R W E) (most : ℕ) (history : List ℕ) (answer : Result Status IoFault) : Type 0 where
+  -- a step was the last of its run: it was given at most `most` bytes
+  pub record LastStep (tool : Tool) (start now : Devices R W E) (most : ℕ) (history : List ℕ) (answer : Result Status IoFault) : Type 0 where
     pub given : List ℕ
     pub size : length given ≤ most
-    pub gave : Gave tool start now (history ++ given) answer
+    pub gave : EndedRun tool start now (history ++ given) answer
 
   -- what a step gives after these bytes
   abbrev pub GivesStep : Tool → Devices R W E → (old new : Place R W E) → (stands : List ℕ → Type 0) → (most : ℕ) → (history : List ℕ) → Result Progress IoFault → Type 0
   GivesStep tool start old new stands most history (Ok More) = WentOn old.source new.source stands most history
-  GivesStep tool start old new stands most history (Ok (Done status)) = Ended tool start (devices_at new) most history (Ok status)
-  GivesStep tool start old new stands most history (Err fault) = Ended tool start (devices_at new) most history (Err fault)
+  GivesStep tool start old new stands most history (Ok (Done status)) = LastStep tool start (devices_at new) most history (Ok status)
+  GivesStep tool start old new stands most history (Err fault) = LastStep tool start (devices_at new) most history (Err fault)
 
--- a step was the last of its run
+-- the last step of a run returns this
 abbrev pub IsEnd : Result Progress IoFault → Type 0
 IsEnd (Ok More) = ⊥
 IsEnd (Ok (Done status)) = Unit {0}

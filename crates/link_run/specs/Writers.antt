@@ -1,5 +1,5 @@
 -- What the calls of a run's writers write.
-use Rattle.std.specs.Prelude.{◌≡◌, ℕ, ◌<◌, ◌≤◌, ◌⊎◌, true, List, [], length, take, Result, Ok, Err}
+use Rattle.std.specs.Prelude.{◌≡◌, ℕ, ◌<◌, ◌≤◌, ◌⊎◌, true, List, [], length, take, Option, Result, Ok, Err}
 use Rattle.std.specs.Io.KnownBytes.{Appends}
 use Rattle.link_wire.specs.Device.{Output}
 use Rattle.link_wire.specs.declared.IoFault.{IoFault}
@@ -80,3 +80,8 @@ module _ {W E : Type 0} (out_look : W → Output) (report_look : E → Output) w
   abbrev pub GivesHandedOn : Writers W E → Writers W E → Result (Unit {0}) IoFault → Type 0
   GivesHandedOn old new (Ok done) = Writes old new (on_output [])
   GivesHandedOn old new (Err fault) = Unsettled old new fault
+
+-- no writer holds back anything of what was written; what a writer holds back no more is known by the last two functions
+pub record HasHandedOn {W E : Type 0} (out_look : W → Output) (report_look : E → Output) (out_handed : W → Option (List ℕ)) (report_handed : E → Option (List ℕ)) (writers : Writers W E) : Type 0 where
+  pub output : out_handed writers.output ≡ (out_look writers.output).written
+  pub report : report_handed writers.report ≡ (report_look writers.report).written

@@ -4,7 +4,7 @@
 ghost use Rattle.std.specs.Prelude.{◌≡◌, ◌<◌, ℕ, List, [], length, Err, IfErr, IfOk, IfSome, IsOk, IsTrue, MatchResult};
 ghost use Rattle.link_wire.specs.MessageBuffer.{message_of, SegmentHasTotals};
 ghost use Rattle.link_wire.specs.Session.{may_read, is_opened, data_in, left_of, IsSessionAt, HasStopped, with_message_read};
-ghost use Rattle.link_run.specs.Reading.{NotHandedOn, GivesMessage, GivesData};
+ghost use Rattle.link_run.specs.Reading.{HoldsNothingBack, NotHandedOn, ReadsMessage, ReadsData};
 ghost use Rattle.link_run.specs.Writers.{on_output, next_line, Writes};
 
 use crate::writers::Writers;
@@ -22,7 +22,8 @@ pub fn next_message<R: InDevice, W: OutDevice, E: OutDevice>(
     requires { IsTrue (may_read session.old) }
     ensures opened { IsTrue (is_opened session.new) }
     ensures gives { (history : List ℕ) → IsSessionAt R.state session.old history
-        → GivesMessage R.state W.state E.state session.old session.new writers.old writers.new history (with_message_read (message_of message.new) result) }
+        → ReadsMessage R.state W.state E.state session.old session.new writers.old writers.new history (with_message_read (message_of message.new) result) }
+    ensures handed { HoldsNothingBack R.state W.state E.state W.handed E.handed session.old writers.new }
     ensures totals { IfOk result (λ got. IfSome got (λ offset. SegmentHasTotals message.new)) }
     ensures left { IfErr result (λ _. left_of session.new ≡ left_of session.old) }
     ensures line { next_line writers.new ≡ next_line writers.old }
@@ -46,7 +47,8 @@ fn read_message<R: InDevice, W: OutDevice, E: OutDevice>(
     requires { IsTrue (may_read session.old) }
     ensures opened { IsTrue (is_opened session.new) }
     ensures gives { (history : List ℕ) → IsSessionAt R.state session.old history
-        → GivesMessage R.state W.state E.state session.old session.new writers.old writers.new history (with_message_read (message_of message.new) result) }
+        → ReadsMessage R.state W.state E.state session.old session.new writers.old writers.new history (with_message_read (message_of message.new) result) }
+    ensures handed { HoldsNothingBack R.state W.state E.state W.handed E.handed session.old writers.new }
     ensures totals { IfOk result (λ got. IfSome got (λ offset. SegmentHasTotals message.new)) }
     ensures left { IfErr result (λ _. left_of session.new ≡ left_of session.old) }
     ensures line { next_line writers.new ≡ next_line writers.old }
@@ -70,7 +72,8 @@ pub fn load_data<R: InDevice, W: OutDevice, E: OutDevice>(
     ensures here { 0 < length (data_in session.old) → writers.new ≡ writers.old }
     ensures opened { IsTrue (is_opened session.old) → IsTrue (is_opened session.new) }
     ensures gives { (history : List ℕ) → IsSessionAt R.state session.old history
-        → GivesData R.state W.state E.state session.old session.new writers.old writers.new history result }
+        → ReadsData R.state W.state E.state session.old session.new writers.old writers.new history result }
+    ensures handed { HoldsNothingBack R.state W.state E.state W.handed E.handed session.old writers.new }
     ensures left { IfErr result (λ _. left_of session.new ≡ left_of session.old) }
     ensures line { next_line writers.new ≡ next_line writers.old }
     ensures stopped { (stop : _) → HasStopped session.old stop
@@ -92,6 +95,7 @@ fn settle_before<R: InDevice, W: OutDevice, E: OutDevice>(
     ensures gives { MatchResult result
         (λ _. Writes W.state E.state writers.old writers.new (on_output []))
         (NotHandedOn R.state W.state E.state session.now session.now writers.old writers.new) }
+    ensures handed { HoldsNothingBack R.state W.state E.state W.handed E.handed session.now writers.new }
     ensures line { next_line writers.new ≡ next_line writers.old }
     ensures stopped { (stop : _) → HasStopped session.now stop → (writers.new ≡ writers.old) × (IsOk result) }
 {

@@ -13,7 +13,7 @@ use Rattle.link_wire.specs.declared.message.Message.TheVariants.{Segment}
 use Rattle.link_wire.specs.declared.message.MessageBuffer.{MessageBuffer}
 use Rattle.link_wire.specs.declared.message.SegmentHead.{SegmentHead}
 use Rattle.link_wire.specs.declared.session.Session.{Session}
-use Rattle.link_run.specs.Run.{Texts, Devices, devices_at, Gave}
+use Rattle.link_run.specs.Run.{Texts, Devices, devices_at, EndedRun}
 use Rattle.link_run.specs.Writers.{place_of, on_report, Writes, WritesPart}
 use Rattle.link_run.specs.declared.writers.Writers.{Writers}
 use Rattle.link_run.proofs.Runs.{◌then◌, texts_as, written_as, then_assoc, written_more, sound_written, writer_lost, part_of_more}
@@ -123,7 +123,7 @@ module _ {R W E : Type 0} (in_look : R → Input) (out_look : W → Output) (rep
 
     -- the line was not written whole: that of the new transfer is due too if it is closed
     abandon_lost_by : (closed : Bool) → (last && (left_of s == 0)) ≡ closed → (after : Writers W E) (fault : IoFault) → WritesPart out_look report_look w after (on_report (last_lines u.latest.wanted at.transfers)) fault
-        → Gave in_look out_look report_look (unpack_tool u.latest.wanted) start (devices_at (place_of (source_of s) after)) history (Err fault)
+        → EndedRun in_look out_look report_look (unpack_tool u.latest.wanted) start (devices_at (place_of (source_of s) after)) history (Err fault)
     abandon_lost_by true is after fault part =
         let more = on_report (line_of u.latest.wanted new at.transfers) in
         writer_lost in_look out_look report_look (unpack_tool u.latest.wanted) (unpack_reports u.latest.wanted) start (source_of s) w after history _ _ _ fault at.written at.sound
@@ -134,5 +134,5 @@ module _ {R W E : Type 0} (in_look : R → Input) (out_look : W → Output) (rep
         (mid_texts ∙ sym (texts_open u.latest.wanted new at.transfers is) ∙ ap (texts_of u.latest.wanted) (sym at.are) ∙ sym sofar) (inl refl) at.window (λ none. absurd (omega arith)) part
 
     pub abandon_lost : (after : Writers W E) (fault : IoFault) → WritesPart out_look report_look w after (on_report (last_lines u.latest.wanted at.transfers)) fault
-        → Gave in_look out_look report_look (unpack_tool u.latest.wanted) start (devices_at (place_of (source_of s) after)) history (Err fault)
+        → EndedRun in_look out_look report_look (unpack_tool u.latest.wanted) start (devices_at (place_of (source_of s) after)) history (Err fault)
     abandon_lost after fault part = abandon_lost_by (last && (left_of s == 0)) refl after fault part

@@ -3,7 +3,7 @@ use Rattle.std.proofs.Common.{◌≡◌, ℕ, ◌+◌, ◌^◌, ◌<◌, ◌≤�
 use Rattle.std.proofs.lemmas.Bool.{ltb-true, ltb-false}
 use Rattle.link_wire.specs.Device.{Input, Output}
 use Rattle.link_wire.specs.Message.{data_length}
-use Rattle.link_wire.specs.Session.{source_of, left_of, joined, data_after, IsLeft, GaveBytes, GaveLoad, GivesLoad}
+use Rattle.link_wire.specs.Session.{source_of, left_of, joined, data_after, IsLeft, PassedBytes, LoadedData, GivesLoad}
 use Rattle.link_wire.specs.Stream.{Entry, End, Clean, Cut, Fault, ended, with_entry, Reading, reading_of}
 use Rattle.link_wire.specs.declared.IoFault.{IoFault}
 use Rattle.link_wire.specs.declared.fault.Stop.{Stop}
@@ -17,7 +17,7 @@ use Rattle.link_transfer.specs.Order.{open_of}
 use Rattle.link_report.specs.Fault.{fault_text}
 use Rattle.link_report.specs.declared.fault.Fault.TheVariants.{Wire}
 use Rattle.link_run.specs.Ends.{end_lines, end_status}
-use Rattle.link_run.specs.Run.{Texts, Devices, devices_at, NoneFailed, HasWritten, Gave}
+use Rattle.link_run.specs.Run.{Texts, Devices, devices_at, NoneFailed, HasWritten, EndedRun}
 use Rattle.link_run.specs.Writers.{place_of, on_output, on_report, Writes, WritesPart}
 use Rattle.link_run.specs.declared.writers.Writers.{Writers}
 use Rattle.link_run.proofs.Ends.{standing_lines, standing_shown}
@@ -110,7 +110,7 @@ module _ {R W E : Type 0} (in_look : R → Input) (out_look : W → Output) (rep
     abbrev pub head : SegmentHead
     head = here.in_segment.head
 
-    module _ (mid new : Session R) (bytes : List ℕ) (n : ℕ) (ready : GaveLoad in_look old mid history n) (gave : GaveBytes in_look mid new history bytes) (some : 0 < length bytes) where
+    module _ (mid new : Session R) (bytes : List ℕ) (n : ℕ) (ready : LoadedData in_look old mid history n) (gave : PassedBytes in_look mid new history bytes) (some : 0 < length bytes) where
       takes : Takes in_look (source_of old) (source_of new) bytes
       takes = Readies-takes in_look (source_of old) (source_of mid) (source_of new) bytes ready.readies gave.takes some
 
@@ -216,7 +216,7 @@ module _ {R W E : Type 0} (in_look : R → Input) (out_look : W → Output) (rep
             })
 
         lost_by : (is_closed : Bool) → closing ≡ is_closed → (written : Writers W E) (fault : IoFault) → WritesPart out_look report_look before written (on_output part) fault
-            → Gave in_look out_look report_look (unpack_tool u.latest.wanted) start (devices_at (place_of (source_of new) written)) (history ++ bytes) (Err fault)
+            → EndedRun in_look out_look report_look (unpack_tool u.latest.wanted) start (devices_at (place_of (source_of new) written)) (history ++ bytes) (Err fault)
         lost_by true is written fault lost =
             let more = on_report (line_of u.latest.wanted (grown transfer bytes closing) earlier) in
             writer_lost in_look out_look report_look (unpack_tool u.latest.wanted) (unpack_reports u.latest.wanted) start (source_of new) before written (history ++ bytes) _ _ _ fault given_written given_sound
@@ -227,7 +227,7 @@ module _ {R W E : Type 0} (in_look : R → Input) (out_look : W → Output) (rep
             (part_texts ∙ sym (texts_open u.latest.wanted (grown transfer bytes closing) earlier is) ∙ sym sofar) (inl refl) (takes.window.less some) (λ some_output. stood) lost
 
         pub part_lost : (written : Writers W E) (fault : IoFault) → WritesPart out_look report_look before written (on_output part) fault
-            → Gave in_look out_look report_look (unpack_tool u.latest.wanted) start (devices_at (place_of (source_of new) written)) (history ++ bytes) (Err fault)
+            → EndedRun in_look out_look report_look (unpack_tool u.latest.wanted) start (devices_at (place_of (source_of new) written)) (history ++ bytes) (Err fault)
         part_lost written fault lost = lost_by closing refl written fault lost
 
     -- the input ends inside the data, or the reader fails

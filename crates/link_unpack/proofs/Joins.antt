@@ -8,7 +8,7 @@ use Rattle.link_wire.specs.declared.session.Session.{Session}
 use Rattle.link_transfer.specs.Joiner.{IsJoinerAt}
 use Rattle.link_transfer.specs.Order.{open_of}
 use Rattle.link_run.specs.Ends.{lasting_lines}
-use Rattle.link_run.specs.Run.{Devices, devices_at, NoneFailed, HasWritten, Gave}
+use Rattle.link_run.specs.Run.{Devices, devices_at, NoneFailed, HasWritten, EndedRun}
 use Rattle.link_run.specs.Writers.{place_of, on_report, Writes, WritesPart}
 use Rattle.link_run.specs.declared.writers.Writers.{Writers}
 use Rattle.link_run.proofs.Runs.{written_as, written_more, sound_written, writer_lost}
@@ -106,7 +106,7 @@ module _ {R W E : Type 0} (in_look : R → Input) (out_look : W → Output) (rep
           (waits_message last _ (left_of s) v.latest _ _ none (subst P (sym opened) (settled_closed at.transfer at.earlier closed)) at.after)
 
       pub line_lost : (after : Writers W E) (fault : IoFault) → WritesPart out_look report_look w after (on_report (line_of u.latest.wanted at.transfer at.earlier)) fault
-          → Gave in_look out_look report_look (unpack_tool u.latest.wanted) start (devices_at (place_of (source_of s) after)) history (Err fault)
+          → EndedRun in_look out_look report_look (unpack_tool u.latest.wanted) start (devices_at (place_of (source_of s) after)) history (Err fault)
       line_lost after fault part =
           let due = texts_closed u.latest.wanted at.transfer at.earlier closed in
           let standing : lasting_lines (reading_of history).end ≡ [] = after_lines last (left_of s) (reading_of history).end at.after in

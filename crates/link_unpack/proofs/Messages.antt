@@ -5,7 +5,7 @@ use Rattle.link_wire.specs.Device.{Input, Output}
 use Rattle.link_wire.specs.Codes.{is_start, is_end}
 use Rattle.link_wire.specs.Message.{data_length}
 use Rattle.link_wire.specs.MessageBuffer.{message_of}
-use Rattle.link_wire.specs.Session.{source_of, left_of, joined, GaveMessage}
+use Rattle.link_wire.specs.Session.{source_of, left_of, joined, ReadMessage}
 use Rattle.link_wire.specs.Stream.{Entry, End, Clean, Cut, Fault, ended, with_entry, Reading, reading_of}
 use Rattle.link_wire.specs.declared.message.Message.{Message}
 use Rattle.link_wire.specs.declared.message.Message.TheVariants as message
@@ -77,7 +77,7 @@ same_unlined wanted transfer closed earlier =
 
 module _ {R W E : Type 0} (in_look : R → Input) (out_look : W → Output) (report_look : E → Output) (start : Devices R W E) where
   module _ (old new : Session R) (before : Writers W E) (u : Unpacker) (history : List ℕ) (at : Unpacks in_look out_look report_look start stage.Message old before u history)
-      (offset : ℕ) (sent : Message) (got : GaveMessage in_look old new history offset sent) where
+      (offset : ℕ) (sent : Message) (got : ReadMessage in_look old new history offset sent) where
     abbrev pub heads : List Entry
     heads = heads_of (reading_of history)
 

@@ -11,7 +11,7 @@ use Rattle.link_wire.specs.declared.fault.Stop.TheVariants as stop
 use Rattle.link_wire.specs.declared.session.Session.{Session}
 use Rattle.link_run.specs.Ends.{lasting_lines, is_shown}
 use Rattle.link_run.specs.Reading.{NotHandedOn}
-use Rattle.link_run.specs.Run.{Devices, devices_at, Ended}
+use Rattle.link_run.specs.Run.{Devices, devices_at, LastStep}
 use Rattle.link_run.specs.Writers.{place_of, Writes, Unsettled}
 use Rattle.link_run.specs.declared.writers.Writers.{Writers}
 use Rattle.link_run.proofs.Runs.{no_texts, written_as, sound_written, settle_lost, settle_kept}
@@ -55,7 +55,7 @@ module _ {R W E : Type 0} (in_look : R → Input) (out_look : W → Output) (rep
 
   -- a writer failed in it, and the run has ended
   lost_now : (fault : IoFault) → Unsettled out_look report_look before mid fault → length (window_of (source_of s)) < window_size
-      → Unpacks in_look out_look report_look start now s before u history → Ended in_look out_look report_look (unpack_tool u.latest.wanted) start (devices_at (place_of (source_of s) mid)) (most_given now) history (Err fault)
+      → Unpacks in_look out_look report_look start now s before u history → LastStep in_look out_look report_look (unpack_tool u.latest.wanted) start (devices_at (place_of (source_of s) mid)) (most_given now) history (Err fault)
   lost_now fault part few at = record {
     given = [];
     size = omega arith;
@@ -65,7 +65,7 @@ module _ {R W E : Type 0} (in_look : R → Input) (out_look : W → Output) (rep
   }
 
   lost_at : (fault : IoFault) (after : Writers W E) (next : Stage)
-      → Ended in_look out_look report_look (unpack_tool u.latest.wanted) start (devices_at (place_of (source_of s) mid)) (most_given now) history (Err fault)
+      → LastStep in_look out_look report_look (unpack_tool u.latest.wanted) start (devices_at (place_of (source_of s) mid)) (most_given now) history (Err fault)
       → GivesEnd out_look report_look (stop.Io fault) mid after next → GivesStage in_look out_look report_look start u.latest.wanted now s s after u history next
   lost_at fault after stage.Contact ended gives = absurd gives
   lost_at fault after stage.Message ended gives = absurd gives

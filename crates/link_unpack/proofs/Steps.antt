@@ -4,7 +4,7 @@ use Rattle.link_wire.specs.Device.{Input, Output}
 use Rattle.link_wire.specs.Limits.{window_size}
 use Rattle.link_wire.proofs.Contacts.{reading-none}
 use Rattle.link_wire.specs.Getting.{MayFollow}
-use Rattle.link_wire.specs.Session.{source_of, joined, rest_after, IsUndecided, IsRead, GaveContact, GivesContact, GaveMessage, GaveEnd, GivesNext}
+use Rattle.link_wire.specs.Session.{source_of, joined, rest_after, IsUndecided, IsRead, ReadContact, GivesContact, ReadMessage, CleanEnd, GivesNext}
 use Rattle.link_wire.specs.Source.{window_of, Takes, StopsAfter, IsOver}
 use Rattle.link_wire.specs.Stream.{Entry, End, Clean, Cut, Fault, ended, Reading, reading_of}
 use Rattle.link_wire.specs.declared.IoFault.{IoFault}
@@ -22,7 +22,7 @@ use Rattle.link_transfer.specs.declared.fault.OrderFault.{OrderFault}
 use Rattle.link_report.specs.Fault.{fault_text}
 use Rattle.link_report.specs.declared.fault.Fault.TheVariants.{Wire, Order}
 use Rattle.link_run.specs.Ends.{end_lines, end_status, lasting_lines, is_shown}
-use Rattle.link_run.specs.Run.{Texts, Outcome, Devices, devices_at, NoneFailed, HasWritten, WentOn, Ended, GivesStep}
+use Rattle.link_run.specs.Run.{Texts, Outcome, Devices, devices_at, NoneFailed, HasWritten, WentOn, LastStep, GivesStep}
 use Rattle.link_run.specs.Writers.{place_of, on_report, GivesReport}
 use Rattle.link_run.specs.declared.run.Progress.{Progress}
 use Rattle.link_run.specs.declared.run.Status.{Status}
@@ -78,7 +78,7 @@ module _ {R W E : Type 0} (in_look : R → Input) (out_look : W → Output) (rep
           (λ is. inr (sym (sofar_at wanted _ reading transfers in_order are line here (lasting is.0)), λ more. whole_after more (λ e. absurd (is.0 e)) ∙ sym whole))
           (lasts offset fault)
 
-      pub fault_reported : (answer : Result Status IoFault) → length (window_of (source_of new)) < window_size → GivesReport out_look report_look before after line answer → Ended in_look out_look report_look (unpack_tool wanted) start (devices_at (place_of (source_of new) after)) (most_given now) history answer
+      pub fault_reported : (answer : Result Status IoFault) → length (window_of (source_of new)) < window_size → GivesReport out_look report_look before after line answer → LastStep in_look out_look report_look (unpack_tool wanted) start (devices_at (place_of (source_of new) after)) (most_given now) history answer
       fault_reported answer few gives =
           reported in_look out_look report_look (unpack_tool wanted) start (most_given now) (source_of old) (source_of new) before after history given (texts_of wanted transfers) written sound size (unpack_reports wanted) line takes
           (ap (λ (o : Outcome). o.texts) (sym whole)) (ap (λ (o : Outcome). o.status) whole) shown few answer gives
@@ -86,7 +86,7 @@ module _ {R W E : Type 0} (in_look : R → Input) (out_look : W → Output) (rep
     -- a failed read: no head has come, and no fault is shown
     pub read_lost : (fault : IoFault) (answer : Result Status IoFault) (reading : Reading) → StopsAfter in_look (source_of old) (source_of new) given fault → reading_of (history ++ given) ≡ reading
         → AreInOrder (heads_of reading) → transfers_of (heads_of reading) ≡ transfers → lasting_lines reading.end ≡ [] → is_shown reading.end ≡ false → answer ≡ Err fault → after ≡ before
-        → Ended in_look out_look report_look (unpack_tool wanted) start (devices_at (place_of (source_of new) after)) (most_given now) history answer
+        → LastStep in_look out_look report_look (unpack_tool wanted) start (devices_at (place_of (source_of new) after)) (most_given now) history answer
     read_lost fault answer reading stops is in_order are none unshown given_answer same =
         read_failed in_look out_look report_look (unpack_tool wanted) start (most_given now) (source_of old) (source_of new) before after history given (texts_of wanted transfers) written sound size fault answer stops
         (sym (sofar_at wanted _ reading transfers in_order are [] is none ∙ then_none (texts_of wanted transfers))) (unshown_at _ reading is in_order unshown) given_answer same
@@ -111,7 +111,7 @@ module _ {R W E : Type 0} (in_look : R → Input) (out_look : W → Output) (rep
     clean = (between _ u.latest transfers _ at.waits).0
 
     -- the stream ends here
-    module _ (got : GaveEnd in_look old new history) where
+    module _ (got : CleanEnd in_look old new history) where
       whole_here : unpacking u.latest.wanted (history ++ []) ≡ record {
         texts = record { output = parts_of u.latest.wanted transfers; report = lines_of u.latest.wanted transfers };
         status = if are_good transfers then 0 else 1;
@@ -173,7 +173,7 @@ module _ {R W E : Type 0} (in_look : R → Input) (out_look : W → Output) (rep
         (subst P (sym same) at.in_order) (ap transfers_of same) (undecided_lines reading.end got.undecided) (undecided_shown reading.end got.undecided) gives.0 gives.1
 
     -- a head that is not in order
-    module _ (offset : ℕ) (sent : Message) (got : GaveMessage in_look old new history offset sent) (fault : OrderFault) (refused : refusal (messages_of (heads_of (reading_of history))) (event_of sent) ≡ Some fault) where
+    module _ (offset : ℕ) (sent : Message) (got : ReadMessage in_look old new history offset sent) (fault : OrderFault) (refused : refusal (messages_of (heads_of (reading_of history))) (event_of sent) ≡ Some fault) where
       entries_are : (reading_of history).entries ≡ heads_of (reading_of history)
       entries_are = sym (heads_clean (reading_of history) clean)
 
@@ -198,7 +198,7 @@ module _ {R W E : Type 0} (in_look : R → Input) (out_look : W → Output) (rep
       sofar_now : unpacking_sofar u.latest.wanted (history ++ got.given) ≡ texts_of u.latest.wanted transfers then on_report order_line
       sofar_now = let head = has_head [] in ap (unpacking_sofar u.latest.wanted) (sym at_none) ∙ order_sofar u.latest.wanted _ offset sent fault at.in_order refused _ head.content head.others head.are
 
-      pub order_reported : (after : Writers W E) (answer : Result Status IoFault) → GivesReport out_look report_look before after order_line answer → Ended in_look out_look report_look (unpack_tool u.latest.wanted) start (devices_at (place_of (source_of new) after)) (most_given stage.Message) history answer
+      pub order_reported : (after : Writers W E) (answer : Result Status IoFault) → GivesReport out_look report_look before after order_line answer → LastStep in_look out_look report_look (unpack_tool u.latest.wanted) start (devices_at (place_of (source_of new) after)) (most_given stage.Message) history answer
       order_reported after answer gives =
           reported in_look out_look report_look (unpack_tool u.latest.wanted) start (most_given stage.Message) (source_of old) (source_of new) before after history got.given (texts_of u.latest.wanted transfers) at.written at.sound got.size (unpack_reports u.latest.wanted) order_line got.takes
           (ap (λ (o : Outcome). o.texts) (sym whole_now)) (ap (λ (o : Outcome). o.status) whole_now)
@@ -233,7 +233,7 @@ module _ {R W E : Type 0} (in_look : R → Input) (out_look : W → Output) (rep
     begun : HasWritten in_look out_look report_look start (place_of (source_of old) before) [] (texts_of u.latest.wanted [])
     begun = written_as in_look out_look report_look fresh.written refl (sym (no_texts_of u.latest.wanted))
 
-    module _ (contact : Contact) (got : GaveContact in_look old new contact) where
+    module _ (contact : Contact) (got : ReadContact in_look old new contact) where
       heads_none : heads_of (reading_of got.given) ≡ []
       heads_none = ap heads_of got.reading
 

@@ -19,7 +19,7 @@ use Rattle.link_transfer.specs.Joiner.{IsJoinerAt}
 use Rattle.link_transfer.specs.Order.{open_of}
 use Rattle.link_report.specs.Fault.{fault_text}
 use Rattle.link_report.specs.declared.fault.Fault.TheVariants.{Wire}
-use Rattle.link_run.specs.Run.{Texts, Devices, devices_at, NoneFailed, HasWritten, WentOn, Ended, Gave, answer_of}
+use Rattle.link_run.specs.Run.{Texts, Devices, devices_at, NoneFailed, HasWritten, WentOn, LastStep, EndedRun, answer_of}
 use Rattle.link_run.specs.Writers.{place_of, on_report, Writes, WritesPart, GivesReport}
 use Rattle.link_run.specs.declared.run.Progress.{Progress}
 use Rattle.link_run.specs.declared.run.Progress.TheVariants.{More}
@@ -47,7 +47,7 @@ may_go_on stage.Message session = may_read session
 may_go_on (stage.Data last) session = is_opened session
 may_go_on (stage.Ended answer) session = true
 
--- what the step returns that leaves this stage
+-- what the step returns that leads to this stage
 abbrev pub progress_of : Stage → Result Progress IoFault
 progress_of stage.Contact = Ok More
 progress_of stage.Message = Ok More
@@ -147,9 +147,9 @@ module _ {R W E : Type 0} (in_look : R → Input) (out_look : W → Output) (rep
   IsUnpacking (stage.Data last) session writers unpacker history = Unpacks (stage.Data last) session writers unpacker history
   IsUnpacking (stage.Ended answer) session writers unpacker history = ⊥
 
-  -- what a step at the stage `now` gives, that leaves the stage `next`
+  -- what a step at the stage `now` gives that leads to the stage `next`
   abbrev pub GivesStage : Wanted → (now : Stage) → (old new : Session R) → (after : Writers W E) → Unpacker → (history : List ℕ) → (next : Stage) → Type 0
-  GivesStage wanted now old new after unpacker history (stage.Ended answer) = Ended in_look out_look report_look (unpack_tool wanted) start (devices_at (place_of (source_of new) after)) (most_given now) history answer
+  GivesStage wanted now old new after unpacker history (stage.Ended answer) = LastStep in_look out_look report_look (unpack_tool wanted) start (devices_at (place_of (source_of new) after)) (most_given now) history answer
   GivesStage wanted now old new after unpacker history stage.Contact = ⊥
   GivesStage wanted now old new after unpacker history stage.Message = WentOn (source_of old) (source_of new) (Unpacks stage.Message new after unpacker) (most_given now) history
   GivesStage wanted now old new after unpacker history (stage.Data last) = WentOn (source_of old) (source_of new) (λ bytes. Unpacks (stage.Data last) new after unpacker bytes × IsWaitingAfter now (reading_of bytes).end) (most_given now) history
@@ -159,7 +159,7 @@ module _ {R W E : Type 0} (in_look : R → Input) (out_look : W → Output) (rep
   StandsAfter wanted stage.Contact session writers unpacker history = ⊥
   StandsAfter wanted stage.Message session writers unpacker history = Unpacks stage.Message session writers unpacker history
   StandsAfter wanted (stage.Data last) session writers unpacker history = Unpacks (stage.Data last) session writers unpacker history
-  StandsAfter wanted (stage.Ended answer) session writers unpacker history = Gave in_look out_look report_look (unpack_tool wanted) start (devices_at (place_of (source_of session) writers)) history answer
+  StandsAfter wanted (stage.Ended answer) session writers unpacker history = EndedRun in_look out_look report_look (unpack_tool wanted) start (devices_at (place_of (source_of session) writers)) history answer
 
   -- The head of a segment, or data of it, has come. All that is due of its transfer is written but for its line.
   pub record IsJoining (last : Bool) (s : Session R) (w : Writers W E) (u : Unpacker) (history : List ℕ) : Type 0 where

@@ -30,7 +30,7 @@ here_pure after value bytes enough = record {
 pub here_err : {A : Type 0} (after : ℕ) (fault : WireFault) → (fault ≡ Truncated → ⊥) → IsHere after (let read : Part A = Err fault in read)
 here_err after fault other = record { whole = λ is. absurd (other (cc)); follow = λ value rest is. absurd (cc) }
 
--- a part that so many bytes decide
+-- a part that `most` bytes decide
 here_within : {A : Type 0} (most after : ℕ) (part : List ℕ → Part A) (bytes : List ℕ) → Within most part → most + after ≤ length bytes → IsHere after (part bytes)
 here_within most after part bytes within enough = record {
   whole = λ is. let short = within.cut bytes is in absurd (omega arith);

@@ -7,6 +7,7 @@ mod Items
 pub mod Shrinks
 mod Within
 mod Heres
+pub mod Steady
 pub mod Contacts
 pub mod Streams
 mod Rests

@@ -6,9 +6,9 @@ use Rattle.link_io.specs.Device.{Input}
 use Rattle.link_wire.specs.Part.{number_at}
 use Rattle.link_wire.specs.Message.{contact_at, message_at, fields_at, data_length}
 use Rattle.link_io.specs.Source.{is_fresh, IsSourceAt, IsLive, Takes, Readies}
-use Rattle.link_wire.specs.Getting.{Needs, IsFault, GotPart, Gets, GotKind}
+use Rattle.link_wire.specs.Getting.{Needs, IsFault, WholePart, Gets, OneKind}
 use Rattle.link_wire.specs.Stream.{End, Clean, Cut, Fault, Stream, ended, stream_at, Reading, reading_of}
-use Rattle.link_wire.specs.Session.{joined, data_after, with_data, rest_after, IsLeft, IsUndecided, SameMessages, ShownLast, is_unopened, reads_next, may_open, may_read, left_of, HasStopped, IsSessionAt, GaveContact, GivesContact, GaveMessage, GivesNext, GaveBytes, GaveLoad, GivesLoad, GivesData}
+use Rattle.link_wire.specs.Session.{joined, data_after, with_data, rest_after, IsLeft, IsUndecided, SameMessages, ShownLast, is_unopened, reads_next, may_open, may_read, left_of, HasStopped, IsSessionAt, ReadContact, GivesContact, ReadMessage, GivesNext, PassedBytes, LoadedData, GivesLoad, GivesData}
 use Rattle.link_io.proofs.Sources.{and_true, fresh_at, fresh_live, IsSourceAt-then, Takes-then, Readies-takes, StopsAfter-then}
 use Rattle.link_wire.proofs.Gettings.{after, IsFault-then, cut_then}
 use Rattle.link_wire.proofs.FieldReads.{IsPart-byte}
@@ -80,7 +80,7 @@ module _ {R : Type 0} {look : R → Input} where
       }
 
   -- the contact header was read
-  pub contact_came : (old new : Session R) (contact : Contact) → may_open old ≡ true → Gets look contact_at old.source new.source (Ok contact) → new.left ≡ old.left → new.phase ≡ phase.Reading → GaveContact look old new contact
+  pub contact_came : (old new : Session R) (contact : Contact) → may_open old ≡ true → Gets look contact_at old.source new.source (Ok contact) → new.left ≡ old.left → new.phase ≡ phase.Reading → ReadContact look old new contact
   contact_came old new contact fresh got left going =
       let given = got.by.given in
       let begins : Reading = record { contact = Some contact; entries = []; end = Clean } in
@@ -129,7 +129,7 @@ module _ {R : Type 0} {look : R → Input} where
     from_here bytes = at.goes_on bytes ∙ ap (λ end. joined (reading_of history) (rest_after (length history) old.left end bytes)) clean
 
     -- the head of a message was read
-    pub came : (new : Session R) (message : Message) → GotPart look message_at old.source new.source message → new.offset ≡ length history → new.left ≡ data_length message → new.phase ≡ phase.Reading → GaveMessage look old new history (length history) message
+    pub came : (new : Session R) (message : Message) → WholePart look message_at old.source new.source message → new.offset ≡ length history → new.left ≡ data_length message → new.phase ≡ phase.Reading → ReadMessage look old new history (length history) message
     came new message got offset left going =
         let given = got.given in
         let here = length history in
@@ -174,11 +174,11 @@ module _ {R : Type 0} {look : R → Input} where
         ∙ ap (joined (reading_of history)) (stream_at-fault (length history) kind (given ++ more) fault is)
 
     -- what the type byte and what follows it let the next message be
-    module _ {mid : Source R} {kind : ℕ} (first : GotKind look old.source mid kind) where
+    module _ {mid : Source R} {kind : ℕ} (first : OneKind look old.source mid kind) where
       typed : Gets look (number_at 1) old.source mid (Ok kind)
       typed = record { by = record { given = kind ∷ []; takes = first.takes; live = first.live; is = IsPart-byte kind } }
 
-      pub message_came : (new : Session R) (message : Message) → Gets look (fields_at kind) mid new.source (Ok message) → new.offset ≡ length history → new.left ≡ data_length message → new.phase ≡ phase.Reading → GaveMessage look old new history (length history) message
+      pub message_came : (new : Session R) (message : Message) → Gets look (fields_at kind) mid new.source (Ok message) → new.offset ≡ length history → new.left ≡ data_length message → new.phase ≡ phase.Reading → ReadMessage look old new history (length history) message
       unfolding message_at
       message_came new message fields offset left going =
           let whole : Gets look message_at old.source new.source (Ok message) = after _ typed fields in
@@ -253,7 +253,7 @@ module _ {R : Type 0} {look : R → Input} where
         )
 
     -- some data of the open segment was given
-    pub data_given : GaveBytes look old new history bytes
+    pub data_given : PassedBytes look old new history bytes
     data_given = let stood = data_stands in record { takes = takes; left = left; reading = stood.0; at = stood.1 }
 
 module _ {R : Type 0} {look : R → Input} where
@@ -271,7 +271,7 @@ module _ {R : Type 0} {look : R → Input} where
   }
 
   -- data was ready, and some of it was given
-  pub gave_then : (old mid new : Session R) (history bytes : List ℕ) (n : ℕ) → GaveLoad look old mid history n → GaveBytes look mid new history bytes → 0 < length bytes → GaveBytes look old new history bytes
+  pub gave_then : (old mid new : Session R) (history bytes : List ℕ) (n : ℕ) → LoadedData look old mid history n → PassedBytes look mid new history bytes → 0 < length bytes → PassedBytes look old new history bytes
   gave_then old mid new history bytes n ready gave some =
       record { takes = Readies-takes look old.source mid.source new.source bytes ready.readies gave.takes some; left = sym ready.left ∙ gave.left; reading = gave.reading; at = gave.at }
 

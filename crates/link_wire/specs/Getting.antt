@@ -31,7 +31,7 @@ module _ {A : Type 0} where
 
 module _ {R A : Type 0} where
   -- the bytes given are the part
-  pub record GotPart (look : R → Input) (part : List ℕ → Part A) (old new : Source R) (value : A) : Type 0 where
+  pub record WholePart (look : R → Input) (part : List ℕ → Part A) (old new : Source R) (value : A) : Type 0 where
     pub given : List ℕ
     pub takes : Takes look old new given
     pub live : IsLive look new
@@ -51,7 +51,7 @@ module _ {R A : Type 0} where
     pub is_cut : part given ≡ Err Truncated
 
   abbrev pub AnswersPart : (R → Input) → (List ℕ → Part A) → Source R → Source R → Result A Halt → Type 0
-  AnswersPart look part old new (Ok value) = GotPart look part old new value
+  AnswersPart look part old new (Ok value) = WholePart look part old new value
   AnswersPart look part old new (Err (halt.Wire fault)) = MetFault look part old new fault
   AnswersPart look part old new (Err (halt.Io fault)) = MetStop look part old new fault
 
@@ -66,16 +66,16 @@ with_value value (Err stop) = Err stop
 
 -- What reading the type byte gives: nothing where the input has ended, or the byte.
 module _ {R : Type 0} where
-  pub record GotNone (look : R → Input) (old new : Source R) : Type 0 where
+  pub record NoKind (look : R → Input) (old new : Source R) : Type 0 where
     pub takes : Takes look old new []
     pub live : IsLive look new
     pub over : IsOver look new
 
-  pub record GotKind (look : R → Input) (old new : Source R) (kind : ℕ) : Type 0 where
+  pub record OneKind (look : R → Input) (old new : Source R) (kind : ℕ) : Type 0 where
     pub takes : Takes look old new (kind ∷ [])
     pub live : IsLive look new
 
   abbrev pub GetsKind : (R → Input) → Source R → Source R → Result (Option ℕ) IoFault → Type 0
-  GetsKind look old new (Ok None) = GotNone look old new
-  GetsKind look old new (Ok (Some kind)) = GotKind look old new kind
+  GetsKind look old new (Ok None) = NoKind look old new
+  GetsKind look old new (Ok (Some kind)) = OneKind look old new kind
   GetsKind look old new (Err fault) = StopsAfter look old new [] fault

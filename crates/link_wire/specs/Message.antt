@@ -81,7 +81,8 @@ item_head_at left bytes =
           then Err ItemsOverrun
           else Ok (record { flags = flags; kind = kind; length = size }, bytes))
 
--- The items of a list's next `left` bytes, of which at most `room` more may come. They fill those bytes exactly.
+-- The items of a list, where `left` bytes of it are not covered yet, and at most `room` items may come. They fill those
+-- bytes exactly.
 unfoldable pub items_at : ListOf → ℕ → ℕ → List ℕ → Part (List Item)
 items_at of zero left bytes =
     if left == 0

@@ -6,8 +6,8 @@ use Rattle.link_wire.specs.Message.{message_at}
 use Rattle.link_wire.specs.MessageBuffer.{message_with}
 use Rattle.link_wire.specs.declared.message.Fields.{Fields}
 
--- The window begins with the head of a message that has these numbers and no items, and that many bytes. The message has
--- no node ID either, so it is the same whatever stands in its place.
+-- The window begins with `size` bytes that are the head of a message, with these numbers and no items. The message has no
+-- node ID either, so it is the same whatever stands in its place.
 pub record IsHead (window : List ℕ) (fields : Fields) (size : ℕ) : Type 0 where
   pub some : 0 < size
   pub within : size ≤ length window

@@ -1,10 +1,10 @@
 -- Where a session stands in the reading of the bytes that it was given.
-use Rattle.std.specs.Prelude.{◌≡◌, ℕ, ◌+◌, ◌<◌, ◌≤◌, Bool, true, false, ◌&&◌, ◌==◌, List, [], ◌++◌, length, take, drop, Option, Some, None, Result, Ok, Err, nat_lt, if◌then◌else◌}
+use Rattle.std.specs.Prelude.{◌≡◌, ℕ, zero, suc, ◌+◌, ◌<◌, ◌≤◌, Bool, true, false, ◌&&◌, ◌==◌, List, [], ◌++◌, length, take, drop, Option, Some, None, Result, Ok, Err, nat_lt, if◌then◌else◌, ⊤}
 use Rattle.link_io.specs.Device.{Input}
 use Rattle.link_wire.specs.Getting.{MayFollow}
 use Rattle.link_wire.specs.Limits.{longest_head}
-use Rattle.link_wire.specs.Message.{data_length}
-use Rattle.link_io.specs.Source.{IsSourceAt, IsLive, IsOver, HasEnded, Takes, Readies, StopsAfter, is_fresh, window_of}
+use Rattle.link_wire.specs.Message.{data_length, message_at}
+use Rattle.link_io.specs.Source.{IsSourceAt, IsLive, IsOver, HasEnded, Takes, Readies, StopsAfter, is_fresh, window_of, ahead}
 use Rattle.link_wire.specs.Stream.{End, Clean, Cut, Fault, Stream, ended, with_entry, stream_at, Reading, reading_of}
 use Rattle.link_io.specs.declared.fault.IoFault.{IoFault}
 use Rattle.link_wire.specs.declared.fault.Stop.{Stop}
@@ -38,10 +38,12 @@ data_after left bytes (Cut offset message content) =
     else with_entry (record { offset = offset; message = message; content = content ++ bytes }) (ended Clean)
 data_after left bytes (Fault offset fault) = ended (Fault offset fault)
 
+-- the same, joined to the reading
 abbrev pub with_data : ℕ → List ℕ → Reading → Reading
 with_data left bytes reading = joined reading (data_after left bytes reading.end)
 
--- What the bytes after those given are read as: between two messages, or with `left` bytes of the open segment to come.
+-- What the bytes after those given are read as, from the offset `place` on: messages; or the last `left` bytes of the open segment's data,
+-- and then messages. After a fault nothing is.
 abbrev pub rest_after : ℕ → ℕ → End → List ℕ → Stream
 rest_after place left Clean bytes = stream_at place bytes
 rest_after place left (Cut offset message content) bytes =
@@ -50,24 +52,31 @@ rest_after place left (Cut offset message content) bytes =
     else with_entry (record { offset = offset; message = message; content = content ++ take left bytes }) (stream_at (place + left) (drop left bytes))
 rest_after place left (Fault offset fault) bytes = ended (Fault offset fault)
 
--- between two messages no data is to come, and inside a segment some is
+-- between two messages no data is to come, and inside the segment at `offset` its last `left` bytes are
 abbrev pub IsLeft : ℕ → ℕ → End → Type 0
 IsLeft offset left Clean = left ≡ 0
 IsLeft offset left (Cut from message content) = (0 < left) × (from ≡ offset) × (data_length message ≡ length content + left)
 IsLeft offset left (Fault from fault) = ⊥
 
--- between two messages, or within the head of one, of which a field is missing: more bytes may mend it
+-- between two messages, or within the contact header or the head of one, of which a field is missing: more bytes may mend it
 abbrev pub IsUndecided : End → Type 0
 IsUndecided Clean = Unit {0}
 IsUndecided (Cut offset message content) = ⊥
 IsUndecided (Fault offset fault) = fault ≡ wire.Truncated
 
--- the readings of both have the same messages
+-- What is left, where it is known, is enough for what comes next: a head of which no field is missing, or its fault; or, where
+-- `left` bytes of data are to come, some of them.
+abbrev pub IsEnough : (left : ℕ) → Option (List ℕ) → Type 0
+IsEnough left None = ⊤
+IsEnough zero (Some bytes) = message_at bytes ≡ Err wire.Truncated → ⊥
+IsEnough (suc left) (Some bytes) = 0 < length bytes
+
+-- both readings have the same contact header and messages
 pub record SameMessages (first second : Reading) : Type 0 where
   pub contact : second.contact ≡ first.contact
   pub entries : second.entries ≡ first.entries
 
--- no proper prefix of the bytes after the history shows a fault
+-- no proper prefix of the bytes after the history shows a fault, or ends in data
 abbrev pub ShownLast : (history bytes : List ℕ) → Type 0
 ShownLast history bytes = (count : ℕ) → count < length bytes → IsUndecided (reading_of (history ++ take count bytes)).end
 
@@ -76,13 +85,13 @@ is_unopened phase.Unopened = true
 is_unopened phase.Reading = false
 is_unopened (phase.Stopped why) = false
 
--- the contact header was read, or refused
+-- the contact header was asked for
 abbrev pub past_opening : Phase → Bool
 past_opening phase.Unopened = false
 past_opening phase.Reading = true
 past_opening (phase.Stopped why) = true
 
--- in this phase, with that many bytes of data to come, the next message may be read
+-- in this phase, with `left` bytes of data to come, the next message may be read
 abbrev pub reads_next : Phase → ℕ → Bool
 reads_next phase.Unopened left = false
 reads_next phase.Reading left = left == 0
@@ -114,7 +123,7 @@ module _ {R : Type 0} where
   abbrev pub HasStopped : Session R → Stop → Type 0
   HasStopped s why = s.phase ≡ phase.Stopped why
 
-  -- the input has ended between two messages, and no fault was met
+  -- the input has ended, and the session has not stopped
   abbrev pub HasEndedBetween : Session R → Type 0
   HasEndedBetween s = (s.phase ≡ phase.Reading) × HasEnded s.source
 
@@ -133,7 +142,12 @@ module _ {R : Type 0} where
     pub left : IsLeft s.offset s.left (reading_of history).end
     pub goes_on : (more : List ℕ) → reading_of (history ++ more) ≡ joined (reading_of history) (rest_after (length history) s.left (reading_of history).end more)
 
-  -- the reading of all of the input is this: that of these bytes, and where a field is missing in it, none is left
+  -- the input has enough bytes left for what comes next
+  abbrev pub HasNext : (R → Input) → Session R → Type 0
+  HasNext look s = IsEnough s.left (ahead look s.source)
+
+  -- The whole input is read as `reading`: so are these bytes, whatever may follow them (`MayFollow`); and where the fault is a missing
+  -- field, no byte of the input is left.
   pub record IsRead (look : R → Input) (source : Source R) (history : List ℕ) (fault : WireFault) (reading : Reading) : Type 0 where
     pub over : fault ≡ wire.Truncated → IsOver look source
     pub all : (more : List ℕ) → MayFollow fault more → reading_of (history ++ more) ≡ reading
@@ -148,7 +162,7 @@ module _ {R : Type 0} where
   -- What a session gives, with the history that it was given.
 
   -- the contact header
-  pub record GaveContact (look : R → Input) (old new : Session R) (contact : Contact) : Type 0 where
+  pub record ReadContact (look : R → Input) (old new : Session R) (contact : Contact) : Type 0 where
     pub given : List ℕ
     pub takes : Takes look old.source new.source given
     pub reading : reading_of given ≡ record { contact = Some contact; entries = []; end = Clean }
@@ -156,6 +170,7 @@ module _ {R : Type 0} where
     pub at : IsSessionAt look new given
     pub between : left_of new ≡ 0
 
+  -- a fault of the contact header
   pub record RefusedContact (look : R → Input) (old new : Session R) (offset : ℕ) (fault : WireFault) : Type 0 where
     pub given : List ℕ
     pub takes : Takes look old.source new.source given
@@ -165,6 +180,7 @@ module _ {R : Type 0} where
     pub shown_last : ShownLast [] given
     pub stopped : HasStopped new (stop.Wire offset fault)
 
+  -- a failure inside the contact header
   pub record StoppedContact (look : R → Input) (old new : Session R) (fault : IoFault) : Type 0 where
     pub given : List ℕ
     pub stops : StopsAfter look old.source new.source given fault
@@ -173,12 +189,12 @@ module _ {R : Type 0} where
     pub stopped : HasStopped new (stop.Io fault)
 
   abbrev pub GivesContact : (R → Input) → Session R → Session R → Result Contact Stop → Type 0
-  GivesContact look old new (Ok contact) = GaveContact look old new contact
+  GivesContact look old new (Ok contact) = ReadContact look old new contact
   GivesContact look old new (Err (stop.Wire offset fault)) = RefusedContact look old new offset fault
   GivesContact look old new (Err (stop.Io fault)) = StoppedContact look old new fault
 
   -- the head of a message
-  pub record GaveMessage (look : R → Input) (old new : Session R) (history : List ℕ) (offset : ℕ) (message : Message) : Type 0 where
+  pub record ReadMessage (look : R → Input) (old new : Session R) (history : List ℕ) (offset : ℕ) (message : Message) : Type 0 where
     pub given : List ℕ
     pub takes : Takes look old.source new.source given
     pub some : 0 < length given
@@ -189,14 +205,14 @@ module _ {R : Type 0} where
     pub at : IsSessionAt look new (history ++ given)
 
   -- nothing: the stream ends between two messages
-  pub record GaveEnd (look : R → Input) (old new : Session R) (history : List ℕ) : Type 0 where
+  pub record CleanEnd (look : R → Input) (old new : Session R) (history : List ℕ) : Type 0 where
     pub takes : Takes look old.source new.source []
     pub over : IsOver look new.source
     pub clean : (reading_of history).end ≡ Clean
     pub at : IsSessionAt look new history
 
   -- the first fault, which stands in the message after the history; no byte is given after the one that shows it
-  pub record GaveFault (look : R → Input) (old new : Session R) (history : List ℕ) (offset : ℕ) (fault : WireFault) : Type 0 where
+  pub record RefusedMessage (look : R → Input) (old new : Session R) (history : List ℕ) (offset : ℕ) (fault : WireFault) : Type 0 where
     pub given : List ℕ
     pub takes : Takes look old.source new.source given
     pub size : length given ≤ longest_head
@@ -205,8 +221,8 @@ module _ {R : Type 0} where
     pub shown_last : ShownLast history given
     pub stopped : HasStopped new (stop.Wire offset fault)
 
-  -- a failure inside a message: what was given of it makes no message, and shows no fault
-  pub record GaveStop (look : R → Input) (old new : Session R) (history : List ℕ) (fault : IoFault) : Type 0 where
+  -- a failure before or inside a message: what was given of it makes no message, and shows no fault
+  pub record StoppedMessage (look : R → Input) (old new : Session R) (history : List ℕ) (fault : IoFault) : Type 0 where
     pub given : List ℕ
     pub stops : StopsAfter look old.source new.source given fault
     pub size : length given < longest_head
@@ -215,25 +231,26 @@ module _ {R : Type 0} where
     pub stopped : HasStopped new (stop.Io fault)
 
   abbrev pub GivesNext : (R → Input) → Session R → Session R → List ℕ → Result (Option (ℕ × Message)) Stop → Type 0
-  GivesNext look old new history (Ok None) = GaveEnd look old new history
-  GivesNext look old new history (Ok (Some (offset, message))) = GaveMessage look old new history offset message
-  GivesNext look old new history (Err (stop.Wire offset fault)) = GaveFault look old new history offset fault
-  GivesNext look old new history (Err (stop.Io fault)) = GaveStop look old new history fault
+  GivesNext look old new history (Ok None) = CleanEnd look old new history
+  GivesNext look old new history (Ok (Some (offset, message))) = ReadMessage look old new history offset message
+  GivesNext look old new history (Err (stop.Wire offset fault)) = RefusedMessage look old new history offset fault
+  GivesNext look old new history (Err (stop.Io fault)) = StoppedMessage look old new history fault
 
   -- these bytes of the open segment's data
-  pub record GaveBytes (look : R → Input) (old new : Session R) (history bytes : List ℕ) : Type 0 where
+  pub record PassedBytes (look : R → Input) (old new : Session R) (history bytes : List ℕ) : Type 0 where
     pub takes : Takes look old.source new.source bytes
     pub left : left_of old ≡ length bytes + left_of new
     pub reading : reading_of (history ++ bytes) ≡ with_data (left_of new) bytes (reading_of history)
     pub at : IsSessionAt look new (history ++ bytes)
 
-  pub record GaveData (look : R → Input) (old new : Session R) (history buffer : List ℕ) (n : ℕ) : Type 0 where
+  -- `n` bytes of data, copied: some, where some are to come and there is room
+  pub record ReadData (look : R → Input) (old new : Session R) (history buffer : List ℕ) (n : ℕ) : Type 0 where
     pub room : n ≤ length buffer
-    pub gave : GaveBytes look old new history (take n buffer)
+    pub gave : PassedBytes look old new history (take n buffer)
     pub some : 0 < left_of old → 0 < length buffer → 0 < n
 
-  -- data of the open segment lies in the window; nothing was given
-  pub record GaveLoad (look : R → Input) (old new : Session R) (history : List ℕ) (n : ℕ) : Type 0 where
+  -- `n` bytes of the open segment's data lie in the window, some where some are to come; nothing was given
+  pub record LoadedData (look : R → Input) (old new : Session R) (history : List ℕ) (n : ℕ) : Type 0 where
     pub readies : Readies look old.source new.source
     pub left : left_of new ≡ left_of old
     pub at : IsSessionAt look new history
@@ -241,7 +258,7 @@ module _ {R : Type 0} where
     pub some : 0 < left_of old → 0 < n
 
   -- the input has ended inside the data of the segment at the offset
-  pub record GaveCut (look : R → Input) (old new : Session R) (history : List ℕ) (offset : ℕ) (fault : WireFault) : Type 0 where
+  pub record CutData (look : R → Input) (old new : Session R) (history : List ℕ) (offset : ℕ) (fault : WireFault) : Type 0 where
     pub kind : fault ≡ wire.Truncated
     pub takes : Takes look old.source new.source []
     pub over : IsOver look new.source
@@ -256,11 +273,11 @@ module _ {R : Type 0} where
     pub stopped : HasStopped new (stop.Io fault)
 
   abbrev pub GivesData : (R → Input) → Session R → Session R → List ℕ → List ℕ → Result ℕ Stop → Type 0
-  GivesData look old new history buffer (Ok n) = GaveData look old new history buffer n
-  GivesData look old new history buffer (Err (stop.Wire offset fault)) = GaveCut look old new history offset fault
+  GivesData look old new history buffer (Ok n) = ReadData look old new history buffer n
+  GivesData look old new history buffer (Err (stop.Wire offset fault)) = CutData look old new history offset fault
   GivesData look old new history buffer (Err (stop.Io fault)) = StoppedData look old new fault
 
   abbrev pub GivesLoad : (R → Input) → Session R → Session R → List ℕ → Result ℕ Stop → Type 0
-  GivesLoad look old new history (Ok n) = GaveLoad look old new history n
-  GivesLoad look old new history (Err (stop.Wire offset fault)) = GaveCut look old new history offset fault
+  GivesLoad look old new history (Ok n) = LoadedData look old new history n
+  GivesLoad look old new history (Err (stop.Wire offset fault)) = CutData look old new history offset fault
   GivesLoad look old new history (Err (stop.Io fault)) = StoppedData look old new fault

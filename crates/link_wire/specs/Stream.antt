@@ -35,8 +35,8 @@ with_data_of offset message bytes rest =
     then ended (Cut offset message bytes)
     else with_entry (record { offset = offset; message = message; content = take (data_length message) bytes }) rest
 
--- What a message that was read makes of a stream. `size` bytes stand at the offset, so `size` less those after the head is
--- the length of the head. `next` reads what stands at a later offset.
+-- The stream that begins with a message that was read, or with its fault. `size` bytes stand at the offset: the head is
+-- `size` less the bytes after it long. `next` reads what stands at a later offset.
 abbrev pub stream_by : (ℕ → List ℕ → Stream) → ℕ → ℕ → Result (Message × List ℕ) WireFault → Stream
 stream_by next offset size (Err fault) = ended (Fault offset fault)
 stream_by next offset size (Ok (message, bytes)) =

@@ -38,7 +38,7 @@ impl<R: InDevice> Session<R> {
     ghost use Rattle.link_wire.specs.Plain.{IsHead};
     ghost use Rattle.link_wire.specs.Message.{MessageHasTotals};
     ghost use Rattle.link_wire.specs.MessageBuffer.{message_of, SegmentHasTotals};
-    ghost use Rattle.link_wire.specs.Session.{source_of, may_open, may_read, is_opened, IsSessionAt, HasEndedBetween, HasStopped, left_of, data_in, with_message_read, GivesContact, GaveMessage, GivesNext};
+    ghost use Rattle.link_wire.specs.Session.{source_of, may_open, may_read, is_opened, IsSessionAt, HasEndedBetween, HasNext, HasStopped, left_of, data_in, with_message_read, GivesContact, ReadMessage, GivesNext};
     ghost use Rattle.link_wire.specs.declared.session.Phase.TheVariants as phase;
 
     /// A session over a source that has taken nothing.
@@ -84,6 +84,9 @@ impl<R: InDevice> Session<R> {
         ensures few { IsTrue result → length (window_of (source_of self.now)) < window_size }
         ensures data { IsTrue result → 0 < left_of self.now → data_in self.now ≡ [] }
         ensures stopped { (stop : _) → HasStopped self.now stop → result ≡ false }
+        // It need not wait where the input has enough left, of which a part is here.
+        ensures here { (history : List ℕ) → IsSessionAt R.state self.now history → length (window_of (source_of self.now)) < window_size
+            → result ≡ false → HasNext R.state self.now }
     {
         if let Phase::Stopped(_) = self.phase {
             return false;
@@ -169,11 +172,12 @@ impl<R: InDevice> Session<R> {
         ensures none { result ≡ None → (self.new ≡ self.old) × (message.new ≡ message.old) }
         ensures reader { reader_of (source_of self.new) ≡ reader_of (source_of self.old) }
         ensures gives { (history : List ℕ) → IsSessionAt R.state self.old history
-            → IfSome result (λ offset. GaveMessage R.state self.old self.new history offset (message_of message.new)) }
+            → IfSome result (λ offset. ReadMessage R.state self.old self.new history offset (message_of message.new)) }
         ensures totals { IfSome result (λ offset. SegmentHasTotals message.new) }
         ensures opened { IsTrue (is_opened self.new) }
         ensures again { HasEndedBetween self.old → result ≡ None }
         ensures stopped { (stop : _) → HasStopped self.old stop → result ≡ None }
+        ensures here { (history : List ℕ) → IsSessionAt R.state self.old history → IfSome result (λ offset. HasNext R.state self.old) }
     {
         if let Phase::Stopped(_) = self.phase {
             return None;
@@ -193,7 +197,7 @@ impl<R: InDevice> Session<R> {
         ensures opened { IsTrue (is_opened self.new) }
         ensures reader { reader_of self.new.source ≡ reader_of self.old.source }
         ensures gives { (history : List ℕ) → IsSessionAt R.state self.old history
-            → GaveMessage R.state self.old self.new history result (message_of message.new) }
+            → ReadMessage R.state self.old self.new history result (message_of message.new) }
         ensures totals { SegmentHasTotals message.new }
     {
         let offset = self.source.given();
@@ -255,7 +259,7 @@ impl<R: InDevice> Session<R> {
 /// The data of segments.
 impl<R: InDevice> Session<R> {
     ghost use Rattle.std.specs.Prelude.{◌≡◌, ◌≤◌, ℕ, List, length, take, drop, IfOk, IfErr, Ok, Err, IsTrue};
-    ghost use Rattle.link_wire.specs.Session.{is_opened, IsSessionAt, HasStopped, left_of, data_in, GaveBytes, GivesData, GivesLoad};
+    ghost use Rattle.link_wire.specs.Session.{is_opened, IsSessionAt, HasStopped, left_of, data_in, PassedBytes, GivesData, GivesLoad};
     ghost use Rattle.link_wire.specs.declared.session.Phase.TheVariants as phase;
 
     /// Copies the next bytes of the segment's data, after at most one read, and returns how many: 0
@@ -305,7 +309,7 @@ impl<R: InDevice> Session<R> {
         requires { length part.old ≤ length (data_in self.old) }
         ensures opened { is_opened self.new ≡ is_opened self.old }
         ensures gives { (history : List ℕ) → IsSessionAt R.state self.old history
-            → GaveBytes R.state self.old self.new history part.new }
+            → PassedBytes R.state self.old self.new history part.new }
     {
         let count = part.len();
         part.copy_from_slice(&self.loaded()[..count]);
@@ -379,7 +383,7 @@ impl<R: InDevice> Session<R> {
         requires { count ≤ length (data_in self.old) }
         ensures opened { is_opened self.new ≡ is_opened self.old }
         ensures gives { (history : List ℕ) → IsSessionAt R.state self.old history
-            → GaveBytes R.state self.old self.new history (take count (data_in self.old)) }
+            → PassedBytes R.state self.old self.new history (take count (data_in self.old)) }
         ensures none { count ≡ 0 → self.new ≡ self.old }
         ensures stopped { (stop : _) → HasStopped self.old stop → HasStopped self.new stop }
     {

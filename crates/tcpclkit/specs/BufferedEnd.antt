@@ -20,8 +20,8 @@ pub record HandsOn (written handed : Output) : Type 0 where
   pub bytes : Keeps written.written handed.written ⊎ ((handed.failed ≡ true) × AreFirst written.written handed.written)
 
 module _ {R W E : Type 0} (in_look : R → Input) (out_look : W → Output) (report_look : E → Output) where
-  -- The tool was run over devices that stood so. What it wrote was handed on, no more was read, and the answer is its own, in which
-  -- a stream that failed then counts.
+  -- The tool was run over the devices `start`. What it wrote was handed on, nothing was read after the run, and the answer is
+  -- the tool's own, in which a stream that failed then counts.
   pub record GivesBuffered (options : Options) (start : Devices R W E) (input : R) (output report : Output) (answer : Result Status IoFault) : Type 0 where
     pub now : Devices R W E
     pub ends : Result Status IoFault

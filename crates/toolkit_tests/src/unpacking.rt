@@ -158,8 +158,8 @@ fn at_once<'a>(
     )
 }
 
-/// Steps through a row's stream. After each step but the last so many pieces of the output and of the report are
-/// written.
+/// Steps through a row's stream. After each step but the last, as many pieces of the output and of the report are
+/// written as `written` says.
 fn after_each_step(
     rt: &(impl Abort + AllocGlobal),
     row: &Row,

@@ -203,7 +203,7 @@ fn canonical_blocks(rt: HostRuntime) -> Result<(), Fail> {
     all_judged(&rt, &BLOCKS)
 }
 
-/// The bundle with so many blocks before its payload block, from number 2 on.
+/// The bundle with this many blocks before its payload block, from number 2 on.
 fn with_blocks(alloc: Global, blocks: u8) -> Result<Vec<u8>, Fail>
     requires { blocks ≤ 64 }
 {

@@ -8,7 +8,7 @@ use Rattle.link_pack.proofs.packing.take_bundles.Goals.{then-is_empty+then-may_w
 pub returns-in-Err-clause-gives : goal.returns-in-Err-clause-gives
 returns-in-Err-clause-gives g c = λ start history at.
     let s = c.args.source.now in
-    lost_now g.R.InDevice.state g.W.OutDevice.state g.E.OutDevice.state start s s c.args.writers.now c.settle.new.self c.args.packer.now history c.in-Err.fault c.in-Err.ensures.gives (c.if-may_wait.ensures refl) at
+    lost_now g.R.InDevice.state g.W.OutDevice.state g.E.OutDevice.state start s s c.args.writers.now c.settle.new.self c.args.packer.now history c.in-Err.fault c.in-Err.ensures.gives (c.if-may_wait.ensures.few refl) at
 
 pub returns-clause-gives : goal.returns-clause-gives
 returns-clause-gives g c = λ start history at.

@@ -3,7 +3,7 @@ use Rattle.std.proofs.lemmas.Bool.Decides.{nat_tests}
 use Rattle.std.proofs.lemmas.List.{take-take}
 use Rattle.link_wire.specs.Source.{window_of}
 use Rattle.link_io.proofs.Sources.{Readies-takes, Readies-over}
-use Rattle.link_pack.specs.Packer.{Took}
+use Rattle.link_pack.specs.Packer.{MakesOf}
 use Rattle.link_pack.proofs.Founds.{came, finished}
 use Rattle.link_pack.proofs.Steps.{read_lost}
 use Rattle.link_pack.proofs.packing.take_bytes.Goals as goal
@@ -41,7 +41,7 @@ returns-clause-gives g c = λ start history at.
     let same : take count (take most c.window.result.now) ≡ take count window = ap (λ (w : List ℕ). take count (take most w)) whole ∙ take-take count most window (omega (arith, piece)) in
     let size : length (take count window) ≡ count = length-take count window ∙ omega (arith, piece) in
     let some : 0 < length (take count window) = omega (arith, size, c.take-count.ensures.some at.bundles at.begun at.holds bound) in
-    let took = subst (λ (run : List ℕ). Took c.take-count.new.self at.begun run c.take-count.result.1) same (c.take-count.ensures.took at.bundles at.begun at.holds bound) in
+    let took = subst (λ (run : List ℕ). MakesOf c.take-count.new.self at.begun run c.take-count.result.1) same (c.take-count.ensures.took at.bundles at.begun at.holds bound) in
     let numbered = c.take-count.ensures.number ∙ at.holds.number in
     came g.R.InDevice.state g.W.OutDevice.state g.E.OutDevice.state start c.args.source.now c.args.writers.now c.args.packer.now history at
     c.give.new.self (take count window) (Readies-takes g.R.InDevice.state c.args.source.now mid c.give.new.self (take count window) ready.readies c.give.ensures.takes some)

@@ -1,4 +1,6 @@
-use Rattle.std.proofs.Common.{[]}
+use Rattle.std.proofs.Common.{◌<◌, [], inr, length, subst, arith}
+use Rattle.std.proofs.lemmas.Bool.Decides.{nat_tests}
+use Rattle.link_wire.proofs.Steady.{data_next}
 use Rattle.link_run.specs.Writers.{on_output, Writes}
 use Rattle.link_run.proofs.Readings.{data_given}
 use Rattle.link_run.proofs.Runs.{writes_none}
@@ -12,3 +14,11 @@ returns-clause-gives g c = λ history at.
       | else-is_empty w ↦ rw w.writers-is (writes_none g.W.OutDevice.state g.E.OutDevice.state c.args.writers.now)
     ] in
     data_given g.R.InDevice.state g.W.OutDevice.state g.E.OutDevice.state c.args.session.now c.load.new.self c.args.writers.now c.if-is_empty.writers history writes _ (c.load.ensures.gives history at)
+
+pub returns-clause-handed : goal.returns-clause-handed
+returns-clause-handed g c = elim c.if-is_empty.branch [
+  | then-is_empty+in_ok-settle_before w ↦ rw w.writers-is w.in_ok-settle_before.ensures.handed
+  | else-is_empty w ↦ λ history at few output report.
+      let some : 0 < length c.loaded.result.now = grind (arith, nat_tests) in
+      inr (data_next g.R.InDevice.state c.args.session.now (subst (λ d. 0 < length d) c.loaded.ensures some))
+]

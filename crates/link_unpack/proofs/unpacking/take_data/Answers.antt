@@ -1,5 +1,5 @@
 use Rattle.std.proofs.Common.{◌≡◌, ◌<◌, ◌++◌, ℕ, List, length, take, refl, sym, subst, arith, length-take, ⊎_elim}
-use Rattle.link_wire.specs.Session.{data_in, GaveBytes}
+use Rattle.link_wire.specs.Session.{data_in, PassedBytes}
 use Rattle.link_unpack.specs.UnpackRun.{StandsAfter}
 use Rattle.link_unpack.specs.declared.unpacking.Stage.TheVariants as stage
 use Rattle.link_unpack.specs.declared.unpacking.Unpacker.{Unpacker}
@@ -32,7 +32,7 @@ returns-in-Ok-written-clause-gives g c = λ start history at.
     let got = both.1 in
     let at_data = settled g.R.InDevice.state g.W.OutDevice.state g.E.OutDevice.state start (stage.Data c.args.last) s c.pass.new.self c.args.writers.now mid c.args.unpacker.now history both.0 at in
     let bytes : List ℕ = take c.min-size.result c.loaded.result.now in
-    let P : List ℕ → Type 0 = λ d. GaveBytes g.R.InDevice.state loaded c.pass.new.self history (take c.min-size.result d) in
+    let P : List ℕ → Type 0 = λ d. PassedBytes g.R.InDevice.state loaded c.pass.new.self history (take c.min-size.result d) in
     let gave = subst P (sym c.loaded.ensures) (c.pass.ensures.gives history got.at) in
     let in_data = here g.R.InDevice.state g.W.OutDevice.state g.E.OutDevice.state start c.args.last s mid c.args.unpacker.now history at_data in
     let size : length bytes ≡ c.min-size.result = rw c.loaded.ensures (omega (arith, got.size, c.min-size.ensures, length-take c.min-size.result (data_in loaded))) in
@@ -59,7 +59,7 @@ returns-in-Err-written-clause-gives g c = λ start history at.
     let got = both.1 in
     let at_data = settled g.R.InDevice.state g.W.OutDevice.state g.E.OutDevice.state start (stage.Data c.args.last) s c.pass.new.self c.args.writers.now mid c.args.unpacker.now history both.0 at in
     let bytes : List ℕ = take c.min-size.result c.loaded.result.now in
-    let P : List ℕ → Type 0 = λ d. GaveBytes g.R.InDevice.state loaded c.pass.new.self history (take c.min-size.result d) in
+    let P : List ℕ → Type 0 = λ d. PassedBytes g.R.InDevice.state loaded c.pass.new.self history (take c.min-size.result d) in
     let gave = subst P (sym c.loaded.ensures) (c.pass.ensures.gives history got.at) in
     let in_data = here g.R.InDevice.state g.W.OutDevice.state g.E.OutDevice.state start c.args.last s mid c.args.unpacker.now history at_data in
     let size : length bytes ≡ c.min-size.result = rw c.loaded.ensures (omega (arith, got.size, c.min-size.ensures, length-take c.min-size.result (data_in loaded))) in

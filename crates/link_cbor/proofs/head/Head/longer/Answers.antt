@@ -1,7 +1,7 @@
 use Rattle.std.proofs.Common.{◌<◌, ◌≤◌, ◌/◌, bit_and, get_or, drop, sym, ap, ◌∙◌, arith}
 use Rattle.std.proofs.lemmas.Nat.{and_le_r}
 use Rattle.link_cbor.specs.Head.{whole_of}
-use Rattle.link_cbor.specs.HeadLaws.{front_by-reserved, front_by-none}
+use Rattle.link_cbor.proofs.HeadLaws.{front_by-reserved, front_by-none}
 use Rattle.link_cbor.proofs.Fronts.{by_first, by_argument}
 use Rattle.link_cbor.proofs.head.Head.longer.Goals as goal
 

@@ -1,5 +1,5 @@
 use Rattle.std.proofs.Common.{take, arith, length-drop}
-use Rattle.link_io.proofs.Writes.{take-all_after, Wrote-more}
+use Rattle.link_io.proofs.Writes.{take-all_after, WritesWhole-more}
 use Rattle.link_io.proofs.device.OutDevice.write_text.Goals as goal
 
 -- the prefix grows by what `write` took
@@ -10,5 +10,5 @@ loop-at-preserved g c =
     let bound = rw rest at c.in-Ok.ensures.bound in
     record {
       place = omega (arith, bound, length-drop c.loop-at.at made);
-      written = Wrote-more g.Self.OutDevice.state _ _ _ made c.loop-at.at c.in-Ok.n c.loop-at.invariant.written (record { written = rw rest at c.in-Ok.ensures.bytes; device = c.in-Ok.ensures.failed });
+      written = WritesWhole-more g.Self.OutDevice.state _ _ _ made c.loop-at.at c.in-Ok.n c.loop-at.invariant.written (record { written = rw rest at c.in-Ok.ensures.bytes; device = c.in-Ok.ensures.failed });
     }

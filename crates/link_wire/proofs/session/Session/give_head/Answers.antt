@@ -1,7 +1,7 @@
 use Rattle.std.proofs.Common.{◌≡◌, length, take, refl, sym, subst, ◌∙◌}
 use Rattle.link_wire.proofs.Sessions.{none_left, came}
 use Rattle.link_io.specs.Source.{window_of}
-use Rattle.link_wire.specs.Getting.{IsPart, GotPart}
+use Rattle.link_wire.specs.Getting.{IsPart, WholePart}
 use Rattle.link_wire.specs.Message.{message_at}
 use Rattle.link_wire.specs.MessageBuffer.{message_of}
 use Rattle.link_wire.specs.declared.message.Message.{Message}
@@ -13,7 +13,7 @@ returns-clause-gives g c = λ history at.
     let given = take c.args.size (window_of old.source) in
     let here : c.given-offset.result ≡ length history = c.given-offset.ensures ∙ at.at.given in
     let P : Message → Type 0 = λ message. IsPart message_at given message in
-    let got : GotPart g.R.InDevice.state message_at old.source c.give.new.self (message_of c.set.new.self) = record {
+    let got : WholePart g.R.InDevice.state message_at old.source c.give.new.self (message_of c.set.new.self) = record {
       given = given;
       takes = c.give.ensures.takes;
       live = c.give.ensures.live at.live;

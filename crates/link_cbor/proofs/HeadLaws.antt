@@ -1,4 +1,4 @@
--- what follows from the definition of a head, for scans of more than one
+-- What follows from the definition of a head, for scans of more than one.
 
 use Rattle.std.proofs.Common.{◌≡◌, ℕ, ◌-◌, ◌/◌, ◌%◌, ◌^◌, ◌<◌, ◌≤◌, false, nat_lt, List, [], ◌∷◌, ◌++◌, length, take, Some, refl, sym, ap, ◌∙◌, ⊎_elim, arith}
 use Rattle.std.proofs.lemmas.List.{take-append-le, length-append}

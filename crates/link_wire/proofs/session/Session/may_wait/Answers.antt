@@ -1,0 +1,16 @@
+use Rattle.std.proofs.Common.{◌≡◌, false, not, ap, sym, ◌∙◌, arith}
+use Rattle.std.proofs.lemmas.Bool.{false≢true}
+use Rattle.link_wire.proofs.Steady.{head_next}
+use Rattle.link_wire.proofs.session.Session.may_wait.Goals as goal
+
+pub returns-else-not-has_head : goal.returns-else-not-has_head
+returns-else-not-has_head g c =
+    let no : not c.has_head.result ≡ false = ap not c.if-not-has_head.false in
+    record {
+      few = λ is. absurd (false≢true (sym no ∙ is));
+      «data» = λ is. absurd (false≢true (sym no ∙ is));
+      stopped = λ stop is. no;
+      here = λ history at few waits.
+          let between : c.args.self.now.left ≡ 0 = omega (arith, c.if-self-gt0.false) in
+          head_next g.R.InDevice.state c.args.self.now between _ c.peek-count.ensures.next (c.has_head.ensures c.if-not-has_head.false);
+    }
