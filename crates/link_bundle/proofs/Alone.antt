@@ -35,7 +35,8 @@ abbrev Alone : List ℕ → ℕ → Result Bundle Stop → Result Bundle Stop �
 Alone bytes place now later =
     (bundle : Bundle) → later ≡ Ok bundle → (place ≤ bundle.length) × (bundle.length ≤ length bytes → now ≡ Ok bundle)
 
-alone-then : {A : Type 0} (bytes : List ℕ) (place : ℕ) (now later : Reading A) (next next_later : A × ℕ → Result Bundle Stop)
+alone-then : {A : Type 0} (bytes : List ℕ) (place : ℕ) (now later : Reading A)
+    (next next_later : A × ℕ → Result Bundle Stop)
     → Reads bytes place now later
     → ((value : A × ℕ) → Alone bytes value.1 (next value) (next_later value))
     → Alone bytes place (now >>= next) (later >>= next_later)
@@ -53,19 +54,22 @@ alone-then bytes place (Err stop) later next next_later (whole equal onward) eac
 row-alone : {A : Type 0} (row : Head → Result A BundleFault) (bytes more : List ℕ) (place : ℕ)
     (next next_later : A × ℕ → Result Bundle Stop)
     → ((value : A × ℕ) → Alone bytes value.1 (next value) (next_later value))
-    → Alone bytes place (row_at row bytes place >>= next) (row_at row (bytes ++ more) place >>= next_later)
+    → Alone bytes place (row_at row bytes place >>= next)
+    (row_at row (bytes ++ more) place >>= next_later)
 row-alone row bytes more place next next_later each =
     alone-then bytes place (row_at row bytes place) (row_at row (bytes ++ more) place) next next_later
     (row_at-reads row bytes more place) each
 
-alone-if : (test : Bool) (bytes : List ℕ) (place : ℕ) (now later other other_later : Result Bundle Stop)
+alone-if : (test : Bool) (bytes : List ℕ) (place : ℕ)
+    (now later other other_later : Result Bundle Stop)
     → Alone bytes place now later → Alone bytes place other other_later
     → Alone bytes place (if test then now else other) (if test then later else other_later)
 alone-if true bytes place now later other other_later taken passed = taken
 alone-if false bytes place now later other other_later taken passed = passed
 
 alone-with_payload : (payload : ℕ × ℕ) (bytes : List ℕ) (place : ℕ) (now later : Result Bundle Stop)
-    → Alone bytes place now later → Alone bytes place (with_payload payload now) (with_payload payload later)
+    → Alone bytes place now later
+    → Alone bytes place (with_payload payload now) (with_payload payload later)
 alone-with_payload payload bytes place now (Ok value) alone bundle is =
     ((alone bundle is).0, λ within. rw ((alone bundle is).1 within) refl)
 alone-with_payload payload bytes place now (Err stop) alone bundle is = cc
@@ -76,7 +80,8 @@ alone-end bytes found bundle is =
     let equal : found ≡ bundle = cc in
     (rw equal (omega arith), λ within. is)
 
-payload_at-alone : (primary : Primary) (blocks size : ℕ) (check : Option CheckKind) (start : ℕ) (bytes more : List ℕ) (place : ℕ)
+payload_at-alone : (primary : Primary) (blocks size : ℕ) (check : Option CheckKind) (start : ℕ)
+    (bytes more : List ℕ) (place : ℕ)
     → Alone bytes place (payload_at primary blocks size check start bytes place)
     (payload_at primary blocks size check start (bytes ++ more) place)
 unfolding payload_at
@@ -86,11 +91,14 @@ payload_at-alone primary blocks size check start bytes more place =
     (content_at-reads size check start bytes more place)
     (λ (_, end). row-alone closing bytes more end _ _ (λ (_, end). alone-end bytes _)))
 
-alone-none : (bytes : List ℕ) (place : ℕ) (now : Result Bundle Stop) (stop : Stop) → Alone bytes place now (Err stop)
+alone-none : (bytes : List ℕ) (place : ℕ) (now : Result Bundle Stop) (stop : Stop)
+    → Alone bytes place now (Err stop)
 alone-none bytes place now stop bundle is = cc
 
-blocks_at-alone : (left : ℕ) (numbers : List ℕ) (primary : Primary) (bytes more : List ℕ) (start : ℕ)
-    → Alone bytes start (blocks_at left numbers primary bytes start) (blocks_at left numbers primary (bytes ++ more) start)
+blocks_at-alone : (left : ℕ) (numbers : List ℕ) (primary : Primary)
+    (bytes more : List ℕ) (start : ℕ)
+    → Alone bytes start (blocks_at left numbers primary bytes start)
+    (blocks_at left numbers primary (bytes ++ more) start)
 unfolding blocks_at
 blocks_at-alone zero numbers primary bytes more start =
     row-alone block_too_many bytes more start _ _ (λ (none, place). alone-none bytes place _ _)
@@ -113,7 +121,8 @@ blocks_at-alone (suc left) numbers primary bytes more start =
     (content_at-reads size check start bytes more place)
     (λ (_, place). blocks_at-alone left (numbers ++ number ∷ []) primary bytes more place))))))))
 
-bundle_at-alone : (bytes more : List ℕ) → Alone bytes 0 (bundle_at bytes) (bundle_at (bytes ++ more))
+bundle_at-alone : (bytes more : List ℕ)
+    → Alone bytes 0 (bundle_at bytes) (bundle_at (bytes ++ more))
 unfolding bundle_at
 bundle_at-alone bytes more =
     alone-then bytes 0 (opening_at bytes) (opening_at (bytes ++ more)) _ _ (opening_at-reads bytes more)
@@ -134,24 +143,28 @@ pub record BeginsWith (bundle : Bundle) (bytes : List ℕ) : Type 0 where
   -- before its last byte more are needed
   pub goes : (count : ℕ) → count < bundle.length → bundle_goes (take count bytes) ≡ true
 
-ok_stays : (now later : Result Bundle Stop) (bundle : Bundle) → Stays now later → now ≡ Ok bundle → later ≡ Ok bundle
+ok_stays : (now later : Result Bundle Stop) (bundle : Bundle) → Stays now later
+    → now ≡ Ok bundle → later ≡ Ok bundle
 ok_stays (Ok found) later bundle (cuts cut) is = absurd cut
 ok_stays (Err stop) later bundle (cuts cut) is = cc
 ok_stays now later bundle (same equal) is = equal ∙ is
 
-not_empty : (size : ℕ) (bytes : List ℕ) (bundle : Bundle) → bundle_at (take size bytes) ≡ Ok bundle → 0 < size
+not_empty : (size : ℕ) (bytes : List ℕ) (bundle : Bundle) → bundle_at (take size bytes) ≡ Ok bundle
+    → 0 < size
 unfolding bundle_at opening_at
 not_empty zero bytes bundle is = cc
 not_empty (suc size) bytes bundle is = omega arith
 
 -- fewer bytes than the bundle has are cut
-cut_before : (bytes : List ℕ) (now later : Result Bundle Stop) (bundle : Bundle) → now ≡ bundle_at bytes → Stays now later → later ≡ Ok bundle
+cut_before : (bytes : List ℕ) (now later : Result Bundle Stop) (bundle : Bundle)
+    → now ≡ bundle_at bytes → Stays now later → later ≡ Ok bundle
     → length bytes < bundle.length → EndsCut now
 cut_before bytes now later bundle here (cuts cut) is before = cut
 cut_before bytes now later bundle here (same equal) is before =
     absurd (omega (arith, bundle_within bytes bundle (sym here ∙ sym equal ∙ is)))
 
-pub begins_with : (bundle : Bundle) (bytes : List ℕ) → bundle_at bytes ≡ Ok bundle → BeginsWith bundle bytes
+pub begins_with : (bundle : Bundle) (bytes : List ℕ) → bundle_at bytes ≡ Ok bundle
+    → BeginsWith bundle bytes
 begins_with bundle bytes is =
     let size = bundle.length in
     let within = bundle_within bytes bundle is in
@@ -173,7 +186,8 @@ begins_with bundle bytes is =
 
 pub whole_come : (old new : Cursor) (draft after : Draft) (seen bytes : List ℕ) (size : ℕ)
     → HasCome Start old draft seen → AreBytes bytes → BeginsWith (bundle_of after size) bytes
-    → new.count ≡ old.count + size → new.place ≡ new.count → HasCome Ended new after (seen ++ take size bytes)
+    → new.count ≡ old.count + size → new.place ≡ new.count
+    → HasCome Ended new after (seen ++ take size bytes)
 unfolding judged stage_left
 whole_come old new draft after seen bytes size come all begins counts stays =
     let run = take size bytes in
@@ -190,8 +204,10 @@ whole_come old new draft after seen bytes size come all begins counts stays =
       stands = omega arith;
     }
 
-pub goes_in_whole : (old : Cursor) (draft : Draft) (bundle : Bundle) (seen bytes : List ℕ) (count : ℕ)
-    → HasCome Start old draft seen → BeginsWith bundle bytes → count < bundle.length → bundle_goes (seen ++ take count bytes) ≡ true
+pub goes_in_whole : (old : Cursor) (draft : Draft) (bundle : Bundle)
+    (seen bytes : List ℕ) (count : ℕ)
+    → HasCome Start old draft seen → BeginsWith bundle bytes → count < bundle.length
+    → bundle_goes (seen ++ take count bytes) ≡ true
 goes_in_whole old draft bundle seen bytes count come begins before =
     ap (λ (seen : List ℕ). bundle_goes (seen ++ take count bytes)) come.stands.nothing ∙ begins.goes count before
 
@@ -201,7 +217,8 @@ unread_of (Is kind) is = cc
 
 -- a scan that has seen nothing has so with a new draft too
 pub restarted : (cursor : Cursor) (draft after : Draft) (seen : List ℕ)
-    → HasCome Start cursor draft seen → is_unread draft.check ≡ true → after.check ≡ Unread → HasCome Start cursor after seen
+    → HasCome Start cursor draft seen → is_unread draft.check ≡ true → after.check ≡ Unread
+    → HasCome Start cursor after seen
 unfolding stage_left
 restarted cursor draft after seen come unread fresh = record {
   all_bytes = come.all_bytes;

@@ -14,7 +14,8 @@ use Rattle.link_bundle.specs.Bundle.{blocks_at}
 use Rattle.link_bundle.specs.Left.{primary_of, type_left, number_left, block_flags_left, block_check_left, data_left}
 use Rattle.link_bundle.proofs.Heads.{row_at-accepted, row_at-refused}
 
-pub blocks_at-refused : (left : ℕ) (numbers : List ℕ) (primary : Primary) (bytes : List ℕ) (place next : ℕ) (head : Head) (fault : BundleFault)
+pub blocks_at-refused : (left : ℕ) (numbers : List ℕ) (primary : Primary) (bytes : List ℕ)
+    (place next : ℕ) (head : Head) (fault : BundleFault)
     → head_at bytes place ≡ Ok (head, next) → block head ≡ Err fault
     → blocks_at left numbers primary bytes place ≡ Err (stopped fault place)
 unfolding blocks_at block_too_many
@@ -23,7 +24,8 @@ blocks_at-refused zero numbers primary bytes place next head fault told judged =
 blocks_at-refused (suc left) numbers primary bytes place next head fault told judged =
     rw (row_at-refused block bytes place next head fault told judged) refl
 
-pub blocks_at-full : (left : ℕ) (numbers : List ℕ) (primary : Primary) (bytes : List ℕ) (place next : ℕ) (head : Head) (count : ℕ)
+pub blocks_at-full : (left : ℕ) (numbers : List ℕ) (primary : Primary) (bytes : List ℕ)
+    (place next : ℕ) (head : Head) (count : ℕ)
     → left ≡ 0 → head_at bytes place ≡ Ok (head, next) → block head ≡ Ok count
     → blocks_at left numbers primary bytes place ≡ Err (stopped TooManyBlocks place)
 unfolding blocks_at block_too_many

@@ -43,21 +43,25 @@ check_result same place field = if same then Ok (true, place) else Err (stopped 
 skipped : Option CheckKind → ℕ → List ℕ → Reading (List ℕ) → Reading Bool
 skipped check start bytes reading = reading >>= λ (_, place). field_at check start bytes place
 
-skipped-with_run : (check : Option CheckKind) (start : ℕ) (bytes run : List ℕ) (reading : Reading (List ℕ))
+skipped-with_run : (check : Option CheckKind) (start : ℕ) (bytes run : List ℕ)
+    (reading : Reading (List ℕ))
     → skipped check start bytes (with_run run reading) ≡ skipped check start bytes reading
 unfolding skipped
 skipped-with_run check start bytes run (Ok (rest, place)) = refl
 skipped-with_run check start bytes run (Err stop) = refl
 
-content_at-run : (left : ℕ) (check : Option CheckKind) (start : ℕ) (bytes more run : List ℕ) (place : ℕ)
+content_at-run : (left : ℕ) (check : Option CheckKind) (start : ℕ)
+    (bytes more run : List ℕ) (place : ℕ)
     → drop place bytes ≡ run ++ more → length run ≤ left
-    → content_at left check start bytes place ≡ content_at (left - length run) check start bytes (place + length run)
+    → content_at left check start bytes place
+    ≡ content_at (left - length run) check start bytes (place + length run)
 unfolding content_at skipped
 content_at-run left check start bytes more run place here fits =
     ap (λ (reading : Reading (List ℕ)). skipped check start bytes reading) (bytes_at-run left bytes more run place here fits)
     ∙ skipped-with_run check start bytes run (bytes_at (left - length run) bytes (place + length run))
 
-content_at-ends : (left : ℕ) (check : Option CheckKind) (start : ℕ) (bytes more run : List ℕ) (place : ℕ)
+content_at-ends : (left : ℕ) (check : Option CheckKind) (start : ℕ)
+    (bytes more run : List ℕ) (place : ℕ)
     → drop place bytes ≡ run ++ more → 0 < left → left ≡ length run
     → content_at left check start bytes place ≡ field_at check start bytes (place + length run)
 content_at-ends left check start bytes more run place here some all =
@@ -70,24 +74,28 @@ content_at-ends left check start bytes more run place here some all =
 pub record TakesRun (check : CheckType) (old new : Cursor) (run : List ℕ) : Type 0 where
   pub all_bytes : AreBytes run
   pub count : new.count ≡ old.count + length run
-  pub checks : (covered : List ℕ) → Covers check old.checks covered → Covers check new.checks (covered ++ run)
+  pub checks : (covered : List ℕ) → Covers check old.checks covered
+      → Covers check new.checks (covered ++ run)
 
 -- the checks and the block after a run of bytes
 inside_grown : (draft : Draft) (old new : Cursor) (start : ℕ) (seen run : List ℕ)
-    → IsInside old draft.check start seen → TakesRun draft.check old new run → IsInside new draft.check start (seen ++ run)
+    → IsInside old draft.check start seen → TakesRun draft.check old new run
+    → IsInside new draft.check start (seen ++ run)
 inside_grown draft old new start seen run at takes = record {
   in_block = omega (arith, length-append seen run, at.in_block);
   checks = rw (drop-append-le start seen run at.in_block) (takes.checks (drop start seen) at.checks);
 }
 
-count_grown : (check : CheckType) (old new : Cursor) (seen run : List ℕ) → old.count ≡ length seen → TakesRun check old new run
+count_grown : (check : CheckType) (old new : Cursor) (seen run : List ℕ) → old.count ≡ length seen
+    → TakesRun check old new run
     → new.count ≡ length (seen ++ run)
 count_grown check old new seen run counted takes =
     takes.count ∙ ap (λ (count : ℕ). count + length run) counted ∙ sym (length-append seen run)
 
 -- data, with more of it to come
 pub grown_content : (left rest : ℕ) (old new : Cursor) (draft : Draft) (seen run : List ℕ)
-    → HasCome (Content left) old draft seen → length run ≤ left → rest ≡ left - length run → TakesRun draft.check old new run
+    → HasCome (Content left) old draft seen → length run ≤ left → rest ≡ left - length run
+    → TakesRun draft.check old new run
     → HasCome (Content rest) new draft (seen ++ run)
 unfolding stage_left
 grown_content left rest old new draft seen run come fits is_rest takes = record {
@@ -105,9 +113,12 @@ grown_content left rest old new draft seen run come fits is_rest takes = record 
 }
 
 -- the last bytes of data
-pub ended_content : (left : ℕ) (old grown_cursor new : Cursor) (draft after : Draft) (stage : Stage) (seen run : List ℕ)
-    → HasCome (Content left) old draft seen → 0 < left → left ≡ length run → TakesRun draft.check old grown_cursor run
-    → FieldsEnd draft stage after → KeepsCheck draft.check stage after.check → Enters stage grown_cursor new
+pub ended_content : (left : ℕ) (old grown_cursor new : Cursor) (draft after : Draft)
+    (stage : Stage) (seen run : List ℕ)
+    → HasCome (Content left) old draft seen → 0 < left → left ≡ length run
+    → TakesRun draft.check old grown_cursor run
+    → FieldsEnd draft stage after → KeepsCheck draft.check stage after.check
+    → Enters stage grown_cursor new
     → HasCome stage new after (seen ++ run)
 unfolding stage_left
 ended_content left old grown_cursor new draft after stage seen run come some all takes ends keeps enters =
@@ -123,9 +134,11 @@ ended_content left old grown_cursor new draft after stage seen run come some all
     ∙ ends bytes come.start (length (seen ++ run)))
 
 -- bytes of a name
-pub grown_name : (role : Role) (left : ℕ) (old grown_cursor new : Cursor) (draft after : Draft) (stage : Stage) (seen run : List ℕ)
+pub grown_name : (role : Role) (left : ℕ) (old grown_cursor new : Cursor) (draft after : Draft)
+    (stage : Stage) (seen run : List ℕ)
     → HasCome (Name role left) old draft seen → TakesRun draft.check old grown_cursor run
-    → NameGoesOn role left run draft stage after → KeepsCheck draft.check stage after.check → Enters stage grown_cursor new
+    → NameGoesOn role left run draft stage after → KeepsCheck draft.check stage after.check
+    → Enters stage grown_cursor new
     → HasCome stage new after (seen ++ run)
 grown_name role left old grown_cursor new draft after stage seen run come takes goes keeps enters =
     let inside = inside_grown draft old grown_cursor come.start seen run come.stands takes in
@@ -141,7 +154,8 @@ grown_name role left old grown_cursor new draft after stage seen run come takes 
 pub record TakesZero (check : CheckType) (old new : Cursor) : Type 0 where
   pub count : new.count ≡ old.count + 1
   pub place : new.place ≡ old.place
-  pub checks : (covered : List ℕ) → Covers check old.checks covered → Covers check new.checks (covered ++ 0 ∷ [])
+  pub checks : (covered : List ℕ) → Covers check old.checks covered
+      → Covers check new.checks (covered ++ 0 ∷ [])
 
 -- the part of a block that has come stays as it is
 slice_kept : (seen more : List ℕ) (start place : ℕ) → start ≤ length seen → place ≤ length seen
@@ -151,7 +165,8 @@ slice_kept seen more start place within bound =
     ∙ take-append-le (place - start) (drop start seen) more (omega (arith, length-drop start seen))
 
 stored_grown : (check : CheckType) (old new : Cursor) (start : ℕ) (seen : List ℕ) (byte : ℕ)
-    → IsInStored old check start seen → TakesZero check old new → IsInStored new check start (seen ++ byte ∷ [])
+    → IsInStored old check start seen → TakesZero check old new
+    → IsInStored new check start (seen ++ byte ∷ [])
 stored_grown check old new start seen byte at takes =
     let front = slice_range seen start old.place in
     let count = length seen - old.place in
@@ -166,8 +181,10 @@ stored_grown check old new start seen byte at takes =
     }
 
 -- the content of a check field, with more of it to come
-pub grown_stored : (field left stored : ℕ) (kind : CheckKind) (old new : Cursor) (draft : Draft) (seen : List ℕ) (byte : ℕ)
-    → HasCome (Stored field left stored kind) old draft seen → byte < 256 → 0 < left → TakesZero draft.check old new
+pub grown_stored : (field left stored : ℕ) (kind : CheckKind) (old new : Cursor) (draft : Draft)
+    (seen : List ℕ) (byte : ℕ)
+    → HasCome (Stored field left stored kind) old draft seen → byte < 256 → 0 < left
+    → TakesZero draft.check old new
     → HasCome (Stored field (left - 1) (stored * 256 + byte) kind) new draft (seen ++ byte ∷ [])
 unfolding stage_left
 grown_stored field left stored kind old new draft seen byte come small some takes =
@@ -188,11 +205,14 @@ grown_stored field left stored kind old new draft seen byte come small some take
     }
 
 -- what the checks say of the block and of zeros for its check field's content
-pub record Checks (kind : CheckKind) (check : CheckType) (cursor : Cursor) (expected : ℕ) : Type 0 where
+pub record Checks (kind : CheckKind) (check : CheckType) (cursor : Cursor)
+    (expected : ℕ) : Type 0 where
   pub is : check ≡ Is (Some kind)
-  pub told : (covered : List ℕ) → Covers (Is (Some kind)) cursor.checks covered → expected ≡ crc kind covered
+  pub told : (covered : List ℕ) → Covers (Is (Some kind)) cursor.checks covered
+      → expected ≡ crc kind covered
 
-checked : (kind : CheckKind) (check : CheckType) (cursor : Cursor) (expected start : ℕ) (seen more : List ℕ)
+checked : (kind : CheckKind) (check : CheckType) (cursor : Cursor)
+    (expected start : ℕ) (seen more : List ℕ)
     → IsInStored cursor check start seen → Checks kind check cursor expected
     → zeroed_check kind start cursor.place (length seen - cursor.place) (seen ++ more) ≡ expected
 unfolding zeroed_check
@@ -202,7 +222,8 @@ checked kind check cursor expected start seen more at checks =
     (sym (checks.told covered (subst (λ (check : CheckType). Covers check cursor.checks covered) checks.is at.checks)))
 
 -- what the check field's last byte makes of the reading
-last_stored : (field left stored expected : ℕ) (kind : CheckKind) (old new : Cursor) (draft : Draft) (seen more : List ℕ) (byte : ℕ)
+last_stored : (field left stored expected : ℕ) (kind : CheckKind) (old new : Cursor) (draft : Draft)
+    (seen more : List ℕ) (byte : ℕ)
     → (come : HasCome (Stored field left stored kind) old draft seen) → left ≡ 1
     → TakesZero draft.check old new → Checks kind draft.check new expected
     → judged ((seen ++ byte ∷ []) ++ more)
@@ -223,10 +244,13 @@ last_stored field left stored expected kind old new draft seen more byte come on
     ∙ ap (λ (place : ℕ). check_result (stored * 256 + byte == expected) place field) (sym longer))
 
 -- the check is there, and nothing more of the block is checked
-pub equal_stored : (field left stored expected : ℕ) (kind : CheckKind) (old grown_cursor new : Cursor) (draft after : Draft) (stage : Stage) (seen : List ℕ) (byte : ℕ)
-    → HasCome (Stored field left stored kind) old draft seen → byte < 256 → left ≡ 1 → (stored * 256 + byte == expected) ≡ true
+pub equal_stored : (field left stored expected : ℕ) (kind : CheckKind)
+    (old grown_cursor new : Cursor) (draft after : Draft) (stage : Stage) (seen : List ℕ) (byte : ℕ)
+    → HasCome (Stored field left stored kind) old draft seen → byte < 256 → left ≡ 1
+    → (stored * 256 + byte == expected) ≡ true
     → TakesZero draft.check old grown_cursor → Checks kind draft.check grown_cursor expected
-    → BlockEnds (record draft { check = Is None }) stage after → KeepsCheck (Is None) stage after.check → Enters stage grown_cursor new
+    → BlockEnds (record draft { check = Is None }) stage after
+    → KeepsCheck (Is None) stage after.check → Enters stage grown_cursor new
     → HasCome stage new after (seen ++ byte ∷ [])
 equal_stored field left stored expected kind old grown_cursor new draft after stage seen byte come small one same takes checks ends keeps enters =
     let longer = length-append seen (byte ∷ []) in
@@ -239,8 +263,10 @@ equal_stored field left stored expected kind old grown_cursor new draft after st
     ∙ ends bytes 0 (length (seen ++ byte ∷ [])))
 
 -- the check differs
-pub other_stored : (field left stored expected : ℕ) (kind : CheckKind) (old new : Cursor) (draft : Draft) (seen : List ℕ) (byte : ℕ)
-    → HasCome (Stored field left stored kind) old draft seen → byte < 256 → left ≡ 1 → (stored * 256 + byte == expected) ≡ false
+pub other_stored : (field left stored expected : ℕ) (kind : CheckKind) (old new : Cursor)
+    (draft : Draft) (seen : List ℕ) (byte : ℕ)
+    → HasCome (Stored field left stored kind) old draft seen → byte < 256 → left ≡ 1
+    → (stored * 256 + byte == expected) ≡ false
     → TakesZero draft.check old new → Checks kind draft.check new expected
     → HasCome (Failed CheckDiffers field) new draft (seen ++ byte ∷ [])
 unfolding stage_left
@@ -259,14 +285,17 @@ other_stored field left stored expected kind old new draft seen byte come small 
     }
 
 -- bytes after the bundle
-ends-trailing : (payload : Option (ℕ × ℕ)) (info : BundleInfo) (place : ℕ) (bytes : List ℕ) → is_some payload ≡ true → place < length bytes
-    → ends bytes (record { info = info; length = place; payload = span_of payload }) ≡ with_known_payload payload (Err (stopped Trailing place))
+ends-trailing : (payload : Option (ℕ × ℕ)) (info : BundleInfo) (place : ℕ) (bytes : List ℕ)
+    → is_some payload ≡ true → place < length bytes
+    → ends bytes (record { info = info; length = place; payload = span_of payload })
+    ≡ with_known_payload payload (Err (stopped Trailing place))
 ends-trailing None info place bytes told short = cc
 ends-trailing (Some payload) info place bytes told short =
     let other : (place == length bytes) ≡ false = ne_eqb place (length bytes) (λ same. omega arith) in rw other refl
 
 pub trailing : (old new : Cursor) (draft : Draft) (seen : List ℕ) (byte : ℕ)
-    → HasCome Ended old draft seen → byte < 256 → is_some draft.payload ≡ true → new.count ≡ old.count + 1
+    → HasCome Ended old draft seen → byte < 256 → is_some draft.payload ≡ true
+    → new.count ≡ old.count + 1
     → HasCome (Failed Trailing old.place) new draft (seen ++ byte ∷ [])
 unfolding stage_left
 trailing old new draft seen byte come small told counts =

@@ -27,12 +27,15 @@ use Rattle.link_bundle.proofs.Stops.{field_left-stopped}
 use Rattle.link_bundle.proofs.Verdicts.{head_at-cut}
 
 -- a run before each byte of which more were needed is taken whole
-runs-wanted : (seen run : List ℕ) (byte : ℕ) → ((count : ℕ) → count < length (byte ∷ run) → bundle_goes (seen ++ take count (byte ∷ run)) ≡ true)
+runs-wanted : (seen run : List ℕ) (byte : ℕ)
+    → ((count : ℕ) → count < length (byte ∷ run)
+    → bundle_goes (seen ++ take count (byte ∷ run)) ≡ true)
     → (count : ℕ) → count < length run → bundle_goes ((seen ++ byte ∷ []) ++ take count run) ≡ true
 runs-wanted seen run byte wanted count below =
     ap bundle_goes (append_assoc seen (byte ∷ []) (take count run)) ∙ wanted (suc count) (omega arith)
 
-taken-run : (seen run rest : List ℕ) → ((count : ℕ) → count < length run → bundle_goes (seen ++ take count run) ≡ true)
+taken-run : (seen run rest : List ℕ)
+    → ((count : ℕ) → count < length run → bundle_goes (seen ++ take count run) ≡ true)
     → taken bundle_goes seen (run ++ rest) ≡ run ++ taken bundle_goes (seen ++ run) rest
 taken-run seen [] rest wanted = ap (λ (seen : List ℕ). taken bundle_goes seen rest) (sym (append-nil seen))
 taken-run seen (byte ∷ run) rest wanted =
@@ -43,7 +46,8 @@ taken-run seen (byte ∷ run) rest wanted =
 
 -- after `count` bytes of the piece, what is taken is these and what is taken of the rest
 pub record TakenSoFar (seen bytes : List ℕ) (count : ℕ) : Type 0 where
-  pub splits : taken bundle_goes seen bytes ≡ take count bytes ++ taken bundle_goes (seen ++ take count bytes) (drop count bytes)
+  pub splits : taken bundle_goes seen bytes ≡ take count bytes
+      ++ taken bundle_goes (seen ++ take count bytes) (drop count bytes)
 
 -- the same at the end, with how many they are
 pub record TakenInAll (seen bytes : List ℕ) (count : ℕ) : Type 0 where
@@ -54,7 +58,8 @@ pub none_taken : (seen bytes : List ℕ) → TakenSoFar seen bytes 0
 none_taken seen bytes = record { splits = ap (λ (seen : List ℕ). taken bundle_goes seen bytes) (sym (append-nil seen)) }
 
 -- the bytes from a place on, as the code takes them
-pub the_rest : (bytes : List ℕ) (count : ℕ) → take (length bytes - count) (drop count bytes) ≡ drop count bytes
+pub the_rest : (bytes : List ℕ) (count : ℕ)
+    → take (length bytes - count) (drop count bytes) ≡ drop count bytes
 the_rest bytes count = ap (λ (size : ℕ). take size (drop count bytes)) (sym (length-drop count bytes)) ∙ take-length (drop count bytes)
 
 -- a history and the bytes of a piece, a run further
@@ -64,7 +69,8 @@ joined_run seen bytes count more =
     append_assoc seen (take count bytes) (take more (drop count bytes)) ∙ ap (λ (run : List ℕ). seen ++ run) (sym (take-add count more bytes))
 
 pub taken_more : (seen bytes : List ℕ) (count more : ℕ) → more ≤ length (drop count bytes)
-    → ((size : ℕ) → size < more → bundle_goes ((seen ++ take count bytes) ++ take size (drop count bytes)) ≡ true)
+    → ((size : ℕ) → size < more
+    → bundle_goes ((seen ++ take count bytes) ++ take size (drop count bytes)) ≡ true)
     → TakenSoFar seen bytes count → TakenSoFar seen bytes (count + more)
 taken_more seen bytes count more within wanted before = record {
   splits =
@@ -82,14 +88,16 @@ taken_more seen bytes count more within wanted before = record {
       ∙ ap (λ (rest : List ℕ). take (count + more) bytes ++ taken bundle_goes (seen ++ take (count + more) bytes) rest) (drop-drop more count bytes);
 }
 
-in_all : (seen bytes : List ℕ) (count : ℕ) → count ≤ length bytes → taken bundle_goes seen bytes ≡ take count bytes → TakenInAll seen bytes count
+in_all : (seen bytes : List ℕ) (count : ℕ) → count ≤ length bytes
+    → taken bundle_goes seen bytes ≡ take count bytes → TakenInAll seen bytes count
 in_all seen bytes count within prefix = record {
   prefix = prefix;
   size = sym (ap length prefix ∙ length-take-le count bytes within);
 }
 
 -- where no more is needed, these are the bytes taken
-pub taken_stop : (seen bytes : List ℕ) (count : ℕ) → count ≤ length bytes → bundle_goes (seen ++ take count bytes) ≡ false
+pub taken_stop : (seen bytes : List ℕ) (count : ℕ) → count ≤ length bytes
+    → bundle_goes (seen ++ take count bytes) ≡ false
     → TakenSoFar seen bytes count → TakenInAll seen bytes count
 taken_stop seen bytes count within idle before =
     in_all seen bytes count within
@@ -98,7 +106,8 @@ taken_stop seen bytes count within idle before =
     ∙ append-nil (take count bytes))
 
 -- where every byte was given, so were they taken
-pub taken_all : (seen bytes : List ℕ) (count : ℕ) → count ≡ length bytes → TakenSoFar seen bytes count → TakenInAll seen bytes count
+pub taken_all : (seen bytes : List ℕ) (count : ℕ) → count ≡ length bytes
+    → TakenSoFar seen bytes count → TakenInAll seen bytes count
 taken_all seen bytes count all before =
     in_all seen bytes count (omega arith)
     (before.splits
@@ -107,17 +116,20 @@ taken_all seen bytes count all before =
     ∙ append-nil (take count bytes))
 
 -- bytes that are cut go on
-verdict_by-cut : (payload : Option (ℕ × ℕ)) (place : ℕ) → is_going (state_of (verdict_by (with_known_payload payload (Err (stopped Cut place))))) ≡ true
+verdict_by-cut : (payload : Option (ℕ × ℕ)) (place : ℕ)
+    → is_going (state_of (verdict_by (with_known_payload payload (Err (stopped Cut place))))) ≡ true
 verdict_by-cut None place = refl
 verdict_by-cut (Some payload) place = refl
 
-pub goes-cut : (payload : Option (ℕ × ℕ)) (bytes : List ℕ) (place : ℕ) → judged bytes ≡ with_known_payload payload (Err (stopped Cut place))
+pub goes-cut : (payload : Option (ℕ × ℕ)) (bytes : List ℕ) (place : ℕ)
+    → judged bytes ≡ with_known_payload payload (Err (stopped Cut place))
     → bundle_goes bytes ≡ true
 unfolding verdict
 goes-cut payload bytes place is = rw is (verdict_by-cut payload place)
 
 -- inside a name and inside data more is needed
-pub goes_in_content : (left : ℕ) (cursor : Cursor) (draft : Draft) (seen run : List ℕ) → HasCome (Content left) cursor draft seen
+pub goes_in_content : (left : ℕ) (cursor : Cursor) (draft : Draft) (seen run : List ℕ)
+    → HasCome (Content left) cursor draft seen
     → length run < left → bundle_goes (seen ++ run) ≡ true
 unfolding stage_left content_at
 goes_in_content left cursor draft seen run come inside =
@@ -126,7 +138,8 @@ goes_in_content left cursor draft seen run come inside =
     ∙ rw (bytes_at-cut left (seen ++ run) (length seen) (omega (arith, length-append seen run)))
     (ends_of-stopped draft.payload (seen ++ run) (stopped Cut (length (seen ++ run)))))
 
-pub goes_in_name : (role : Role) (left : ℕ) (cursor : Cursor) (draft : Draft) (seen run : List ℕ) → HasCome (Name role left) cursor draft seen
+pub goes_in_name : (role : Role) (left : ℕ) (cursor : Cursor) (draft : Draft) (seen run : List ℕ)
+    → HasCome (Name role left) cursor draft seen
     → length run < left → bundle_goes (seen ++ run) ≡ true
 unfolding stage_left name_left
 goes_in_name role left cursor draft seen run come inside =
@@ -136,7 +149,8 @@ goes_in_name role left cursor draft seen run come inside =
     (ends_of-stopped draft.payload (seen ++ run) (stopped Cut (length (seen ++ run)))))
 
 -- before its last byte a head is cut
-cut_by : (run : List ℕ) (head : HeadItem) (count : ℕ) (front : HeadFront) → head_front run ≡ Whole head (length run) → count < length run
+cut_by : (run : List ℕ) (head : HeadItem) (count : ℕ) (front : HeadFront)
+    → head_front run ≡ Whole head (length run) → count < length run
     → head_front (take count run) ≡ front → front ≡ CutHead
 cut_by run head count CutHead whole before is = refl
 cut_by run head count IllFormed whole before is =
@@ -148,8 +162,10 @@ cut_by run head count (Whole other size) whole before is =
     let sizes : length run ≡ size = cc in
     absurd (omega (arith, whole-within (take count run) other size is, length-take count run))
 
-pub goes_in_head : (which : Field) (cursor : Cursor) (draft : Draft) (seen run : List ℕ) (head : HeadItem) (count : ℕ)
-    → HasCome (Head which) cursor draft seen → cursor.place ≡ cursor.count → head_front run ≡ Whole head (length run) → count < length run
+pub goes_in_head : (which : Field) (cursor : Cursor) (draft : Draft) (seen run : List ℕ)
+    (head : HeadItem) (count : ℕ)
+    → HasCome (Head which) cursor draft seen → cursor.place ≡ cursor.count
+    → head_front run ≡ Whole head (length run) → count < length run
     → bundle_goes (seen ++ take count run) ≡ true
 unfolding stage_left
 goes_in_head which cursor draft seen run head count come begins whole before =

@@ -19,7 +19,8 @@ use Rattle.link_bundle.proofs.Heads.{row_at-accepted}
 use Rattle.link_bundle.proofs.Runs.{with_run, bytes_at-step, bytes_at-last}
 
 -- the check type that was read is that of the field
-pub same_check : (check : CheckType) (kind : CheckKind) → IsTrue (is_kind (kind_of check) kind) → check ≡ Is (Some kind)
+pub same_check : (check : CheckType) (kind : CheckKind) → IsTrue (is_kind (kind_of check) kind)
+    → check ≡ Is (Some kind)
 same_check Unread kind told = cc
 same_check (Is None) kind told = cc
 same_check (Is (Some Crc16)) Crc16 told = refl
@@ -28,9 +29,13 @@ same_check (Is (Some Crc32)) Crc16 told = cc
 same_check (Is (Some Crc32)) Crc32 told = refl
 
 -- after the field's head the content is read, and compared with the check
-pub field_at-accepted : (kind : CheckKind) (bytes : List ℕ) (start place next width : ℕ) (head : Head) (count : ℕ)
-    → head_at bytes place ≡ Ok (head, next) → check_field kind head ≡ Ok count → width ≡ check_width kind
-    → field_at (Some kind) start bytes place ≡ stored_left width 0 (zeroed_check kind start next (next + width - next) bytes) place bytes next
+pub field_at-accepted : (kind : CheckKind) (bytes : List ℕ) (start place next width : ℕ)
+    (head : Head) (count : ℕ)
+    → head_at bytes place ≡ Ok (head, next) → check_field kind head ≡ Ok count
+    → width ≡ check_width kind
+    → field_at (Some kind) start bytes place
+    ≡ stored_left width 0 (zeroed_check kind start next (next + width - next) bytes) place bytes
+    next
 unfolding field_at stored_left check_of zeroed_check
 field_at-accepted kind bytes start place next width head count told judged is_width =
     let all : next + width - next ≡ check_width kind = omega (arith, is_width) in
@@ -42,14 +47,16 @@ compared stored expected field reading =
     reading >>= λ (rest, next). if number_from stored rest == expected then Ok (true, next) else Err (stopped CheckDiffers field)
 
 compared-with_run : (stored expected field byte : ℕ) (reading : Reading (List ℕ))
-    → compared stored expected field (with_run (byte ∷ []) reading) ≡ compared (stored * 256 + byte) expected field reading
+    → compared stored expected field (with_run (byte ∷ []) reading)
+    ≡ compared (stored * 256 + byte) expected field reading
 unfolding compared
 compared-with_run stored expected field byte (Ok (rest, next)) = refl
 compared-with_run stored expected field byte (Err stop) = refl
 
 pub stored_left-step : (left stored expected field : ℕ) (bytes more : List ℕ) (byte place : ℕ)
     → drop place bytes ≡ byte ∷ more → 0 < left
-    → stored_left left stored expected field bytes place ≡ stored_left (left - 1) (stored * 256 + byte) expected field bytes (place + 1)
+    → stored_left left stored expected field bytes place
+    ≡ stored_left (left - 1) (stored * 256 + byte) expected field bytes (place + 1)
 unfolding stored_left compared
 stored_left-step left stored expected field bytes more byte place here some =
     ap (λ (reading : Reading (List ℕ)). compared stored expected field reading) (bytes_at-step left bytes more byte place here some)
@@ -72,7 +79,8 @@ pub record HasRoom (left stored byte : ℕ) : Type 0 where
   pub wants : 0 < left
   pub scaled : stored * 256 + byte < 2 ^ 32
 
-has_room_at : (left stored byte : ℕ) → IsTrue (room left stored) → byte < 256 → HasRoom left stored byte
+has_room_at : (left stored byte : ℕ) → IsTrue (room left stored) → byte < 256
+    → HasRoom left stored byte
 has_room_at zero stored byte fits small = absurd (grind (arith, nat_tests))
 has_room_at (suc zero) stored byte fits small = record { wants = omega arith; scaled = omega (arith, ltb-true stored (256 ^ 3) fits) }
 has_room_at (suc (suc zero)) stored byte fits small = record { wants = omega arith; scaled = omega (arith, ltb-true stored (256 ^ 2) fits) }
@@ -92,5 +100,6 @@ before_and false b both = absurd (false≢true both)
 pub some_left : (left : ℕ) (fits : Bool) → IsTrue (nat_lt 0 left && fits) → 0 < left
 some_left left fits both = ltb-true 0 left (before_and (nat_lt 0 left) fits both)
 
-pub has_room : (settled : Bool) (left stored byte : ℕ) → IsTrue (settled && room left stored) → byte < 256 → HasRoom left stored byte
+pub has_room : (settled : Bool) (left stored byte : ℕ) → IsTrue (settled && room left stored)
+    → byte < 256 → HasRoom left stored byte
 has_room settled left stored byte fits small = has_room_at left stored byte (after_and settled (room left stored) fits) small

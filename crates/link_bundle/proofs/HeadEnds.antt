@@ -20,7 +20,8 @@ with_argument-uncut major size value =
     ⊎_elim (λ simple. rw simple refl) (λ plain. rw plain refl)
     (cases_Bool ((major == 7) && ((size == 1) && nat_lt value 32)))
 
-with_argument-ends : (count major size value : ℕ) → count ≤ 1 + size → EndsFrom count (with_argument major size value)
+with_argument-ends : (count major size value : ℕ) → count ≤ 1 + size
+    → EndsFrom count (with_argument major size value)
 unfolding with_argument
 with_argument-ends count major size value within =
     ⊎_elim (λ simple. rw simple tt) (λ plain. rw plain (omega arith))
@@ -31,7 +32,8 @@ unfolding no_argument
 no_argument-uncut major =
     ⊎_elim (λ wrong. rw wrong refl) (λ right. rw right refl) (cases_Bool (nat_lt major 2 || (major == 6)))
 
-argument_front-ends : (major size : ℕ) (rest more : List ℕ) → is_cut (argument_front major size rest) ≡ true
+argument_front-ends : (major size : ℕ) (rest more : List ℕ)
+    → is_cut (argument_front major size rest) ≡ true
     → EndsFrom (suc (suc (length rest))) (argument_front major size (rest ++ more))
 argument_front-ends major size rest more cut =
     ⊎_elim
@@ -44,7 +46,8 @@ argument_front-ends major size rest more cut =
     ∙ ap is_cut (sym (argument_front-there major size rest there)) ∙ cut)))
     (cases_lt (length rest) size)
 
-front_by-ends : (major information : ℕ) (rest more : List ℕ) → is_cut (front_by major information rest) ≡ true
+front_by-ends : (major information : ℕ) (rest more : List ℕ)
+    → is_cut (front_by major information rest) ≡ true
     → EndsFrom (suc (suc (length rest))) (front_by major information (rest ++ more))
 front_by-ends major information rest more cut =
     ⊎_elim (λ below. absurd (false≢true (ap is_cut (sym (front_by-small major information rest below)) ∙ cut)))
@@ -74,7 +77,8 @@ unfolding no_argument
 no_argument-some major =
     ⊎_elim (λ wrong. rw wrong tt) (λ right. rw right (omega arith)) (cases_Bool (nat_lt major 2 || (major == 6)))
 
-front_by-some : (major information : ℕ) (rest : List ℕ) → EndsFrom 1 (front_by major information rest)
+front_by-some : (major information : ℕ) (rest : List ℕ)
+    → EndsFrom 1 (front_by major information rest)
 front_by-some major information rest =
     ⊎_elim (λ below. rw (front_by-small major information rest below) (omega arith))
     (λ least. ⊎_elim
@@ -90,7 +94,8 @@ unfolding head_front
 head_front-some [] = tt
 head_front-some (first ∷ rest) = front_by-some (first / 32) (first % 32) rest
 
-is_whole : (front : HeadFront) (head : Head) (size : ℕ) → whole_of front ≡ Some (head, size) → front ≡ Whole head size
+is_whole : (front : HeadFront) (head : Head) (size : ℕ) → whole_of front ≡ Some (head, size)
+    → front ≡ Whole head size
 is_whole Cut head size told = cc
 is_whole IllFormed head size told = cc
 is_whole (Whole found found_size) head size told =
@@ -104,14 +109,16 @@ head_ends [] more cut = head_front-some more
 head_ends (first ∷ rest) more cut = front_by-ends (first / 32) (first % 32) rest more cut
 
 -- a head is read of its own bytes alone
-alone_by : (front : HeadFront) (bytes more : List ℕ) (head : Head) (size : ℕ) → front ≡ head_front bytes
+alone_by : (front : HeadFront) (bytes more : List ℕ) (head : Head) (size : ℕ)
+    → front ≡ head_front bytes
     → head_front (bytes ++ more) ≡ Whole head size → size ≤ length bytes → front ≡ Whole head size
 alone_by Cut bytes more head size here told within =
     absurd (let ends : EndsFrom (suc (length bytes)) (Whole head size) = rw told at (head_ends bytes more (ap is_cut (sym here))) in omega arith)
 alone_by IllFormed bytes more head size here told within = here ∙ sym (uncut_stays bytes more (ap is_cut (sym here))) ∙ told
 alone_by (Whole found found_size) bytes more head size here told within = here ∙ sym (uncut_stays bytes more (ap is_cut (sym here))) ∙ told
 
-pub head_alone : (bytes : List ℕ) (head : Head) (size : ℕ) → whole_of (head_front bytes) ≡ Some (head, size) → size ≤ length bytes
+pub head_alone : (bytes : List ℕ) (head : Head) (size : ℕ)
+    → whole_of (head_front bytes) ≡ Some (head, size) → size ≤ length bytes
     → head_front (take size bytes) ≡ Whole head (length (take size bytes))
 head_alone bytes head size told within =
     let here : length (take size bytes) ≡ size = length-take-le size bytes within in

@@ -27,23 +27,28 @@ PayloadWithin bytes reading = (payload : ℕ × ℕ) → payload_of reading ≡ 
 -- the payload is known, or after that, or they do not end inside the bundle
 pub data Keeps : List ℕ → ℕ → Result Bundle Stop → Result Bundle Stop → Type 0 where
   before : {bytes : List ℕ} {place : ℕ} {now later : Result Bundle Stop}
-      → IsCut bytes now → PayloadFrom place later → PayloadFrom (length bytes) later → Keeps bytes place now later
+      → IsCut bytes now → PayloadFrom place later → PayloadFrom (length bytes) later
+      → Keeps bytes place now later
   inside : {bytes : List ℕ} {place : ℕ} {now later : Result Bundle Stop}
-      → EndsCut now → payload_of later ≡ payload_of now → PayloadFrom place now → Keeps bytes place now later
+      → EndsCut now → payload_of later ≡ payload_of now → PayloadFrom place now
+      → Keeps bytes place now later
   after : {bytes : List ℕ} {place : ℕ} {now later : Result Bundle Stop}
       → later ≡ now → PayloadFrom place now → PayloadWithin bytes now → Keeps bytes place now later
 
-pub stop_without_payload : (stop : Stop) (payload : ℕ × ℕ) → stop.payload ≡ None → stop.payload ≡ Some payload → ⊥
+pub stop_without_payload : (stop : Stop) (payload : ℕ × ℕ) → stop.payload ≡ None
+    → stop.payload ≡ Some payload → ⊥
 stop_without_payload stop payload plain told = let no : Some payload ≡ None = sym told ∙ plain in cc
 
 nowhere : (place : ℕ) (stop : Stop) → stop.payload ≡ None → PayloadFrom place (Err stop)
 nowhere place stop plain = λ payload told. absurd (stop_without_payload stop payload plain told)
 
-sooner : (place start : ℕ) (reading : Result Bundle Stop) → place ≤ start → PayloadFrom start reading
+sooner : (place start : ℕ) (reading : Result Bundle Stop) → place ≤ start
+    → PayloadFrom start reading
     → PayloadFrom place reading
 sooner place start reading lower from = λ payload told. let on = from payload told in omega arith
 
-payload_later : (bytes : List ℕ) (place : ℕ) (now later : Result Bundle Stop) → Keeps bytes place now later
+payload_later : (bytes : List ℕ) (place : ℕ) (now later : Result Bundle Stop)
+    → Keeps bytes place now later
     → PayloadFrom place later
 payload_later bytes place now later (before cut from past) = from
 payload_later bytes place now later (inside cut is from) = λ payload told. from payload (sym is ∙ told)
@@ -76,18 +81,21 @@ keeps-then bytes place (Err stop) later next next_later (whole is onward) each =
 row-keeps : {A : Type 0} (row : Head → Result A BundleFault) (bytes more : List ℕ) (place : ℕ)
     (next next_later : A × ℕ → Result Bundle Stop)
     → ((value : A × ℕ) → Keeps bytes value.1 (next value) (next_later value))
-    → Keeps bytes place (row_at row bytes place >>= next) (row_at row (bytes ++ more) place >>= next_later)
+    → Keeps bytes place (row_at row bytes place >>= next)
+    (row_at row (bytes ++ more) place >>= next_later)
 row-keeps row bytes more place next next_later each =
     keeps-then bytes place (row_at row bytes place) (row_at row (bytes ++ more) place) next next_later
     (row_at-reads row bytes more place) each
 
-keeps-if : (test : Bool) (bytes : List ℕ) (place : ℕ) (now later other other_later : Result Bundle Stop)
+keeps-if : (test : Bool) (bytes : List ℕ) (place : ℕ)
+    (now later other other_later : Result Bundle Stop)
     → Keeps bytes place now later → Keeps bytes place other other_later
     → Keeps bytes place (if test then now else other) (if test then later else other_later)
 keeps-if true bytes place now later other other_later taken passed = taken
 keeps-if false bytes place now later other other_later taken passed = passed
 
-keeps-cut : (bytes more : List ℕ) (place : ℕ) → Keeps bytes place (cut_short bytes) (cut_short (bytes ++ more))
+keeps-cut : (bytes more : List ℕ) (place : ℕ)
+    → Keeps bytes place (cut_short bytes) (cut_short (bytes ++ more))
 keeps-cut bytes more place =
     let stop = stopped Cut (length (bytes ++ more)) in
     before refl (nowhere place stop refl) (nowhere (length bytes) stop refl)
@@ -100,7 +108,8 @@ payload_of-then : (payload : ℕ × ℕ) (field : Reading Bool) (next : Bool × 
 payload_of-then payload (Ok value) next each = each value
 payload_of-then payload (Err stop) next each = refl
 
-payload_of-payload_at : (primary : Primary) (blocks size : ℕ) (check : Option CheckKind) (start : ℕ) (bytes : List ℕ)
+payload_of-payload_at : (primary : Primary) (blocks size : ℕ) (check : Option CheckKind)
+    (start : ℕ) (bytes : List ℕ)
     (place : ℕ)
     → payload_of (payload_at primary blocks size check start bytes place) ≡ Some (place, size)
 unfolding payload_at
@@ -114,7 +123,8 @@ stays-with_payload payload (Ok value) later (cuts cut) = absurd cut
 stays-with_payload payload (Err stop) later (cuts cut) = cuts cut
 stays-with_payload payload now later (same is) = same (rw is refl)
 
-payload_at-stays : (primary : Primary) (blocks size : ℕ) (check : Option CheckKind) (start : ℕ) (bytes more : List ℕ)
+payload_at-stays : (primary : Primary) (blocks size : ℕ) (check : Option CheckKind)
+    (start : ℕ) (bytes more : List ℕ)
     (place : ℕ)
     → Stays (payload_at primary blocks size check start bytes place)
     (payload_at primary blocks size check start (bytes ++ more) place)
@@ -128,7 +138,8 @@ payload_at-stays primary blocks size check start bytes more place =
     (λ last. same refl)))
 
 -- bytes that end before the payload does end inside the bundle
-payload_at-cut : (primary : Primary) (blocks size : ℕ) (check : Option CheckKind) (start : ℕ) (bytes : List ℕ)
+payload_at-cut : (primary : Primary) (blocks size : ℕ) (check : Option CheckKind)
+    (start : ℕ) (bytes : List ℕ)
     (place : ℕ)
     → length bytes < place + size → EndsCut (payload_at primary blocks size check start bytes place)
 unfolding payload_at content_at bytes_at
@@ -139,24 +150,28 @@ payload_at-cut primary blocks size check start bytes place missing =
 known_once : {one other : ℕ × ℕ} → Some one ≡ Some other → other ≡ one
 known_once is = cc
 
-known-from : (place size : ℕ) (reading : Result Bundle Stop) → payload_of reading ≡ Some (place, size)
+known-from : (place size : ℕ) (reading : Result Bundle Stop)
+    → payload_of reading ≡ Some (place, size)
     → PayloadFrom place reading
 known-from place size reading is = λ payload told.
     let here : payload ≡ (place, size) = known_once (sym is ∙ told) in
     rw here (omega arith)
 
-known-within : (bytes : List ℕ) (place size : ℕ) (reading : Result Bundle Stop) → payload_of reading ≡ Some (place, size)
+known-within : (bytes : List ℕ) (place size : ℕ) (reading : Result Bundle Stop)
+    → payload_of reading ≡ Some (place, size)
     → place + size ≤ length bytes → PayloadWithin bytes reading
 known-within bytes place size reading is there = λ payload told.
     let here : payload ≡ (place, size) = known_once (sym is ∙ told) in
     rw here there
 
-keeps-known : (bytes : List ℕ) (place : ℕ) (now later : Result Bundle Stop) → Stays now later → payload_of later ≡ payload_of now
+keeps-known : (bytes : List ℕ) (place : ℕ) (now later : Result Bundle Stop) → Stays now later
+    → payload_of later ≡ payload_of now
     → PayloadFrom place now → PayloadWithin bytes now → Keeps bytes place now later
 keeps-known bytes place now later (cuts cut) is from within = inside cut is from
 keeps-known bytes place now later (same equal) is from within = after equal from within
 
-payload_at-keeps : (primary : Primary) (blocks size : ℕ) (check : Option CheckKind) (start : ℕ) (bytes more : List ℕ)
+payload_at-keeps : (primary : Primary) (blocks size : ℕ) (check : Option CheckKind)
+    (start : ℕ) (bytes more : List ℕ)
     (place : ℕ)
     → Keeps bytes place (payload_at primary blocks size check start bytes place)
     (payload_at primary blocks size check start (bytes ++ more) place)
@@ -174,7 +189,8 @@ payload_at-keeps primary blocks size check start bytes more place =
 
 -- ---- the blocks before it
 
-blocks_at-keeps : (left : ℕ) (numbers : List ℕ) (primary : Primary) (bytes more : List ℕ) (start : ℕ)
+blocks_at-keeps : (left : ℕ) (numbers : List ℕ) (primary : Primary)
+    (bytes more : List ℕ) (start : ℕ)
     → Keeps bytes start (blocks_at left numbers primary bytes start)
     (blocks_at left numbers primary (bytes ++ more) start)
 unfolding blocks_at
@@ -199,7 +215,8 @@ blocks_at-keeps (suc left) numbers primary bytes more start =
     (content_at-reads size check start bytes more place)
     (λ (_, place). blocks_at-keeps left (numbers ++ number ∷ []) primary bytes more place))))))))
 
-pub bundle_at-keeps : (bytes more : List ℕ) → Keeps bytes 0 (bundle_at bytes) (bundle_at (bytes ++ more))
+pub bundle_at-keeps : (bytes more : List ℕ)
+    → Keeps bytes 0 (bundle_at bytes) (bundle_at (bytes ++ more))
 unfolding bundle_at
 bundle_at-keeps bytes more =
     keeps-then bytes 0 (opening_at bytes) (opening_at (bytes ++ more)) _ _ (opening_at-reads bytes more)
@@ -210,7 +227,8 @@ bundle_at-keeps bytes more =
     (field_at-reads check start bytes more place)
     (λ (_, place). blocks_at-keeps 64 [] primary bytes more place)))
 
-stays_kept : (bytes : List ℕ) (now later : Result Bundle Stop) → Keeps bytes 0 now later → Stays now later
+stays_kept : (bytes : List ℕ) (now later : Result Bundle Stop)
+    → Keeps bytes 0 now later → Stays now later
 stays_kept bytes (Ok bundle) later (before cut from past) = absurd cut
 stays_kept bytes (Err stop) later (before cut from past) = cuts (ap (λ (stop : Stop). stop.fault) cut)
 stays_kept bytes now later (inside cut is from) = cuts cut

@@ -29,24 +29,28 @@ HeadWithin bytes CutHead = Unit {0}
 HeadWithin bytes IllFormed = Unit {0}
 HeadWithin bytes (Whole head size) = size ≤ length bytes
 
-argument-within : (first : ℕ) (rest : List ℕ) (major size value : ℕ) → size ≤ length rest → HeadWithin (first ∷ rest) (with_argument major size value)
+argument-within : (first : ℕ) (rest : List ℕ) (major size value : ℕ) → size ≤ length rest
+    → HeadWithin (first ∷ rest) (with_argument major size value)
 unfolding with_argument HeadWithin
 argument-within first rest major size value within =
     ⊎_elim (λ simple. rw simple tt) (λ plain. rw plain (omega arith)) (cases_Bool ((major == 7) && ((size == 1) && nat_lt value 32)))
 
-argument_front-within : (first : ℕ) (rest : List ℕ) (major size : ℕ) → HeadWithin (first ∷ rest) (argument_front major size rest)
+argument_front-within : (first : ℕ) (rest : List ℕ) (major size : ℕ)
+    → HeadWithin (first ∷ rest) (argument_front major size rest)
 unfolding HeadWithin
 argument_front-within first rest major size =
     ⊎_elim (λ short. rw (argument_front-cut major size rest short) tt)
     (λ there. rw (argument_front-there major size rest there) (argument-within first rest major size (big_endian (take size rest)) there))
     (cases_lt (length rest) size)
 
-no_argument-within : (first : ℕ) (rest : List ℕ) (major : ℕ) → HeadWithin (first ∷ rest) (no_argument major)
+no_argument-within : (first : ℕ) (rest : List ℕ) (major : ℕ)
+    → HeadWithin (first ∷ rest) (no_argument major)
 unfolding no_argument HeadWithin
 no_argument-within first rest major =
     ⊎_elim (λ wrong. rw wrong tt) (λ right. rw right (omega arith)) (cases_Bool (nat_lt major 2 || (major == 6)))
 
-front_by-within : (first : ℕ) (rest : List ℕ) (major information : ℕ) → HeadWithin (first ∷ rest) (front_by major information rest)
+front_by-within : (first : ℕ) (rest : List ℕ) (major information : ℕ)
+    → HeadWithin (first ∷ rest) (front_by major information rest)
 unfolding HeadWithin
 front_by-within first rest major information =
     ⊎_elim (λ below. rw (front_by-small major information rest below) (omega arith))
@@ -61,7 +65,8 @@ unfolding head_front HeadWithin
 head_front-within [] = tt
 head_front-within (first ∷ rest) = front_by-within first rest (first / 32) (first % 32)
 
-pub whole-within : (bytes : List ℕ) (head : Head) (size : ℕ) → head_front bytes ≡ Whole head size → size ≤ length bytes
+pub whole-within : (bytes : List ℕ) (head : Head) (size : ℕ) → head_front bytes ≡ Whole head size
+    → size ≤ length bytes
 unfolding HeadWithin
 whole-within bytes head size told = rw told at (head_front-within bytes)
 
@@ -70,7 +75,8 @@ NextWithin : {A : Type 0} → List ℕ → Reading A → Type 0
 NextWithin bytes (Ok (value, next)) = next ≤ length bytes
 NextWithin bytes (Err stop) = Unit {0}
 
-placed-within : (bytes : List ℕ) (place : ℕ) (front : HeadFront) → HeadWithin (drop place bytes) front → (length bytes < place → front ≡ CutHead)
+placed-within : (bytes : List ℕ) (place : ℕ) (front : HeadFront)
+    → HeadWithin (drop place bytes) front → (length bytes < place → front ≡ CutHead)
     → NextWithin bytes (placed bytes place front)
 unfolding NextWithin HeadWithin
 placed-within bytes place CutHead within behind = tt
@@ -84,19 +90,22 @@ head_at-within bytes place =
     placed-within bytes place (head_front (drop place bytes)) (head_front-within (drop place bytes))
     (λ past. ap (λ (rest : List ℕ). head_front rest) (drop_of_length-le bytes (omega arith)))
 
-judged_at-within : {A : Type 0} (bytes : List ℕ) (place next : ℕ) (told : Result A BundleFault) → next ≤ length bytes
+judged_at-within : {A : Type 0} (bytes : List ℕ) (place next : ℕ) (told : Result A BundleFault)
+    → next ≤ length bytes
     → NextWithin bytes (judged_at place next told)
 unfolding NextWithin
 judged_at-within bytes place next (Ok value) within = within
 judged_at-within bytes place next (Err fault) within = tt
 
-judged-within : {A : Type 0} (row : Head → Result A BundleFault) (bytes : List ℕ) (place : ℕ) (reading : Reading Head) → NextWithin bytes reading
+judged-within : {A : Type 0} (row : Head → Result A BundleFault) (bytes : List ℕ) (place : ℕ)
+    (reading : Reading Head) → NextWithin bytes reading
     → NextWithin bytes (reading >>= λ (head, next). judged_at place next (row head))
 unfolding NextWithin
 judged-within row bytes place (Ok (head, next)) within = judged_at-within bytes place next (row head) within
 judged-within row bytes place (Err stop) within = tt
 
-row_at-within : {A : Type 0} (row : Head → Result A BundleFault) (bytes : List ℕ) (place : ℕ) → NextWithin bytes (row_at row bytes place)
+row_at-within : {A : Type 0} (row : Head → Result A BundleFault) (bytes : List ℕ) (place : ℕ)
+    → NextWithin bytes (row_at row bytes place)
 unfolding row_at
 row_at-within row bytes place = judged-within row bytes place (head_at bytes place) (head_at-within bytes place)
 
@@ -105,29 +114,35 @@ BundleWithin : List ℕ → Result Bundle Stop → Type 0
 BundleWithin bytes (Ok bundle) = bundle.length ≤ length bytes
 BundleWithin bytes (Err stop) = Unit {0}
 
-within-then : {A : Type 0} (bytes : List ℕ) (reading : Result A Stop) (next : A → Result Bundle Stop) → ((value : A) → BundleWithin bytes (next value))
+within-then : {A : Type 0} (bytes : List ℕ) (reading : Result A Stop)
+    (next : A → Result Bundle Stop) → ((value : A) → BundleWithin bytes (next value))
     → BundleWithin bytes (reading >>= next)
 unfolding BundleWithin
 within-then bytes (Ok value) next each = each value
 within-then bytes (Err stop) next each = tt
 
-within-with_payload : (payload : ℕ × ℕ) (bytes : List ℕ) (reading : Result Bundle Stop) → BundleWithin bytes reading → BundleWithin bytes (with_payload payload reading)
+within-with_payload : (payload : ℕ × ℕ) (bytes : List ℕ) (reading : Result Bundle Stop)
+    → BundleWithin bytes reading → BundleWithin bytes (with_payload payload reading)
 unfolding BundleWithin
 within-with_payload payload bytes (Ok bundle) within = within
 within-with_payload payload bytes (Err stop) within = tt
 
-within-if : (test : Bool) (bytes : List ℕ) (one other : Result Bundle Stop) → BundleWithin bytes one → BundleWithin bytes other
+within-if : (test : Bool) (bytes : List ℕ) (one other : Result Bundle Stop) → BundleWithin bytes one
+    → BundleWithin bytes other
     → BundleWithin bytes (if test then one else other)
 within-if true bytes one other taken passed = taken
 within-if false bytes one other taken passed = passed
 
-ended-within : {A : Type 0} (bytes : List ℕ) (reading : Reading A) (info : BundleInfo) (payload : ℕ × ℕ) → NextWithin bytes reading
-    → BundleWithin bytes (reading >>= λ (_, end). Ok (record { info = info; length = end; payload = payload }))
+ended-within : {A : Type 0} (bytes : List ℕ) (reading : Reading A) (info : BundleInfo)
+    (payload : ℕ × ℕ) → NextWithin bytes reading
+    → BundleWithin bytes (reading
+    >>= λ (_, end). Ok (record { info = info; length = end; payload = payload }))
 unfolding BundleWithin NextWithin
 ended-within bytes (Ok (value, end)) info payload within = within
 ended-within bytes (Err stop) info payload within = tt
 
-payload_at-within : (primary : Primary) (blocks size : ℕ) (check : Option CheckKind) (start : ℕ) (bytes : List ℕ) (place : ℕ)
+payload_at-within : (primary : Primary) (blocks size : ℕ) (check : Option CheckKind) (start : ℕ)
+    (bytes : List ℕ) (place : ℕ)
     → BundleWithin bytes (payload_at primary blocks size check start bytes place)
 unfolding payload_at
 payload_at-within primary blocks size check start bytes place =
@@ -135,7 +150,8 @@ payload_at-within primary blocks size check start bytes place =
     (within-then bytes (content_at size check start bytes place) _
     (λ (_, end). ended-within bytes (row_at closing bytes end) (info_of primary blocks size) (place, size) (row_at-within closing bytes end)))
 
-blocks_at-within : (left : ℕ) (numbers : List ℕ) (primary : Primary) (bytes : List ℕ) (start : ℕ) → BundleWithin bytes (blocks_at left numbers primary bytes start)
+blocks_at-within : (left : ℕ) (numbers : List ℕ) (primary : Primary) (bytes : List ℕ) (start : ℕ)
+    → BundleWithin bytes (blocks_at left numbers primary bytes start)
 unfolding blocks_at BundleWithin
 blocks_at-within zero numbers primary bytes start = within-then bytes (row_at block_too_many bytes start) _ (λ none. tt)
 blocks_at-within (suc left) numbers primary bytes start =
@@ -159,7 +175,8 @@ bundle_at-within bytes =
     (λ (primary, place). within-then bytes (field_at primary.1 start bytes place) _
     (λ (_, place). blocks_at-within 64 [] primary.0 bytes place)))
 
-pub bundle_within : (bytes : List ℕ) (bundle : Bundle) → bundle_at bytes ≡ Ok bundle → bundle.length ≤ length bytes
+pub bundle_within : (bytes : List ℕ) (bundle : Bundle) → bundle_at bytes ≡ Ok bundle
+    → bundle.length ≤ length bytes
 unfolding BundleWithin
 bundle_within bytes bundle is = rw is at (bundle_at-within bytes)
 
@@ -174,8 +191,10 @@ fault_of : Result BundleInfo (BundleFault × ℕ) → BundleFault
 fault_of (Ok info) = Cut
 fault_of (Err stop) = stop.0
 
-fault-lasts : (bytes more : List ℕ) (fault : BundleFault) (place : ℕ) (now later : Result Bundle Stop) → IsTrue (lasts fault)
-    → BundleWithin bytes now → Stays now later → judgement bytes now ≡ Err (fault, place) → judgement (bytes ++ more) later ≡ Err (fault, place)
+fault-lasts : (bytes more : List ℕ) (fault : BundleFault) (place : ℕ)
+    (now later : Result Bundle Stop) → IsTrue (lasts fault)
+    → BundleWithin bytes now → Stays now later → judgement bytes now ≡ Err (fault, place)
+    → judgement (bytes ++ more) later ≡ Err (fault, place)
 unfolding judgement BundleWithin fault_of
 fault-lasts bytes more fault place (Err stop) later lasting within (cuts cut) fails =
     let is : stop.fault ≡ fault = ap fault_of fails in
@@ -192,8 +211,10 @@ fault-lasts bytes more fault place (Ok bundle) later lasting within (same is) fa
     rw (is, beyond) now)
     (cases_Bool (bundle.length == length bytes))
 
-trailing-lasts : (bytes more : List ℕ) (byte : ℕ) (info : BundleInfo) (now later : Result Bundle Stop)
-    → Stays now later → judgement bytes now ≡ Ok info → judgement (bytes ++ byte ∷ more) later ≡ Err (Trailing, length bytes)
+trailing-lasts : (bytes more : List ℕ) (byte : ℕ) (info : BundleInfo)
+    (now later : Result Bundle Stop)
+    → Stays now later → judgement bytes now ≡ Ok info
+    → judgement (bytes ++ byte ∷ more) later ≡ Err (Trailing, length bytes)
 unfolding judgement
 trailing-lasts bytes more byte info (Err stop) later stays whole = cc
 trailing-lasts bytes more byte info (Ok bundle) later (cuts cut) whole = absurd cut

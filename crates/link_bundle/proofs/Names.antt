@@ -20,8 +20,10 @@ by_eid role draft start bytes reading =
     ends_of bytes (with_known_payload draft.payload (after_primary draft start bytes (after_eid role draft bytes reading)))
 
 -- the numbers so far of an ipn endpoint ID make no difference after it
-pub by_eid-numbered : (role : Role) (draft : Draft) (allocator : Option ℕ) (node start : ℕ) (bytes : List ℕ) (reading : Reading Eid)
-    → by_eid role draft start bytes reading ≡ by_eid role (record draft { allocator = allocator; node = node }) start bytes reading
+pub by_eid-numbered : (role : Role) (draft : Draft) (allocator : Option ℕ) (node start : ℕ)
+    (bytes : List ℕ) (reading : Reading Eid)
+    → by_eid role draft start bytes reading
+    ≡ by_eid role (record draft { allocator = allocator; node = node }) start bytes reading
 unfolding source_left report_to_left timestamp_left time_left sequence_left lifetime_left
 by_eid-numbered Destination draft allocator node start bytes (Ok (eid, place)) = refl
 by_eid-numbered Destination draft allocator node start bytes (Err stop) = refl
@@ -31,8 +33,10 @@ by_eid-numbered ReportTo draft allocator node start bytes (Ok (eid, place)) = re
 by_eid-numbered ReportTo draft allocator node start bytes (Err stop) = refl
 
 -- an endpoint ID that was read is in its place
-pub eid_ends : (role : Role) (old new : Draft) (eid : Eid) (bytes : List ℕ) (start next : ℕ) → new ≡ with_eid role old eid
-    → by_eid role old start bytes (Ok (eid, next)) ≡ stage_left (stage_after role) new start next bytes next
+pub eid_ends : (role : Role) (old new : Draft) (eid : Eid) (bytes : List ℕ) (start next : ℕ)
+    → new ≡ with_eid role old eid
+    → by_eid role old start bytes (Ok (eid, next))
+    ≡ stage_left (stage_after role) new start next bytes next
 unfolding stage_left field_left source_left report_to_left
 eid_ends Destination old new eid bytes start next is = rw is refl
 eid_ends Source old new eid bytes start next is = rw is refl
@@ -42,20 +46,24 @@ eid_ends ReportTo old new eid bytes start next is = rw is refl
 abbrev name_then : List ℕ → Reading (List ℕ) → Reading Eid
 name_then name reading = reading >>= λ (rest, place). Ok (Dtn (record { items = name ++ rest }), place)
 
-name_then-with_run : (name run : List ℕ) (reading : Reading (List ℕ)) → name_then name (with_run run reading) ≡ name_then (name ++ run) reading
+name_then-with_run : (name run : List ℕ) (reading : Reading (List ℕ))
+    → name_then name (with_run run reading) ≡ name_then (name ++ run) reading
 name_then-with_run name run (Ok (rest, place)) =
     ap (λ (items : List ℕ). Ok (Dtn (record { items = items }), place)) (sym (append_assoc name run rest))
 name_then-with_run name run (Err stop) = refl
 
-name_left-run : (name run : List ℕ) (left : ℕ) (bytes more : List ℕ) (place : ℕ) → drop place bytes ≡ run ++ more → length run ≤ left
-    → name_left name left bytes place ≡ name_left (name ++ run) (left - length run) bytes (place + length run)
+name_left-run : (name run : List ℕ) (left : ℕ) (bytes more : List ℕ) (place : ℕ)
+    → drop place bytes ≡ run ++ more → length run ≤ left
+    → name_left name left bytes place
+    ≡ name_left (name ++ run) (left - length run) bytes (place + length run)
 unfolding name_left
 name_left-run name run left bytes more place here fits =
     ap (λ (reading : Reading (List ℕ)). name_then name reading) (bytes_at-run left bytes more run place here fits)
     ∙ name_then-with_run name run (bytes_at (left - length run) bytes (place + length run))
 
 -- the bytes so far of a name are in its place, and those of the report-to endpoint nowhere
-in_place : (role : Role) (draft : Draft) (name : List ℕ) (start : ℕ) (bytes : List ℕ) (reading : Reading (List ℕ))
+in_place : (role : Role) (draft : Draft) (name : List ℕ) (start : ℕ) (bytes : List ℕ)
+    (reading : Reading (List ℕ))
     → by_eid role draft start bytes (name_then name reading)
     ≡ by_eid role (with_eid role draft (Dtn (record { items = name }))) start bytes
     (name_then (kept_name role (with_eid role draft (Dtn (record { items = name })))) reading)
@@ -67,18 +75,22 @@ in_place ReportTo draft name start bytes (Ok (rest, place)) = refl
 in_place ReportTo draft name start bytes (Err stop) = refl
 
 -- a name goes on
-pub name_goes_on : (role : Role) (old new : Draft) (name : List ℕ) (left : ℕ) (bytes : List ℕ) (start field place : ℕ)
+pub name_goes_on : (role : Role) (old new : Draft) (name : List ℕ) (left : ℕ)
+    (bytes : List ℕ) (start field place : ℕ)
     → new ≡ with_eid role old (Dtn (record { items = name }))
-    → by_eid role old start bytes (name_left name left bytes place) ≡ stage_left (Name role left) new start field bytes place
+    → by_eid role old start bytes (name_left name left bytes place)
+    ≡ stage_left (Name role left) new start field bytes place
 unfolding stage_left name_left
 name_goes_on role old new name left bytes start field place is =
     in_place role old name start bytes (bytes_at left bytes place)
     ∙ ap (λ (draft : Draft). by_eid role draft start bytes (name_then (kept_name role draft) (bytes_at left bytes place))) (sym is)
 
 -- a name is whole
-pub name_ends : (role : Role) (old new : Draft) (name bytes : List ℕ) (start next : ℕ) → next ≤ length bytes
+pub name_ends : (role : Role) (old new : Draft) (name bytes : List ℕ)
+    (start next : ℕ) → next ≤ length bytes
     → new ≡ with_eid role old (Dtn (record { items = name }))
-    → by_eid role old start bytes (name_left name 0 bytes next) ≡ stage_left (stage_after role) new start next bytes next
+    → by_eid role old start bytes (name_left name 0 bytes next)
+    ≡ stage_left (stage_after role) new start next bytes next
 unfolding name_left
 name_ends role old new name bytes start next within is =
     ap (λ (reading : Reading (List ℕ)). by_eid role old start bytes (name_then name reading)) (bytes_at-none bytes next within)
@@ -86,7 +98,8 @@ name_ends role old new name bytes start next within is =
     ∙ eid_ends role old new (Dtn (record { items = name })) bytes start next is
 
 -- the same after more of its bytes
-pub name_run_goes_on : (role : Role) (old new : Draft) (run : List ℕ) (left rest : ℕ) (bytes more : List ℕ) (start field place : ℕ)
+pub name_run_goes_on : (role : Role) (old new : Draft) (run : List ℕ) (left rest : ℕ)
+    (bytes more : List ℕ) (start field place : ℕ)
     → drop place bytes ≡ run ++ more → length run ≤ left → rest ≡ left - length run
     → new ≡ with_eid role old (Dtn (record { items = kept_name role old ++ run }))
     → stage_left (Name role left) old start field bytes place
@@ -97,7 +110,8 @@ name_run_goes_on role old new run left rest bytes more start field place here fi
     ∙ ap (λ (rest : ℕ). by_eid role old start bytes (name_left (kept_name role old ++ run) rest bytes (place + length run))) (sym is_rest)
     ∙ name_goes_on role old new (kept_name role old ++ run) rest bytes start (place + length run) (place + length run) is
 
-pub name_run_ends : (role : Role) (old new : Draft) (run : List ℕ) (left : ℕ) (bytes more : List ℕ) (start field place : ℕ)
+pub name_run_ends : (role : Role) (old new : Draft) (run : List ℕ) (left : ℕ)
+    (bytes more : List ℕ) (start field place : ℕ)
     → drop place bytes ≡ run ++ more → 0 < left → left ≡ length run
     → new ≡ with_eid role old (Dtn (record { items = kept_name role old ++ run }))
     → stage_left (Name role left) old start field bytes place

@@ -43,7 +43,8 @@ blank draft fits = record {
 }
 
 open_reads : (draft : Draft) (more : List ℕ) (start : ℕ) → IsBlank draft
-    → judged (0x9f ∷ more) ≡ stage_left (Head (field.Primary primary.Block)) draft start 1 (0x9f ∷ more) 1
+    → judged (0x9f ∷ more)
+    ≡ stage_left (Head (field.Primary primary.Block)) draft start 1 (0x9f ∷ more) 1
 unfolding judged bundle_at opening_at stage_left field_left primary_at primary_block_left version_left flags_left check_type_left destination_left source_left report_to_left timestamp_left time_left sequence_left lifetime_left
 open_reads draft more start blank = rw (blank.payload, blank.numbers) refl
 
@@ -69,7 +70,8 @@ opened old grown_cursor new draft seen byte come fits is counts same enters =
     (open_reads draft more 1 (blank draft fits)))
 
 pub not_opened : (old new : Cursor) (draft : Draft) (seen : List ℕ) (byte : ℕ)
-    → HasCome Start old draft seen → byte < 256 → IsTrue (stage_fits Start draft) → byte ≢ 0x9f → new.count ≡ old.count + 1
+    → HasCome Start old draft seen → byte < 256 → IsTrue (stage_fits Start draft) → byte ≢ 0x9f
+    → new.count ≡ old.count + 1
     → HasCome (Failed NotABundle 0) new draft (seen ++ byte ∷ [])
 unfolding stage_left
 not_opened old new draft seen byte come small fits other counts = record {

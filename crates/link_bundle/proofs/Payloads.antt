@@ -17,12 +17,14 @@ use Rattle.link_bundle.proofs.Keeping.{Keeps, before, inside, after, stop_withou
 whole_of : List ℕ → Result Bundle Stop → Result Bundle Stop
 whole_of bytes reading = reading >>= λ bundle. ends bytes bundle
 
-payload_of-chosen : (test : Bool) (bundle : Bundle) (stop : Stop) → stop.payload ≡ Some bundle.payload
+payload_of-chosen : (test : Bool) (bundle : Bundle) (stop : Stop)
+    → stop.payload ≡ Some bundle.payload
     → payload_of (if test then Ok bundle else Err stop) ≡ Some bundle.payload
 payload_of-chosen true bundle stop is = refl
 payload_of-chosen false bundle stop is = is
 
-payload_of-whole : (bytes : List ℕ) (reading : Result Bundle Stop) → payload_of (whole_of bytes reading) ≡ payload_of reading
+payload_of-whole : (bytes : List ℕ) (reading : Result Bundle Stop)
+    → payload_of (whole_of bytes reading) ≡ payload_of reading
 unfolding whole_of
 payload_of-whole bytes (Ok bundle) = payload_of-chosen (bundle.length == length bytes) bundle _ refl
 payload_of-whole bytes (Err stop) = refl
@@ -33,7 +35,8 @@ payload_of-judged bytes = payload_of-whole bytes (bundle_at bytes)
 
 -- ---- a known payload lasts
 
-payload_of-lasts : (bytes : List ℕ) (now later : Result Bundle Stop) (payload : ℕ × ℕ) → Keeps bytes 0 now later
+payload_of-lasts : (bytes : List ℕ) (now later : Result Bundle Stop) (payload : ℕ × ℕ)
+    → Keeps bytes 0 now later
     → payload_of now ≡ Some payload → payload_of later ≡ Some payload
 payload_of-lasts bytes (Ok bundle) later payload (before cut from past) is = absurd cut
 payload_of-lasts bytes (Err stop) later payload (before cut from past) is =
@@ -49,12 +52,15 @@ PayloadLasts-holds bytes more payload is =
 
 -- ---- it says which of the payload's bytes are there
 
-nothing_from : (bytes : List ℕ) (place size : ℕ) → length bytes ≤ place → [] ≡ take size (drop place bytes)
+nothing_from : (bytes : List ℕ) (place size : ℕ) → length bytes ≤ place
+    → [] ≡ take size (drop place bytes)
 nothing_from bytes place size behind =
     sym (ap (λ (rest : List ℕ). take size rest) (drop_of_length-le bytes behind) ∙ take-nil size)
 
-payload_of-places : (bytes : List ℕ) (now later : Result Bundle Stop) (place size : ℕ) → Keeps bytes 0 now later
-    → payload_of later ≡ Some (place, size) → bytes_of (payload_of now) bytes ≡ take size (drop place bytes)
+payload_of-places : (bytes : List ℕ) (now later : Result Bundle Stop) (place size : ℕ)
+    → Keeps bytes 0 now later
+    → payload_of later ≡ Some (place, size)
+    → bytes_of (payload_of now) bytes ≡ take size (drop place bytes)
 payload_of-places bytes (Ok bundle) later place size (before cut from past) is = absurd cut
 payload_of-places bytes (Err stop) later place size (before cut from past) is =
     let plain : stop.payload ≡ None = ap (λ (stop : Stop). stop.payload) cut in
@@ -85,7 +91,8 @@ all_there (Some (place, size)) bytes more within =
 goes : List ℕ → Result Bundle Stop → Bool
 goes bytes reading = is_going (state_of (verdict_by (whole_of bytes reading)))
 
-cut_goes : (bytes : List ℕ) (reading : Result Bundle Stop) → EndsCut reading → goes bytes reading ≡ true
+cut_goes : (bytes : List ℕ) (reading : Result Bundle Stop) → EndsCut reading
+    → goes bytes reading ≡ true
 unfolding goes whole_of
 cut_goes bytes (Ok bundle) cut = absurd cut
 cut_goes bytes (Err stop) cut = rw cut refl
@@ -94,7 +101,8 @@ pub cut_goes-on : (bytes : List ℕ) → EndsCut (bundle_at bytes) → bundle_go
 unfolding verdict judged goes whole_of
 cut_goes-on bytes cut = cut_goes bytes (bundle_at bytes) cut
 
-payload_of-ends : (bytes more : List ℕ) (now later : Result Bundle Stop) → Keeps bytes 0 now later → goes bytes now ≡ false
+payload_of-ends : (bytes more : List ℕ) (now later : Result Bundle Stop)
+    → Keeps bytes 0 now later → goes bytes now ≡ false
     → bytes_of (payload_of later) (bytes ++ more) ≡ bytes_of (payload_of now) bytes
 payload_of-ends bytes more (Ok bundle) later (before cut from past) stops = absurd cut
 payload_of-ends bytes more (Err stop) later (before cut from past) stops =

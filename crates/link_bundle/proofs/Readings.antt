@@ -19,7 +19,8 @@ use Rattle.link_bundle.specs.CheckField.{number_from, check_of, field_at}
 use Rattle.link_bundle.proofs.Feeding.{the_rest}
 use Rattle.link_bundle.proofs.Heads.{row_at-accepted}
 
-placed-whole : (bytes : List ℕ) (place size : ℕ) (head : Head) (front : HeadFront) → whole_of front ≡ Some (head, size)
+placed-whole : (bytes : List ℕ) (place size : ℕ) (head : Head) (front : HeadFront)
+    → whole_of front ≡ Some (head, size)
     → placed bytes place front ≡ Ok (head, place + size)
 placed-whole bytes place size head Cut is = cc
 placed-whole bytes place size head IllFormed is = cc
@@ -41,7 +42,8 @@ unfolding bytes_at
 bytes_at-whole size bytes place within = rw (le-ltb (length bytes) (place + size) within) refl
 
 -- a check field whose content spells the check of its block
-pub field_at-equal : (kind : CheckKind) (start content next count : ℕ) (bytes : List ℕ) (place : ℕ) (stored : List ℕ)
+pub field_at-equal : (kind : CheckKind) (start content next count : ℕ) (bytes : List ℕ)
+    (place : ℕ) (stored : List ℕ)
     → row_at (check_field kind) bytes place ≡ Ok (count, content)
     → bytes_at (check_width kind) bytes content ≡ Ok (stored, next)
     → (number_from 0 stored == check_of kind start content bytes) ≡ true
@@ -50,19 +52,26 @@ unfolding field_at
 field_at-equal kind start content next count bytes place stored head there equal = rw (head, there, equal) refl
 
 -- after the heads of the payload block, and of another
-pub payload_read : (heads : Heads) (left : ℕ) (numbers : List ℕ) (primary : Primary) (start place next end : ℕ) (last : Bool) (bytes : List ℕ)
-    → (heads.block_type == 1) ≡ true → content_at heads.size heads.check start bytes place ≡ Ok (true, next)
+pub payload_read : (heads : Heads) (left : ℕ) (numbers : List ℕ) (primary : Primary)
+    (start place next end : ℕ) (last : Bool) (bytes : List ℕ)
+    → (heads.block_type == 1) ≡ true
+    → content_at heads.size heads.check start bytes place ≡ Ok (true, next)
     → row_at closing bytes next ≡ Ok (last, end)
-    → after_heads heads left numbers primary start bytes place ≡ Ok (bundle_by primary (length numbers + 1) (place, heads.size) end)
+    → after_heads heads left numbers primary start bytes place
+    ≡ Ok (bundle_by primary (length numbers + 1) (place, heads.size) end)
 unfolding payload_at
 payload_read heads left numbers primary start place next end last bytes is content closes = rw (is, content, closes) refl
 
-pub next_read : (heads : Heads) (left : ℕ) (numbers : List ℕ) (primary : Primary) (start place next : ℕ) (bytes : List ℕ)
-    → (heads.block_type == 1) ≡ false → content_at heads.size heads.check start bytes place ≡ Ok (true, next)
-    → after_heads heads left numbers primary start bytes place ≡ blocks_at left (numbers ++ heads.number ∷ []) primary bytes next
+pub next_read : (heads : Heads) (left : ℕ) (numbers : List ℕ) (primary : Primary)
+    (start place next : ℕ) (bytes : List ℕ)
+    → (heads.block_type == 1) ≡ false
+    → content_at heads.size heads.check start bytes place ≡ Ok (true, next)
+    → after_heads heads left numbers primary start bytes place
+    ≡ blocks_at left (numbers ++ heads.number ∷ []) primary bytes next
 next_read heads left numbers primary start place next bytes is content = rw (is, content) refl
 
-pub opens : (bytes : List ℕ) → 0 < length bytes → get_or bytes 0 0 ≡ 0x9f → opening_at bytes ≡ Ok (true, 1)
+pub opens : (bytes : List ℕ) → 0 < length bytes → get_or bytes 0 0 ≡ 0x9f
+    → opening_at bytes ≡ Ok (true, 1)
 unfolding opening_at
 opens [] some is = absurd (omega arith)
 opens (first ∷ rest) some is = rw is refl
@@ -83,7 +92,8 @@ unfolding head_front
 pair_front [] some is = absurd (omega arith)
 pair_front (first ∷ rest) some is = rw is (front_by-small 4 2 rest (omega arith))
 
-head_at-front : (bytes : List ℕ) (place : ℕ) (head : Head) → head_front (drop place bytes) ≡ Whole head 1
+head_at-front : (bytes : List ℕ) (place : ℕ) (head : Head)
+    → head_front (drop place bytes) ≡ Whole head 1
     → head_at bytes place ≡ Ok (head, place + 1)
 unfolding head_at
 head_at-front bytes place head is = rw is refl
@@ -91,7 +101,8 @@ head_at-front bytes place head is = rw is refl
 first_of : (bytes : List ℕ) (place : ℕ) → get_or (drop place bytes) 0 0 ≡ get_or bytes place 0
 first_of bytes place = get_or-drop place bytes 0 0 ∙ ap (λ (index : ℕ). get_or bytes index 0) (omega arith)
 
-pub unsigned_at-byte : (bytes : List ℕ) (place : ℕ) → place < length bytes → get_or bytes place 0 < 24
+pub unsigned_at-byte : (bytes : List ℕ) (place : ℕ) → place < length bytes
+    → get_or bytes place 0 < 24
     → row_at unsigned bytes place ≡ Ok (get_or bytes place 0, place + 1)
 unfolding unsigned
 unsigned_at-byte bytes place within small =

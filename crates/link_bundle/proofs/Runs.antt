@@ -8,23 +8,27 @@ use Rattle.std.proofs.Math.Seq.{drop-append_seam, take-append-add}
 use Rattle.link_bundle_rows.specs.Rows.{◌>>=◌}
 use Rattle.link_bundle.specs.Reading.{Reading, cut_short, bytes_at}
 
-pub bytes_at-none : (bytes : List ℕ) (place : ℕ) → place ≤ length bytes → bytes_at 0 bytes place ≡ Ok ([], place)
+pub bytes_at-none : (bytes : List ℕ) (place : ℕ) → place ≤ length bytes
+    → bytes_at 0 bytes place ≡ Ok ([], place)
 unfolding bytes_at
 bytes_at-none bytes place within =
     let enough : ltb (length bytes) (place + 0) ≡ false = le-ltb (length bytes) (place + 0) (omega arith) in
     rw enough (rw add-zero refl)
 
 -- where the bytes end before, more are needed
-pub bytes_at-cut : (left : ℕ) (bytes : List ℕ) (place : ℕ) → length bytes < place + left → bytes_at left bytes place ≡ cut_short bytes
+pub bytes_at-cut : (left : ℕ) (bytes : List ℕ) (place : ℕ) → length bytes < place + left
+    → bytes_at left bytes place ≡ cut_short bytes
 unfolding bytes_at
 bytes_at-cut left bytes place ends = rw (lt-ltb (length bytes) (place + left) ends) refl
 
-pub drop-run : (bytes more run : List ℕ) (place : ℕ) → drop place bytes ≡ run ++ more → drop (place + length run) bytes ≡ more
+pub drop-run : (bytes more run : List ℕ) (place : ℕ) → drop place bytes ≡ run ++ more
+    → drop (place + length run) bytes ≡ more
 drop-run bytes more run place here =
     sym (drop-drop (length run) place bytes) ∙ ap (λ (rest : List ℕ). drop (length run) rest) here ∙ drop-append_seam run more
 
 -- the bytes of a run stand within the bytes
-pub run_within : (bytes more run : List ℕ) (place : ℕ) → drop place bytes ≡ run ++ more → 0 < length run → place + length run ≤ length bytes
+pub run_within : (bytes more run : List ℕ) (place : ℕ) → drop place bytes ≡ run ++ more
+    → 0 < length run → place + length run ≤ length bytes
 run_within bytes more run place here some =
     omega (arith, length-drop place bytes, ap length here, length-append run more)
 
@@ -32,13 +36,16 @@ abbrev pub with_run : List ℕ → Reading (List ℕ) → Reading (List ℕ)
 with_run run reading = reading >>= λ (bytes, place). Ok (run ++ bytes, place)
 
 with_run-chosen : (short : Bool) (next : ℕ) (bytes run rest : List ℕ)
-    → (if short then cut_short bytes else Ok (run ++ rest, next)) ≡ with_run run (if short then cut_short bytes else Ok (rest, next))
+    → (if short then cut_short bytes else Ok (run ++ rest, next))
+    ≡ with_run run (if short then cut_short bytes else Ok (rest, next))
 with_run-chosen true next bytes run rest = refl
 with_run-chosen false next bytes run rest = refl
 
 -- the bytes of a run, and then the others
-pub bytes_at-run : (left : ℕ) (bytes more run : List ℕ) (place : ℕ) → drop place bytes ≡ run ++ more → length run ≤ left
-    → bytes_at left bytes place ≡ with_run run (bytes_at (left - length run) bytes (place + length run))
+pub bytes_at-run : (left : ℕ) (bytes more run : List ℕ) (place : ℕ)
+    → drop place bytes ≡ run ++ more → length run ≤ left
+    → bytes_at left bytes place
+    ≡ with_run run (bytes_at (left - length run) bytes (place + length run))
 unfolding bytes_at
 bytes_at-run left bytes more run place here fits =
     let all : left ≡ length run + (left - length run) = omega arith in
@@ -51,7 +58,8 @@ bytes_at-run left bytes more run place here fits =
     (with_run-chosen (ltb (length bytes) (place + length run + (left - length run))) (place + length run + (left - length run)) bytes run (take (left - length run) more))
 
 -- a run of one byte
-pub bytes_at-step : (left : ℕ) (bytes more : List ℕ) (byte place : ℕ) → drop place bytes ≡ byte ∷ more → 0 < left
+pub bytes_at-step : (left : ℕ) (bytes more : List ℕ) (byte place : ℕ)
+    → drop place bytes ≡ byte ∷ more → 0 < left
     → bytes_at left bytes place ≡ with_run (byte ∷ []) (bytes_at (left - 1) bytes (place + 1))
 bytes_at-step left bytes more byte place here some = bytes_at-run left bytes more (byte ∷ []) place here (omega arith)
 

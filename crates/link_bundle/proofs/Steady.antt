@@ -35,42 +35,50 @@ abbrev pub Past : {A : Type 0} → ℕ → Reading A → Type 0
 Past limit (Ok (value, next)) = limit < next
 Past limit (Err stop) = Unit {0}
 
-onward-from : {A : Type 0} (place start : ℕ) (reading : Reading A) → place ≤ start → Onward start reading
+onward-from : {A : Type 0} (place start : ℕ) (reading : Reading A)
+    → place ≤ start → Onward start reading
     → Onward place reading
 onward-from place start (Ok (value, next)) before onward = omega arith
 onward-from place start (Err stop) before onward = onward
 
-past-from : {A : Type 0} (limit start : ℕ) (reading : Reading A) → limit < start → Onward start reading
+past-from : {A : Type 0} (limit start : ℕ) (reading : Reading A)
+    → limit < start → Onward start reading
     → Past limit reading
 past-from limit start (Ok (value, next)) before onward = omega arith
 past-from limit start (Err stop) before onward = tt
 
-onward-if : {A : Type 0} (place : ℕ) (test : Bool) (one other : Reading A) → Onward place one → Onward place other
+onward-if : {A : Type 0} (place : ℕ) (test : Bool) (one other : Reading A)
+    → Onward place one → Onward place other
     → Onward place (if test then one else other)
 onward-if place true one other taken passed = taken
 onward-if place false one other taken passed = passed
 
-past-if : {A : Type 0} (limit : ℕ) (test : Bool) (one other : Reading A) → Past limit one → Past limit other
+past-if : {A : Type 0} (limit : ℕ) (test : Bool) (one other : Reading A)
+    → Past limit one → Past limit other
     → Past limit (if test then one else other)
 past-if limit true one other taken passed = taken
 past-if limit false one other taken passed = passed
 
-onward-then : {A B : Type 0} (place : ℕ) (reading : Reading A) (next : A × ℕ → Reading B) → Onward place reading
+onward-then : {A B : Type 0} (place : ℕ) (reading : Reading A) (next : A × ℕ → Reading B)
+    → Onward place reading
     → ((value : A × ℕ) → Onward value.1 (next value)) → Onward place (reading >>= next)
 onward-then place (Ok (value, end)) next onward each =
     onward-from place end (next (value, end)) onward (each (value, end))
 onward-then place (Err stop) next onward each = onward
 
-onward-judged : {A : Type 0} (place next : ℕ) (told : Result A BundleFault) → Onward next (judged_at place next told)
+onward-judged : {A : Type 0} (place next : ℕ) (told : Result A BundleFault)
+    → Onward next (judged_at place next told)
 onward-judged place next (Ok value) = omega arith
 onward-judged place next (Err fault) = refl
 
-onward-placed : (bytes : List ℕ) (place : ℕ) (front : HeadFront) → Onward place (placed bytes place front)
+onward-placed : (bytes : List ℕ) (place : ℕ) (front : HeadFront)
+    → Onward place (placed bytes place front)
 onward-placed bytes place CutHead = refl
 onward-placed bytes place IllFormed = refl
 onward-placed bytes place (Whole head size) = omega arith
 
-past-placed : (bytes : List ℕ) (limit place : ℕ) (front : HeadFront) → EndsFrom (suc (limit - place)) front
+past-placed : (bytes : List ℕ) (limit place : ℕ) (front : HeadFront)
+    → EndsFrom (suc (limit - place)) front
     → Past limit (placed bytes place front)
 past-placed bytes limit place CutHead ends = tt
 past-placed bytes limit place IllFormed ends = tt
@@ -110,17 +118,20 @@ IsCut bytes (Err stop) = stop ≡ stopped Cut (length bytes)
 -- and then it ends after them, or it is the same
 pub data Reads {A : Type 0} : List ℕ → ℕ → Reading A → Reading A → Type 0 where
   short : {bytes : List ℕ} {place : ℕ} {now later : Reading A}
-      → IsCut bytes now → Onward place later → Past (length bytes) later → Reads bytes place now later
+      → IsCut bytes now → Onward place later → Past (length bytes) later
+      → Reads bytes place now later
   whole : {bytes : List ℕ} {place : ℕ} {now later : Reading A} → later ≡ now → Onward place now
       → Reads bytes place now later
 
-pub stays_of : {A : Type 0} (bytes : List ℕ) (place : ℕ) (now later : Reading A) → Reads bytes place now later
+pub stays_of : {A : Type 0} (bytes : List ℕ) (place : ℕ) (now later : Reading A)
+    → Reads bytes place now later
     → Stays now later
 stays_of bytes place (Ok value) later (short cut onward past) = absurd cut
 stays_of bytes place (Err stop) later (short cut onward past) = cuts (ap (λ (stop : Stop). stop.fault) cut)
 stays_of bytes place now later (whole is onward) = same is
 
-onward_of : {A : Type 0} (bytes : List ℕ) (place : ℕ) (now later : Reading A) → Reads bytes place now later
+onward_of : {A : Type 0} (bytes : List ℕ) (place : ℕ) (now later : Reading A)
+    → Reads bytes place now later
     → Onward place later
 onward_of bytes place now later (short cut onward past) = onward
 onward_of bytes place now later (whole is onward) = rw is onward
@@ -131,8 +142,10 @@ reads-from bytes place start now later before (short cut onward past) =
     short cut (onward-from place start later before onward) past
 reads-from bytes place start now later before (whole is onward) = whole is (onward-from place start now before onward)
 
-reads-then : {A B : Type 0} (bytes : List ℕ) (place : ℕ) (now later : Reading A) (next next_later : A × ℕ → Reading B)
-    → Reads bytes place now later → ((value : A × ℕ) → Reads bytes value.1 (next value) (next_later value))
+reads-then : {A B : Type 0} (bytes : List ℕ) (place : ℕ) (now later : Reading A)
+    (next next_later : A × ℕ → Reading B)
+    → Reads bytes place now later
+    → ((value : A × ℕ) → Reads bytes value.1 (next value) (next_later value))
     → Reads bytes place (now >>= next) (later >>= next_later)
 reads-then bytes place (Ok value) later next next_later (short cut onward past) each = absurd cut
 reads-then bytes place (Err stop) (Err other) next next_later (short cut onward past) each = short cut onward tt
@@ -151,7 +164,8 @@ ended bytes value place = whole refl (omega arith)
 
 -- ---- each part of a bundle
 
-placed-reads : (bytes more : List ℕ) (place : ℕ) (front later : HeadFront) → (is_cut front ≡ false → later ≡ front)
+placed-reads : (bytes more : List ℕ) (place : ℕ) (front later : HeadFront)
+    → (is_cut front ≡ false → later ≡ front)
     → (is_cut front ≡ true → Past (length bytes) (placed (bytes ++ more) place later))
     → Reads bytes place (placed bytes place front) (placed (bytes ++ more) place later)
 placed-reads bytes more place CutHead later told past =
@@ -176,7 +190,8 @@ head_at-reads bytes more place =
     (rw (drop-append-le place bytes more within, ← length-drop place bytes) (head_ends (drop place bytes) more cut))))
     (cases_lt (length bytes) place)
 
-pub row_at-reads : {A : Type 0} (row : Head → Result A BundleFault) (bytes more : List ℕ) (place : ℕ)
+pub row_at-reads : {A : Type 0} (row : Head → Result A BundleFault)
+    (bytes more : List ℕ) (place : ℕ)
     → Reads bytes place (row_at row bytes place) (row_at row (bytes ++ more) place)
 unfolding row_at
 row_at-reads row bytes more place =
@@ -186,7 +201,8 @@ row_at-reads row bytes more place =
 row-then : {A B : Type 0} (row : Head → Result A BundleFault) (bytes more : List ℕ) (place : ℕ)
     (next next_later : A × ℕ → Reading B)
     → ((value : A × ℕ) → Reads bytes value.1 (next value) (next_later value))
-    → Reads bytes place (row_at row bytes place >>= next) (row_at row (bytes ++ more) place >>= next_later)
+    → Reads bytes place (row_at row bytes place >>= next)
+    (row_at row (bytes ++ more) place >>= next_later)
 row-then row bytes more place next next_later each =
     reads-then bytes place (row_at row bytes place) (row_at row (bytes ++ more) place) next next_later
     (row_at-reads row bytes more place) each
@@ -240,7 +256,8 @@ specific_at-reads Dtn bytes more place =
 specific_at-reads Ipn bytes more place =
     row-then ipn_part bytes more place _ _ (λ (count, next). ipn_at-reads (count == 3) bytes more next)
 
-eid_at-reads : (bytes more : List ℕ) (place : ℕ) → Reads bytes place (eid_at bytes place) (eid_at (bytes ++ more) place)
+eid_at-reads : (bytes more : List ℕ) (place : ℕ)
+    → Reads bytes place (eid_at bytes place) (eid_at (bytes ++ more) place)
 unfolding eid_at
 eid_at-reads bytes more place =
     row-then pair bytes more place _ _
@@ -288,7 +305,8 @@ compared-onward kind start place content bytes =
     (omega arith) refl)
 
 compared-reads : (kind : CheckKind) (bytes more : List ℕ) (start place content : ℕ)
-    → Reads bytes content (compared kind start place content bytes) (compared kind start place content (bytes ++ more))
+    → Reads bytes content (compared kind start place content bytes)
+    (compared kind start place content (bytes ++ more))
 unfolding compared check_of bytes_at
 compared-reads kind bytes more start place content =
     ⊎_elim
@@ -308,15 +326,18 @@ compared-reads kind bytes more start place content =
     (cases_lt (length bytes) content)
 
 pub field_at-reads : (check : Option CheckKind) (start : ℕ) (bytes more : List ℕ) (place : ℕ)
-    → Reads bytes place (field_at check start bytes place) (field_at check start (bytes ++ more) place)
+    → Reads bytes place (field_at check start bytes place)
+    (field_at check start (bytes ++ more) place)
 unfolding field_at compared
 field_at-reads None start bytes more place = ended bytes true place
 field_at-reads (Some kind) start bytes more place =
     row-then (check_field kind) bytes more place _ _
     (λ (_, content). compared-reads kind bytes more start place content)
 
-pub content_at-reads : (size : ℕ) (check : Option CheckKind) (start : ℕ) (bytes more : List ℕ) (place : ℕ)
-    → Reads bytes place (content_at size check start bytes place) (content_at size check start (bytes ++ more) place)
+pub content_at-reads : (size : ℕ) (check : Option CheckKind) (start : ℕ)
+    (bytes more : List ℕ) (place : ℕ)
+    → Reads bytes place (content_at size check start bytes place)
+    (content_at size check start (bytes ++ more) place)
 unfolding content_at
 content_at-reads size check start bytes more place =
     reads-then bytes place (bytes_at size bytes place) (bytes_at size (bytes ++ more) place) _ _
@@ -353,7 +374,8 @@ unfolding opening_at
 opening_at-past [] = tt
 opening_at-past (first ∷ rest) = past-if 0 (first == 0x9f) (Ok (true, 1)) (Err _) (omega arith) tt
 
-pub opening_at-reads : (bytes more : List ℕ) → Reads bytes 0 (opening_at bytes) (opening_at (bytes ++ more))
+pub opening_at-reads : (bytes more : List ℕ)
+    → Reads bytes 0 (opening_at bytes) (opening_at (bytes ++ more))
 unfolding opening_at
 opening_at-reads [] more =
     short refl (opening_at-onward more) (opening_at-past more)

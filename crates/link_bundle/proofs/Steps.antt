@@ -45,14 +45,16 @@ up_to_the_end seen start =
     ap (λ (count : ℕ). take count (drop start seen)) (sym (length-drop start seen)) ∙ take-length (drop start seen)
 
 -- the checks that are wanted
-narrowed : (check : CheckType) (checks : BlockChecks) (covered : List ℕ) → Covers Unread checks covered → Covers check checks covered
+narrowed : (check : CheckType) (checks : BlockChecks) (covered : List ℕ)
+    → Covers Unread checks covered → Covers check checks covered
 narrowed Unread checks covered both = both
 narrowed (Is None) checks covered both = tt
 narrowed (Is (Some Crc16)) checks covered both = both.0
 narrowed (Is (Some Crc32)) checks covered both = both.1
 
 kept : (old new : CheckType) (checks : BlockChecks) (covered : List ℕ)
-    → (is_unread old ≡ false → (checks : BlockChecks) (covered : List ℕ) → Covers old checks covered → Covers new checks covered)
+    → (is_unread old ≡ false → (checks : BlockChecks) (covered : List ℕ) → Covers old checks covered
+    → Covers new checks covered)
     → Covers old checks covered → Covers new checks covered
 kept Unread new checks covered keeps covers = narrowed new checks covered covers
 kept (Is kind) new checks covered keeps covers = keeps refl checks covered covers
@@ -108,9 +110,11 @@ begins (field.Canonical canonical.Data) start place = inr (refl, refl)
 begins (field.Check kind) start place = inr (refl, refl)
 begins field.Closing start place = inr (refl, refl)
 
-stands_head : (which : Field) (old new : Cursor) (check after : CheckType) (start : ℕ) (seen : List ℕ)
+stands_head : (which : Field) (old new : Cursor) (check after : CheckType)
+    (start : ℕ) (seen : List ℕ)
     → old.count ≡ length seen → start ≤ length seen → Covers check old.checks (drop start seen)
-    → KeepsCheck check (Head which) after → Enters (Head which) old new → IsInHead which new after start seen
+    → KeepsCheck check (Head which) after → Enters (Head which) old new
+    → IsInHead which new after start seen
 stands_head which old new check after start seen counted within covers keeps enters =
     let here : new.place ≡ length seen = enters.place ∙ counted in
     ⊎_elim
@@ -129,7 +133,8 @@ stands_head which old new check after start seen counted within covers keeps ent
 
 stands_inside : (old new : Cursor) (check after : CheckType) (start : ℕ) (seen : List ℕ)
     → start ≤ length seen → Covers check old.checks (drop start seen)
-    → (is_unread check ≡ false → (checks : BlockChecks) (covered : List ℕ) → Covers check checks covered → Covers after checks covered)
+    → (is_unread check ≡ false → (checks : BlockChecks) (covered : List ℕ)
+    → Covers check checks covered → Covers after checks covered)
     → new.checks ≡ old.checks → IsInside new after start seen
 stands_inside old new check after start seen within covers keeps same = record {
   in_block = within;
@@ -138,7 +143,8 @@ stands_inside old new check after start seen within covers keeps same = record {
 
 stands_stored : (old new : Cursor) (check after : CheckType) (start : ℕ) (seen : List ℕ)
     → old.count ≡ length seen → start ≤ length seen → Covers check old.checks (drop start seen)
-    → (is_unread check ≡ false → (checks : BlockChecks) (covered : List ℕ) → Covers check checks covered → Covers after checks covered)
+    → (is_unread check ≡ false → (checks : BlockChecks) (covered : List ℕ)
+    → Covers check checks covered → Covers after checks covered)
     → new.place ≡ length seen → new.checks ≡ old.checks → IsInStored new after start seen
 stands_stored old new check after start seen counted within covers keeps here same = record {
   in_block = within;
@@ -147,7 +153,8 @@ stands_stored old new check after start seen counted within covers keeps here sa
       (kept check after old.checks (drop start seen) keeps covers);
 }
 
-stands_entered : (stage : Stage) (old new : Cursor) (check after : CheckType) (start : ℕ) (seen : List ℕ)
+stands_entered : (stage : Stage) (old new : Cursor) (check after : CheckType)
+    (start : ℕ) (seen : List ℕ)
     → old.count ≡ length seen → start ≤ length seen → Covers check old.checks (drop start seen)
     → KeepsCheck check stage after → Enters stage old new → Stands stage new after start seen
 stands_entered Start old new check after start seen counted within covers keeps enters = absurd (false≢true keeps.0)
@@ -163,10 +170,13 @@ stands_entered Ended old new check after start seen counted within covers keeps 
 stands_entered (Failed fault place) old new check after start seen counted within covers keeps enters = tt
 
 -- a stage is entered, with what is left to be read from there
-pub entered : (stage : Stage) (old new : Cursor) (check : CheckType) (draft : Draft) (start : ℕ) (seen : List ℕ)
-    → AreBytes seen → old.count ≡ length seen → start ≤ length seen → Covers check old.checks (drop start seen)
+pub entered : (stage : Stage) (old new : Cursor) (check : CheckType) (draft : Draft)
+    (start : ℕ) (seen : List ℕ)
+    → AreBytes seen → old.count ≡ length seen → start ≤ length seen
+    → Covers check old.checks (drop start seen)
     → KeepsCheck check stage draft.check → Enters stage old new
-    → ((more : List ℕ) → judged (seen ++ more) ≡ stage_left stage draft start (length seen) (seen ++ more) (length seen))
+    → ((more : List ℕ) → judged (seen ++ more)
+    ≡ stage_left stage draft start (length seen) (seen ++ more) (length seen))
     → HasCome stage new draft seen
 entered stage old new check draft start seen all counted within covers keeps enters reads = record {
   all_bytes = all;
@@ -194,7 +204,8 @@ one_byte byte small = All-push (λ (b : ℕ). b < 256) [] byte (All-nil (λ (b :
 pub grown_head : (which : Field) (old new : Cursor) (draft : Draft) (seen run : List ℕ)
     → HasCome (Head which) old draft seen → AreBytes run
     → new.count ≡ old.count + length run → new.place ≡ old.place
-    → ((covered : List ℕ) → Covers draft.check old.checks covered → Covers draft.check new.checks (covered ++ run))
+    → ((covered : List ℕ) → Covers draft.check old.checks covered
+    → Covers draft.check new.checks (covered ++ run))
     → HeadCame which new draft (seen ++ run)
 unfolding stage_left
 grown_head which old new draft seen run come small counts stays covers =
@@ -221,29 +232,35 @@ grown_bytes which old new draft seen byte come stays heads =
     rw (stays, drop-append-le old.place seen (byte ∷ []) at.in_bytes) (heads (drop old.place seen) at.head)
 
 -- a run after the bytes seen
-pub after_seen : (place : ℕ) (seen run : List ℕ) → place ≡ length seen → drop place (seen ++ run) ≡ run
+pub after_seen : (place : ℕ) (seen run : List ℕ) → place ≡ length seen
+    → drop place (seen ++ run) ≡ run
 after_seen place seen run here = ap (λ (place : ℕ). drop place (seen ++ run)) here ∙ drop-append_seam seen run
 
 -- the head that has come, however the bytes go on
-front_stays : (place : ℕ) (seen more : List ℕ) → place ≤ length seen → drop place (seen ++ more) ≡ drop place seen ++ more
+front_stays : (place : ℕ) (seen more : List ℕ) → place ≤ length seen
+    → drop place (seen ++ more) ≡ drop place seen ++ more
 front_stays place seen more within = drop-append-le place seen more within
 
 head_at-whole : (place : ℕ) (seen more : List ℕ) (head : HeadItem) → place ≤ length seen
-    → head_front (drop place seen) ≡ Whole head (length (drop place seen)) → head_at (seen ++ more) place ≡ Ok (head, length seen)
+    → head_front (drop place seen) ≡ Whole head (length (drop place seen))
+    → head_at (seen ++ more) place ≡ Ok (head, length seen)
 unfolding head_at
 head_at-whole place seen more head within told =
     let next : place + length (drop place seen) ≡ length seen = omega (arith, length-drop place seen) in
     rw (front_stays place seen more within, whole_stays (drop place seen) more head (length (drop place seen)) told, next) refl
 
 head_at-bad : (place : ℕ) (seen more : List ℕ) → place ≤ length seen
-    → head_front (drop place seen) ≡ IllFormed → head_at (seen ++ more) place ≡ Err (stopped BadHead place)
+    → head_front (drop place seen) ≡ IllFormed
+    → head_at (seen ++ more) place ≡ Err (stopped BadHead place)
 unfolding head_at
 head_at-bad place seen more within told =
     rw (front_stays place seen more within, ill_formed_stays (drop place seen) more told) refl
 
 -- a head that goes on
-pub more_head : (which : Field) (cursor : Cursor) (draft : Draft) (seen : List ℕ) → HeadCame which cursor draft seen
-    → HasScannedHead cursor.head (drop cursor.place seen) → head_front (drop cursor.place seen) ≡ CutHead → HasCome (Head which) cursor draft seen
+pub more_head : (which : Field) (cursor : Cursor) (draft : Draft) (seen : List ℕ)
+    → HeadCame which cursor draft seen
+    → HasScannedHead cursor.head (drop cursor.place seen)
+    → head_front (drop cursor.place seen) ≡ CutHead → HasCome (Head which) cursor draft seen
 more_head which cursor draft seen come head told = record {
   all_bytes = come.all_bytes;
   count = come.count;
@@ -253,8 +270,10 @@ more_head which cursor draft seen come head told = record {
 }
 
 -- an ill-formed head
-pub bad_head : (which : Field) (cursor : Cursor) (draft : Draft) (seen : List ℕ) → HeadCame which cursor draft seen
-    → head_front (drop cursor.place seen) ≡ IllFormed → HasCome (Failed BadHead cursor.place) cursor draft seen
+pub bad_head : (which : Field) (cursor : Cursor) (draft : Draft) (seen : List ℕ)
+    → HeadCame which cursor draft seen
+    → head_front (drop cursor.place seen) ≡ IllFormed
+    → HasCome (Failed BadHead cursor.place) cursor draft seen
 unfolding stage_left
 bad_head which cursor draft seen come told = record {
   all_bytes = come.all_bytes;
@@ -269,8 +288,10 @@ bad_head which cursor draft seen come told = record {
 }
 
 -- a head that is whole and judged
-judged_head : (which : Field) (cursor : Cursor) (draft new : Draft) (head : HeadItem) (result : Result Stage BundleFault) (seen : List ℕ)
-    → (come : HeadCame which cursor draft seen) → head_front (drop cursor.place seen) ≡ Whole head (length (drop cursor.place seen))
+judged_head : (which : Field) (cursor : Cursor) (draft new : Draft) (head : HeadItem)
+    (result : Result Stage BundleFault) (seen : List ℕ)
+    → (come : HeadCame which cursor draft seen)
+    → head_front (drop cursor.place seen) ≡ Whole head (length (drop cursor.place seen))
     → AsReadFrom cursor.place cursor.count which draft head result new
     → (more : List ℕ) → judged (seen ++ more)
     ≡ goes_on result new (block_start which come.start cursor.place) cursor.place (length seen) (seen ++ more)
@@ -282,17 +303,22 @@ judged_head which cursor draft new head result seen come told judges more =
     ≡ goes_on result new (block_start which come.start cursor.place) cursor.place count (seen ++ more)) come.count
     (judges (seen ++ more) come.start (rw come.count whole) (omega (arith, length-append seen more, come.count)))
 
-pub went_on : (which : Field) (old cursor : Cursor) (draft new : Draft) (head : HeadItem) (stage : Stage) (seen : List ℕ)
-    → HeadCame which old draft seen → head_front (drop old.place seen) ≡ Whole head (length (drop old.place seen))
+pub went_on : (which : Field) (old cursor : Cursor) (draft new : Draft) (head : HeadItem)
+    (stage : Stage) (seen : List ℕ)
+    → HeadCame which old draft seen
+    → head_front (drop old.place seen) ≡ Whole head (length (drop old.place seen))
     → AsReadFrom old.place old.count which draft head (Ok stage) new
-    → KeepsCheck draft.check stage new.check → Enters stage old cursor → HasCome stage cursor new seen
+    → KeepsCheck draft.check stage new.check → Enters stage old cursor
+    → HasCome stage cursor new seen
 went_on which old cursor draft new head stage seen come told judges keeps enters =
     entered stage old cursor draft.check new (block_start which come.start old.place) seen come.all_bytes come.count
     come.in_block come.checks keeps enters
     (judged_head which old draft new head (Ok stage) seen come told judges)
 
-pub refused : (which : Field) (cursor : Cursor) (draft new : Draft) (head : HeadItem) (fault : BundleFault) (seen : List ℕ)
-    → HeadCame which cursor draft seen → head_front (drop cursor.place seen) ≡ Whole head (length (drop cursor.place seen))
+pub refused : (which : Field) (cursor : Cursor) (draft new : Draft) (head : HeadItem)
+    (fault : BundleFault) (seen : List ℕ)
+    → HeadCame which cursor draft seen
+    → head_front (drop cursor.place seen) ≡ Whole head (length (drop cursor.place seen))
     → AsReadFrom cursor.place cursor.count which draft head (Err fault) new
     → HasCome (Failed fault cursor.place) cursor new seen
 unfolding stage_left

@@ -19,18 +19,21 @@ use Rattle.link_bundle.specs.Primary.{Primary, fragment_at}
 use Rattle.link_bundle.specs.Bundle.{blocks_at}
 use Rattle.link_bundle.specs.Left.{field_left, primary_of, primary_block_left, version_left, flags_left, check_type_left, timestamp_left, time_left, sequence_left, lifetime_left, offset_left, total_left, scheme_left, allocator_left, node_left, service_left, type_left, number_left, block_flags_left, block_check_left, data_left}
 
-row_at-stopped : {A : Type 0} (row : Head → Result A BundleFault) (bytes : List ℕ) (place : ℕ) (stop : Stop)
+row_at-stopped : {A : Type 0} (row : Head → Result A BundleFault) (bytes : List ℕ)
+    (place : ℕ) (stop : Stop)
     → head_at bytes place ≡ Err stop → row_at row bytes place ≡ Err stop
 unfolding row_at
 row_at-stopped row bytes place stop told = rw told refl
 
-blocks_at-stopped : (left : ℕ) (numbers : List ℕ) (primary : Primary) (bytes : List ℕ) (place : ℕ) (stop : Stop)
+blocks_at-stopped : (left : ℕ) (numbers : List ℕ) (primary : Primary) (bytes : List ℕ)
+    (place : ℕ) (stop : Stop)
     → head_at bytes place ≡ Err stop → blocks_at left numbers primary bytes place ≡ Err stop
 unfolding blocks_at
 blocks_at-stopped zero numbers primary bytes place stop told = rw (row_at-stopped block_too_many bytes place stop told) refl
 blocks_at-stopped (suc left) numbers primary bytes place stop told = rw (row_at-stopped block bytes place stop told) refl
 
-pub field_left-stopped : (which : Field) (draft : Draft) (start : ℕ) (bytes : List ℕ) (place : ℕ) (stop : Stop)
+pub field_left-stopped : (which : Field) (draft : Draft) (start : ℕ) (bytes : List ℕ)
+    (place : ℕ) (stop : Stop)
     → head_at bytes place ≡ Err stop → field_left which draft start bytes place ≡ Err stop
 unfolding field_left primary_block_left version_left flags_left check_type_left timestamp_left time_left sequence_left lifetime_left offset_left total_left fragment_at eid_at specific_at scheme_left allocator_left node_left service_left type_left number_left block_flags_left block_check_left data_left field_at
 field_left-stopped (field.Primary primary.Block) draft start bytes place stop told = rw (row_at-stopped primary_block bytes place stop told) refl

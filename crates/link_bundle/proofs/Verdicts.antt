@@ -26,17 +26,20 @@ use Rattle.link_bundle.proofs.Runs.{bytes_at-cut}
 use Rattle.link_bundle.proofs.Stops.{field_left-stopped}
 
 -- with nothing after the bytes seen
-read_now : (stage : Stage) (cursor : Cursor) (draft : Draft) (seen : List ℕ) → (come : HasCome stage cursor draft seen)
+read_now : (stage : Stage) (cursor : Cursor) (draft : Draft) (seen : List ℕ)
+    → (come : HasCome stage cursor draft seen)
     → judged seen ≡ stage_left stage draft come.start cursor.place seen (length seen)
 read_now stage cursor draft seen come =
     subst (λ (bytes : List ℕ). judged bytes ≡ stage_left stage draft come.start cursor.place bytes (length seen)) (append-nil seen) (come.reads [])
 
-pub head_at-cut : (bytes : List ℕ) (place : ℕ) → head_front (drop place bytes) ≡ CutHead → head_at bytes place ≡ cut_short bytes
+pub head_at-cut : (bytes : List ℕ) (place : ℕ) → head_front (drop place bytes) ≡ CutHead
+    → head_at bytes place ≡ cut_short bytes
 unfolding head_at
 head_at-cut bytes place cut = rw cut refl
 
 -- bytes that may go on are cut
-going_cut : (stage : Stage) (cursor : Cursor) (draft : Draft) (seen : List ℕ) → HasCome stage cursor draft seen
+going_cut : (stage : Stage) (cursor : Cursor) (draft : Draft) (seen : List ℕ)
+    → HasCome stage cursor draft seen
     → IsTrue (scan_fits stage cursor draft) → stage_state stage ≡ state.Going
     → judged seen ≡ with_known_payload draft.payload (Err (stopped Cut (length seen)))
 unfolding stage_left judged bundle_at opening_at name_left stored_left content_at
@@ -68,23 +71,28 @@ unfolding stage_left
 ended_whole cursor draft seen come =
     read_now Ended cursor draft seen come ∙ rw (eq-eqb cursor.place (length seen) come.stands) refl
 
-failed_stop : (fault : BundleFault) (place : ℕ) (cursor : Cursor) (draft : Draft) (seen : List ℕ) → HasCome (Failed fault place) cursor draft seen
+failed_stop : (fault : BundleFault) (place : ℕ) (cursor : Cursor) (draft : Draft) (seen : List ℕ)
+    → HasCome (Failed fault place) cursor draft seen
     → judged seen ≡ with_known_payload draft.payload (Err (stopped fault place))
 unfolding stage_left
 failed_stop fault place cursor draft seen come = read_now (Failed fault place) cursor draft seen come
 
-verdict_by-stopped : (payload : Option (ℕ × ℕ)) (fault : BundleFault) (place : ℕ) → verdict_by (with_known_payload payload (Err (stopped fault place))) ≡ Err (fault, place)
+verdict_by-stopped : (payload : Option (ℕ × ℕ)) (fault : BundleFault) (place : ℕ)
+    → verdict_by (with_known_payload payload (Err (stopped fault place))) ≡ Err (fault, place)
 verdict_by-stopped None fault place = refl
 verdict_by-stopped (Some payload) fault place = refl
 
-pub verdict-going : (stage : Stage) (cursor : Cursor) (draft : Draft) (seen : List ℕ) → HasCome stage cursor draft seen
-    → IsTrue (scan_fits stage cursor draft) → stage_state stage ≡ state.Going → verdict seen ≡ Err (Cut, cursor.count)
+pub verdict-going : (stage : Stage) (cursor : Cursor) (draft : Draft) (seen : List ℕ)
+    → HasCome stage cursor draft seen
+    → IsTrue (scan_fits stage cursor draft) → stage_state stage ≡ state.Going
+    → verdict seen ≡ Err (Cut, cursor.count)
 unfolding verdict
 verdict-going stage cursor draft seen come fits going =
     ap verdict_by (going_cut stage cursor draft seen come fits going) ∙ verdict_by-stopped draft.payload Cut (length seen)
     ∙ ap (λ (count : ℕ). Err (Cut, count)) (sym come.count)
 
-pub verdict-ended : (stage : Stage) (cursor : Cursor) (draft : Draft) (seen : List ℕ) → HasCome stage cursor draft seen
+pub verdict-ended : (stage : Stage) (cursor : Cursor) (draft : Draft) (seen : List ℕ)
+    → HasCome stage cursor draft seen
     → stage_state stage ≡ state.Ended → verdict seen ≡ Ok (bundle_of draft cursor.place).info
 unfolding verdict
 verdict-ended Start cursor draft seen come is = cc
@@ -95,7 +103,8 @@ verdict-ended (Stored field left stored kind) cursor draft seen come is = cc
 verdict-ended Ended cursor draft seen come is = ap verdict_by (ended_whole cursor draft seen come)
 verdict-ended (Failed fault place) cursor draft seen come is = cc
 
-pub verdict-failed : (stage : Stage) (cursor : Cursor) (draft : Draft) (seen : List ℕ) (fault : BundleFault) (place : ℕ) → HasCome stage cursor draft seen
+pub verdict-failed : (stage : Stage) (cursor : Cursor) (draft : Draft) (seen : List ℕ)
+    (fault : BundleFault) (place : ℕ) → HasCome stage cursor draft seen
     → stage_state stage ≡ state.Failed fault place → verdict seen ≡ Err (fault, place)
 unfolding verdict
 verdict-failed Start cursor draft seen fault place come is = cc
@@ -111,7 +120,8 @@ verdict-failed (Failed kept_fault at) cursor draft seen fault place come is =
     ∙ ap (λ (fault : BundleFault). Err (fault, at)) same ∙ ap (λ (place : ℕ). Err (fault, place)) here
 
 -- the state that a caller sees
-pub state_of-seen : (stage : Stage) (cursor : Cursor) (draft : Draft) (seen : List ℕ) → HasCome stage cursor draft seen
+pub state_of-seen : (stage : Stage) (cursor : Cursor) (draft : Draft) (seen : List ℕ)
+    → HasCome stage cursor draft seen
     → IsTrue (scan_fits stage cursor draft) → stage_state stage ≡ state_of (verdict seen)
 state_of-seen Start cursor draft seen come fits = sym (ap state_of (verdict-going Start cursor draft seen come fits refl))
 state_of-seen (Head which) cursor draft seen come fits = sym (ap state_of (verdict-going (Head which) cursor draft seen come fits refl))
@@ -124,16 +134,19 @@ state_of-seen (Failed fault place) cursor draft seen come fits =
     sym (ap state_of (verdict-failed (Failed fault place) cursor draft seen fault place come refl) ∙ rw fits refl)
 
 -- where the payload is
-payload_of-stopped : (payload : Option (ℕ × ℕ)) (stop_fault : BundleFault) (place : ℕ) → payload_of (with_known_payload payload (Err (stopped stop_fault place))) ≡ payload
+payload_of-stopped : (payload : Option (ℕ × ℕ)) (stop_fault : BundleFault) (place : ℕ)
+    → payload_of (with_known_payload payload (Err (stopped stop_fault place))) ≡ payload
 payload_of-stopped None fault place = refl
 payload_of-stopped (Some payload) fault place = refl
 
-span_back : (payload : Option (ℕ × ℕ)) (draft : Draft) (place : ℕ) → draft.payload ≡ payload → is_some payload ≡ true
+span_back : (payload : Option (ℕ × ℕ)) (draft : Draft) (place : ℕ)
+    → draft.payload ≡ payload → is_some payload ≡ true
     → payload_of (Ok (bundle_of draft place)) ≡ payload
 span_back None draft place is known = cc
 span_back (Some payload) draft place is known = rw is refl
 
-pub payload_of-seen : (stage : Stage) (cursor : Cursor) (draft : Draft) (seen : List ℕ) → HasCome stage cursor draft seen
+pub payload_of-seen : (stage : Stage) (cursor : Cursor) (draft : Draft) (seen : List ℕ)
+    → HasCome stage cursor draft seen
     → IsTrue (scan_fits stage cursor draft) → payload_of (judged seen) ≡ draft.payload
 payload_of-seen Start cursor draft seen come fits = ap payload_of (going_cut Start cursor draft seen come fits refl) ∙ payload_of-stopped draft.payload Cut (length seen)
 payload_of-seen (Head which) cursor draft seen come fits =
@@ -149,11 +162,13 @@ payload_of-seen (Failed fault place) cursor draft seen come fits =
     ap payload_of (failed_stop fault place cursor draft seen come) ∙ payload_of-stopped draft.payload fault place
 
 -- how much of the payload is there
-pub seen_of-none : (seen : List ℕ) (payload : Option (ℕ × ℕ)) → payload_of (judged seen) ≡ payload → payload ≡ None → payload_span seen ≡ None
+pub seen_of-none : (seen : List ℕ) (payload : Option (ℕ × ℕ)) → payload_of (judged seen) ≡ payload
+    → payload ≡ None → payload_span seen ≡ None
 unfolding payload_span payload_in
 seen_of-none seen payload is none = rw (is, none) refl
 
-pub seen_of-some : (seen : List ℕ) (payload : Option (ℕ × ℕ)) (place size count : ℕ) → payload_of (judged seen) ≡ payload → payload ≡ Some (place, size)
+pub seen_of-some : (seen : List ℕ) (payload : Option (ℕ × ℕ)) (place size count : ℕ)
+    → payload_of (judged seen) ≡ payload → payload ≡ Some (place, size)
     → count ≡ length seen → payload_span seen ≡ Some (place, min size (count - place))
 unfolding payload_span payload_in
 seen_of-some seen payload place size count is some counted =

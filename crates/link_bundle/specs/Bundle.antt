@@ -27,7 +27,17 @@ with_payload payload (Err stop) = Err (record stop { payload = Some payload })
 
 abbrev pub info_of : Primary → ℕ → ℕ → BundleInfo
 info_of primary blocks payload =
-    record { flags = primary.flags; destination = primary.destination; source = primary.source; time = primary.time; sequence = primary.sequence; lifetime = primary.lifetime; fragment = primary.fragment; blocks = blocks; payload = payload }
+    record {
+      flags = primary.flags;
+      destination = primary.destination;
+      source = primary.source;
+      time = primary.time;
+      sequence = primary.sequence;
+      lifetime = primary.lifetime;
+      fragment = primary.fragment;
+      blocks = blocks;
+      payload = payload;
+    }
 
 -- the data of the payload block that begins at `start`, its check field, and the break after it
 unfoldable pub payload_at : Primary → ℕ → ℕ → Option CheckKind → ℕ → List ℕ → ℕ → Result Bundle Stop

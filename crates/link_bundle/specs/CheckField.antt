@@ -13,7 +13,8 @@ number_from high bytes = fold (λ number byte. number * 256 + byte) high bytes
 
 -- the check of a block that begins at `start`, with its field's content, which begins at `content`, as zeros
 unfoldable pub check_of : CheckKind → ℕ → ℕ → List ℕ → ℕ
-check_of kind start content bytes = crc kind (slice_range bytes start content ++ replicate (check_width kind) 0)
+check_of kind start content bytes =
+    crc kind (slice_range bytes start content ++ replicate (check_width kind) 0)
 
 -- the check field at an offset, of a block that begins at `start` (section 4.2.1)
 unfoldable pub field_at : Option CheckKind → ℕ → List ℕ → ℕ → Reading Bool
@@ -21,4 +22,5 @@ field_at None start bytes place = Ok (true, place)
 field_at (Some kind) start bytes place = do
   (_, content) ← row_at (check_field kind) bytes place
   (stored, next) ← bytes_at (check_width kind) bytes content
-  if number_from 0 stored == check_of kind start content bytes then Ok (true, next) else Err (stopped CheckDiffers place)
+  if number_from 0 stored == check_of kind start content bytes then Ok (true, next)
+      else Err (stopped CheckDiffers place)

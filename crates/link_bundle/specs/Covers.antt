@@ -9,7 +9,8 @@ use Rattle.link_bundle.specs.declared.stage.CheckType.TheVariants.{Unread, Is}
 
 -- those that the block may have were given exactly these bytes
 abbrev pub Covers : CheckType → BlockChecks → List ℕ → Type 0
-Covers Unread checks covered = HasPushed Crc16 checks.crc16 covered × HasPushed Crc32 checks.crc32 covered
+Covers Unread checks covered =
+    HasPushed Crc16 checks.crc16 covered × HasPushed Crc32 checks.crc32 covered
 Covers (Is None) checks covered = Unit {0}
 Covers (Is (Some Crc16)) checks covered = HasPushed Crc16 checks.crc16 covered
 Covers (Is (Some Crc32)) checks covered = HasPushed Crc32 checks.crc32 covered

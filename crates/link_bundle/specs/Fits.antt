@@ -61,12 +61,14 @@ rest_fits Source draft left = name_fits draft.source left
 rest_fits ReportTo draft left = true
 
 abbrev pub stage_fits : Stage → Draft → Bool
-stage_fits Start draft = is_none draft.payload && (is_unread draft.check && length draft.numbers == 0)
+stage_fits Start draft =
+    is_none draft.payload && (is_unread draft.check && length draft.numbers == 0)
 stage_fits (Head which) draft = field_fits which draft
 stage_fits (Name role left) draft = nat_lt 0 left && rest_fits role draft left
 stage_fits (Content left) draft = nat_lt 0 left
 stage_fits (Stored place left stored kind) draft =
-    is_kind (kind_of draft.check) kind && (nat_lt 0 left && (nat_le left 4 && nat_lt stored (256 ^ (4 - left))))
+    is_kind (kind_of draft.check) kind
+    && (nat_lt 0 left && (nat_le left 4 && nat_lt stored (256 ^ (4 - left))))
 stage_fits Ended draft = is_some draft.payload
 stage_fits (Failed fault place) draft = lasts fault
 
@@ -111,11 +113,13 @@ is_begun (Failed fault place) = true
 abbrev pub KeepsCheck : CheckType → Stage → CheckType → Type 0
 KeepsCheck old stage new =
     IsTrue (is_begun stage)
-    × (is_block stage ≡ false → is_unread old ≡ false → (checks : BlockChecks) (covered : List ℕ) → Covers old checks covered → Covers new checks covered)
+    × (is_block stage ≡ false → is_unread old ≡ false → (checks : BlockChecks) (covered : List ℕ)
+    → Covers old checks covered → Covers new checks covered)
 
 -- what follows a head keeps the scan in bounds
 abbrev pub Follows : Result Stage BundleFault → Draft → Type 0
-Follows result draft = MatchResult result (λ stage. IsTrue (stage_fits stage draft)) (λ fault. IsTrue (lasts fault))
+Follows result draft =
+    MatchResult result (λ stage. IsTrue (stage_fits stage draft)) (λ fault. IsTrue (lasts fault))
 
 abbrev pub head_fits : Stage → HeadScan → Bool
 head_fits Start head = true

@@ -11,14 +11,16 @@ use Rattle.link_bundle.specs.Left.{AsReadFrom}
 
 -- the head is judged as the reading judges it (`reading` says so); what follows keeps the scan in bounds, and keeps what
 -- the checks cover
-pub record IsJudged (reading : Type 0) (old : Draft) (result : Result Stage BundleFault) (new : Draft) : Type 0 where
+pub record IsJudged (reading : Type 0) (old : Draft) (result : Result Stage BundleFault)
+    (new : Draft) : Type 0 where
   pub judges : reading
   pub follows : Follows result new
   pub keeps : IfOk result (λ stage. KeepsCheck old.check stage new.check)
 
 -- the head at `place`, with `next` after it
 abbrev pub JudgedFrom : ℕ → ℕ → Field → Draft → HeadItem → Result Stage BundleFault → Draft → Type 0
-JudgedFrom place next which old head result new = IsJudged (AsReadFrom place next which old head result new) old result new
+JudgedFrom place next which old head result new =
+    IsJudged (AsReadFrom place next which old head result new) old result new
 
 -- wherever it begins
 abbrev pub JudgedAt : ℕ → Field → Draft → HeadItem → Result Stage BundleFault → Draft → Type 0

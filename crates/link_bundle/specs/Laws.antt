@@ -29,7 +29,8 @@ PayloadLasts =
 abbrev pub PayloadPlaced : Type 0
 PayloadPlaced =
     (bytes more : List ℕ) (place size : ℕ) →
-    payload_of (judged (bytes ++ more)) ≡ Some (place, size) → payload_in bytes ≡ take size (drop place bytes)
+    payload_of (judged (bytes ++ more)) ≡ Some (place, size)
+    → payload_in bytes ≡ take size (drop place bytes)
 
 -- once the bytes are a bundle, or no bundle however they go on, all of the payload's bytes are there that will be
 abbrev pub PayloadEnds : Type 0

@@ -34,7 +34,16 @@ use Rattle.link_bundle.specs.Canonical.{content_at}
 use Rattle.link_bundle.specs.Bundle.{Bundle, with_payload, info_of, payload_at, blocks_at, ends, judged}
 
 abbrev pub primary_of : Draft → Primary
-primary_of draft = record { flags = draft.flags; destination = draft.destination; source = draft.source; time = draft.time; sequence = draft.sequence; lifetime = draft.lifetime; fragment = draft.fragment }
+primary_of draft =
+    record {
+      flags = draft.flags;
+      destination = draft.destination;
+      source = draft.source;
+      time = draft.time;
+      sequence = draft.sequence;
+      lifetime = draft.lifetime;
+      fragment = draft.fragment;
+    }
 
 -- where the payload's bytes begin, and how many they are
 abbrev pub span_of : Option (ℕ × ℕ) → ℕ × ℕ
@@ -43,7 +52,11 @@ span_of payload = unwrap_or payload (0, 0)
 abbrev pub bundle_of : Draft → ℕ → Bundle
 bundle_of draft end =
     let payload = span_of draft.payload in
-    record { info = info_of (primary_of draft) (length draft.numbers) payload.1; length = end; payload = payload }
+    record {
+      info = info_of (primary_of draft) (length draft.numbers) payload.1;
+      length = end;
+      payload = payload;
+    }
 
 abbrev pub with_known_payload : Option (ℕ × ℕ) → Result Bundle Stop → Result Bundle Stop
 with_known_payload None reading = reading
@@ -51,10 +64,15 @@ with_known_payload (Some payload) reading = with_payload payload reading
 
 -- after a block: the next block, or after the payload block the break
 abbrev pub block_end : Option (ℕ × ℕ) → List ℕ → Primary → List ℕ → ℕ → Result Bundle Stop
-block_end None numbers primary bytes place = blocks_at (64 - length numbers) numbers primary bytes place
+block_end None numbers primary bytes place =
+    blocks_at (64 - length numbers) numbers primary bytes place
 block_end (Some (start, size)) numbers primary bytes place = do
   (_, end) ← row_at closing bytes place
-  Ok (record { info = info_of primary (length numbers) size; length = end; payload = (start, size) })
+  Ok (record {
+    info = info_of primary (length numbers) size;
+    length = end;
+    payload = (start, size);
+  })
 
 -- after what a check field says
 abbrev pub after_field : Draft → List ℕ → Reading Bool → Result Bundle Stop
@@ -63,7 +81,8 @@ after_field draft bytes field = do
   block_end draft.payload draft.numbers (primary_of draft) bytes place
 
 -- after the primary block's fields
-abbrev pub after_primary : Draft → ℕ → List ℕ → Reading (Primary × Option CheckKind) → Result Bundle Stop
+abbrev pub after_primary : Draft → ℕ → List ℕ → Reading (Primary × Option CheckKind)
+    → Result Bundle Stop
 after_primary draft start bytes fields = do
   ((primary, check), place) ← fields
   (_, place) ← field_at check start bytes place
@@ -90,7 +109,8 @@ offset_left draft bytes place = after_fragment draft (fragment_at true bytes pla
 unfoldable pub lifetime_left : Draft → List ℕ → ℕ → Reading (Primary × Option CheckKind)
 lifetime_left draft bytes place = do
   (lifetime, place) ← row_at unsigned bytes place
-  after_fragment (record draft { lifetime = lifetime }) (fragment_at (is_fragment draft.flags) bytes place)
+  after_fragment (record draft { lifetime = lifetime })
+      (fragment_at (is_fragment draft.flags) bytes place)
 
 unfoldable pub sequence_left : Draft → List ℕ → ℕ → Reading (Primary × Option CheckKind)
 sequence_left draft bytes place = do
@@ -224,9 +244,10 @@ name_left name left bytes place = do
 unfoldable pub data_left : ℕ → ℕ → Draft → ℕ → List ℕ → ℕ → Result Bundle Stop
 data_left left blocks draft start bytes place = do
   (size, place) ← row_at byte_string bytes place
-  if draft.block_type == 1 then payload_at (primary_of draft) blocks size (kind_of draft.check) start bytes place else do
-    (_, place) ← content_at size (kind_of draft.check) start bytes place
-    blocks_at left draft.numbers (primary_of draft) bytes place
+  if draft.block_type == 1
+      then payload_at (primary_of draft) blocks size (kind_of draft.check) start bytes place else do
+        (_, place) ← content_at size (kind_of draft.check) start bytes place
+        blocks_at left draft.numbers (primary_of draft) bytes place
 
 unfoldable pub block_check_left : ℕ → ℕ → Draft → ℕ → List ℕ → ℕ → Result Bundle Stop
 block_check_left left blocks draft start bytes place = do
@@ -241,7 +262,8 @@ block_flags_left left blocks draft start bytes place = do
 unfoldable pub number_left : ℕ → ℕ → Draft → ℕ → List ℕ → ℕ → Result Bundle Stop
 number_left left blocks draft start bytes place = do
   (number, place) ← row_at (block_number draft.block_type draft.numbers) bytes place
-  block_flags_left left blocks (record draft { numbers = draft.numbers ++ number ∷ [] }) start bytes place
+  block_flags_left left blocks (record draft { numbers = draft.numbers ++ number ∷ [] }) start bytes
+      place
 
 unfoldable pub type_left : ℕ → ℕ → Draft → ℕ → List ℕ → ℕ → Result Bundle Stop
 type_left left blocks draft start bytes place = do
@@ -268,7 +290,8 @@ field_left (field.Primary which) draft start bytes place =
     after_primary draft start bytes (primary_left which draft bytes place)
 field_left (field.Endpoint role which) draft start bytes place =
     after_primary draft start bytes (after_eid role draft bytes (part_left which draft bytes place))
-field_left (field.Canonical which) draft start bytes place = canonical_left which draft start bytes place
+field_left (field.Canonical which) draft start bytes place =
+    canonical_left which draft start bytes place
 field_left (field.Check kind) draft start bytes place =
     after_field draft bytes (field_at (Some kind) start bytes place)
 field_left field.Closing draft start bytes place = do
@@ -283,7 +306,8 @@ ends_of bytes reading = do
 
 -- the check of a block from its start to its check field's content, and of that many zeros
 unfoldable pub zeroed_check : CheckKind → ℕ → ℕ → ℕ → List ℕ → ℕ
-zeroed_check kind start content zeros bytes = crc kind (slice_range bytes start content ++ replicate zeros 0)
+zeroed_check kind start content zeros bytes =
+    crc kind (slice_range bytes start content ++ replicate zeros 0)
 
 -- in the content of a check field, whose head is at `field`
 unfoldable pub stored_left : ℕ → ℕ → ℕ → ℕ → List ℕ → ℕ → Reading Bool
@@ -317,28 +341,36 @@ block_start field.Closing start place = start
 unfoldable pub stage_left : Stage → Draft → ℕ → ℕ → List ℕ → ℕ → Result Bundle Stop
 stage_left Start draft start field bytes place = judged bytes
 stage_left (Head which) draft start field bytes place =
-    ends_of bytes (with_known_payload draft.payload (field_left which draft (block_start which start field) bytes field))
+    ends_of bytes (with_known_payload draft.payload
+    (field_left which draft (block_start which start field) bytes field))
 stage_left (Name role left) draft start field bytes place =
-    ends_of bytes (with_known_payload draft.payload (after_primary draft start bytes (after_eid role draft bytes (name_left (kept_name role draft) left bytes place))))
+    ends_of bytes (with_known_payload draft.payload
+    (after_primary draft start bytes
+    (after_eid role draft bytes (name_left (kept_name role draft) left bytes place))))
 stage_left (Content left) draft start field bytes place =
-    ends_of bytes (with_known_payload draft.payload (after_field draft bytes (content_at left (kind_of draft.check) start bytes place)))
+    ends_of bytes (with_known_payload draft.payload
+    (after_field draft bytes (content_at left (kind_of draft.check) start bytes place)))
 stage_left (Stored field left stored kind) draft start content bytes place =
     let check = zeroed_check kind start content (place + left - content) bytes in
-    ends_of bytes (with_known_payload draft.payload (after_field draft bytes (stored_left left stored check field bytes place)))
+    ends_of bytes (with_known_payload draft.payload
+    (after_field draft bytes (stored_left left stored check field bytes place)))
 stage_left Ended draft start field bytes place = ends bytes (bundle_of draft field)
-stage_left (Failed fault at) draft start field bytes place = with_known_payload draft.payload (Err (stopped fault at))
+stage_left (Failed fault at) draft start field bytes place =
+    with_known_payload draft.payload (Err (stopped fault at))
 
 -- what a whole head at `place`, with `next` after it, leads to
 abbrev pub goes_on : Result Stage BundleFault → Draft → ℕ → ℕ → ℕ → List ℕ → Result Bundle Stop
 goes_on (Ok stage) draft start place next bytes = stage_left stage draft start next bytes next
-goes_on (Err fault) draft start place next bytes = with_known_payload draft.payload (Err (stopped fault place))
+goes_on (Err fault) draft start place next bytes =
+    with_known_payload draft.payload (Err (stopped fault place))
 
 -- the head at this offset, with `next` after it, is judged as the reading judges it: the stage and the draft are those
 -- after it
 abbrev pub AsReadFrom : ℕ → ℕ → Field → Draft → HeadItem → Result Stage BundleFault → Draft → Type 0
 AsReadFrom place next which old head result new =
     (bytes : List ℕ) (start : ℕ) → head_at bytes place ≡ Ok (head, next) → next ≤ length bytes →
-    ends_of bytes (with_known_payload old.payload (field_left which old (block_start which start place) bytes place))
+    ends_of bytes (with_known_payload old.payload
+    (field_left which old (block_start which start place) bytes place))
     ≡ goes_on result new (block_start which start place) place next bytes
 
 -- what comes after a block, after its fields and after an endpoint ID
@@ -346,37 +378,43 @@ AsReadFrom place next which old head result new =
 abbrev pub BlockEnds : Draft → Stage → Draft → Type 0
 BlockEnds old stage new =
     (bytes : List ℕ) (start next : ℕ) →
-    ends_of bytes (with_known_payload old.payload (block_end old.payload old.numbers (primary_of old) bytes next))
+    ends_of bytes (with_known_payload old.payload
+    (block_end old.payload old.numbers (primary_of old) bytes next))
     ≡ stage_left stage new start next bytes next
 
 abbrev pub FieldsEnd : Draft → Stage → Draft → Type 0
 FieldsEnd old stage new =
     (bytes : List ℕ) (start next : ℕ) →
-    ends_of bytes (with_known_payload old.payload (after_field old bytes (field_at (kind_of old.check) start bytes next)))
+    ends_of bytes (with_known_payload old.payload
+    (after_field old bytes (field_at (kind_of old.check) start bytes next)))
     ≡ stage_left stage new start next bytes next
 
 -- after the head of data of this size
 abbrev pub ContentBegins : ℕ → Draft → Stage → Draft → Type 0
 ContentBegins size old stage new =
     (bytes : List ℕ) (start next : ℕ) → next ≤ length bytes →
-    ends_of bytes (with_known_payload old.payload (after_field old bytes (content_at size (kind_of old.check) start bytes next)))
+    ends_of bytes (with_known_payload old.payload
+    (after_field old bytes (content_at size (kind_of old.check) start bytes next)))
     ≡ stage_left stage new start next bytes next
 
 abbrev pub EidEnds : Role → Eid → Draft → Stage → Draft → Type 0
 EidEnds role eid old stage new =
     (bytes : List ℕ) (start next : ℕ) →
-    ends_of bytes (with_known_payload old.payload (after_primary old start bytes (after_eid role old bytes (Ok (eid, next)))))
+    ends_of bytes (with_known_payload old.payload
+    (after_primary old start bytes (after_eid role old bytes (Ok (eid, next)))))
     ≡ stage_left stage new start next bytes next
 
 -- a name begins, of this many bytes
 abbrev pub NameBegins : Role → ℕ → Draft → Stage → Draft → Type 0
 NameBegins role size old stage new =
     (bytes : List ℕ) (start next : ℕ) → next ≤ length bytes →
-    ends_of bytes (with_known_payload old.payload (after_primary old start bytes (after_eid role old bytes (name_left [] size bytes next))))
+    ends_of bytes (with_known_payload old.payload
+    (after_primary old start bytes (after_eid role old bytes (name_left [] size bytes next))))
     ≡ stage_left stage new start next bytes next
 
 -- more bytes of a name, of which `left` bytes were left
 abbrev pub NameGoesOn : Role → ℕ → List ℕ → Draft → Stage → Draft → Type 0
 NameGoesOn role left run old stage new =
     (bytes more : List ℕ) (start field place : ℕ) → drop place bytes ≡ run ++ more →
-    stage_left (Name role left) old start field bytes place ≡ stage_left stage new start (place + length run) bytes (place + length run)
+    stage_left (Name role left) old start field bytes place
+    ≡ stage_left stage new start (place + length run) bytes (place + length run)

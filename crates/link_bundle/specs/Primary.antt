@@ -43,4 +43,18 @@ primary_at bytes place = do
   (sequence, place) ← row_at unsigned bytes place
   (lifetime, place) ← row_at unsigned bytes place
   (fragment, place) ← fragment_at (is_fragment flags) bytes place
-  Ok ((record { flags = flags; destination = destination; source = source; time = time; sequence = sequence; lifetime = lifetime; fragment = fragment }, check), place)
+  Ok (
+    (
+      record {
+        flags = flags;
+        destination = destination;
+        source = source;
+        time = time;
+        sequence = sequence;
+        lifetime = lifetime;
+        fragment = fragment;
+      },
+      check,
+    ),
+    place,
+  )

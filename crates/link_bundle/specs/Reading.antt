@@ -47,4 +47,5 @@ row_at row bytes place = do
 -- that many bytes from an offset
 unfoldable pub bytes_at : ℕ → List ℕ → ℕ → Reading (List ℕ)
 bytes_at count bytes place =
-    if nat_lt (length bytes) (place + count) then cut_short bytes else Ok (take count (drop place bytes), place + count)
+    if nat_lt (length bytes) (place + count) then cut_short bytes
+    else Ok (take count (drop place bytes), place + count)

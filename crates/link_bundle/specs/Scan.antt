@@ -17,14 +17,16 @@ use Rattle.link_bundle.specs.Left.{block_start, stage_left}
 use Rattle.link_bundle.specs.Stages.{stage_state, takes_bytes}
 
 -- the head at `cursor.place` has come so far, in a block that begins at `start`
-pub record IsAtHead (field : Field) (cursor : Cursor) (check : CheckType) (start : ℕ) (seen : List ℕ) : Type 0 where
+pub record IsAtHead (field : Field) (cursor : Cursor) (check : CheckType) (start : ℕ)
+    (seen : List ℕ) : Type 0 where
   pub in_bytes : cursor.place ≤ length seen
   pub head : HasScannedHead cursor.head (drop cursor.place seen)
   pub in_block : block_start field start cursor.place ≤ length seen
   pub checks : Covers check cursor.checks (drop (block_start field start cursor.place) seen)
 
 -- the same, and the head is not whole
-pub record IsInHead (field : Field) (cursor : Cursor) (check : CheckType) (start : ℕ) (seen : List ℕ) : Type 0 where
+pub record IsInHead (field : Field) (cursor : Cursor) (check : CheckType) (start : ℕ)
+    (seen : List ℕ) : Type 0 where
   pub at : IsAtHead field cursor check start seen
   pub cut : head_front (drop cursor.place seen) ≡ Cut
 
@@ -34,10 +36,12 @@ pub record IsInside (cursor : Cursor) (check : CheckType) (start : ℕ) (seen : 
   pub checks : Covers check cursor.checks (drop start seen)
 
 -- in a check field's content, which begins at `cursor.place`: the checks take it as zeros
-pub record IsInStored (cursor : Cursor) (check : CheckType) (start : ℕ) (seen : List ℕ) : Type 0 where
+pub record IsInStored (cursor : Cursor) (check : CheckType) (start : ℕ)
+    (seen : List ℕ) : Type 0 where
   pub in_block : start ≤ length seen
   pub in_bytes : cursor.place ≤ length seen
-  pub checks : Covers check cursor.checks (slice_range seen start cursor.place ++ replicate (length seen - cursor.place) 0)
+  pub checks : Covers check cursor.checks (slice_range seen start cursor.place
+      ++ replicate (length seen - cursor.place) 0)
 
 -- before the first byte
 pub record IsFresh (cursor : Cursor) (check : CheckType) (seen : List ℕ) : Type 0 where
@@ -60,7 +64,9 @@ pub record HasCome (stage : Stage) (cursor : Cursor) (draft : Draft) (seen : Lis
   pub count : cursor.count ≡ length seen
   -- where the present block begins
   pub start : ℕ
-  pub reads : (more : List ℕ) → judged (seen ++ more) ≡ stage_left stage draft start cursor.place (seen ++ more) (length seen)
+  pub reads : (more : List ℕ)
+      → judged (seen ++ more)
+      ≡ stage_left stage draft start cursor.place (seen ++ more) (length seen)
   pub stands : Stands stage cursor draft.check start seen
 
 -- the head at `cursor.place` has come, and is not judged yet
@@ -68,7 +74,9 @@ pub record HeadCame (which : Field) (cursor : Cursor) (draft : Draft) (seen : Li
   pub all_bytes : AreBytes seen
   pub count : cursor.count ≡ length seen
   pub start : ℕ
-  pub reads : (more : List ℕ) → judged (seen ++ more) ≡ stage_left (Head which) draft start cursor.place (seen ++ more) (length seen)
+  pub reads : (more : List ℕ)
+      → judged (seen ++ more)
+      ≡ stage_left (Head which) draft start cursor.place (seen ++ more) (length seen)
   pub in_bytes : cursor.place ≤ length seen
   pub in_block : block_start which start cursor.place ≤ length seen
   pub checks : Covers draft.check cursor.checks (drop (block_start which start cursor.place) seen)

@@ -11,9 +11,12 @@ use Rattle.link_bundle.specs.Bundle.{Bundle, info_of, payload_at, blocks_at}
 -- after the heads of a block that begins at `start`, where its data begins at `place`
 abbrev pub after_heads : Heads → ℕ → List ℕ → Primary → ℕ → List ℕ → ℕ → Result Bundle Stop
 after_heads heads left numbers primary start bytes place =
-    if heads.block_type == 1 then payload_at primary (length numbers + 1) heads.size heads.check start bytes place else do
+    if heads.block_type == 1
+    then payload_at primary (length numbers + 1) heads.size heads.check start bytes place
+    else do
       (_, next) ← content_at heads.size heads.check start bytes place
       blocks_at left (numbers ++ heads.number ∷ []) primary bytes next
 
 abbrev pub bundle_by : Primary → ℕ → ℕ × ℕ → ℕ → Bundle
-bundle_by primary blocks payload end = record { info = info_of primary blocks payload.1; length = end; payload = payload }
+bundle_by primary blocks payload end =
+    record { info = info_of primary blocks payload.1; length = end; payload = payload }

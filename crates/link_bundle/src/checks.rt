@@ -28,7 +28,8 @@ impl BlockChecks {
 
     /// Takes a byte of the block into what is needed.
     fn push(&mut self, check: CheckType, byte: u8)
-        ensures { (covered : List ℕ) → Covers check self.old covered → Covers check self.new (covered ++ byte ∷ []) }
+        ensures { (covered : List ℕ) → Covers check self.old covered
+            → Covers check self.new (covered ++ byte ∷ []) }
     {
         match check {
             CheckType::Unread => {
@@ -44,7 +45,8 @@ impl BlockChecks {
     /// The same for a run. Most blocks have no check, so that nothing is to be done for most of the data.
     #[inline]
     pub fn take(&mut self, check: CheckType, run: &[u8])
-        ensures { (covered : List ℕ) → Covers check self.old covered → Covers check self.new (covered ++ run.now) }
+        ensures { (covered : List ℕ) → Covers check self.old covered
+            → Covers check self.new (covered ++ run.now) }
     {
         if let CheckType::Is(None) = check {
             return;
@@ -55,7 +57,8 @@ impl BlockChecks {
     /// The same for a run that a check may cover. Most heads are one byte, which goes faster alone.
     #[inline(never)]
     fn take_covered(&mut self, check: CheckType, run: &[u8])
-        ensures { (covered : List ℕ) → Covers check self.old covered → Covers check self.new (covered ++ run.now) }
+        ensures { (covered : List ℕ) → Covers check self.old covered
+            → Covers check self.new (covered ++ run.now) }
     {
         if run.len() == 1 {
             self.push(check, run[0]);
@@ -65,7 +68,8 @@ impl BlockChecks {
     }
 
     fn push_slice(&mut self, check: CheckType, bytes: &[u8])
-        ensures { (covered : List ℕ) → Covers check self.old covered → Covers check self.new (covered ++ bytes.now) }
+        ensures { (covered : List ℕ) → Covers check self.old covered
+            → Covers check self.new (covered ++ bytes.now) }
     {
         match check {
             CheckType::Unread => {
@@ -80,7 +84,8 @@ impl BlockChecks {
 
     /// The check of this kind, where the block has it, of the bytes taken.
     pub fn value(&self, kind: CheckKind) -> u32
-        ensures { (covered : List ℕ) → Covers (CheckType.Is (Some kind)) self.now covered → result ≡ crc kind covered }
+        ensures { (covered : List ℕ) → Covers (CheckType.Is (Some kind)) self.now covered
+            → result ≡ crc kind covered }
     {
         match kind {
             CheckKind::Crc16 => self.crc16.value(),

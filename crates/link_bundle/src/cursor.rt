@@ -42,9 +42,12 @@ impl Cursor {
         requires may_step { IsTrue (may_scan_head self.old.head) }
         ensures count { self.new.count ≡ self.old.count + 1 }
         ensures place { self.new.place ≡ self.old.place }
-        ensures head { (seen : List ℕ) → HasScannedHead self.old.head seen → HasScannedHead self.new.head (seen ++ byte ∷ []) }
-        ensures checks { (covered : List ℕ) → Covers check self.old.checks covered → Covers check self.new.checks (covered ++ byte ∷ []) }
-        ensures front { (seen : List ℕ) → HasScannedHead self.new.head seen → head_front seen ≡ front_of result (length seen) }
+        ensures head { (seen : List ℕ) → HasScannedHead self.old.head seen
+            → HasScannedHead self.new.head (seen ++ byte ∷ []) }
+        ensures checks { (covered : List ℕ) → Covers check self.old.checks covered
+            → Covers check self.new.checks (covered ++ byte ∷ []) }
+        ensures front { (seen : List ℕ) → HasScannedHead self.new.head seen
+            → head_front seen ≡ front_of result (length seen) }
         ensures may_step { IsTrue (may_scan_head self.new.head) ↔ (result ≡ HeadStep.More) }
     {
         self.count += 1;
@@ -59,7 +62,8 @@ impl Cursor {
         requires room { self.old.count + length run.now ≤ 2 ^ 63 - 1 }
         ensures count { self.new.count ≡ self.old.count + length run.now }
         ensures place { self.new.place ≡ self.old.place }
-        ensures checks { (covered : List ℕ) → Covers check self.old.checks covered → Covers check self.new.checks (covered ++ run.now) }
+        ensures checks { (covered : List ℕ) → Covers check self.old.checks covered
+            → Covers check self.new.checks (covered ++ run.now) }
     {
         self.count += run.len() as u64;
         self.checks.take(check, run);
@@ -71,7 +75,8 @@ impl Cursor {
         ensures place { self.new.place ≡ self.old.count }
         ensures head { HasScannedHead self.new.head [] }
         ensures may_step { IsTrue (may_scan_head self.new.head) }
-        ensures checks { MatchBool (is_block stage) (Covers CheckType.Unread self.new.checks []) (self.new.checks ≡ self.old.checks) }
+        ensures checks { MatchBool (is_block stage) (Covers CheckType.Unread self.new.checks [])
+            (self.new.checks ≡ self.old.checks) }
     {
         self.place = self.count;
         self.head = HeadScan::new();

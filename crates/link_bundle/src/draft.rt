@@ -78,7 +78,8 @@ impl Draft {
 
     /// What a whole bundle says.
     pub fn info(&self) -> BundleInfo
-        ensures { result ≡ info_of (primary_of self.now) (length self.now.numbers) (span_of self.now.payload).1 }
+        ensures { result ≡ info_of (primary_of self.now) (length self.now.numbers)
+            (span_of self.now.payload).1 }
     {
         let (_, payload) = self.payload.unwrap_or((0, 0));
         BundleInfo {
@@ -96,7 +97,8 @@ impl Draft {
 
     /// The same by reference.
     pub fn view(&self) -> BundleView<'_>
-        ensures view { viewed_info result ≡ info_of (primary_of self.now) (length self.now.numbers) (span_of self.now.payload).1 }
+        ensures view { viewed_info result
+            ≡ info_of (primary_of self.now) (length self.now.numbers) (span_of self.now.payload).1 }
         ensures short { HasShortNames (viewed_info result) }
     {
         let (_, payload) = self.payload.unwrap_or((0, 0));
@@ -194,7 +196,8 @@ impl Draft {
 
     #[tactic(auto, using(crate::proofs::Heads::heads), unfolding(crate::specs::Left::field_left, crate::specs::Left::stage_left, crate::specs::Left::check_type_left, crate::specs::Left::destination_left))]
     fn primary_check_type(&mut self, head: Head) -> Result<Stage, BundleFault>
-        requires { IsTrue (stage_fits (Stage.Head (Field.Primary PrimaryField.CheckType)) self.old) }
+        requires { IsTrue (stage_fits (Stage.Head (Field.Primary PrimaryField.CheckType))
+            self.old) }
         ensures { Judged (Field.Primary PrimaryField.CheckType) self.old head result self.new }
     {
         self.check = CheckType::Is(row::primary_check_type(self.count, self.flags, head)?);
@@ -296,7 +299,8 @@ impl Draft {
 
     #[tactic(auto, using(crate::proofs::Heads::heads), unfolding(crate::specs::Left::field_left, crate::specs::Left::stage_left, crate::specs::EndpointId::specific_at))]
     fn dtn(&mut self, role: Role, head: Head) -> Result<Stage, BundleFault>
-        ensures { Judged (Field.Endpoint role (Part.Specific Scheme.Dtn)) self.old head result self.new }
+        ensures { Judged (Field.Endpoint role (Part.Specific Scheme.Dtn))
+            self.old head result self.new }
     {
         match row::dtn_part(head)? {
             None => Ok(self.after_eid(role, EidForm::DtnNone)),
@@ -306,7 +310,8 @@ impl Draft {
 
     #[tactic(auto, using(crate::proofs::Heads::heads), unfolding(crate::specs::Left::field_left, crate::specs::Left::stage_left, crate::specs::EndpointId::specific_at, crate::specs::EndpointId::ipn_at, crate::specs::Left::allocator_left, crate::specs::Left::node_left, crate::specs::Left::service_left))]
     fn ipn(&mut self, role: Role, head: Head) -> Result<Stage, BundleFault>
-        ensures { Judged (Field.Endpoint role (Part.Specific Scheme.Ipn)) self.old head result self.new }
+        ensures { Judged (Field.Endpoint role (Part.Specific Scheme.Ipn))
+            self.old head result self.new }
     {
         let part = match row::ipn_part(head)? {
             3 => Part::Allocator,
@@ -399,7 +404,8 @@ impl Draft {
     /// Keeps more bytes of a dtn name.
     fn keep_more(&mut self, role: Role, run: &[u8])
         requires { IsTrue (rest_fits role self.old (length run.now)) }
-        ensures { self.new ≡ with_eid role self.old (Dtn (record { items = kept_name role self.old ++ run.now })) }
+        ensures { self.new ≡ with_eid role self.old
+            (Dtn (record { items = kept_name role self.old ++ run.now })) }
     {
         match role {
             Role::Destination => self.destination.extend(run),
@@ -437,7 +443,8 @@ impl Draft {
 
     #[tactic(auto, using(crate::proofs::Heads::heads), unfolding(crate::specs::Left::field_left, crate::specs::Left::stage_left))]
     fn block(&mut self, head: Head) -> Result<Stage, BundleFault>
-        requires { IsTrue (stage_fits (Stage.Head (Field.Canonical CanonicalField.Block)) self.old) }
+        requires { IsTrue (stage_fits (Stage.Head (Field.Canonical CanonicalField.Block))
+            self.old) }
         ensures { Judged (Field.Canonical CanonicalField.Block) self.old head result self.new }
     {
         self.count = row::block(head)?;
@@ -458,7 +465,8 @@ impl Draft {
 
     #[tactic(auto, using(crate::proofs::Heads::heads), unfolding(crate::specs::Left::field_left, crate::specs::Left::stage_left, crate::specs::Left::number_left))]
     fn block_number(&mut self, head: Head) -> Result<Stage, BundleFault>
-        requires { IsTrue (stage_fits (Stage.Head (Field.Canonical CanonicalField.Number)) self.old) }
+        requires { IsTrue (stage_fits (Stage.Head (Field.Canonical CanonicalField.Number))
+            self.old) }
         ensures { Judged (Field.Canonical CanonicalField.Number) self.old head result self.new }
     {
         let number = row::block_number(self.block_type, self.numbers.as_slice(), head)?;
@@ -468,7 +476,8 @@ impl Draft {
 
     #[tactic(auto, using(crate::proofs::Heads::heads), unfolding(crate::specs::Left::field_left, crate::specs::Left::stage_left, crate::specs::Left::block_flags_left))]
     fn block_flags(&mut self, head: Head) -> Result<Stage, BundleFault>
-        requires { IsTrue (stage_fits (Stage.Head (Field.Canonical CanonicalField.Flags)) self.old) }
+        requires { IsTrue (stage_fits (Stage.Head (Field.Canonical CanonicalField.Flags))
+            self.old) }
         ensures { Judged (Field.Canonical CanonicalField.Flags) self.old head result self.new }
     {
         row::unsigned(head)?;
@@ -477,7 +486,8 @@ impl Draft {
 
     #[tactic(auto, using(crate::proofs::Heads::heads), unfolding(crate::specs::Left::field_left, crate::specs::Left::stage_left, crate::specs::Left::block_check_left))]
     fn block_check_type(&mut self, head: Head) -> Result<Stage, BundleFault>
-        requires { IsTrue (stage_fits (Stage.Head (Field.Canonical CanonicalField.CheckType)) self.old) }
+        requires { IsTrue (stage_fits (Stage.Head (Field.Canonical CanonicalField.CheckType))
+            self.old) }
         ensures { Judged (Field.Canonical CanonicalField.CheckType) self.old head result self.new }
     {
         self.check = CheckType::Is(row::block_check_type(self.count, head)?);
@@ -487,7 +497,8 @@ impl Draft {
     #[tactic(auto, using(crate::proofs::Heads::heads), unfolding(crate::specs::Left::field_left, crate::specs::Left::stage_left, crate::specs::Left::data_left))]
     fn data(&mut self, head: Head, next: u64) -> Result<Stage, BundleFault>
         requires { IsTrue (stage_fits (Stage.Head (Field.Canonical CanonicalField.Data)) self.old) }
-        ensures { JudgedAt next (Field.Canonical CanonicalField.Data) self.old head result self.new }
+        ensures { JudgedAt next (Field.Canonical CanonicalField.Data)
+            self.old head result self.new }
     {
         let size = row::byte_string(head)?;
         self.payload = (self.block_type == row::PAYLOAD_TYPE).then_some((next, size));

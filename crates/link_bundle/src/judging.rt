@@ -43,7 +43,9 @@ pub(crate) fn take_head(draft: &mut Draft, cursor: &mut Cursor, field: Field, he
     requires { IsTrue (stage_fits (Stage.Head field) draft.old) }
     ensures count { cursor.new.count ≡ cursor.old.count }
     ensures fits { IsTrue (scan_fits result cursor.new draft.new) }
-    ensures seen { (seen : List ℕ) → HeadCame field cursor.old draft.old seen → head_front (drop cursor.old.place seen) ≡ Whole head (length (drop cursor.old.place seen)) → HasCome result cursor.new draft.new seen }
+    ensures seen { (seen : List ℕ) → HeadCame field cursor.old draft.old seen
+        → head_front (drop cursor.old.place seen) ≡ Whole head (length (drop cursor.old.place seen))
+        → HasCome result cursor.new draft.new seen }
 {
     match judge(draft, cursor, field, head) {
         Ok(stage) => {

@@ -68,7 +68,8 @@ impl BundleScan {
 
     /// The state of the scan: what the verdict on the bytes seen says.
     pub fn state(&self) -> State
-        ensures seen { (seen : List ℕ) → HasScanned self.now seen → result ≡ state_of (verdict seen) }
+        ensures seen { (seen : List ℕ) → HasScanned self.now seen
+            → result ≡ state_of (verdict seen) }
         // Where it has not failed it may be stepped.
         ensures may_step { may_scan self.now ≡ takes_bytes result }
     {
@@ -89,7 +90,8 @@ impl BundleScan {
 
     /// The verdict on the bytes seen, as [`finish`](BundleScan::finish) gives it, with the bundle by reference.
     pub fn view(&self) -> Result<BundleView<'_>, (BundleFault, u64)>
-        ensures seen { (seen : List ℕ) → HasScanned self.now seen → viewed_verdict result ≡ verdict seen }
+        ensures seen { (seen : List ℕ) → HasScanned self.now seen
+            → viewed_verdict result ≡ verdict seen }
         // Whatever was scanned: there is room for no longer names.
         ensures short { IfOk result (λ view. HasShortNames (viewed_info view)) }
     {
@@ -114,7 +116,8 @@ impl BundleScan {
         requires stage { self.old.stage ≡ Stage.Start }
         requires room { self.old.cursor.count < 2 ^ 63 - 1 }
         ensures size { scan_size self.new ≡ scan_size self.old + 1 }
-        ensures seen { (seen : List ℕ) → HasScanned self.old seen → HasScanned self.new (seen ++ byte ∷ []) }
+        ensures seen { (seen : List ℕ) → HasScanned self.old seen
+            → HasScanned self.new (seen ++ byte ∷ []) }
     {
         self.cursor.count += 1;
         if byte == OPENING {
@@ -130,7 +133,8 @@ impl BundleScan {
         requires stage { self.old.stage ≡ Stage.Head field }
         requires room { self.old.cursor.count < 2 ^ 63 - 1 }
         ensures size { scan_size self.new ≡ scan_size self.old + 1 }
-        ensures seen { (seen : List ℕ) → HasScanned self.old seen → HasScanned self.new (seen ++ byte ∷ []) }
+        ensures seen { (seen : List ℕ) → HasScanned self.old seen
+            → HasScanned self.new (seen ++ byte ∷ []) }
     {
         match self.cursor.head_byte(self.draft.check, byte) {
             HeadStep::More => {}
@@ -153,7 +157,8 @@ impl BundleScan {
         requires whole { head_front run.now ≡ Whole head (length run.now) }
         requires room { self.old.cursor.count + length run.now ≤ 2 ^ 63 - 1 }
         ensures size { scan_size self.new ≡ scan_size self.old + length run.now }
-        ensures seen { (seen : List ℕ) → HasScanned self.old seen → HasScanned self.new (seen ++ run.now) }
+        ensures seen { (seen : List ℕ) → HasScanned self.old seen
+            → HasScanned self.new (seen ++ run.now) }
     {
         self.cursor.content_run(self.draft.check, run);
         self.stage = take_head(&mut self.draft, &mut self.cursor, field, head);
@@ -165,7 +170,8 @@ impl BundleScan {
         requires within { length run.now ≤ left }
         requires room { self.old.cursor.count + length run.now ≤ 2 ^ 63 - 1 }
         ensures size { scan_size self.new ≡ scan_size self.old + length run.now }
-        ensures seen { (seen : List ℕ) → HasScanned self.old seen → HasScanned self.new (seen ++ run.now) }
+        ensures seen { (seen : List ℕ) → HasScanned self.old seen
+            → HasScanned self.new (seen ++ run.now) }
     {
         self.cursor.content_run(self.draft.check, run);
         let stage = self.draft.name_run(role, left, run);
@@ -180,7 +186,8 @@ impl BundleScan {
         requires within { length run.now ≤ left }
         requires room { self.old.cursor.count + length run.now ≤ 2 ^ 63 - 1 }
         ensures size { scan_size self.new ≡ scan_size self.old + length run.now }
-        ensures seen { (seen : List ℕ) → HasScanned self.old seen → HasScanned self.new (seen ++ run.now) }
+        ensures seen { (seen : List ℕ) → HasScanned self.old seen
+            → HasScanned self.new (seen ++ run.now) }
     {
         self.cursor.content_run(self.draft.check, run);
         let left = left - run.len() as u64;
@@ -198,7 +205,8 @@ impl BundleScan {
         requires stage { self.old.stage ≡ Stage.Stored place left stored kind }
         requires room { self.old.cursor.count < 2 ^ 63 - 1 }
         ensures size { scan_size self.new ≡ scan_size self.old + 1 }
-        ensures seen { (seen : List ℕ) → HasScanned self.old seen → HasScanned self.new (seen ++ byte ∷ []) }
+        ensures seen { (seen : List ℕ) → HasScanned self.old seen
+            → HasScanned self.new (seen ++ byte ∷ []) }
     {
         self.cursor.content_run(self.draft.check, &[0]);
         let stored = stored * 256 + u32::from(byte);
@@ -225,7 +233,8 @@ impl BundleScan {
         requires stage { self.old.stage ≡ Stage.Ended }
         requires room { self.old.cursor.count < 2 ^ 63 - 1 }
         ensures size { scan_size self.new ≡ scan_size self.old + 1 }
-        ensures seen { (seen : List ℕ) → HasScanned self.old seen → HasScanned self.new (seen ++ byte ∷ []) }
+        ensures seen { (seen : List ℕ) → HasScanned self.old seen
+            → HasScanned self.new (seen ++ byte ∷ []) }
     {
         self.stage = Stage::Failed(BundleFault::Trailing, self.cursor.place);
         self.cursor.count += 1;
@@ -246,10 +255,11 @@ impl BundleScan {
         ensures some { 0 < result }
         ensures within { result ≤ length piece.now }
         ensures size { scan_size self.new ≡ scan_size self.old + result }
-        ensures seen { (seen : List ℕ) → HasScanned self.old seen → HasScanned self.new (seen ++ take result piece.now) }
+        ensures seen { (seen : List ℕ) → HasScanned self.old seen
+            → HasScanned self.new (seen ++ take result piece.now) }
         // Before each of these bytes more were needed.
-        ensures goes { (seen : List ℕ) → HasScanned self.old seen →
-            (count : ℕ) → count < result → bundle_goes (seen ++ take count piece.now) ≡ true }
+        ensures goes { (seen : List ℕ) → HasScanned self.old seen
+            → (count : ℕ) → count < result → bundle_goes (seen ++ take count piece.now) ≡ true }
     {
         match self.stage {
             Stage::Name(role, left) => {
@@ -283,9 +293,10 @@ impl BundleScan {
         ensures some { 0 < result }
         ensures within { result ≤ length piece.now }
         ensures size { scan_size self.new ≡ scan_size self.old + result }
-        ensures seen { (seen : List ℕ) → HasScanned self.old seen → HasScanned self.new (seen ++ take result piece.now) }
-        ensures goes { (seen : List ℕ) → HasScanned self.old seen →
-            (count : ℕ) → count < result → bundle_goes (seen ++ take count piece.now) ≡ true }
+        ensures seen { (seen : List ℕ) → HasScanned self.old seen
+            → HasScanned self.new (seen ++ take result piece.now) }
+        ensures goes { (seen : List ℕ) → HasScanned self.old seen
+            → (count : ℕ) → count < result → bundle_goes (seen ++ take count piece.now) ≡ true }
     {
         match self.draft.whole(piece) {
             Ok(size) => {
@@ -313,9 +324,10 @@ impl BundleScan {
         ensures some { 0 < result }
         ensures within { result ≤ length piece.now }
         ensures size { scan_size self.new ≡ scan_size self.old + result }
-        ensures seen { (seen : List ℕ) → HasScanned self.old seen → HasScanned self.new (seen ++ take result piece.now) }
-        ensures goes { (seen : List ℕ) → HasScanned self.old seen →
-            (count : ℕ) → count < result → bundle_goes (seen ++ take count piece.now) ≡ true }
+        ensures seen { (seen : List ℕ) → HasScanned self.old seen
+            → HasScanned self.new (seen ++ take result piece.now) }
+        ensures goes { (seen : List ℕ) → HasScanned self.old seen
+            → (count : ℕ) → count < result → bundle_goes (seen ++ take count piece.now) ≡ true }
     {
         match Head::front(piece) {
             Some((head, size)) => {

@@ -95,7 +95,8 @@ fn eid_at(bytes: &[u8], place: usize) -> Result<(EidView<'_>, usize), BundleFaul
 /// The specific part of scheme dtn.
 #[tactic(auto, using(crate::proofs::Heads::heads), unfolding(crate::specs::EndpointId::specific_at, crate::specs::EndpointId::dtn_at))]
 fn dtn_at(bytes: &[u8], place: usize) -> Result<(EidView<'_>, usize), BundleFault>
-    ensures read { IfOk result (λ read. specific_at Dtn bytes.now place ≡ Ok (viewed_eid read.0, read.1)) }
+    ensures read { IfOk result (λ read. specific_at Dtn bytes.now place
+        ≡ Ok (viewed_eid read.0, read.1)) }
     ensures short { IfOk result (λ read. IsShort (viewed_eid read.0)) }
 {
     let (head, place) = head_at(bytes, place)?;
@@ -111,7 +112,8 @@ fn dtn_at(bytes: &[u8], place: usize) -> Result<(EidView<'_>, usize), BundleFaul
 /// The specific part of scheme ipn.
 #[tactic(auto, using(crate::proofs::Heads::heads), unfolding(crate::specs::EndpointId::specific_at, crate::specs::EndpointId::ipn_at))]
 fn ipn_at(bytes: &[u8], place: usize) -> Result<(EidView<'_>, usize), BundleFault>
-    ensures read { IfOk result (λ read. specific_at Ipn bytes.now place ≡ Ok (viewed_eid read.0, read.1)) }
+    ensures read { IfOk result (λ read. specific_at Ipn bytes.now place
+        ≡ Ok (viewed_eid read.0, read.1)) }
     ensures short { IfOk result (λ read. IsShort (viewed_eid read.0)) }
 {
     let (head, place) = head_at(bytes, place)?;
@@ -227,8 +229,8 @@ struct Heads {
 
 /// The heads of a canonical block (RFC 9171 section 4.3.2), where blocks of these numbers came before.
 fn heads_at(numbers: &[u64], bytes: &[u8], place: usize) -> Result<(Heads, usize), BundleFault>
-    ensures { IfOk result (λ read. (left : ℕ) (primary : Primary) →
-        blocks_at (suc left) numbers.now primary bytes.now place
+    ensures { IfOk result (λ read. (left : ℕ) (primary : Primary)
+        → blocks_at (suc left) numbers.now primary bytes.now place
         ≡ after_heads read.0 left numbers.now primary place bytes.now read.1) }
 {
     let (head, place) = head_at(bytes, place)?;
@@ -256,8 +258,9 @@ fn blocks_at(
     place: usize,
 ) -> Result<((u64, u64), usize), BundleFault>
     requires { numbers.old ≡ [] }
-    ensures { IfOk result (λ read. (primary : Primary) →
-        blocks_at 64 [] primary bytes.now place ≡ Ok (bundle_by primary (length numbers.new) read.0 read.1)) }
+    ensures { IfOk result (λ read. (primary : Primary)
+        → blocks_at 64 [] primary bytes.now place
+        ≡ Ok (bundle_by primary (length numbers.new) read.0 read.1)) }
 {
     let mut start = place;
     while !numbers.is_full() {
@@ -281,7 +284,8 @@ impl Draft {
         bytes: &[u8],
         place: usize,
     ) -> Result<(Option<CheckKind>, usize), BundleFault>
-        ensures read { IfOk result (λ read. primary_at bytes.now place ≡ Ok ((primary_of self.new, read.0), read.1)) }
+        ensures read { IfOk result (λ read. primary_at bytes.now place
+            ≡ Ok ((primary_of self.new, read.0), read.1)) }
         ensures numbers { self.new.numbers ≡ self.old.numbers }
     {
         let (head, place) = head_at(bytes, place)?;

@@ -8,9 +8,20 @@ use Rattle.link_bundle_types.specs.EidView.{viewed_eid}
 
 abbrev pub viewed_info : BundleView → BundleInfo
 viewed_info view =
-    record { flags = view.flags; destination = viewed_eid view.destination; source = viewed_eid view.source; time = view.time; sequence = view.sequence; lifetime = view.lifetime; fragment = view.fragment; blocks = view.blocks; payload = view.payload }
+    record {
+      flags = view.flags;
+      destination = viewed_eid view.destination;
+      source = viewed_eid view.source;
+      time = view.time;
+      sequence = view.sequence;
+      lifetime = view.lifetime;
+      fragment = view.fragment;
+      blocks = view.blocks;
+      payload = view.payload;
+    }
 
 -- a verdict whose bundle is a view
-abbrev pub viewed_verdict : Result BundleView (BundleFault × ℕ) → Result BundleInfo (BundleFault × ℕ)
+abbrev pub viewed_verdict : Result BundleView (BundleFault × ℕ)
+    → Result BundleInfo (BundleFault × ℕ)
 viewed_verdict (Ok view) = Ok (viewed_info view)
 viewed_verdict (Err stop) = Err stop

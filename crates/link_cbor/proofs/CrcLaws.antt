@@ -13,13 +13,15 @@ use Rattle.std.proofs.Math.Nat.{pow-suc}
 use Rattle.link_cbor.specs.declared.check.CheckKind.{CheckKind}
 use Rattle.link_cbor.specs.Crc.{polynomial, low_bits, all_bits, turn, register_after}
 
-pub register_after-nil : (kind : CheckKind) (register : ℕ) → register_after kind register [] ≡ register
+pub register_after-nil : (kind : CheckKind) (register : ℕ)
+    → register_after kind register [] ≡ register
 unfolding register_after all_bits
 register_after-nil kind register = refl
 
 -- the bytes of a second list go on from the register after the first
 pub register_after-append : (kind : CheckKind) (register : ℕ) (first second : List ℕ)
-    → register_after kind register (first ++ second) ≡ register_after kind (register_after kind register first) second
+    → register_after kind register (first ++ second)
+    ≡ register_after kind (register_after kind register first) second
 unfolding register_after all_bits
 register_after-append kind register first second =
     ap (λ bits. fold (turn kind) register bits) (flat_map-append (low_bits 8) first second)
@@ -34,13 +36,15 @@ unfolding zero_turns
 zero_turns-none kind register = refl
 
 pub zero_turns-add : (kind : CheckKind) (count more register : ℕ)
-    → zero_turns kind (count + more) register ≡ zero_turns kind more (zero_turns kind count register)
+    → zero_turns kind (count + more) register
+    ≡ zero_turns kind more (zero_turns kind count register)
 unfolding zero_turns
 zero_turns-add kind count more register =
     ap (λ bits. fold (turn kind) register bits) (sym (replicate-append-replicate count more 0))
     ∙ fold-append (turn kind) register (replicate count 0) (replicate more 0)
 
-pub turn-same : (kind : CheckKind) (register bit : ℕ) → register % 2 ≡ bit → turn kind register bit ≡ register / 2
+pub turn-same : (kind : CheckKind) (register bit : ℕ) → register % 2 ≡ bit
+    → turn kind register bit ≡ register / 2
 unfolding turn
 turn-same kind register bit same = rw (eq-eqb (register % 2) bit same) refl
 
@@ -81,7 +85,8 @@ turn_first kind register number =
     (cases_eq (register % 2) (number % 2))
 
 turns_first : (kind : CheckKind) (count register number : ℕ) → number < 2 ^ count
-    → fold (turn kind) register (low_bits count number) ≡ zero_turns kind count (bit_xor register number)
+    → fold (turn kind) register (low_bits count number)
+    ≡ zero_turns kind count (bit_xor register number)
 unfolding low_bits zero_turns
 turns_first kind zero register number below =
     let none : number ≡ 0 = omega arith in rw (none, xor_zero_r register) refl
@@ -97,7 +102,8 @@ register_after-byte kind register byte below =
     ap (λ bits. fold (turn kind) register bits) (append-nil (low_bits 8 byte)) ∙ turns_first kind 8 register byte below
 
 pub register_after-cons : (kind : CheckKind) (register byte : ℕ) (bytes : List ℕ) → byte < 256
-    → register_after kind register (byte ∷ bytes) ≡ register_after kind (zero_turns kind 8 (bit_xor register byte)) bytes
+    → register_after kind register (byte ∷ bytes)
+    ≡ register_after kind (zero_turns kind 8 (bit_xor register byte)) bytes
 register_after-cons kind register byte bytes below =
     register_after-append kind register (byte ∷ []) bytes
     ∙ ap (λ r. register_after kind r bytes) (register_after-byte kind register byte below)

@@ -8,7 +8,8 @@ use Rattle.link_cbor.specs.PieceLaws.{taken-cons, taken-nil, taken-idle}
 
 -- after `count` bytes of the piece, what is taken is these and what is taken of the rest
 pub record TakenSoFar (goes : List ℕ → Bool) (seen bytes : List ℕ) (count : ℕ) : Type 0 where
-  pub splits : taken goes seen bytes ≡ take count bytes ++ taken goes (seen ++ take count bytes) (drop count bytes)
+  pub splits : taken goes seen bytes ≡ take count bytes
+      ++ taken goes (seen ++ take count bytes) (drop count bytes)
 
 -- the same at the end, with how many they are
 pub record TakenInAll (goes : List ℕ → Bool) (seen bytes : List ℕ) (count : ℕ) : Type 0 where
@@ -42,7 +43,8 @@ in_all goes seen bytes count within front = record {
 }
 
 pub taken_stop : (goes : List ℕ → Bool) (seen bytes : List ℕ) (count : ℕ) → count ≤ length bytes
-    → goes (seen ++ take count bytes) ≡ false → TakenSoFar goes seen bytes count → TakenInAll goes seen bytes count
+    → goes (seen ++ take count bytes) ≡ false → TakenSoFar goes seen bytes count
+    → TakenInAll goes seen bytes count
 taken_stop goes seen bytes count within idle before =
     in_all goes seen bytes count within
     (before.splits

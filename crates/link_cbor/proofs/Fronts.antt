@@ -21,7 +21,8 @@ not_empty (first ∷ rest) some = omega arith
 
 -- by the first byte and the others
 pub by_first : (bytes : List ℕ) → 0 < length bytes
-    → head_front bytes ≡ front_by (get_or bytes 0 0 / 32) (bit_and (get_or bytes 0 0) 31) (drop 1 bytes)
+    → head_front bytes ≡ front_by (get_or bytes 0 0 / 32)
+    (bit_and (get_or bytes 0 0) 31) (drop 1 bytes)
 unfolding head_front
 by_first [] some = absurd (omega arith)
 by_first (first ∷ rest) some = ap (λ (information : ℕ). front_by (first / 32) information rest) (sym (and_mask first 5))
@@ -30,18 +31,22 @@ others : (bytes : List ℕ) → take (length bytes - 1) (drop 1 bytes) ≡ drop 
 others bytes = ap (λ (size : ℕ). take size (drop 1 bytes)) (sym (length-drop 1 bytes)) ∙ take-length (drop 1 bytes)
 
 -- additional information 24 to 27
-pub by_argument : (bytes : List ℕ) (information : ℕ) → 0 < length bytes → bit_and (get_or bytes 0 0) 31 ≡ information → 24 ≤ information → information < 28
-    → head_front bytes ≡ argument_front (get_or bytes 0 0 / 32) (2 ^ (information - 24)) (take (length bytes - 1) (drop 1 bytes))
+pub by_argument : (bytes : List ℕ) (information : ℕ) → 0 < length bytes
+    → bit_and (get_or bytes 0 0) 31 ≡ information → 24 ≤ information → information < 28
+    → head_front bytes ≡ argument_front (get_or bytes 0 0 / 32) (2 ^ (information - 24))
+    (take (length bytes - 1) (drop 1 bytes))
 by_argument bytes information some is least below =
     by_first bytes some ∙ ap (λ (information : ℕ). front_by (get_or bytes 0 0 / 32) information (drop 1 bytes)) is
     ∙ front_by-argument (get_or bytes 0 0 / 32) information (drop 1 bytes) least below
     ∙ ap (λ (rest : List ℕ). argument_front (get_or bytes 0 0 / 32) (2 ^ (information - 24)) rest) (sym (others bytes))
 
-shifted : (first rest place byte : ℕ) → first * (place * 256) + (rest * 256 + byte) ≡ (first * place + rest) * 256 + byte
+shifted : (first rest place byte : ℕ)
+    → first * (place * 256) + (rest * 256 + byte) ≡ (first * place + rest) * 256 + byte
 shifted first rest place byte = omega arith
 
 -- a number of one byte more
-pub big_endian-push : (bytes : List ℕ) (byte : ℕ) → big_endian (bytes ++ byte ∷ []) ≡ big_endian bytes * 256 + byte
+pub big_endian-push : (bytes : List ℕ) (byte : ℕ)
+    → big_endian (bytes ++ byte ∷ []) ≡ big_endian bytes * 256 + byte
 unfolding big_endian
 big_endian-push [] byte = omega arith
 big_endian-push (first ∷ rest) byte =

@@ -8,7 +8,8 @@ use Rattle.link_cbor.specs.Head.{Cut, IllFormed, Whole, big_endian, with_argumen
 
 -- ---- the parts of a head, one by one
 
-pub argument_front-cut : (major size : ℕ) (rest : List ℕ) → length rest < size → argument_front major size rest ≡ Cut
+pub argument_front-cut : (major size : ℕ) (rest : List ℕ) → length rest < size
+    → argument_front major size rest ≡ Cut
 unfolding argument_front
 argument_front-cut major size rest short = rw (lt-ltb (length rest) size short) refl
 
@@ -22,19 +23,22 @@ pub front_by-small : (major information : ℕ) (rest : List ℕ) → information
 unfolding front_by
 front_by-small major information rest small = rw (lt-ltb information 24 small) refl
 
-pub front_by-argument : (major information : ℕ) (rest : List ℕ) → 24 ≤ information → information < 28
+pub front_by-argument : (major information : ℕ) (rest : List ℕ)
+    → 24 ≤ information → information < 28
     → front_by major information rest ≡ argument_front major (2 ^ (information - 24)) rest
 unfolding front_by
 front_by-argument major information rest least below = rw (le-ltb information 24 least, lt-ltb information 28 below) refl
 
-pub front_by-reserved : (major information : ℕ) (rest : List ℕ) → 28 ≤ information → information < 31
+pub front_by-reserved : (major information : ℕ) (rest : List ℕ)
+    → 28 ≤ information → information < 31
     → front_by major information rest ≡ IllFormed
 unfolding front_by
 front_by-reserved major information rest least below =
     let first : 24 ≤ information = omega arith in
     rw (le-ltb information 24 first, le-ltb information 28 least, lt-ltb information 31 below) refl
 
-pub front_by-none : (major information : ℕ) (rest : List ℕ) → 31 ≤ information → front_by major information rest ≡ no_argument major
+pub front_by-none : (major information : ℕ) (rest : List ℕ) → 31 ≤ information
+    → front_by major information rest ≡ no_argument major
 unfolding front_by
 front_by-none major information rest least =
     let first : 24 ≤ information = omega arith in
@@ -44,7 +48,8 @@ front_by-none major information rest least =
 -- ---- what is known of a head stays
 
 argument_stays : (major size : ℕ) (rest more : List ℕ)
-    → is_cut (argument_front major size rest) ≡ false → argument_front major size (rest ++ more) ≡ argument_front major size rest
+    → is_cut (argument_front major size rest) ≡ false
+    → argument_front major size (rest ++ more) ≡ argument_front major size rest
 argument_stays major size rest more told =
     ⊎_elim (λ short. absurd (false≢true (sym told ∙ ap is_cut (argument_front-cut major size rest (ltb-true (length rest) size short)))))
     (λ enough.
@@ -70,7 +75,8 @@ kind_of information =
     (cases_lt information 24)
 
 front_stays : (major information : ℕ) (rest more : List ℕ) → Kind information
-    → is_cut (front_by major information rest) ≡ false → front_by major information (rest ++ more) ≡ front_by major information rest
+    → is_cut (front_by major information rest) ≡ false
+    → front_by major information (rest ++ more) ≡ front_by major information rest
 front_stays major information rest more (small below) told =
     front_by-small major information (rest ++ more) below ∙ sym (front_by-small major information rest below)
 front_stays major information rest more (argument least below) told =
@@ -83,7 +89,8 @@ front_stays major information rest more (none least) told =
     front_by-none major information (rest ++ more) least ∙ sym (front_by-none major information rest least)
 
 -- a head that is known to be complete or ill-formed is so whatever bytes follow
-pub uncut_stays : (seen more : List ℕ) → is_cut (head_front seen) ≡ false → head_front (seen ++ more) ≡ head_front seen
+pub uncut_stays : (seen more : List ℕ) → is_cut (head_front seen) ≡ false
+    → head_front (seen ++ more) ≡ head_front seen
 unfolding head_front
 uncut_stays [] more told = absurd (false≢true (sym told))
 uncut_stays (first ∷ rest) more told = front_stays (first / 32) (first % 32) rest more (kind_of (first % 32)) told
@@ -92,5 +99,6 @@ pub whole_stays : (seen more : List ℕ) (head : Head) (size : ℕ)
     → head_front seen ≡ Whole head size → head_front (seen ++ more) ≡ Whole head size
 whole_stays seen more head size told = uncut_stays seen more (ap is_cut told) ∙ told
 
-pub ill_formed_stays : (seen more : List ℕ) → head_front seen ≡ IllFormed → head_front (seen ++ more) ≡ IllFormed
+pub ill_formed_stays : (seen more : List ℕ) → head_front seen ≡ IllFormed
+    → head_front (seen ++ more) ≡ IllFormed
 ill_formed_stays seen more told = uncut_stays seen more (ap is_cut told) ∙ told

@@ -13,7 +13,8 @@ use Rattle.link_cbor.specs.Head.{AreBytes}
 use Rattle.link_cbor.proofs.CrcLaws.{register_after-nil, register_after-cons, zero_turns, zero_turns-none, zero_turns-add, turn-same, turn-other, turn_first}
 
 -- as many turns as a number has zeros in its lowest bits shift them out
-zero_turns-shift : (kind : CheckKind) (count number : ℕ) → zero_turns kind count (number * 2 ^ count) ≡ number
+zero_turns-shift : (kind : CheckKind) (count number : ℕ)
+    → zero_turns kind count (number * 2 ^ count) ≡ number
 unfolding zero_turns
 zero_turns-shift kind zero number = omega arith
 zero_turns-shift kind (suc count) number =
@@ -86,7 +87,8 @@ register_after-xor kind register number (byte ∷ bytes) all =
 
 -- the first byte of a message makes its part alone, with the register's lowest byte exclusive-ored in and a zero byte for
 -- each that follows; the other bytes go on from what is left of the register
-pub register_after-split : (kind : CheckKind) (register byte : ℕ) (bytes : List ℕ) → byte < 256 → AreBytes bytes
+pub register_after-split : (kind : CheckKind) (register byte : ℕ) (bytes : List ℕ)
+    → byte < 256 → AreBytes bytes
     → register_after kind register (byte ∷ bytes)
     ≡ bit_xor (zero_turns kind (8 * (length bytes + 1)) (bit_xor (register % 256) byte))
     (register_after kind (register / 256) bytes)

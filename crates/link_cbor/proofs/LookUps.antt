@@ -27,7 +27,8 @@ looked_up kind tables register byte bytes rule below all few =
 
 -- the same for a message of sixteen bytes from its end: `sum` is the register after the last `zeros` bytes, from what is
 -- left of the register before them
-pub looked_up-before : (kind : CheckKind) (tables : List (List ℕ)) (register : ℕ) (bytes : List ℕ) (sum zeros : ℕ)
+pub looked_up-before : (kind : CheckKind) (tables : List (List ℕ)) (register : ℕ)
+    (bytes : List ℕ) (sum zeros : ℕ)
     → AreTables kind tables → AreBytes bytes → length bytes ≡ 16 → zeros < 16
     → register_after kind (register / 2 ^ (8 * (16 - zeros))) (drop (16 - zeros) bytes) ≡ sum
     → register_after kind (register / 2 ^ (8 * (15 - zeros))) (drop (15 - zeros) bytes)

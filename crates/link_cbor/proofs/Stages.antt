@@ -22,7 +22,8 @@ pub record ArgumentFits (count left value : ℕ) : Type 0 where
   pub room : count + left ≤ 9
   pub fits : value < 256 ^ (8 - left)
 
-pub argument_fits : (count major left value : ℕ) → stage_fits count (Argument major left value) ≡ true → ArgumentFits count left value
+pub argument_fits : (count major left value : ℕ)
+    → stage_fits count (Argument major left value) ≡ true → ArgumentFits count left value
 unfolding stage_fits
 argument_fits count major left value test =
     let first = and_parts (nat_lt 0 left) (nat_le left 8 && (nat_le (count + left) 9 && nat_lt value (256 ^ (8 - left)))) test in
@@ -35,13 +36,15 @@ argument_fits count major left value test =
       fits = ltb-true value (256 ^ (8 - left)) third.1;
     }
 
-pub stage_fits-argument : (count major left value : ℕ) → ArgumentFits count left value → stage_fits count (Argument major left value) ≡ true
+pub stage_fits-argument : (count major left value : ℕ) → ArgumentFits count left value
+    → stage_fits count (Argument major left value) ≡ true
 unfolding stage_fits
 stage_fits-argument count major left value facts =
     rw (lt-ltb 0 left facts.wanted, le-leb left 8 facts.most, le-leb (count + left) 9 facts.room, lt-ltb value (256 ^ (8 - left)) facts.fits) refl
 
 -- what a scan returns is what the bytes seen begin with
-outcome_from : (count : ℕ) (stage : Stage) → stage_fits count stage ≡ true → front_from count stage [] ≡ front_of (outcome_at stage) count
+outcome_from : (count : ℕ) (stage : Stage) → stage_fits count stage ≡ true
+    → front_from count stage [] ≡ front_of (outcome_at stage) count
 unfolding front_from head_front argument_front
 outcome_from count Start fits = refl
 outcome_from count (Argument major left value) fits = rw (lt-ltb 0 left (argument_fits count major left value fits).wanted) refl
@@ -55,17 +58,20 @@ step_at_front (Done head) size = refl
 step_at_front Bad size = refl
 
 pub outcome_front : (count : ℕ) (stage : Stage) (seen : List ℕ) → count ≡ length seen
-    → StandsAt count stage (λ more. head_front (seen ++ more)) → head_front seen ≡ front_of (outcome_at stage) (length seen)
+    → StandsAt count stage (λ more. head_front (seen ++ more))
+    → head_front seen ≡ front_of (outcome_at stage) (length seen)
 outcome_front count stage seen size stands =
     ap head_front (sym (append-nil seen)) ∙ stands.reads [] ∙ outcome_from count stage stands.fits ∙ ap (front_of (outcome_at stage)) size
 
 -- what it returns is what a scan of these bytes returns
-pub outcome_step : (stage : Stage) (seen : List ℕ) → head_front seen ≡ front_of (outcome_at stage) (length seen) → outcome_at stage ≡ step_of seen
+pub outcome_step : (stage : Stage) (seen : List ℕ)
+    → head_front seen ≡ front_of (outcome_at stage) (length seen) → outcome_at stage ≡ step_of seen
 outcome_step stage seen front = sym (ap step_at front ∙ step_at_front (outcome_at stage) (length seen))
 
 -- ---- an argument
 
-from-cut : (count major left value : ℕ) (more : List ℕ) → length more < left → front_from count (Argument major left value) more ≡ Cut
+from-cut : (count major left value : ℕ) (more : List ℕ) → length more < left
+    → front_from count (Argument major left value) more ≡ Cut
 unfolding front_from
 from-cut count major left value more short = rw (lt-ltb (length more) left short) refl
 
@@ -75,18 +81,21 @@ from-there : (count major left value : ℕ) (more : List ℕ) → left ≤ lengt
 unfolding front_from
 from-there count major left value more there = rw (le-ltb (length more) left there) refl
 
-scaled : (value byte place rest : ℕ) → value * (place * 256) + (byte * place + rest) ≡ (value * 256 + byte) * place + rest
+scaled : (value byte place rest : ℕ)
+    → value * (place * 256) + (byte * place + rest) ≡ (value * 256 + byte) * place + rest
 scaled value byte place rest = omega arith
 
 value_more : (left value byte : ℕ) (more : List ℕ) → left ≤ length more
-    → value * 256 ^ suc left + big_endian (byte ∷ take left more) ≡ (value * 256 + byte) * 256 ^ left + big_endian (take left more)
+    → value * 256 ^ suc left + big_endian (byte ∷ take left more)
+    ≡ (value * 256 + byte) * 256 ^ left + big_endian (take left more)
 unfolding big_endian
 value_more left value byte more there =
     rw (length-take-le left more there, pow-suc 256 left) (scaled value byte (256 ^ left) (big_endian (take left more)))
 
 -- one more byte of an argument
 argument_more : (count major left value byte : ℕ) (more : List ℕ)
-    → front_from count (Argument major (suc left) value) (byte ∷ more) ≡ front_from (count + 1) (Argument major left (value * 256 + byte)) more
+    → front_from count (Argument major (suc left) value) (byte ∷ more)
+    ≡ front_from (count + 1) (Argument major left (value * 256 + byte)) more
 argument_more count major left value byte more =
     ⊎_elim
     (λ short.
@@ -102,7 +111,8 @@ argument_more count major left value byte more =
 
 -- an argument of which no byte is left
 argument_done : (count major value : ℕ) (more : List ℕ)
-    → front_from count (Argument major 0 value) more ≡ front_from count (WholeHead (record { major = major; value = Some value })) more
+    → front_from count (Argument major 0 value) more
+    ≡ front_from count (WholeHead (record { major = major; value = Some value })) more
 unfolding front_from big_endian
 argument_done count major value more =
     let plain : value * 1 + 0 ≡ value = omega arith in
@@ -112,7 +122,8 @@ argument_done count major value more =
     ∙ ap (λ n. Whole (record { major = major; value = Some value }) n) size
 
 argument_byte : (count major left value byte : ℕ) (more : List ℕ) → 0 < left
-    → front_from count (Argument major left value) (byte ∷ more) ≡ front_from (count + 1) (Argument major (left - 1) (value * 256 + byte)) more
+    → front_from count (Argument major left value) (byte ∷ more)
+    ≡ front_from (count + 1) (Argument major (left - 1) (value * 256 + byte)) more
 argument_byte count major zero value byte more wanted = absurd (omega arith)
 argument_byte count major (suc left) value byte more wanted =
     let before : suc left - 1 ≡ left = omega arith in rw before (argument_more count major left value byte more)
@@ -124,7 +135,8 @@ argument_end count major left value byte more last =
     rw last (argument_more count major 0 value byte more ∙ argument_done (count + 1) major (value * 256 + byte) more)
 
 -- the argument stays in 64 bits
-pub value_fits : (count major left value byte : ℕ) → stage_fits count (Argument major left value) ≡ true → byte < 256
+pub value_fits : (count major left value byte : ℕ)
+    → stage_fits count (Argument major left value) ≡ true → byte < 256
     → value * 256 + byte < 2 ^ 64
 value_fits count major left value byte test below =
     let facts = argument_fits count major left value test in
@@ -135,7 +147,8 @@ value_fits count major left value byte test below =
     let scale : 256 ^ suc (8 - left) ≡ 256 ^ (8 - left) * 256 = pow-suc 256 (8 - left) in
     omega arith
 
-more_fits : (count left value byte : ℕ) → ArgumentFits count left value → byte < 256 → (left ≡ 1 → ⊥)
+more_fits : (count left value byte : ℕ) → ArgumentFits count left value
+    → byte < 256 → (left ≡ 1 → ⊥)
     → ArgumentFits (count + 1) (left - 1) (value * 256 + byte)
 more_fits count left value byte facts below other =
     let wanted : 0 < left = facts.wanted in
@@ -151,9 +164,11 @@ more_fits count left value byte facts below other =
     }
 
 -- one more byte of an argument, and its last one
-pub stands-more : (count major left value byte : ℕ) → stage_fits count (Argument major left value) ≡ true → byte < 256
+pub stands-more : (count major left value byte : ℕ)
+    → stage_fits count (Argument major left value) ≡ true → byte < 256
     → (left ≡ 1 → ⊥)
-    → StandsAt (count + 1) (Argument major (left - 1) (value * 256 + byte)) (λ more. front_from count (Argument major left value) (byte ∷ more))
+    → StandsAt (count + 1) (Argument major (left - 1) (value * 256 + byte))
+    (λ more. front_from count (Argument major left value) (byte ∷ more))
 stands-more count major left value byte test below other =
     let facts = argument_fits count major left value test in
     record {
@@ -161,7 +176,8 @@ stands-more count major left value byte test below other =
       reads = λ more. argument_byte count major left value byte more facts.wanted;
     }
 
-pub stands-last : (count major left value byte : ℕ) → stage_fits count (Argument major left value) ≡ true → left ≡ 1
+pub stands-last : (count major left value byte : ℕ)
+    → stage_fits count (Argument major left value) ≡ true → left ≡ 1
     → StandsAt (count + 1) (WholeHead (record { major = major; value = Some (value * 256 + byte) }))
     (λ more. front_from count (Argument major left value) (byte ∷ more))
 unfolding stage_fits
@@ -174,7 +190,8 @@ stands-last count major left value byte test last =
 
 -- ---- a simple value
 
-simple_there : (byte : ℕ) (more : List ℕ) → argument_front 7 1 (byte ∷ more) ≡ with_argument 7 1 byte
+simple_there : (byte : ℕ) (more : List ℕ)
+    → argument_front 7 1 (byte ∷ more) ≡ with_argument 7 1 byte
 unfolding big_endian
 simple_there byte more =
     let plain : byte * 1 + 0 ≡ byte = omega arith in
@@ -191,7 +208,8 @@ stands-low count byte test low =
     }
 
 pub stands-high : (count byte : ℕ) → stage_fits count Simple ≡ true → 32 ≤ byte
-    → StandsAt (count + 1) (WholeHead (record { major = 7; value = Some byte })) (λ more. front_from count Simple (byte ∷ more))
+    → StandsAt (count + 1) (WholeHead (record { major = 7; value = Some byte }))
+    (λ more. front_from count Simple (byte ∷ more))
 unfolding stage_fits front_from with_argument
 stands-high count byte test high =
     let one : count ≡ 1 = eqb-true count 1 test in
@@ -203,35 +221,40 @@ stands-high count byte test high =
 -- ---- the first byte
 
 stands-whole : (major information : ℕ) → information < 24
-    → StandsAt 1 (WholeHead (record { major = major; value = Some information })) (front_by major information)
+    → StandsAt 1 (WholeHead (record { major = major; value = Some information }))
+    (front_by major information)
 unfolding stage_fits front_from
 stands-whole major information below = record {
   fits = refl;
   reads = λ more. front_by-small major information more below;
 }
 
-stands-reserved : (major information : ℕ) → 28 ≤ information → information < 31 → StandsAt 1 NoHead (front_by major information)
+stands-reserved : (major information : ℕ) → 28 ≤ information → information < 31
+    → StandsAt 1 NoHead (front_by major information)
 unfolding stage_fits front_from
 stands-reserved major information least below = record {
   fits = refl;
   reads = λ more. front_by-reserved major information more least below;
 }
 
-stands-unargued : (stage : Stage) (major information : ℕ) → 31 ≤ information → StandsAt 1 stage (λ _. no_argument major)
+stands-unargued : (stage : Stage) (major information : ℕ) → 31 ≤ information
+    → StandsAt 1 stage (λ _. no_argument major)
     → StandsAt 1 stage (front_by major information)
 stands-unargued stage major information least stands = record {
   fits = stands.fits;
   reads = λ more. front_by-none major information more least ∙ stands.reads more;
 }
 
-stands-simple : (major information : ℕ) → major ≡ 7 → information ≡ 24 → StandsAt 1 Simple (front_by major information)
+stands-simple : (major information : ℕ) → major ≡ 7 → information ≡ 24
+    → StandsAt 1 Simple (front_by major information)
 unfolding stage_fits front_from
 stands-simple major information seven simple =
     rw (seven, simple) (record { fits = refl; reads = λ more. front_by-argument 7 24 more (omega arith) (omega arith) })
 
 -- an argument that no rule forbids
 plain_argument : (major size value : ℕ) → (major ≡ 7 → size ≡ 1 → ⊥)
-    → with_argument major size value ≡ Whole (record { major = major; value = Some value }) (1 + size)
+    → with_argument major size value
+    ≡ Whole (record { major = major; value = Some value }) (1 + size)
 unfolding with_argument
 plain_argument major size value other =
     ⊎_elim
@@ -263,8 +286,10 @@ one_byte information least one =
     (λ now. omega arith)
     (cases_lt 24 information)
 
-stands-argued : (major information left : ℕ) → 24 ≤ information → information < 28 → (major ≡ 7 → information ≡ 24 → ⊥)
-    → left ≡ 1 * 2 ^ (information - 24) % 256 → StandsAt 1 (Argument major left 0) (front_by major information)
+stands-argued : (major information left : ℕ) → 24 ≤ information → information < 28
+    → (major ≡ 7 → information ≡ 24 → ⊥)
+    → left ≡ 1 * 2 ^ (information - 24) % 256
+    → StandsAt 1 (Argument major left 0) (front_by major information)
 stands-argued major information left least below other is =
     let near : information - 24 ≤ 3 = omega arith in
     let most : 2 ^ (information - 24) ≤ 2 ^ 3 = pow_mono near in
@@ -283,7 +308,8 @@ stands-argued major information left least below other is =
     }
 
 -- the stage after the first byte is that of its major type and additional information
-first_reads : (first : ℕ) (stage : Stage) → StandsAt 1 stage (front_by (first / 32) (bit_and first 31))
+first_reads : (first : ℕ) (stage : Stage)
+    → StandsAt 1 stage (front_by (first / 32) (bit_and first 31))
     → StandsAt 1 stage (λ more. head_front (first ∷ more))
 unfolding head_front
 first_reads first stage stands = record {
@@ -293,37 +319,45 @@ first_reads first stage stands = record {
 
 -- the four kinds of additional information, at the first byte
 pub begins-whole : (first value : ℕ) → value ≡ bit_and first 31 → bit_and first 31 < 24
-    → StandsAt 1 (WholeHead (record { major = first / 32; value = Some value })) (λ more. head_front (first ∷ more))
+    → StandsAt 1 (WholeHead (record { major = first / 32; value = Some value }))
+    (λ more. head_front (first ∷ more))
 begins-whole first value is below = rw is (first_reads first _ (stands-whole (first / 32) (bit_and first 31) below))
 
-pub begins-simple : (first : ℕ) → first ≡ 0xf8 → StandsAt 1 Simple (λ more. head_front (first ∷ more))
+pub begins-simple : (first : ℕ) → first ≡ 0xf8
+    → StandsAt 1 Simple (λ more. head_front (first ∷ more))
 begins-simple first simple =
     rw simple (first_reads 0xf8 Simple (stands-simple 7 24 refl refl))
 
-pub begins-argument : (first : ℕ) → 24 ≤ bit_and first 31 → bit_and first 31 < 28 → (first ≡ 0xf8 → ⊥)
-    → StandsAt 1 (Argument (first / 32) (1 * 2 ^ (bit_and first 31 - 24) % 256) 0) (λ more. head_front (first ∷ more))
+pub begins-argument : (first : ℕ) → 24 ≤ bit_and first 31
+    → bit_and first 31 < 28 → (first ≡ 0xf8 → ⊥)
+    → StandsAt 1 (Argument (first / 32) (1 * 2 ^ (bit_and first 31 - 24) % 256) 0)
+    (λ more. head_front (first ∷ more))
 begins-argument first least below other =
     first_reads first _
     (stands-argued (first / 32) (bit_and first 31) _ least below
     (λ seven simple. other (omega (arith, and_mask first 5))) refl)
 
-pub begins-reserved : (first : ℕ) → 28 ≤ bit_and first 31 → bit_and first 31 < 31 → StandsAt 1 NoHead (λ more. head_front (first ∷ more))
+pub begins-reserved : (first : ℕ) → 28 ≤ bit_and first 31 → bit_and first 31 < 31
+    → StandsAt 1 NoHead (λ more. head_front (first ∷ more))
 begins-reserved first least below = first_reads first NoHead (stands-reserved (first / 32) (bit_and first 31) least below)
 
-pub begins-unargued : (first : ℕ) (stage : Stage) → bit_and first 31 ≡ 31 → StandsAt 1 stage (λ _. no_argument (first / 32))
+pub begins-unargued : (first : ℕ) (stage : Stage) → bit_and first 31 ≡ 31
+    → StandsAt 1 stage (λ _. no_argument (first / 32))
     → StandsAt 1 stage (λ more. head_front (first ∷ more))
 begins-unargued first stage is stands =
     first_reads first stage (stands-unargued stage (first / 32) (bit_and first 31) (omega arith) stands)
 
 pub begins-start : (count : ℕ) (stage : Stage) (byte : ℕ) → stage_fits count Start ≡ true
-    → StandsAt 1 stage (λ more. head_front (byte ∷ more)) → StandsAt (count + 1) stage (λ more. front_from count Start (byte ∷ more))
+    → StandsAt 1 stage (λ more. head_front (byte ∷ more))
+    → StandsAt (count + 1) stage (λ more. front_from count Start (byte ∷ more))
 unfolding stage_fits front_from
 begins-start count stage byte test stands =
     let none : count ≡ 0 = eqb-true count 0 test in rw none stands
 
 -- ---- information 31
 
-pub stands-wrong : (major : ℕ) → (nat_lt major 2 || (major == 6)) ≡ true → StandsAt 1 NoHead (λ _. no_argument major)
+pub stands-wrong : (major : ℕ) → (nat_lt major 2 || (major == 6)) ≡ true
+    → StandsAt 1 NoHead (λ _. no_argument major)
 unfolding stage_fits front_from no_argument
 stands-wrong major wrong = record { fits = refl; reads = λ _. rw wrong refl }
 

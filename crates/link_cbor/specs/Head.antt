@@ -31,12 +31,14 @@ with_argument major size argument =
 -- the argument stands in the next `size` bytes
 unfoldable pub argument_front : ℕ → ℕ → List ℕ → HeadFront
 argument_front major size rest =
-    if nat_lt (length rest) size then Cut else with_argument major size (big_endian (take size rest))
+    if nat_lt (length rest) size then Cut
+    else with_argument major size (big_endian (take size rest))
 
 -- additional information 31: an indefinite length (major types 2 to 5) or the break (7), ill-formed elsewhere
 unfoldable pub no_argument : ℕ → HeadFront
 no_argument major =
-    if nat_lt major 2 || major == 6 then IllFormed else Whole (record { major = major; value = None }) 1
+    if nat_lt major 2 || major == 6 then IllFormed
+    else Whole (record { major = major; value = None }) 1
 
 -- a head by its major type and additional information, with the bytes after the first one (section 3): up to 23 the
 -- information is the argument, and 24 to 27 say that it stands in the next 1, 2, 4 or 8 bytes

@@ -8,7 +8,8 @@ use Rattle.std.proofs.Common.{◌⊎◌}
 -- the shortest prefix of the bytes after which no more are needed, or all of them
 unfoldable pub taken : (List ℕ → Bool) → List ℕ → List ℕ → List ℕ
 taken goes seen [] = []
-taken goes seen (byte ∷ bytes) = if goes seen then byte ∷ taken goes (seen ++ byte ∷ []) bytes else []
+taken goes seen (byte ∷ bytes) =
+    if goes seen then byte ∷ taken goes (seen ++ byte ∷ []) bytes else []
 
 -- the same in its own words
 pub record IsShortestFront (goes : List ℕ → Bool) (seen bytes front : List ℕ) : Type 0 where
@@ -22,9 +23,11 @@ pub record IsShortestFront (goes : List ℕ → Bool) (seen bytes front : List �
 abbrev pub JoinsPieces : (List ℕ → Bool) → Type 0
 JoinsPieces goes =
     (seen first second : List ℕ) →
-    taken goes seen (first ++ second) ≡ taken goes seen first ++ taken goes (seen ++ taken goes seen first) second
+    taken goes seen (first ++ second) ≡ taken goes seen first
+    ++ taken goes (seen ++ taken goes seen first) second
 
 -- what is taken is that prefix, and no other is
 abbrev pub TakesShortest : (List ℕ → Bool) → Type 0
 TakesShortest goes =
-    (seen bytes front : List ℕ) → IsShortestFront goes seen bytes front ↔ (front ≡ taken goes seen bytes)
+    (seen bytes front : List ℕ)
+    → IsShortestFront goes seen bytes front ↔ (front ≡ taken goes seen bytes)

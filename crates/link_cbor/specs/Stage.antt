@@ -12,7 +12,10 @@ unfoldable pub front_from : ℕ → Stage → List ℕ → HeadFront
 front_from count Start more = head_front more
 front_from count (Argument major left value) more =
     if nat_lt (length more) left then Cut else
-    Whole (record { major = major; value = Some (value * 256 ^ left + big_endian (take left more)) }) (count + left)
+    Whole (record {
+      major = major;
+      value = Some (value * 256 ^ left + big_endian (take left more));
+    }) (count + left)
 front_from count Simple more = argument_front 7 1 more
 front_from count (WholeHead head) more = Whole head count
 front_from count NoHead more = IllFormed

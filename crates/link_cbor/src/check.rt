@@ -65,16 +65,16 @@ impl Check {
 
     /// Takes one more byte.
     pub fn push(&mut self, byte: u8)
-        ensures { (kind : CheckKind) (before : List ℕ) →
-            HasPushed kind self.old before → HasPushed kind self.new (before ++ byte ∷ []) }
+        ensures { (kind : CheckKind) (before : List ℕ)
+            → HasPushed kind self.old before → HasPushed kind self.new (before ++ byte ∷ []) }
     {
         self.register = register_after(self.kind.tables(), self.register, byte);
     }
 
     /// Takes the bytes of the slice, in order.
     pub fn push_slice(&mut self, bytes: &[u8])
-        ensures { (kind : CheckKind) (before : List ℕ) →
-            HasPushed kind self.old before → HasPushed kind self.new (before ++ bytes.now) }
+        ensures { (kind : CheckKind) (before : List ℕ)
+            → HasPushed kind self.old before → HasPushed kind self.new (before ++ bytes.now) }
     {
         let (blocks, rest) = bytes.as_chunks();
         self.register = register_after_blocks(self.kind.tables(), self.register, blocks);
@@ -85,7 +85,8 @@ impl Check {
 
     /// The check value of the bytes pushed so far, in the low 16 bits for CRC-16/X-25.
     pub fn value(&self) -> u32
-        ensures { (kind : CheckKind) (bytes : List ℕ) → HasPushed kind self.now bytes → result ≡ crc kind bytes }
+        ensures { (kind : CheckKind) (bytes : List ℕ) → HasPushed kind self.now bytes
+            → result ≡ crc kind bytes }
     {
         self.register ^ self.kind.all_ones()
     }

@@ -103,7 +103,8 @@ impl HeadScan {
     /// What the bytes seen so far say of the head.
     pub fn outcome(&self) -> HeadStep
         ensures seen { (seen : List ℕ) → HasScanned self.now seen → result ≡ step_of seen }
-        ensures front { (seen : List ℕ) → HasScanned self.now seen → head_front seen ≡ front_of result (length seen) }
+        ensures front { (seen : List ℕ) → HasScanned self.now seen
+            → head_front seen ≡ front_of result (length seen) }
         ensures may_step { IsTrue (may_scan self.now) ↔ (result ≡ More) }
     {
         self.stage.outcome()
@@ -171,7 +172,8 @@ impl Piecewise for HeadScan {
     fn step(&mut self, byte: u8)
         requires may_step { IsTrue (may_scan self.old) }
         ensures size { scan_size self.new ≡ scan_size self.old + 1 }
-        ensures seen { (seen : List ℕ) → HasScanned self.old seen → HasScanned self.new (seen ++ byte ∷ []) }
+        ensures seen { (seen : List ℕ) → HasScanned self.old seen
+            → HasScanned self.new (seen ++ byte ∷ []) }
     {
         self.stage = self.next_stage(byte);
         self.count += 1;

@@ -36,15 +36,18 @@ pub trait Piecewise {
         requires may_step { IsTrue (may_step self.old) }
         requires room { size self.old < 2 ^ 63 - 1 }
         ensures size { size self.new ≡ size self.old + 1 }
-        ensures seen { (seen : List ℕ) → has_seen self.old seen → has_seen self.new (seen ++ byte ∷ []) };
+        ensures seen { (seen : List ℕ) → has_seen self.old seen
+            → has_seen self.new (seen ++ byte ∷ []) };
 
     /// Takes bytes of the slice, in order, as long as more are needed, and returns how many it took.
     fn feed(&mut self, bytes: &[u8]) -> usize
         requires room { size self.old + length bytes.now ≤ 2 ^ 63 - 1 }
         ensures within { result ≤ length bytes.now }
         ensures size { size self.new ≡ size self.old + result }
-        ensures seen { (seen : List ℕ) → has_seen self.old seen → has_seen self.new (seen ++ taken goes seen bytes.now) }
-        ensures count { (seen : List ℕ) → has_seen self.old seen → result ≡ length (taken goes seen bytes.now) }
+        ensures seen { (seen : List ℕ) → has_seen self.old seen
+            → has_seen self.new (seen ++ taken goes seen bytes.now) }
+        ensures count { (seen : List ℕ) → has_seen self.old seen
+            → result ≡ length (taken goes seen bytes.now) }
     {
         for (taken, &byte) in bytes.iter().enumerate() {
             if !self.going() {

@@ -11,11 +11,13 @@ use Rattle.clap.specs.declared.builder.command.Command.{Command}
 use Rattle.link_command.specs.Building.{AddsRules, HasRule, IsTool}
 use Rattle.link_command.specs.Table.{number, tool}
 
-fold_joined : (a : App) (rs qs : List Rule) → fold with_rule a (rs ++ qs) ≡ fold with_rule (fold with_rule a rs) qs
+fold_joined : (a : App) (rs qs : List Rule)
+    → fold with_rule a (rs ++ qs) ≡ fold with_rule (fold with_rule a rs) qs
 fold_joined a [] qs = refl
 fold_joined a (r ∷ rs) qs = fold_joined (with_rule a r) rs qs
 
-pub joined : {rs qs : List Rule} {a b c : Command} → AddsRules rs a b → AddsRules qs b c → AddsRules (rs ++ qs) a c
+pub joined : {rs qs : List Rule} {a b c : Command} → AddsRules rs a b → AddsRules qs b c
+    → AddsRules (rs ++ qs) a c
 joined {rs} {qs} {a} first second = record {
   app = second.app ∙ ap (λ x. fold with_rule x qs) first.app ∙ sym (fold_joined (app_of a) rs qs);
   globals = second.globals ∙ first.globals;
@@ -25,7 +27,8 @@ local_more : (a b : Bool) → b ≡ false → (a || b) ≡ a
 local_more true b e = refl
 local_more false b e = e
 
-pub one_more : {r : Rule} {arg : Arg} {old new : Command} → HasRule r arg → AddsArg old arg new → AddsRules (r ∷ []) old new
+pub one_more : {r : Rule} {arg : Arg} {old new : Command} → HasRule r arg → AddsArg old arg new
+    → AddsRules (r ∷ []) old new
 one_more {r} {arg} {old} has adds = record {
   app = adds.shape has.local ∙ ap (with_rule (app_of old)) has.read;
   globals = adds.globals ∙ local_more _ _ has.local;
@@ -33,24 +36,28 @@ one_more {r} {arg} {old} has adds = record {
 
 -- ---- an argument with one more setting
 
-pub in_range : {name : Text} {p q : ValueParser} {a : Arg} → HasRule (number name p) a → p ≡ q → HasRule (number name q) a
+pub in_range : {name : Text} {p q : ValueParser} {a : Arg} → HasRule (number name p) a → p ≡ q
+    → HasRule (number name q) a
 in_range {name} {a = a} has is = subst (λ range. HasRule (number name range) a) is has
 
-pub with_default : {r : Rule} {a b : Arg} {text : Bor Text} → HasRule r a → b ≡ record a { default_vals = One text }
+pub with_default : {r : Rule} {a b : Arg} {text : Bor Text} → HasRule r a
+    → b ≡ record a { default_vals = One text }
     → HasRule (record r { defaults = text.now ∷ [] }) b
 with_default {text = text} has is = record {
   read = ap rule_of is ∙ ap (λ (r : Rule). record r { defaults = text.now ∷ [] }) has.read;
   local = ap (λ (a : Arg). a.global) is ∙ has.local;
 }
 
-pub with_value_name : {r : Rule} {a b : Arg} {name : Bor Text} → HasRule r a → b ≡ record a { val_names = One name }
+pub with_value_name : {r : Rule} {a b : Arg} {name : Bor Text} → HasRule r a
+    → b ≡ record a { val_names = One name }
     → HasRule (record r { value_names = 1 }) b
 with_value_name has is = record {
   read = ap rule_of is ∙ ap (λ (r : Rule). record r { value_names = 1 }) has.read;
   local = ap (λ (a : Arg). a.global) is ∙ has.local;
 }
 
-pub with_required : {r : Rule} {a b : Arg} → HasRule r a → b ≡ record a { required = true } → HasRule (record r { required = true }) b
+pub with_required : {r : Rule} {a b : Arg} → HasRule r a → b ≡ record a { required = true }
+    → HasRule (record r { required = true }) b
 with_required has is = record {
   read = ap rule_of is ∙ ap (λ (r : Rule). record r { required = true }) has.read;
   local = ap (λ (a : Arg). a.global) is ∙ has.local;
@@ -58,11 +65,13 @@ with_required has is = record {
 
 -- ---- a tool
 
-top_joined : (a : App) (rs : List Rule) → (fold with_rule a rs).top ≡ record a.top { rules = a.top.rules ++ rs }
+top_joined : (a : App) (rs : List Rule)
+    → (fold with_rule a rs).top ≡ record a.top { rules = a.top.rules ++ rs }
 top_joined a [] = ap (λ rules. record a.top { rules = rules }) (sym (append-nil a.top.rules))
 top_joined a (r ∷ rs) = top_joined (with_rule a r) rs ∙ ap (λ rules. record a.top { rules = rules }) (append_assoc a.top.rules (r ∷ []) rs)
 
-pub whole_tool : {name : Text} {rs : List Rule} {old new : Command} → IsTool (tool name []) old → AddsRules rs old new → IsTool (tool name rs) new
+pub whole_tool : {name : Text} {rs : List Rule} {old new : Command} → IsTool (tool name []) old
+    → AddsRules rs old new → IsTool (tool name rs) new
 whole_tool {name} {rs} {old} bare adds = record {
   shape = ap (λ (a : App). a.top) adds.app ∙ top_joined (app_of old) rs ∙ ap (λ (s : Shape). record s { rules = s.rules ++ rs }) bare.shape;
   local = adds.globals ∙ bare.local;

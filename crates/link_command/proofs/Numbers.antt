@@ -11,11 +11,13 @@ use Rattle.clap.specs.declared.parser.matches.Found.{Found}
 use Rattle.clap.proofs.WalkLemmas.{both, one_text-rows}
 use Rattle.link_command.specs.Invoked.{is_numeral, number_below, number_in}
 
-digits_pass : (digits : Text) → AllDigits 10 digits → list_all (λ digit. nat_lt (digit_value digit) 10) digits ≡ true
+digits_pass : (digits : Text) → AllDigits 10 digits
+    → list_all (λ digit. nat_lt (digit_value digit) 10) digits ≡ true
 digits_pass [] all = refl
 digits_pass (d ∷ digits) all = rw (lt-ltb (digit_value d) 10 all.0) (digits_pass digits all.1)
 
-digits_from : (digits : Text) → list_all (λ digit. nat_lt (digit_value digit) 10) digits ≡ true → AllDigits 10 digits
+digits_from : (digits : Text) → list_all (λ digit. nat_lt (digit_value digit) 10) digits ≡ true
+    → AllDigits 10 digits
 digits_from [] passed = tt
 digits_from (d ∷ digits) passed = let parts = both _ _ passed in (ltb-true _ _ parts.0, digits_from digits parts.1)
 
@@ -27,7 +29,8 @@ abbrev pub Gives : (bits : ℕ) → Text → Result ℕ ParseIntError → Type 0
 Gives bits text r = ParsesUnsigned bits 10 text r × ExplainsUnsignedError 10 text r × HasUnsignedDigitsIfOk text r
 
 module _ (bits : ℕ) where
-  number_read : (text : Text) (r : Option ℕ) → ReadsOne (Gives bits) text r → r ≡ number_below (2 ^ bits) text
+  number_read : (text : Text) (r : Option ℕ) → ReadsOne (Gives bits) text r
+      → r ≡ number_below (2 ^ bits) text
   number_read text (Some n) read =
       let h = read.0 in
       let digits = without_leading_plus text in
@@ -42,7 +45,8 @@ module _ (bits : ℕ) where
           absurd (read.1.0 ((ltb-true _ _ inner.0, digits_from (without_leading_plus text) inner.1), ltb-true _ _ outer.1))
 
   pub number_got : (f : Found) (name : Text) (r : Option ℕ) → (one_text f name ≡ None → r ≡ None)
-      → ((text : Text) → one_text f name ≡ Some text → ReadsOne (Gives bits) text r) → r ≡ number_in (2 ^ bits) name (rows_of f)
+      → ((text : Text) → one_text f name ≡ Some text → ReadsOne (Gives bits) text r)
+      → r ≡ number_in (2 ^ bits) name (rows_of f)
   unfolding number_in
   number_got f name r none some = go (one_text f name) refl ∙ ap (option_and_then (number_below (2 ^ bits))) (one_text-rows f name)
     where

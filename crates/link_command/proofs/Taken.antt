@@ -30,17 +30,20 @@ second_empty : (a b : Kinds) → or_else a b ≡ [] → b ≡ []
 second_empty [] b none = none
 second_empty (k ∷ ks) b none = cc
 
-required_is_there : (has wants_help required wants_argument : Bool) → required ≡ true → check_kinds (not has && wants_help) (not has && required) wants_argument ≡ [] → has ≡ true
+required_is_there : (has wants_help required wants_argument : Bool) → required ≡ true
+    → check_kinds (not has && wants_help) (not has && required) wants_argument ≡ [] → has ≡ true
 required_is_there true wants_help required wants_argument is none = refl
 required_is_there false true required wants_argument is none = cc
 required_is_there false false true wants_argument is none = cc
 required_is_there false false false wants_argument is none = absurd (true≢false (sym is))
 
-check_passes : (s : Shape) (rows : List Row) (has : Bool) → s.subcommand_required ≡ true → check_fault s rows has ≡ [] → has ≡ true
+check_passes : (s : Shape) (rows : List Row) (has : Bool) → s.subcommand_required ≡ true
+    → check_fault s rows has ≡ [] → has ≡ true
 check_passes s rows has required none = required_is_there has (s.arg_required_else_help && not (list_any (λ r. explicit_source r.source) rows)) s.subcommand_required
     (not (s.subcommand_negates_reqs && has) && list_any (λ a. a.required && not (is_given a.id rows)) s.rules) required none
 
-level_checked : (s : Shape) (names : Names) (h : Held) (words : List Text) (has : Bool) (below : Kinds) → level_fault s names h words has below ≡ []
+level_checked : (s : Shape) (names : Names) (h : Held) (words : List Text) (has : Bool)
+    (below : Kinds) → level_fault s names h words has below ≡ []
     → check_fault s (finished s.rules (walk s.rules names h words).held) has ≡ []
 level_checked s names h words has below none =
     let end = (walk s.rules names h words).held in
@@ -55,19 +58,25 @@ NamesOneOf a b c None = ⊥
 NamesOneOf a b c (Some tool) = (tool.0 ≡ a) ⊎ ((tool.0 ≡ b) ⊎ (tool.0 ≡ c))
 
 entered_name : (s₁ s₂ s₃ : Shape) (rest : List Text) (b₁ b₂ b₃ : Bool)
-    → is_some (option_map (λ s. rows_at s rest) (cond b₁ (Some s₁) (cond b₂ (Some s₂) (cond b₃ (Some s₃) None)))) ≡ true
-    → NamesOneOf s₁.name s₂.name s₃.name (option_map (λ s. rows_at s rest) (cond b₁ (Some s₁) (cond b₂ (Some s₂) (cond b₃ (Some s₃) None))))
+    → is_some (option_map (λ s. rows_at s rest)
+    (cond b₁ (Some s₁) (cond b₂ (Some s₂) (cond b₃ (Some s₃) None)))) ≡ true
+    → NamesOneOf s₁.name s₂.name s₃.name
+    (option_map (λ s. rows_at s rest)
+    (cond b₁ (Some s₁) (cond b₂ (Some s₂) (cond b₃ (Some s₃) None))))
 entered_name s₁ s₂ s₃ rest true b₂ b₃ some = inl refl
 entered_name s₁ s₂ s₃ rest false true b₃ some = inr (inl refl)
 entered_name s₁ s₂ s₃ rest false false true some = inr (inr refl)
 entered_name s₁ s₂ s₃ rest false false false some = absurd (true≢false (sym some))
 
-entered_one : (top s₁ s₂ s₃ : Shape) (stop : Option (Text × List Text)) → is_some (entered (record { top = top; subs = s₁ ∷ s₂ ∷ s₃ ∷ [] }) stop) ≡ true
-    → NamesOneOf s₁.name s₂.name s₃.name (entered (record { top = top; subs = s₁ ∷ s₂ ∷ s₃ ∷ [] }) stop)
+entered_one : (top s₁ s₂ s₃ : Shape) (stop : Option (Text × List Text))
+    → is_some (entered (record { top = top; subs = s₁ ∷ s₂ ∷ s₃ ∷ [] }) stop) ≡ true
+    → NamesOneOf s₁.name s₂.name s₃.name
+    (entered (record { top = top; subs = s₁ ∷ s₂ ∷ s₃ ∷ [] }) stop)
 entered_one top s₁ s₂ s₃ None some = absurd (true≢false (sym some))
 entered_one top s₁ s₂ s₃ (Some p) some = entered_name s₁ s₂ s₃ p.1 (answers_to p.0 (label_of s₁)) (answers_to p.0 (label_of s₂)) (answers_to p.0 (label_of s₃)) some
 
-built_names : (top s₁ s₂ s₃ : Shape) (words : List Text) → top.subcommand_required ≡ true → built_fault (record { top = top; subs = s₁ ∷ s₂ ∷ s₃ ∷ [] }) nothing_held words ≡ []
+built_names : (top s₁ s₂ s₃ : Shape) (words : List Text) → top.subcommand_required ≡ true
+    → built_fault (record { top = top; subs = s₁ ∷ s₂ ∷ s₃ ∷ [] }) nothing_held words ≡ []
     → NamesOneOf s₁.name s₂.name s₃.name
     (entered (record { top = top; subs = s₁ ∷ s₂ ∷ s₃ ∷ [] }) (stop_after top.rules (names_of (record { top = top; subs = s₁ ∷ s₂ ∷ s₃ ∷ [] })) words))
 built_names top s₁ s₂ s₃ words required none =
@@ -89,15 +98,18 @@ module _ (a : App) (words : List Text) (is : a ≡ table) where
   pub are_taken : fault_of a words ≡ [] → AreTaken words
   are_taken none = ap (λ x. fault_of x words) (sym is) ∙ none
 
-  pub found : (m : ArgMatches) → HasMatchesOf a words m → subcommand_rows_of m ≡ subcommand_of table words
+  pub found : (m : ArgMatches) → HasMatchesOf a words m
+      → subcommand_rows_of m ≡ subcommand_of table words
   found m has = (has (both _ _ is_free).0).1 ∙ ap (λ x. subcommand_of x words) is
 
-pub tool_fault : (words : List Text) (tool : Option (Text × List Row)) → tool ≡ subcommand_of table words → AreTaken words
+pub tool_fault : (words : List Text) (tool : Option (Text × List Row))
+    → tool ≡ subcommand_of table words → AreTaken words
     → (fault : UsageFault) → IsToolFault tool fault → IsFaultOf words fault
 tool_fault words tool is taken fault (inl long) = subst (IsFaultOf words) (sym long.0) (taken, subst (λ t. 1024 < length (node_of t)) is long.1)
 tool_fault words tool is taken fault (inr memory) = subst (IsFaultOf words) (sym memory) tt
 
-pub clap_fault : (a : App) (words : List Text) (kind : ErrorKind) (fault : UsageFault) → a ≡ table → StandsFor kind fault
+pub clap_fault : (a : App) (words : List Text) (kind : ErrorKind) (fault : UsageFault)
+    → a ≡ table → StandsFor kind fault
     → (kind ≡ OutOfMemory) ⊎ IsAmong kind (fault_of a words) → IsFaultOf words fault
 clap_fault a words kind (Help text) is stands (inl memory) = absurd (true≢false (sym stands ∙ ap is_request memory))
 clap_fault a words kind (Help text) is stands (inr among) = (kind, subst (λ x. IsAmong kind (fault_of x words)) is among, stands)

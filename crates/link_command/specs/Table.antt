@@ -81,4 +81,8 @@ program = record (new_shape (codes "tcpclkit")) {
 }
 
 unfoldable pub table : App
-table = record { top = record program { is_leaf = false }; subs = list_words ∷ unpack_words ∷ pack_words ∷ [] }
+table =
+    record {
+      top = record program { is_leaf = false };
+      subs = list_words ∷ unpack_words ∷ pack_words ∷ [];
+    }

@@ -19,7 +19,8 @@ is_request _ = false
 
 -- what `clap` finds in the words is of a kind that passes the test
 abbrev pub Finds : (is_kind : ErrorKind → Bool) → (expected : Bool) → (words : List Text) → Type 0
-Finds is_kind expected words = (kind : ErrorKind) × IsAmong kind (fault_of table words) × (is_kind kind ≡ expected)
+Finds is_kind expected words =
+    (kind : ErrorKind) × IsAmong kind (fault_of table words) × (is_kind kind ≡ expected)
 
 -- `clap` finds nothing wrong with the words
 abbrev pub AreTaken : (words : List Text) → Type 0

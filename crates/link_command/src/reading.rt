@@ -70,7 +70,8 @@ fn invocation_of(alloc: Global, name: &str, tool: &ArgMatches<'_>) -> Result<Inv
 fn options_of(name: &str, tool: &ArgMatches<'_>) -> Option<Options>
     requires { IsToolName name.now }
     ensures some { IfSome result (AreOptions name.now (rows_of (found_of tool.now))) }
-    ensures none { IfNone result (1024 < length (text_of (codes "node") (rows_of (found_of tool.now)))) }
+    ensures none { IfNone result (1024
+        < length (text_of (codes "node") (rows_of (found_of tool.now)))) }
 {
     match name {
         "unpack" => Some(Options::Unpack(wanted(tool))),
@@ -81,7 +82,8 @@ fn options_of(name: &str, tool: &ArgMatches<'_>) -> Option<Options>
 
 /// The file that is named.
 fn file(alloc: Global, tool: &ArgMatches<'_>) -> Result<Option<String>, AllocError>
-    ensures { IfOk result (λ file. option_map string_bytes file ≡ first_of (codes "file") (rows_of (found_of tool.now))) }
+    ensures { IfOk result (λ file. option_map string_bytes file
+        ≡ first_of (codes "file") (rows_of (found_of tool.now))) }
 {
     match text(tool, "file") {
         Some(name) => Ok(Some(String::from_str(alloc, name)?)),
@@ -102,7 +104,8 @@ fn wanted(tool: &ArgMatches<'_>) -> Wanted
 /// The options of `pack`; `None`: the node ID is too long.
 fn pack_options(tool: &ArgMatches<'_>) -> Option<PackOptions>
     ensures some { IfSome result (IsPackOptions (rows_of (found_of tool.now))) }
-    ensures none { IfNone result (1024 < length (text_of (codes "node") (rows_of (found_of tool.now)))) }
+    ensures none { IfNone result (1024
+        < length (text_of (codes "node") (rows_of (found_of tool.now)))) }
 {
     let node = NodeId::try_from(node(tool).as_bytes()).ok()?;
     Some(PackOptions {
@@ -160,7 +163,8 @@ fn is_set(tool: &ArgMatches<'_>, name: &str) -> bool
 
 /// The text of an argument, if there is one.
 fn text<'a>(tool: &ArgMatches<'a>, name: &str) -> Option<&'a str>
-    ensures { option_map (λ text. text.now) result ≡ first_of name.now (rows_of (found_of tool.now)) }
+    ensures { option_map (λ text. text.now) result
+        ≡ first_of name.now (rows_of (found_of tool.now)) }
 {
     tool.get_str(name)
 }

@@ -14,22 +14,26 @@ use Rattle.link_io.specs.declared.source.Flow.{Flow}
 use Rattle.link_io.specs.declared.source.Flow.TheVariants as flow
 use Rattle.link_io.specs.declared.source.Source.{Source}
 
-more_given : (a b c : ℕ) (xs ys : List ℕ) → b ≡ a + length xs → c ≡ b + length ys → c ≡ a + length (xs ++ ys)
+more_given : (a b c : ℕ) (xs ys : List ℕ) → b ≡ a + length xs → c ≡ b + length ys
+    → c ≡ a + length (xs ++ ys)
 more_given a b c xs ys p q =
     q ∙ ap (λ n. n + length ys) p ∙ add_assoc a (length xs) (length ys) ∙ ap (λ n. a + n) (sym (length-append xs ys))
 
 -- the first bytes of a window are the next of what is ahead
-pub Consumes-window : (window : List ℕ) (left : Option (List ℕ)) (n : ℕ) → Consumes (prepend_known window left) (prepend_known (drop n window) left) (take n window)
+pub Consumes-window : (window : List ℕ) (left : Option (List ℕ)) (n : ℕ)
+    → Consumes (prepend_known window left) (prepend_known (drop n window) left) (take n window)
 Consumes-window window None n = tt
 Consumes-window window (Some xs) n = ap (λ w. w ++ xs) (sym (take-append-drop n window)) ∙ append_assoc (take n window) (drop n window) xs
 
 -- an empty window is nothing before what is left
-pub Consumes-empty : (old new : Option (List ℕ)) (bytes : List ℕ) → Consumes old new bytes → Consumes (prepend_known [] old) new bytes
+pub Consumes-empty : (old new : Option (List ℕ)) (bytes : List ℕ) → Consumes old new bytes
+    → Consumes (prepend_known [] old) new bytes
 Consumes-empty None new bytes read = tt
 Consumes-empty (Some xs) new bytes read = read
 
 -- what a read into an empty window gives is ahead as it was before
-pub Consumes-read : (old new : Option (List ℕ)) (window : List ℕ) → Consumes old new window → Consumes (prepend_known [] old) (prepend_known window new) []
+pub Consumes-read : (old new : Option (List ℕ)) (window : List ℕ) → Consumes old new window
+    → Consumes (prepend_known [] old) (prepend_known window new) []
 Consumes-read None new window read = tt
 Consumes-read (Some xs) None window read = absurd read
 Consumes-read (Some xs) (Some ys) window read = read
@@ -39,7 +43,8 @@ pub and_true : (first second : Bool) → (first && second) ≡ true → (first �
 and_true true second is = (refl, is)
 and_true false second is = absurd (cc)
 
-live_open : (now : Flow) (left : Option (List ℕ)) (start end : ℕ) → is_open now ≡ true → IsLiveBy now left start end
+live_open : (now : Flow) (left : Option (List ℕ)) (start end : ℕ) → is_open now ≡ true
+    → IsLiveBy now left start end
 live_open flow.Open left start end is = tt
 live_open flow.Ended left start end is = absurd (cc)
 live_open (flow.Failed fault) left start end is = absurd (cc)
@@ -71,12 +76,14 @@ drop_none n [] none = grind (arith, common_steps)
 drop_none zero (x ∷ xs) none = refl
 drop_none (suc n) (x ∷ xs) none = absurd (omega arith)
 
-drop_less : (n bound : ℕ) (xs : List ℕ) → length xs ≤ bound → 0 < length (take n xs) → length (drop n xs) < bound
+drop_less : (n bound : ℕ) (xs : List ℕ) → length xs ≤ bound → 0 < length (take n xs)
+    → length (drop n xs) < bound
 drop_less n bound xs room some = omega (arith, length-take n xs, length-drop n xs)
 
 module _ {R : Type 0} where
   -- the first bytes of a window were given
-  pub WindowAfter-drop : (old new : Source R) (n : ℕ) → window_of new ≡ drop n (window_of old) → length (window_of old) ≤ window_size → WindowAfter old new (take n (window_of old))
+  pub WindowAfter-drop : (old new : Source R) (n : ℕ) → window_of new ≡ drop n (window_of old)
+      → length (window_of old) ≤ window_size → WindowAfter old new (take n (window_of old))
   WindowAfter-drop old new n rest room = record {
     kept = λ none. rest ∙ drop_none n (window_of old) none;
     less = λ some. rw rest (drop_less n window_size (window_of old) room some);
@@ -85,11 +92,13 @@ module _ {R : Type 0} where
   pub WindowAfter-none : (s : Source R) → WindowAfter s s []
   WindowAfter-none s = record { kept = λ none. refl; less = λ some. absurd (omega arith) }
 
-  less_then : (old mid new : Source R) (xs ys : List ℕ) → WindowAfter old mid xs → WindowAfter mid new ys → 0 < length (xs ++ ys) → length (window_of new) < window_size
+  less_then : (old mid new : Source R) (xs ys : List ℕ) → WindowAfter old mid xs
+      → WindowAfter mid new ys → 0 < length (xs ++ ys) → length (window_of new) < window_size
   less_then old mid new xs [] p q some = rw (q.kept refl) (p.less (rw append-nil at some))
   less_then old mid new xs (y ∷ ys) p q some = q.less (omega arith)
 
-  WindowAfter-then : (old mid new : Source R) (xs ys : List ℕ) → WindowAfter old mid xs → WindowAfter mid new ys → WindowAfter old new (xs ++ ys)
+  WindowAfter-then : (old mid new : Source R) (xs ys : List ℕ) → WindowAfter old mid xs
+      → WindowAfter mid new ys → WindowAfter old new (xs ++ ys)
   WindowAfter-then old mid new xs ys p q = record {
     kept = λ none. q.kept (omega (arith, length-append xs ys)) ∙ p.kept (omega (arith, length-append xs ys));
     less = less_then old mid new xs ys p q;
@@ -105,7 +114,8 @@ module _ {R : Type 0} (look : R → Input) where
     window = WindowAfter-none s;
   }
 
-  pub Takes-then : (old mid new : Source R) (xs ys : List ℕ) → Takes look old mid xs → Takes look mid new ys → Takes look old new (xs ++ ys)
+  pub Takes-then : (old mid new : Source R) (xs ys : List ℕ) → Takes look old mid xs
+      → Takes look mid new ys → Takes look old new (xs ++ ys)
   Takes-then old mid new xs ys p q = record {
     bytes_fit = All-append IsByte xs ys p.bytes_fit q.bytes_fit;
     next = Consumes-trans (ahead look old) (ahead look mid) (ahead look new) xs ys p.next q.next;
@@ -115,7 +125,8 @@ module _ {R : Type 0} (look : R → Input) where
   }
 
   -- a window was made ready, and some of it was given
-  pub Readies-takes : (old mid new : Source R) (bytes : List ℕ) → Readies look old mid → Takes look mid new bytes → 0 < length bytes → Takes look old new bytes
+  pub Readies-takes : (old mid new : Source R) (bytes : List ℕ) → Readies look old mid
+      → Takes look mid new bytes → 0 < length bytes → Takes look old new bytes
   Readies-takes old mid new bytes p q some = record {
     bytes_fit = q.bytes_fit;
     next = Consumes-trans (ahead look old) (ahead look mid) (ahead look new) [] bytes p.next q.next;
@@ -125,7 +136,8 @@ module _ {R : Type 0} (look : R → Input) where
   }
 
   -- nothing could be made ready, since the input is over
-  pub Readies-over : (old new : Source R) → Readies look old new → IsOver look new → Takes look old new []
+  pub Readies-over : (old new : Source R) → Readies look old new
+      → IsOver look new → Takes look old new []
   Readies-over old new p over = record {
     bytes_fit = All-nil IsByte;
     next = p.next;
@@ -137,7 +149,9 @@ module _ {R : Type 0} (look : R → Input) where
     };
   }
 
-  pub StopsAfter-then : (old mid new : Source R) (xs ys : List ℕ) (fault : IoFault) → Takes look old mid xs → StopsAfter look mid new ys fault → StopsAfter look old new (xs ++ ys) fault
+  pub StopsAfter-then : (old mid new : Source R) (xs ys : List ℕ) (fault : IoFault)
+      → Takes look old mid xs → StopsAfter look mid new ys fault
+      → StopsAfter look old new (xs ++ ys) fault
   StopsAfter-then old mid new xs ys fault p q = record {
     bytes_fit = All-append IsByte xs ys p.bytes_fit q.bytes_fit;
     past = q.past;
@@ -148,7 +162,8 @@ module _ {R : Type 0} (look : R → Input) where
   }
 
   -- a history goes on by what is given
-  pub IsSourceAt-then : (old new : Source R) (history bytes : List ℕ) → Takes look old new bytes → IsSourceAt old history → IsSourceAt new (history ++ bytes)
+  pub IsSourceAt-then : (old new : Source R) (history bytes : List ℕ) → Takes look old new bytes
+      → IsSourceAt old history → IsSourceAt new (history ++ bytes)
   IsSourceAt-then old new history bytes p at = record {
     bytes = All-append IsByte history bytes at.bytes p.bytes_fit;
     given = p.count ∙ ap (λ n. n + length bytes) at.given ∙ sym (length-append history bytes);

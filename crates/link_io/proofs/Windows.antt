@@ -10,7 +10,8 @@ range_none window start end same =
     rw none refl
 
 -- after some bytes of it were given
-pub range_rest : (window : List ℕ) (start end count : ℕ) → count ≤ end - start → slice_range window (start + count) end ≡ drop count (slice_range window start end)
+pub range_rest : (window : List ℕ) (start end count : ℕ) → count ≤ end - start
+    → slice_range window (start + count) end ≡ drop count (slice_range window start end)
 range_rest window start end count within =
     let rest = end - (start + count) in
     let parts : end - start ≡ count + rest = omega arith in
@@ -19,7 +20,8 @@ range_rest window start end count within =
     ∙ ap (λ n. drop count (take n (drop start window))) (sym parts)
 
 -- the bytes of the window come next
-pub window_next : (left : Option (List ℕ)) (window : List ℕ) (count : ℕ) → BeginsWith (prepend_known window left) (take count window)
+pub window_next : (left : Option (List ℕ)) (window : List ℕ) (count : ℕ)
+    → BeginsWith (prepend_known window left) (take count window)
 window_next None window count = tt
 window_next (Some all) window count =
     (drop count window ++ all, ap (λ bytes. bytes ++ all) (sym (take-append-drop count window)) ∙ append_assoc (take count window) (drop count window) all)

@@ -99,12 +99,14 @@ module _ {R : Type 0} where
   -- which were not given, of which one is past the limit.
   abbrev pub HasCause : (R → Input) → Source R → IoFault → List ℕ → Type 0
   HasCause look new io.Read past = (past ≡ []) × ((look new.reader).failed ≡ true)
-  HasCause look new io.InputTooLong past = (length past ≤ window_size) × (longest_input < given_by new + length past)
+  HasCause look new io.InputTooLong past =
+      (length past ≤ window_size) × (longest_input < given_by new + length past)
   HasCause look new io.Write past = ⊥
   HasCause look new io.Memory past = ⊥
 
   -- from old to new these bytes were given, the next ones; then the source stopped at this fault
-  pub record StopsAfter (look : R → Input) (old new : Source R) (bytes : List ℕ) (fault : IoFault) : Type 0 where
+  pub record StopsAfter (look : R → Input) (old new : Source R) (bytes : List ℕ)
+      (fault : IoFault) : Type 0 where
     pub bytes_fit : AreBytes bytes
     pub past : List ℕ
     pub next : Consumes (ahead look old) (look new.reader).left (bytes ++ past)
@@ -124,7 +126,8 @@ module _ {R : Type 0} where
   GivesReady look old new (Err fault) = StopsAfter look old new [] fault
 
   -- What one call of `some` gives.
-  pub record SomeBytes (look : R → Input) (old new : Source R) (buffer : List ℕ) (n : ℕ) : Type 0 where
+  pub record SomeBytes (look : R → Input) (old new : Source R)
+      (buffer : List ℕ) (n : ℕ) : Type 0 where
     pub room : n ≤ length buffer
     pub takes : Takes look old new (take n buffer)
     pub live : IsLive look new
@@ -139,12 +142,14 @@ module _ {R : Type 0} where
     pub takes : Takes look old new buffer
     pub live : IsLive look new
 
-  pub record EndedSlice (look : R → Input) (old new : Source R) (buffer : List ℕ) (n : ℕ) : Type 0 where
+  pub record EndedSlice (look : R → Input) (old new : Source R)
+      (buffer : List ℕ) (n : ℕ) : Type 0 where
     pub part : n < length buffer
     pub takes : Takes look old new (take n buffer)
     pub over : IsOver look new
 
-  pub record StoppedSlice (look : R → Input) (old new : Source R) (buffer : List ℕ) (fault : IoFault) : Type 0 where
+  pub record StoppedSlice (look : R → Input) (old new : Source R) (buffer : List ℕ)
+      (fault : IoFault) : Type 0 where
     pub count : ℕ
     pub part : count < length buffer
     pub stops : StopsAfter look old new (take count buffer) fault

@@ -12,7 +12,8 @@ module _ {W : Type 0} where
     pub device : (look new).failed ≡ (look old).failed
 
   -- the first bytes were written, and then the device failed
-  pub record WritesFront (look : W → Output) (old new : W) (bytes : List ℕ) (fault : IoFault) : Type 0 where
+  pub record WritesFront (look : W → Output) (old new : W) (bytes : List ℕ)
+      (fault : IoFault) : Type 0 where
     pub kind : fault ≡ io.Write
     pub count : ℕ
     pub front : count < length bytes

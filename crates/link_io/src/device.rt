@@ -54,7 +54,8 @@ pub trait OutDevice {
     fn write(&mut self, bytes: &[u8]) -> Result<usize, DeviceFault>
         ensures bound { IfOk result (λ n. n ≤ length bytes.now) }
         ensures some { IfOk result (λ n. 0 < length bytes.now → 0 < n) }
-        ensures bytes { WriteAppends (state self.old).written (state self.new).written result bytes.now }
+        ensures bytes { WriteAppends (state self.old).written
+            (state self.new).written result bytes.now }
         ensures failed { MatchResult result
             (λ _. (state self.new).failed ≡ (state self.old).failed)
             (λ _. (state self.new).failed ≡ true) };
@@ -104,7 +105,8 @@ impl<R: Read> Reader<R> {
 
     /// A device that has not failed.
     pub fn new(inner: R) -> Self
-        ensures { ⟦<Reader<R> as InDevice>⟧.state result ≡ record { left = R.remaining inner; failed = false } }
+        ensures { ⟦<Reader<R> as InDevice>⟧.state result
+            ≡ record { left = R.remaining inner; failed = false } }
     {
         Reader {
             inner,
@@ -151,7 +153,8 @@ impl<R: Read> BufferedReader<R> {
 
     /// A device that has not failed.
     pub fn new(inner: BufReader<R>) -> Self
-        ensures { ⟦<BufferedReader<R> as InDevice>⟧.state result ≡ record { left = reader_remaining R.remaining inner; failed = false } }
+        ensures { ⟦<BufferedReader<R> as InDevice>⟧.state result
+            ≡ record { left = reader_remaining R.remaining inner; failed = false } }
     {
         BufferedReader {
             buffered: Reader::new(inner),
@@ -187,7 +190,8 @@ pub struct Writer<W: Write> {
 impl<W: Write> Writer<W> {
     /// A device that has not failed.
     pub fn new(inner: W) -> Self
-        ensures { ⟦<Writer<W> as OutDevice>⟧.state result ≡ record { written = W.contents inner; failed = false } }
+        ensures { ⟦<Writer<W> as OutDevice>⟧.state result
+            ≡ record { written = W.contents inner; failed = false } }
     {
         Writer {
             inner,

@@ -109,7 +109,8 @@ impl<R: InDevice> Source<R> {
     pub fn may_wait(&self) -> bool
         ensures few { IsTrue result → length (window_of self.now) < window_size }
         // Where a read need not wait, the reader has bytes left.
-        ensures held { result ≡ false → length (window_of self.now) < window_size → HasBytes (R.state (reader_of self.now)).left }
+        ensures held { result ≡ false → length (window_of self.now) < window_size
+            → HasBytes (R.state (reader_of self.now)).left }
     {
         self.reader.held().is_empty() && self.end - self.start < WINDOW
     }
@@ -341,7 +342,8 @@ fn part(window: &[u8], start: usize, end: usize) -> &[u8]
 fn read_ahead<R: InDevice>(reader: &mut R, window: &mut [u8]) -> Result<usize, DeviceFault>
     requires { length window.old ≡ 8192 }
     ensures bound { IfOk result (λ n. n ≤ length window.new) }
-    ensures bytes { ReadConsumes (R.state reader.old).left (R.state reader.new).left result window.new }
+    ensures bytes { ReadConsumes (R.state reader.old).left
+        (R.state reader.new).left result window.new }
     ensures failed { MatchResult result
         (λ _. (R.state reader.new).failed ≡ (R.state reader.old).failed)
         (λ _. (R.state reader.new).failed ≡ true) }

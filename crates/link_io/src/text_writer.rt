@@ -54,8 +54,11 @@ impl<D: OutDevice> TextWriter<D> {
 
     /// Hands on all that waits, and returns the device below. After a fault a prefix of what waits was handed on.
     pub fn into_device(self) -> (D, Result<(), DeviceFault>)
-        ensures ok { OnOk result.1 (Keeps (output_of D.state self).written (D.state result.0).written) }
-        ensures part { OnErr result.1 (GivesPart (D.state (device_of self)).written (D.state result.0).written (waiting self)) }
+        ensures ok { OnOk result.1
+            (Keeps (output_of D.state self).written (D.state result.0).written) }
+        ensures part { OnErr result.1
+            (GivesPart (D.state (device_of self)).written
+            (D.state result.0).written (waiting self)) }
         ensures failed { MatchResult result.1
             (λ _. (D.state result.0).failed ≡ (output_of D.state self).failed)
             (λ _. (D.state result.0).failed ≡ true) }
@@ -83,7 +86,8 @@ impl<D: OutDevice> TextWriter<D> {
     fn pass(&mut self) -> Result<(), DeviceFault>
         ensures empty { OnOk result (waiting self.new ≡ []) }
         ensures size { length self.new.page.items ≡ length self.old.page.items }
-        ensures bytes { Keeps (output_of D.state self.old).written (output_of D.state self.new).written }
+        ensures bytes { Keeps (output_of D.state self.old).written
+            (output_of D.state self.new).written }
         ensures failed { MatchResult result
             (λ _. (D.state self.new.device).failed ≡ (D.state self.old.device).failed)
             (λ _. (D.state self.new.device).failed ≡ true) }
@@ -99,7 +103,8 @@ impl<D: OutDevice> TextWriter<D> {
     fn write_on(&mut self, bytes: &[u8]) -> Result<usize, DeviceFault>
         ensures bound { IfOk result (λ n. n ≤ length bytes.now) }
         ensures some { IfOk result (λ n. 0 < length bytes.now → 0 < n) }
-        ensures bytes { WriteAppends (output_of D.state self.old).written (output_of D.state self.new).written result bytes.now }
+        ensures bytes { WriteAppends (output_of D.state self.old).written
+            (output_of D.state self.new).written result bytes.now }
         ensures failed { MatchResult result
             (λ _. (D.state self.new.device).failed ≡ (D.state self.old.device).failed)
             (λ _. (D.state self.new.device).failed ≡ true) }
@@ -166,8 +171,10 @@ impl<D: OutDevice> OutDevice for TextWriter<D> {
     }
 
     fn settle(&mut self) -> Result<(), DeviceFault>
-        ensures bytes { Keeps (output_of D.state self.old).written (output_of D.state self.new).written }
-        ensures handed { OnOk result (D.handed self.new.device ≡ (output_of D.state self.new).written) }
+        ensures bytes { Keeps (output_of D.state self.old).written
+            (output_of D.state self.new).written }
+        ensures handed { OnOk result (D.handed self.new.device
+            ≡ (output_of D.state self.new).written) }
         ensures failed { MatchResult result
             (λ _. (output_of D.state self.new).failed ≡ (output_of D.state self.old).failed)
             (λ _. (output_of D.state self.new).failed ≡ true) }

@@ -41,7 +41,8 @@ pub(crate) fn write_out<W: OutDevice>(out: &mut W, bytes: &[u8]) -> (usize, Resu
     ensures bound { result.0 ≤ length bytes.now }
     ensures all { OnOk result.1 (result.0 ≡ length bytes.now) }
     ensures part { OnErr result.1 (result.0 < length bytes.now) }
-    ensures written { Appends (W.state out.old).written (W.state out.new).written (take result.0 bytes.now) }
+    ensures written { Appends (W.state out.old).written (W.state out.new).written
+        (take result.0 bytes.now) }
     ensures failed { MatchResult result.1
         (λ _. (W.state out.new).failed ≡ (W.state out.old).failed)
         (λ _. (W.state out.new).failed ≡ true) }

@@ -34,7 +34,8 @@ some_chunk : (segment size : ℕ) → 0 < segment → 0 < size → 0 < chunk_cou
 some_chunk segment size some byte = chunk_left segment 0 size some (omega arith)
 
 -- those that are due of a bundle that goes on are chunks of it
-pub due_within : (segment hold count size : ℕ) → 0 < segment → count ≤ due_of false segment hold size → count ≤ chunk_count segment size
+pub due_within : (segment hold count size : ℕ) → 0 < segment
+    → count ≤ due_of false segment hold size → count ≤ chunk_count segment size
 due_within segment hold count size some few =
     let within = given_within segment hold count size some few in
     fits_back segment count (size + (segment - 1)) some (omega arith)
@@ -67,9 +68,11 @@ module _ (options : PackOptions) where
   stands_init : Stands (init_entry options ∷ []) (carrying None) []
   stands_init = stands_more [] fresh [] (init_entry options) SessInit refl refl stands_none
 
-  whole_by : (number count : ℕ) (bundle : Packed) (heads : List Entry) (earlier : List Transfer) (offset : ℕ) → 0 < count → count ≡ chunk_count (segment_size options) (length bundle.bytes)
+  whole_by : (number count : ℕ) (bundle : Packed) (heads : List Entry) (earlier : List Transfer)
+      (offset : ℕ) → 0 < count → count ≡ chunk_count (segment_size options) (length bundle.bytes)
       → Stands heads (carrying None) earlier
-      → Stands (heads ++ segment_entries number (sending options true bundle.bytes) 0 count offset) (carrying None) (transfer_of number bundle ∷ earlier)
+      → Stands (heads ++ segment_entries number (sending options true bundle.bytes) 0 count offset)
+      (carrying None) (transfer_of number bundle ∷ earlier)
   whole_by number zero bundle heads earlier offset some all at = absurd (omega arith)
   whole_by number (suc count) bundle heads earlier offset some all at =
       let whole = sending options true bundle.bytes in
@@ -82,17 +85,21 @@ module _ (options : PackOptions) where
       (subst (λ (closed : Bool). Stands entries (carrying (open_by number closed)) (sent number whole (suc count) closed ∷ earlier)) last
       (sent_all number whole earlier count heads offset (omega (arith, all)) at))
 
-  stands_bundle : (number : ℕ) (bundle : Packed) (heads : List Entry) (earlier : List Transfer) (offset : ℕ) → 0 < length bundle.bytes
+  stands_bundle : (number : ℕ) (bundle : Packed) (heads : List Entry) (earlier : List Transfer)
+      (offset : ℕ) → 0 < length bundle.bytes
       → Stands heads (carrying None) earlier
-      → Stands (heads ++ due_entries number (sending options true bundle.bytes) offset) (carrying None) (transfer_of number bundle ∷ earlier)
+      → Stands (heads ++ due_entries number (sending options true bundle.bytes) offset)
+      (carrying None) (transfer_of number bundle ∷ earlier)
   unfolding due
   stands_bundle number bundle heads earlier offset some at =
       whole_by number (chunk_count (segment_size options) (length bundle.bytes)) bundle heads earlier offset
       (some_chunk (segment_size options) (length bundle.bytes) (some_size options) some) refl at
 
-  stands_bundles : (number : ℕ) (bundles : List Packed) (heads : List Entry) (earlier : List Transfer) (offset : ℕ) → AreBundles options.peer_transfer bundles
+  stands_bundles : (number : ℕ) (bundles : List Packed) (heads : List Entry)
+      (earlier : List Transfer) (offset : ℕ) → AreBundles options.peer_transfer bundles
       → Stands heads (carrying None) earlier
-      → Stands (heads ++ bundle_entries options number bundles offset) (carrying None) (onto number bundles earlier)
+      → Stands (heads ++ bundle_entries options number bundles offset) (carrying None)
+      (onto number bundles earlier)
   unfolding onto bundle_entries
   stands_bundles number [] heads earlier offset are at = subst (λ all. Stands all (carrying None) earlier) (sym (append-nil heads)) at
   stands_bundles number (bundle ∷ more) heads earlier offset are at =
@@ -111,18 +118,24 @@ module _ (options : PackOptions) where
     pub in_order : AreInOrder heads
     pub makes : transfers_of heads ≡ transfers
 
-  carried_as : {joiner : _} (heads others : List Entry) (transfers : List Transfer) → heads ≡ others → Stands heads joiner transfers → AreCarried others transfers
+  carried_as : {joiner : _} (heads others : List Entry) (transfers : List Transfer) → heads ≡ others
+      → Stands heads joiner transfers → AreCarried others transfers
   carried_as heads others transfers same at =
       subst (λ all. AreCarried all transfers) same (record { in_order = at.in_order; makes = at.makes })
 
-  carried_term : (asked : Bool) (heads : List Entry) (earlier : List Transfer) (offset : ℕ) → Stands heads (carrying None) earlier → AreCarried (heads ++ [] ++ term_entries options asked offset) earlier
+  carried_term : (asked : Bool) (heads : List Entry) (earlier : List Transfer) (offset : ℕ)
+      → Stands heads (carrying None) earlier
+      → AreCarried (heads ++ [] ++ term_entries options asked offset) earlier
   carried_term true heads earlier offset at =
       carried_as (heads ++ _) (heads ++ [] ++ _) earlier (ap (λ all. all ++ term_entries options true offset) (sym (append-nil heads)))
       (stands_more heads (carrying None) earlier _ SessTerm refl refl at)
   carried_term false heads earlier offset at = carried_as heads (heads ++ [] ++ []) earlier (sym (append-nil heads) ∙ sym (append-nil (heads ++ []))) at
 
-  part_by : (number count : ℕ) (part : Sending) (heads : List Entry) (earlier : List Transfer) (offset : ℕ) → part.whole ≡ false → count ≤ chunk_count part.segment (length part.bundle)
-      → Stands heads (carrying None) earlier → AreCarried (heads ++ segment_entries number part 0 count offset ++ []) (partly number part count earlier)
+  part_by : (number count : ℕ) (part : Sending) (heads : List Entry) (earlier : List Transfer)
+      (offset : ℕ) → part.whole ≡ false → count ≤ chunk_count part.segment (length part.bundle)
+      → Stands heads (carrying None) earlier
+      → AreCarried (heads ++ segment_entries number part 0 count offset ++ [])
+      (partly number part count earlier)
   unfolding segment_entries
   part_by number zero part heads earlier offset goes few at = carried_as heads (heads ++ [] ++ []) earlier (sym (append-nil heads) ∙ sym (append-nil (heads ++ []))) at
   part_by number (suc count) part heads earlier offset goes few at =
@@ -132,8 +145,10 @@ module _ (options : PackOptions) where
       (subst (λ (closed : Bool). Stands entries (carrying (open_by number closed)) (sent number part (suc count) closed ∷ earlier)) going
       (sent_all number part earlier count heads offset few at))
 
-  carried_rest : (number : ℕ) (rest : Option Rest) (heads : List Entry) (earlier : List Transfer) (offset after : ℕ) → Stands heads (carrying None) earlier
-      → AreCarried (heads ++ rest_entries options number rest offset ++ end_entries options rest after) (rest_onto number rest earlier)
+  carried_rest : (number : ℕ) (rest : Option Rest) (heads : List Entry) (earlier : List Transfer)
+      (offset after : ℕ) → Stands heads (carrying None) earlier
+      → AreCarried (heads ++ rest_entries options number rest offset
+      ++ end_entries options rest after) (rest_onto number rest earlier)
   unfolding due
   carried_rest number None heads earlier offset after at = carried_term options.send_term heads earlier after at
   carried_rest number (Some rest) heads earlier offset after at =
@@ -142,7 +157,8 @@ module _ (options : PackOptions) where
       part_by number count part heads earlier offset refl (due_within (segment_size options) options.announce count (length rest.accepted) (some_size options) (omega arith)) at
 
   -- the messages of a packed stream
-  pub packed_carried : (input : Divided) → AreBundles options.peer_transfer input.bundles → AreCarried (packed_entries options input) (packed_transfers input)
+  pub packed_carried : (input : Divided) → AreBundles options.peer_transfer input.bundles
+      → AreCarried (packed_entries options input) (packed_transfers input)
   packed_carried input are =
       carried_rest (length input.bundles) input.rest _ (onto 0 input.bundles []) _ _
       (stands_bundles 0 input.bundles (init_entry options ∷ []) [] (6 + length (init_bytes options)) are stands_init)

@@ -16,7 +16,8 @@ use Rattle.link_laws.proofs.Fronts.{take-append}
 use Rattle.link_laws.proofs.Lasting.{lasts_contact, lasts_message}
 
 -- the data of a segment goes on that is cut
-pub record GrowsFirst (offset : ℕ) (message : Message) (content : List ℕ) (rest : Stream) : Type 0 where
+pub record GrowsFirst (offset : ℕ) (message : Message) (content : List ℕ)
+    (rest : Stream) : Type 0 where
   pub short : length content < data_length message
   pub piece : List ℕ
   pub others : List Entry
@@ -33,19 +34,24 @@ pub record GoesOn (before after : Stream) : Type 0 where
   pub are : after ≡ record { entries = before.entries ++ rest.entries; end = rest.end }
   pub behind : IsBehind before.end rest
 
-goes_on_entry : (first : Entry) (before after : Stream) → GoesOn before after → GoesOn (with_entry first before) (with_entry first after)
+goes_on_entry : (first : Entry) (before after : Stream) → GoesOn before after
+    → GoesOn (with_entry first before) (with_entry first after)
 goes_on_entry first before after on = record { rest = on.rest; are = ap (with_entry first) on.are; behind = on.behind }
 
 -- ---- the data of a segment
 
 module _ (offset : ℕ) (message : Message) (bytes more : List ℕ) where
-  grows_by : (test : Bool) (count : ℕ) (later : Stream) → length bytes < data_length message → take count (bytes ++ more) ≡ bytes ++ take (count - length bytes) more
-      → GrowsFirst offset message bytes (if test then ended (Cut offset message (bytes ++ more)) else with_entry (entry offset message (take count (bytes ++ more))) later)
+  grows_by : (test : Bool) (count : ℕ) (later : Stream) → length bytes < data_length message
+      → take count (bytes ++ more) ≡ bytes ++ take (count - length bytes) more
+      → GrowsFirst offset message bytes (if test then ended (Cut offset message (bytes ++ more))
+      else with_entry (entry offset message (take count (bytes ++ more))) later)
   grows_by true count later short is = record { short = short; piece = more; others = []; heads = refl }
   grows_by false count later short is = record { short = short; piece = take (count - length bytes) more; others = later.entries ++ cut_heads later.end; heads = ap (λ (xs : List ℕ). entry offset message xs ∷ later.entries ++ cut_heads later.end) is }
 
   -- it is cut
-  cut_on : (before after : Stream) → length bytes < data_length message → GoesOn (with_data_of offset message bytes before) (with_data_of offset message (bytes ++ more) after)
+  cut_on : (before after : Stream) → length bytes < data_length message
+      → GoesOn (with_data_of offset message bytes before)
+      (with_data_of offset message (bytes ++ more) after)
   cut_on before after short =
       rw (lt-ltb (length bytes) (data_length message) short) (record {
         rest = with_data_of offset message (bytes ++ more) after;
@@ -54,7 +60,9 @@ module _ (offset : ℕ) (message : Message) (bytes more : List ℕ) where
       })
 
   -- it is whole
-  whole_on : (before after : Stream) → data_length message ≤ length bytes → GoesOn before after → GoesOn (with_data_of offset message bytes before) (with_data_of offset message (bytes ++ more) after)
+  whole_on : (before after : Stream) → data_length message ≤ length bytes → GoesOn before after
+      → GoesOn (with_data_of offset message bytes before)
+      (with_data_of offset message (bytes ++ more) after)
   whole_on before after whole on =
       rw (le-ltb (length bytes) (data_length message) whole, le-ltb (length (bytes ++ more)) (data_length message) (omega (arith, length-append bytes more)), take-append-le (data_length message) bytes more whole)
       (goes_on_entry (entry offset message (take (data_length message) bytes)) before after on)
@@ -62,7 +70,9 @@ module _ (offset : ℕ) (message : Message) (bytes more : List ℕ) where
 -- ---- messages
 
 -- a fault stays, if it lasts
-fault_on : (offset byte : ℕ) (bytes more : List ℕ) (fault : WireFault) → message_at (byte ∷ bytes) ≡ Err fault → GoesOn (stream_at offset (byte ∷ bytes)) (stream_at offset ((byte ∷ bytes) ++ more))
+fault_on : (offset byte : ℕ) (bytes more : List ℕ) (fault : WireFault)
+    → message_at (byte ∷ bytes) ≡ Err fault
+    → GoesOn (stream_at offset (byte ∷ bytes)) (stream_at offset ((byte ∷ bytes) ++ more))
 fault_on offset byte bytes more fault is =
     rw (stream_at-fault offset byte bytes fault is) (record {
       rest = stream_at offset ((byte ∷ bytes) ++ more);
@@ -70,8 +80,12 @@ fault_on offset byte bytes more fault is =
       behind = λ stays. stream_at-fault offset byte (bytes ++ more) fault (lasts_message.shown (byte ∷ bytes) more fault stays is);
     })
 
-module _ (count : ℕ) (more : List ℕ) (later : (offset : ℕ) (bytes : List ℕ) → length bytes ≤ count → GoesOn (stream_at offset bytes) (stream_at offset (bytes ++ more))) where
-  message_on : (offset : ℕ) (bytes : List ℕ) (message : Message) (rest : List ℕ) → length bytes ≤ suc count → message_at bytes ≡ Ok (message, rest) → GoesOn (stream_at offset bytes) (stream_at offset (bytes ++ more))
+module _ (count : ℕ) (more : List ℕ)
+    (later : (offset : ℕ) (bytes : List ℕ) → length bytes ≤ count
+    → GoesOn (stream_at offset bytes) (stream_at offset (bytes ++ more))) where
+  message_on : (offset : ℕ) (bytes : List ℕ) (message : Message) (rest : List ℕ)
+      → length bytes ≤ suc count → message_at bytes ≡ Ok (message, rest)
+      → GoesOn (stream_at offset bytes) (stream_at offset (bytes ++ more))
   message_on offset bytes message rest fewer is =
       let size = data_length message in
       let place = offset + (length bytes - length rest) + size in
@@ -84,7 +98,8 @@ module _ (count : ℕ) (more : List ℕ) (later : (offset : ℕ) (bytes : List �
       (rw (drop-append-le size rest more whole) (later place (drop size rest) (omega (arith, length-drop size rest)))))
       (cases_lt (length rest) size))
 
-  read_on : (offset byte : ℕ) (bytes : List ℕ) (read : Result (Message × List ℕ) WireFault) → length bytes ≤ count → message_at (byte ∷ bytes) ≡ read
+  read_on : (offset byte : ℕ) (bytes : List ℕ) (read : Result (Message × List ℕ) WireFault)
+      → length bytes ≤ count → message_at (byte ∷ bytes) ≡ read
       → GoesOn (stream_at offset (byte ∷ bytes)) (stream_at offset ((byte ∷ bytes) ++ more))
   read_on offset byte bytes (Ok (message, rest)) fewer is = message_on offset (byte ∷ bytes) message rest (omega arith) is
   read_on offset byte bytes (Err fault) fewer is = fault_on offset byte bytes more fault is
@@ -92,13 +107,15 @@ module _ (count : ℕ) (more : List ℕ) (later : (offset : ℕ) (bytes : List �
 none_on : (offset : ℕ) (more : List ℕ) → GoesOn (stream_at offset []) (stream_at offset more)
 none_on offset more = rw stream_at-nil (record { rest = stream_at offset more; are = refl; behind = tt })
 
-stream_on_upto : (count : ℕ) (more : List ℕ) (offset : ℕ) (bytes : List ℕ) → length bytes ≤ count → GoesOn (stream_at offset bytes) (stream_at offset (bytes ++ more))
+stream_on_upto : (count : ℕ) (more : List ℕ) (offset : ℕ) (bytes : List ℕ) → length bytes ≤ count
+    → GoesOn (stream_at offset bytes) (stream_at offset (bytes ++ more))
 stream_on_upto count more offset [] fewer = none_on offset more
 stream_on_upto zero more offset (byte ∷ bytes) fewer = absurd (omega arith)
 stream_on_upto (suc count) more offset (byte ∷ bytes) fewer =
     read_on count more (stream_on_upto count more) offset byte bytes (message_at (byte ∷ bytes)) (omega arith) refl
 
-pub stream_on : (offset : ℕ) (bytes more : List ℕ) → GoesOn (stream_at offset bytes) (stream_at offset (bytes ++ more))
+pub stream_on : (offset : ℕ) (bytes more : List ℕ)
+    → GoesOn (stream_at offset bytes) (stream_at offset (bytes ++ more))
 stream_on offset bytes more = stream_on_upto (length bytes) more offset bytes (omega arith)
 
 -- ---- a stream with its contact header
@@ -111,7 +128,9 @@ pub record ReadingGoesOn (before after : Reading) : Type 0 where
   pub contact : (after.contact ≡ before.contact) ⊎ ((before.contact ≡ None) × (before.entries ≡ []))
   pub messages : GoesOn (stream_of before) (stream_of after)
 
-reading_on_by : (bytes more : List ℕ) (read : Result (Contact × List ℕ) WireFault) → contact_at bytes ≡ read → ReadingGoesOn (reading_by read) (reading_by (contact_at (bytes ++ more)))
+reading_on_by : (bytes more : List ℕ) (read : Result (Contact × List ℕ) WireFault)
+    → contact_at bytes ≡ read
+    → ReadingGoesOn (reading_by read) (reading_by (contact_at (bytes ++ more)))
 reading_on_by bytes more (Ok (contact, rest)) is =
     rw (lasts_contact.read bytes more contact rest is) (record { contact = inl refl; messages = stream_on 6 rest more })
 reading_on_by bytes more (Err fault) is = record {
@@ -123,6 +142,7 @@ reading_on_by bytes more (Err fault) is = record {
   };
 }
 
-pub reading_on : (bytes more : List ℕ) → ReadingGoesOn (reading_of bytes) (reading_of (bytes ++ more))
+pub reading_on : (bytes more : List ℕ)
+    → ReadingGoesOn (reading_of bytes) (reading_of (bytes ++ more))
 unfolding reading_of
 reading_on bytes more = reading_on_by bytes more (contact_at bytes) refl

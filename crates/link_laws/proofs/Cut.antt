@@ -13,12 +13,15 @@ use Rattle.link_laws.specs.Cuts.{order_of, entries_of, Follow, written_by, repor
 
 -- ---- one entry more
 
-written_push : (entries : List TransferEntry) (last : TransferEntry) → written_by (entries ++ last ∷ []) ≡ written_by entries + last.written
+written_push : (entries : List TransferEntry) (last : TransferEntry)
+    → written_by (entries ++ last ∷ []) ≡ written_by entries + last.written
 unfolding written_by
 written_push [] last = omega arith
 written_push (entry ∷ more) last = let later = written_push more last in omega arith
 
-follow_push : (start : ℕ) (entries : List TransferEntry) (last : TransferEntry) → Follow start entries → last.start ≡ start + written_by entries → Follow start (entries ++ last ∷ [])
+follow_push : (start : ℕ) (entries : List TransferEntry) (last : TransferEntry)
+    → Follow start entries → last.start ≡ start + written_by entries
+    → Follow start (entries ++ last ∷ [])
 unfolding Follow written_by
 follow_push start [] last follow is = (omega arith, tt)
 follow_push start (entry ∷ more) last follow is = (follow.0, follow_push (start + entry.written) more last follow.1 (omega arith))
@@ -26,14 +29,16 @@ follow_push start (entry ∷ more) last follow is = (follow.0, follow_push (star
 module _ (wanted : Wanted) where
   -- ---- the entries of transfers
 
-  lines_are : (transfers : List Transfer) → lines_of wanted transfers ≡ flat_map transfer_text (entries_of wanted transfers)
+  lines_are : (transfers : List Transfer)
+      → lines_of wanted transfers ≡ flat_map transfer_text (entries_of wanted transfers)
   unfolding lines_of entries_of
   lines_are [] = refl
   lines_are (latest ∷ earlier) =
       ap (λ (lines : List ℕ). lines ++ line_of wanted latest earlier) (lines_are earlier)
       ∙ flat_map_more transfer_text [] (entries_of wanted earlier) (entry_of wanted latest (length (parts_of wanted earlier)))
 
-  all_written : (transfers : List Transfer) → length (parts_of wanted transfers) ≡ written_by (entries_of wanted transfers)
+  all_written : (transfers : List Transfer)
+      → length (parts_of wanted transfers) ≡ written_by (entries_of wanted transfers)
   unfolding parts_of entries_of written_by
   all_written [] = refl
   all_written (latest ∷ earlier) =
@@ -51,15 +56,18 @@ module _ (wanted : Wanted) where
 -- ---- the transfer that has no line
 
 unlined_by : (closed : Bool) (latest : Transfer) (earlier : List Transfer) → closed ≡ latest.closed
-    → (left : List Transfer) × (length left ≤ 1) × (latest ∷ earlier ≡ left ++ (if closed then latest ∷ earlier else earlier))
+    → (left : List Transfer) × (length left ≤ 1)
+    × (latest ∷ earlier ≡ left ++ (if closed then latest ∷ earlier else earlier))
 unlined_by true latest earlier is = ([], omega arith, refl)
 unlined_by false latest earlier is = (latest ∷ [], omega arith, refl)
 
-unlined_settled : (transfers : List Transfer) → (left : List Transfer) × (length left ≤ 1) × (transfers ≡ left ++ settled transfers)
+unlined_settled : (transfers : List Transfer) → (left : List Transfer) × (length left ≤ 1)
+    × (transfers ≡ left ++ settled transfers)
 unlined_settled [] = ([], omega arith, refl)
 unlined_settled (latest ∷ earlier) = unlined_by latest.closed latest earlier refl
 
-unlined_over : (refused : Option (ℕ × OrderFault)) (end : End) (transfers : List Transfer) → (left : List Transfer) × (length left ≤ 1) × (transfers ≡ left ++ over refused end transfers)
+unlined_over : (refused : Option (ℕ × OrderFault)) (end : End) (transfers : List Transfer)
+    → (left : List Transfer) × (length left ≤ 1) × (transfers ≡ left ++ over refused end transfers)
 unlined_over (Some refused) end transfers = unlined_settled transfers
 unlined_over None Clean transfers = ([], omega arith, refl)
 unlined_over None (Cut offset message content) transfers = unlined_settled transfers

@@ -46,21 +46,28 @@ some_bundle : (front : List ℕ) (info : BundleInfo) → verdict front ≡ Ok in
 some_bundle [] info is = absurd (false≢true (sym (whole_stops [] info is) ∙ none_goes))
 some_bundle (byte ∷ bytes) info is = omega arith
 
-taken_by : (beyond : Bool) (limit : ℕ) (front : List ℕ) (said : Result BundleInfo (BundleFault × ℕ)) (info : BundleInfo) → nat_lt limit (length front) ≡ beyond
-    → (if beyond then Err (Longer limit) else refused_by said) ≡ Ok info → (length front ≤ limit) × (said ≡ Ok info)
+taken_by : (beyond : Bool) (limit : ℕ) (front : List ℕ) (said : Result BundleInfo (BundleFault × ℕ))
+    (info : BundleInfo) → nat_lt limit (length front) ≡ beyond
+    → (if beyond then Err (Longer limit) else refused_by said) ≡ Ok info
+    → (length front ≤ limit) × (said ≡ Ok info)
 taken_by true limit front said info test is = absurd (cc)
 taken_by false limit front (Ok other) info test is = (ltb-false limit (length front) test, cc)
 taken_by false limit front (Err (fault, place)) info test is = absurd (cc)
 
-taken_whole : (limit : ℕ) (front : List ℕ) (info : BundleInfo) → judged_front limit front ≡ Ok info → (length front ≤ limit) × (verdict front ≡ Ok info)
+taken_whole : (limit : ℕ) (front : List ℕ) (info : BundleInfo) → judged_front limit front ≡ Ok info
+    → (length front ≤ limit) × (verdict front ≡ Ok info)
 taken_whole limit front info is = taken_by (nat_lt limit (length front)) limit front (verdict front) info refl is
 
-accepted_faulty : (stays : Bool) (limit : ℕ) (front : List ℕ) → length front ≤ limit → length (if stays then take (length front - 1) front else front) ≤ limit
+accepted_faulty : (stays : Bool) (limit : ℕ) (front : List ℕ) → length front ≤ limit
+    → length (if stays then take (length front - 1) front else front) ≤ limit
 accepted_faulty true limit front within = omega (arith, length-take (length front - 1) front)
 accepted_faulty false limit front within = within
 
-accepted_within : (beyond : Bool) (limit : ℕ) (front : List ℕ) (said : Result BundleInfo (BundleFault × ℕ)) (refusal : Refusal) → nat_lt limit (length front) ≡ beyond
-    → (if beyond then Err (Longer limit) else refused_by said) ≡ Err refusal → length (accepted_by refusal front) ≤ limit
+accepted_within : (beyond : Bool) (limit : ℕ) (front : List ℕ)
+    (said : Result BundleInfo (BundleFault × ℕ)) (refusal : Refusal)
+    → nat_lt limit (length front) ≡ beyond
+    → (if beyond then Err (Longer limit) else refused_by said) ≡ Err refusal
+    → length (accepted_by refusal front) ≤ limit
 accepted_within true limit front said refusal test is =
     let same : Longer limit ≡ refusal = cc in
     subst (λ why. length (accepted_by why front) ≤ limit) same (omega (arith, length-take limit front))
@@ -69,11 +76,13 @@ accepted_within false limit front (Err (fault, place)) refusal test is =
     let same : Faulty fault place ≡ refusal = cc in
     subst (λ why. length (accepted_by why front) ≤ limit) same (accepted_faulty (lasts fault) limit front (ltb-false limit (length front) test))
 
-faulty_bytes : (stays : Bool) (front : List ℕ) → AreBytes front → AreBytes (if stays then take (length front - 1) front else front)
+faulty_bytes : (stays : Bool) (front : List ℕ) → AreBytes front
+    → AreBytes (if stays then take (length front - 1) front else front)
 faulty_bytes true front are = All-take IsByte (length front - 1) front are
 faulty_bytes false front are = are
 
-accepted_bytes : (refusal : Refusal) (front : List ℕ) → AreBytes front → AreBytes (accepted_by refusal front)
+accepted_bytes : (refusal : Refusal) (front : List ℕ) → AreBytes front
+    → AreBytes (accepted_by refusal front)
 accepted_bytes (Longer limit) front are = All-take IsByte limit front are
 accepted_bytes (Faulty fault place) front are = faulty_bytes (lasts fault) front are
 
@@ -92,7 +101,8 @@ module _ (limit : ℕ) (next : List ℕ → Divided) (bytes : List ℕ) (are : A
   abbrev left : List ℕ
   left = drop (length (front_of bytes)) bytes
 
-  divides : (said : Result BundleInfo Refusal) → judged_front limit (front_of bytes) ≡ said → (length left < length bytes → IsDivided limit left (next left)) → 0 < length bytes
+  divides : (said : Result BundleInfo Refusal) → judged_front limit (front_of bytes) ≡ said
+      → (length left < length bytes → IsDivided limit left (next left)) → 0 < length bytes
       → IsDivided limit bytes (divided_by next (front_of bytes) bytes said)
   divides (Ok info) is later there =
       let taken = taken_whole limit front info is in
@@ -115,7 +125,8 @@ module _ (limit : ℕ) (next : List ℕ → Divided) (bytes : List ℕ) (are : A
     whole = λ none. absurd (cc);
   }
 
-divided_so : (count limit : ℕ) (bytes : List ℕ) → AreBytes bytes → length bytes ≤ count → IsDivided limit bytes (divided_in count limit bytes)
+divided_so : (count limit : ℕ) (bytes : List ℕ) → AreBytes bytes → length bytes ≤ count
+    → IsDivided limit bytes (divided_in count limit bytes)
 unfolding divided_in
 divided_so count limit [] are few = record { bundles = tt; few = omega arith; rest = tt; whole = λ none. refl }
 divided_so zero limit (byte ∷ bytes) are few = absurd (omega arith)
@@ -126,6 +137,7 @@ divided_so (suc count) limit (byte ∷ bytes) are few =
     (omega arith)
 
 -- how an input is divided
-pub is_divided : (limit : ℕ) (bytes : List ℕ) → AreBytes bytes → IsDivided limit bytes (divided limit bytes)
+pub is_divided : (limit : ℕ) (bytes : List ℕ) → AreBytes bytes
+    → IsDivided limit bytes (divided limit bytes)
 unfolding divided
 is_divided limit bytes are = divided_so (length bytes) limit bytes are (omega arith)

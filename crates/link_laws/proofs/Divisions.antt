@@ -22,7 +22,8 @@ pub record IsRefused (limit : ℕ) (bytes : List ℕ) : Type 0 where
   pub accepted : List ℕ
   pub refusal : Refusal
   pub shown : lasting refusal ≡ true
-  pub divides : (more : List ℕ) → divided limit (bytes ++ more) ≡ refused_so bundles refusal accepted
+  pub divides : (more : List ℕ)
+      → divided limit (bytes ++ more) ≡ refused_so bundles refusal accepted
 
 -- behind these bundles another has begun
 pub record IsOpen (limit : ℕ) (bytes : List ℕ) : Type 0 where
@@ -31,7 +32,8 @@ pub record IsOpen (limit : ℕ) (bytes : List ℕ) : Type 0 where
   pub front : front_of begun ≡ begun
   pub goes : bundle_goes begun ≡ true
   pub within : length begun ≤ limit
-  pub divides : (more : List ℕ) → divided limit (bytes ++ more) ≡ joined bundles (divided limit (begun ++ more))
+  pub divides : (more : List ℕ)
+      → divided limit (bytes ++ more) ≡ joined bundles (divided limit (begun ++ more))
 
 -- ---- a front, and what is behind it
 
@@ -51,8 +53,11 @@ all_taken bytes goes =
 -- ---- the first of it
 
 -- a bundle, and then what is behind it
-module _ (limit : ℕ) (bundle rest : List ℕ) (info : BundleInfo) (front : front_of bundle ≡ bundle) (is : verdict bundle ≡ Ok info) (within : length bundle ≤ limit) where
-  whole_then : (more : List ℕ) → divided limit ((bundle ++ rest) ++ more) ≡ with_bundle (record { bytes = bundle; info = info }) (divided limit (rest ++ more))
+module _ (limit : ℕ) (bundle rest : List ℕ) (info : BundleInfo) (front : front_of bundle ≡ bundle)
+    (is : verdict bundle ≡ Ok info) (within : length bundle ≤ limit) where
+  whole_then : (more : List ℕ)
+      → divided limit ((bundle ++ rest) ++ more)
+      ≡ with_bundle (record { bytes = bundle; info = info }) (divided limit (rest ++ more))
   whole_then more = ap (divided limit) (append_assoc bundle rest more) ∙ divided_whole limit bundle (rest ++ more) info front is within
 
   refused_then : IsRefused limit rest → IsRefused limit (bundle ++ rest)
@@ -75,7 +80,9 @@ module _ (limit : ℕ) (bundle rest : List ℕ) (info : BundleInfo) (front : fro
   }
 
 -- the last byte of the front shows a fault
-faulty_first : (limit : ℕ) (front rest : List ℕ) (fault : BundleFault) (place : ℕ) → front_of front ≡ front → verdict front ≡ Err (fault, place) → lasts fault ≡ true → length front ≤ limit → IsRefused limit (front ++ rest)
+faulty_first : (limit : ℕ) (front rest : List ℕ) (fault : BundleFault) (place : ℕ)
+    → front_of front ≡ front → verdict front ≡ Err (fault, place) → lasts fault ≡ true
+    → length front ≤ limit → IsRefused limit (front ++ rest)
 faulty_first limit front rest fault place is said stays within = record {
   bundles = [];
   accepted = _;
@@ -95,7 +102,8 @@ longer_front limit bytes more beyond =
     ∙ ap (divided_by (divided limit) (front_of bytes ++ run) (bytes ++ more)) (beyond_limit limit (front_of bytes ++ run) (omega (arith, length-append (front_of bytes) run)))
     ∙ ap (refused_so [] (Longer limit)) (take-append-le limit (front_of bytes) run (omega arith))
 
-longer_first : (limit : ℕ) (bytes : List ℕ) → limit < length (front_of bytes) → IsRefused limit bytes
+longer_first : (limit : ℕ) (bytes : List ℕ)
+    → limit < length (front_of bytes) → IsRefused limit bytes
 longer_first limit bytes beyond = record {
   bundles = [];
   accepted = take limit (front_of bytes);
@@ -105,7 +113,8 @@ longer_first limit bytes beyond = record {
 }
 
 -- a bundle that goes on
-open_first : (limit : ℕ) (begun : List ℕ) → front_of begun ≡ begun → bundle_goes begun ≡ true → length begun ≤ limit → IsOpen limit begun
+open_first : (limit : ℕ) (begun : List ℕ) → front_of begun ≡ begun → bundle_goes begun ≡ true
+    → length begun ≤ limit → IsOpen limit begun
 open_first limit begun front goes within = record {
   bundles = [];
   begun = begun;
@@ -118,17 +127,21 @@ open_first limit begun front goes within = record {
 -- ---- the whole
 
 -- a fault that stops it lasts
-stopped_lasts : (stays : Bool) (fault : BundleFault) (place : ℕ) → is_going (if stays then state.Failed fault place else state.Going) ≡ false → stays ≡ true
+stopped_lasts : (stays : Bool) (fault : BundleFault) (place : ℕ)
+    → is_going (if stays then state.Failed fault place else state.Going) ≡ false → stays ≡ true
 stopped_lasts true fault place stops = refl
 stopped_lasts false fault place stops = absurd (cc)
 
 abbrev IsDivided : ℕ → List ℕ → Type 0
 IsDivided limit bytes = IsRefused limit bytes ⊎ IsOpen limit bytes
 
-module _ (count limit : ℕ) (later : (rest : List ℕ) → length rest ≤ count → IsDivided limit rest) where
+module _ (count limit : ℕ)
+    (later : (rest : List ℕ) → length rest ≤ count → IsDivided limit rest) where
   -- a front that is judged, and what is behind it, fewer bytes
-  judged_so : (front rest : List ℕ) (said : Result BundleInfo (BundleFault × ℕ)) → verdict front ≡ said → bundle_goes front ≡ false
-      → front_of front ≡ front → length front ≤ limit → length rest ≤ count → IsDivided limit (front ++ rest)
+  judged_so : (front rest : List ℕ) (said : Result BundleInfo (BundleFault × ℕ))
+      → verdict front ≡ said → bundle_goes front ≡ false
+      → front_of front ≡ front → length front ≤ limit → length rest ≤ count
+      → IsDivided limit (front ++ rest)
   judged_so front rest (Ok info) is stops all within fewer =
       ⊎_elim
       (λ refused. inl (refused_then limit front rest info all is within refused))
@@ -137,7 +150,8 @@ module _ (count limit : ℕ) (later : (rest : List ℕ) → length rest ≤ coun
   judged_so front rest (Err (fault, place)) is stops all within fewer =
       inl (faulty_first limit front rest fault place all is (stopped_lasts (lasts fault) fault place (ap (λ said. is_going (state_of said)) (sym is) ∙ stops)) within)
 
-  step : (bytes : List ℕ) → length bytes ≤ suc count → length (front_of bytes) ≤ limit → IsDivided limit bytes
+  step : (bytes : List ℕ) → length bytes ≤ suc count
+      → length (front_of bytes) ≤ limit → IsDivided limit bytes
   step bytes fewer within =
       let front = front_of bytes in
       ⊎_elim

@@ -81,11 +81,14 @@ pub some_size : (options : PackOptions) → 0 < min options.peer_segment 65536
 some_size options = let some = options.some in omega arith
 
 module _ (options : PackOptions) where
-  pub sending_fits : (whole : Bool) (bundle : List ℕ) → AreBytes bundle → SendingFits (sending options whole bundle)
+  pub sending_fits : (whole : Bool) (bundle : List ℕ) → AreBytes bundle
+      → SendingFits (sending options whole bundle)
   sending_fits whole bundle are = record { some = some_size options; small = omega arith; hold = options.hold; are = are }
 
-  bundle_stream : (number : ℕ) (bundles : List Packed) (offset : ℕ) → AreBundles options.peer_transfer bundles → number + length bundles ≤ 2 ^ 64
-      → IsStream (bundle_entries options number bundles offset) Clean offset (transfers_of options number bundles)
+  bundle_stream : (number : ℕ) (bundles : List Packed) (offset : ℕ)
+      → AreBundles options.peer_transfer bundles → number + length bundles ≤ 2 ^ 64
+      → IsStream (bundle_entries options number bundles offset) Clean offset
+      (transfers_of options number bundles)
   unfolding bundle_entries transfers_of
   bundle_stream number [] offset are few = refl
   bundle_stream number (bundle ∷ more) offset are few =
@@ -95,18 +98,23 @@ module _ (options : PackOptions) where
       (segments_stream number whole (sending_fits true bundle.bytes are.0.are) (omega arith) 0 (due (cutting_of whole)) offset)
       (bundle_stream (suc number) more after are.1 (omega arith))
 
-  rest_stream : (number : ℕ) (rest : Option Rest) (offset : ℕ) → IfSome rest (IsRest options.peer_transfer) → number < 2 ^ 64
-      → IsStream (rest_entries options number rest offset) Clean offset (rest_segments options number rest)
+  rest_stream : (number : ℕ) (rest : Option Rest) (offset : ℕ)
+      → IfSome rest (IsRest options.peer_transfer) → number < 2 ^ 64
+      → IsStream (rest_entries options number rest offset) Clean offset
+      (rest_segments options number rest)
   rest_stream number None offset is few = refl
   rest_stream number (Some rest) offset is few =
       let part = sending options false rest.accepted in
       segments_stream number part (sending_fits false rest.accepted is.are) few 0 (due (cutting_of part)) offset
 
-  term_stream : (asked : Bool) (offset : ℕ) → IsStream (term_entries options asked offset) Clean offset (if asked then sess_term_bytes 0 0 else [])
+  term_stream : (asked : Bool) (offset : ℕ)
+      → IsStream (term_entries options asked offset) Clean offset (if asked
+      then sess_term_bytes 0 0 else [])
   term_stream true offset = stream_plain offset (SessTerm 0 0) (sess_term_bytes 0 0) (sess_term_spelled 0 0 (omega arith) (omega arith)) refl
   term_stream false offset = refl
 
-  end_stream : (rest : Option Rest) (offset : ℕ) → IsStream (end_entries options rest offset) Clean offset (end_bytes options rest)
+  end_stream : (rest : Option Rest) (offset : ℕ)
+      → IsStream (end_entries options rest offset) Clean offset (end_bytes options rest)
   end_stream None offset = term_stream options.send_term offset
   end_stream (Some rest) offset = refl
 
@@ -116,8 +124,11 @@ module _ (options : PackOptions) where
         stream_plain 6 _ (init_bytes options)
         (sess_init_spelled options.keepalive options.segment_mru options.transfer_mru options.node.items fit.keepalive fit.segment_mru fit.transfer_mru fit.node fit.short) refl
 
-    module _ (input : Divided) (bundles : AreBundles options.peer_transfer input.bundles) (rest : IfSome input.rest (IsRest options.peer_transfer)) (few : length input.bundles < 2 ^ 64) where
-      packed_stream : IsStream (packed_entries options input) Clean 6 (rest_bytes options input ++ end_bytes options input.rest)
+    module _ (input : Divided) (bundles : AreBundles options.peer_transfer input.bundles)
+        (rest : IfSome input.rest (IsRest options.peer_transfer))
+        (few : length input.bundles < 2 ^ 64) where
+      packed_stream : IsStream (packed_entries options input) Clean 6 (rest_bytes options input
+          ++ end_bytes options input.rest)
       packed_stream =
           let first = first_entries options input in
           let more = more_entries options input in
@@ -130,7 +141,8 @@ module _ (options : PackOptions) where
           (end_stream input.rest (6 + length (rest_bytes options input)))
 
       -- what is packed is read as these messages
-      pub packed_is : IsReading (packing_by options input).texts.output (packed_reading options input)
+      pub packed_is : IsReading (packing_by options input).texts.output
+          (packed_reading options input)
       unfolding prelude_bytes
       packed_is =
           let segments = rest_segments options (length input.bundles) input.rest in

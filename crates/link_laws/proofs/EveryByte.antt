@@ -48,12 +48,16 @@ no_data (message.MsgReject reason header) other = refl
 never_cut : (bytes : List ℕ) (size : ℕ) → nat_lt (length bytes) size ≡ true → size ≡ 0 → ⊥
 never_cut bytes size cut none = let short = ltb-true (length bytes) size cut in omega arith
 
-data_by : (test : Bool) (offset : ℕ) (sent : Message) (bytes : List ℕ) (rest : Stream) → nat_lt (length bytes) (data_length sent) ≡ test → StreamOwns rest
-    → StreamOwns (if test then ended (Cut offset sent bytes) else with_entry (entry offset sent (take (data_length sent) bytes)) rest)
+data_by : (test : Bool) (offset : ℕ) (sent : Message) (bytes : List ℕ) (rest : Stream)
+    → nat_lt (length bytes) (data_length sent) ≡ test → StreamOwns rest
+    → StreamOwns (if test then ended (Cut offset sent bytes)
+    else with_entry (entry offset sent (take (data_length sent) bytes)) rest)
 data_by true offset sent bytes rest is own = ((λ other. absurd (never_cut bytes (data_length sent) is (no_data sent other))), tt)
 data_by false offset sent bytes rest is own = ((λ other. ap (λ size. take size bytes) (no_data sent other)), own)
 
-read_by : (next : ℕ → List ℕ → Stream) (offset size : ℕ) (read : Result (Message × List ℕ) WireFault) → ((later : ℕ) (bytes : List ℕ) → StreamOwns (next later bytes))
+read_by : (next : ℕ → List ℕ → Stream) (offset size : ℕ)
+    (read : Result (Message × List ℕ) WireFault)
+    → ((later : ℕ) (bytes : List ℕ) → StreamOwns (next later bytes))
     → StreamOwns (stream_by next offset size read)
 read_by next offset size (Err fault) own = tt
 read_by next offset size (Ok (sent, bytes)) own = data_by (nat_lt (length bytes) (data_length sent)) offset sent bytes _ refl (own _ _)
@@ -88,25 +92,31 @@ record Adds (transfers after : List Transfer) (content : List ℕ) : Type 0 wher
   pub parts : parts_of all after ≡ parts_of all transfers ++ content
   pub some : 0 < length after
 
-continued_adds : (transfers : List Transfer) (content : List ℕ) (closed : Bool) → 0 < length transfers → Adds transfers (continued transfers content closed) content
+continued_adds : (transfers : List Transfer) (content : List ℕ) (closed : Bool)
+    → 0 < length transfers → Adds transfers (continued transfers content closed) content
 continued_adds [] content closed some = absurd (omega arith)
 continued_adds (latest ∷ earlier) content closed some = record {
   parts = parts_more all _ earlier ∙ sym (append_assoc (parts_of all earlier) latest.content content) ∙ ap (λ (parts : List ℕ). parts ++ content) (sym (parts_more all latest earlier));
   some = omega arith;
 }
 
-module _ (transfers : List Transfer) (before : List Message) (content : List ℕ) (known : HasLatest transfers before) where
-  segment_by : (starts : Bool) (head : SegmentHead) → is_start head.flags ≡ starts → refusal before (event_of (message.Segment head)) ≡ None → Adds transfers (after_segment transfers head content) content
+module _ (transfers : List Transfer) (before : List Message) (content : List ℕ)
+    (known : HasLatest transfers before) where
+  segment_by : (starts : Bool) (head : SegmentHead) → is_start head.flags ≡ starts
+      → refusal before (event_of (message.Segment head)) ≡ None
+      → Adds transfers (after_segment transfers head content) content
   segment_by true head is may = rw is (record { parts = parts_more all _ transfers; some = omega arith })
   segment_by false head is may =
       rw is (continued_adds transfers content (closes head content) (known.some (open_where_continued before head.flags head.id is may)))
 
   -- the data of a head that is in order
   record HasAdded (sent : Message) : Type 0 where
-    pub parts : parts_of all (after_message transfers sent content) ≡ parts_of all transfers ++ content
+    pub parts : parts_of all (after_message transfers sent content)
+        ≡ parts_of all transfers ++ content
     pub latest : HasLatest (after_message transfers sent content) (before ++ sent ∷ [])
 
-  segment_added : (head : SegmentHead) → refusal before (event_of (message.Segment head)) ≡ None → HasAdded (message.Segment head)
+  segment_added : (head : SegmentHead) → refusal before (event_of (message.Segment head)) ≡ None
+      → HasAdded (message.Segment head)
   segment_added head may =
       let adds = segment_by (is_start head.flags) head refl may in
       record { parts = adds.parts; latest = record { some = λ opened. adds.some } }
@@ -117,7 +127,8 @@ module _ (transfers : List Transfer) (before : List Message) (content : List ℕ
     latest = record { some = λ opened. rw (transfers_same transfers sent content other) (known.some (ap is_some (sym (after-other before sent other)) ∙ opened)) };
   }
 
-  message_added : (sent : Message) → (is_segment (event_of sent) ≡ false → content ≡ []) → refusal before (event_of sent) ≡ None → HasAdded sent
+  message_added : (sent : Message) → (is_segment (event_of sent) ≡ false → content ≡ [])
+      → refusal before (event_of sent) ≡ None → HasAdded sent
   message_added sent own may =
       ⊎_elim
       (λ segment. rw segment.1 (segment_added segment.0 (rw segment.1 at may)))
@@ -127,13 +138,18 @@ module _ (transfers : List Transfer) (before : List Message) (content : List ℕ
 -- ---- all heads
 
 heads_by : (refused : Option OrderFault) (transfers : List Transfer) (head : Entry) (rest : Ordered)
-    → (refused ≡ None → parts_of all (with_heads (after_message transfers head.message head.content) rest.heads) ≡ (parts_of all transfers ++ head.content) ++ flat_map data_of rest.heads)
-    → parts_of all (with_heads transfers (ordered_by refused head rest).heads) ≡ parts_of all transfers ++ flat_map data_of (ordered_by refused head rest).heads
+    → (refused ≡ None → parts_of all
+    (with_heads (after_message transfers head.message head.content) rest.heads)
+    ≡ (parts_of all transfers ++ head.content) ++ flat_map data_of rest.heads)
+    → parts_of all (with_heads transfers (ordered_by refused head rest).heads)
+    ≡ parts_of all transfers ++ flat_map data_of (ordered_by refused head rest).heads
 heads_by (Some fault) transfers head rest later = sym (append-nil _)
 heads_by None transfers head rest later = later refl ∙ append_assoc (parts_of all transfers) head.content (flat_map data_of rest.heads)
 
-heads_added : (heads : List Entry) (transfers : List Transfer) (before : List Message) → HeadsOwn heads → HasLatest transfers before
-    → parts_of all (with_heads transfers (ordered_after before heads).heads) ≡ parts_of all transfers ++ flat_map data_of (ordered_after before heads).heads
+heads_added : (heads : List Entry) (transfers : List Transfer) (before : List Message)
+    → HeadsOwn heads → HasLatest transfers before
+    → parts_of all (with_heads transfers (ordered_after before heads).heads)
+    ≡ parts_of all transfers ++ flat_map data_of (ordered_after before heads).heads
 unfolding ordered_after
 heads_added [] transfers before own latest = sym (append-nil _)
 heads_added (head ∷ heads) transfers before own latest =

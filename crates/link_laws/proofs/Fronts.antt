@@ -11,7 +11,8 @@ pub front_then : (text whole more : List ℕ) → IsFrontOf text whole → IsFro
 front_then text whole more front = (front.0 ++ more, ap (λ (xs : List ℕ). xs ++ more) front.1 ∙ append_assoc text front.0 more)
 
 -- the same text before both
-pub front_after : (before text whole : List ℕ) → IsFrontOf text whole → IsFrontOf (before ++ text) (before ++ whole)
+pub front_after : (before text whole : List ℕ) → IsFrontOf text whole
+    → IsFrontOf (before ++ text) (before ++ whole)
 front_after before text whole front = (front.0, ap (λ (xs : List ℕ). before ++ xs) front.1 ∙ sym (append_assoc before text front.0))
 
 pub front_first : (text more : List ℕ) → IsFrontOf text (text ++ more)
@@ -20,11 +21,13 @@ front_first text more = (more, refl)
 pub front_none : (whole : List ℕ) → IsFrontOf [] whole
 front_none whole = (whole, refl)
 
-pub front_trans : (text mid whole : List ℕ) → IsFrontOf text mid → IsFrontOf mid whole → IsFrontOf text whole
+pub front_trans : (text mid whole : List ℕ) → IsFrontOf text mid
+    → IsFrontOf mid whole → IsFrontOf text whole
 front_trans text mid whole first second =
     (first.0 ++ second.0, second.1 ∙ ap (λ (xs : List ℕ). xs ++ second.0) first.1 ∙ append_assoc text first.0 second.0)
 
 -- a front of the bytes that are behind others
-pub take-append : (count : ℕ) (front back : List ℕ) → length front ≤ count → take count (front ++ back) ≡ front ++ take (count - length front) back
+pub take-append : (count : ℕ) (front back : List ℕ) → length front ≤ count
+    → take count (front ++ back) ≡ front ++ take (count - length front) back
 take-append count front back enough =
     ap (λ n. take n (front ++ back)) {y = length front + (count - length front)} (omega arith) ∙ take-append-add front back (count - length front)

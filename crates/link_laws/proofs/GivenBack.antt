@@ -32,20 +32,24 @@ use Rattle.link_laws.proofs.Readings.{IsPackedSo, divides, packed_so, carried, n
 
 -- ---- a bundle
 
-good_by : (told : Announced) (size : ℕ) (said : Result BundleInfo (BundleFault × ℕ)) (info : BundleInfo) → said ≡ Ok info → (told ≡ Absent) ⊎ ((true ≡ true) × (told ≡ Total size))
+good_by : (told : Announced) (size : ℕ) (said : Result BundleInfo (BundleFault × ℕ))
+    (info : BundleInfo) → said ≡ Ok info → (told ≡ Absent) ⊎ ((true ≡ true) × (told ≡ Total size))
     → judged false told size said ≡ Good info
 good_by told size said info is (inl absent) = rw (absent, is) refl
 good_by told size said info is (inr total) = rw (total.1, is, eq-eqb size size refl) refl
 
 module _ (options : PackOptions) where
-  judged_good : (number : ℕ) (bundle : Packed) → verdict bundle.bytes ≡ Ok bundle.info → judgement_of (transfer_of options number bundle) ≡ Good bundle.info
+  judged_good : (number : ℕ) (bundle : Packed) → verdict bundle.bytes ≡ Ok bundle.info
+      → judgement_of (transfer_of options number bundle) ≡ Good bundle.info
   judged_good number bundle is =
       let whole = cutting_of (sending options true bundle.bytes) in
       good_by (announced_of (announced (announcement whole))) (length bundle.bytes) (verdict bundle.bytes) bundle.info is (announces whole)
 
   -- ---- all bundles
 
-  parts_onto : (number : ℕ) (bundles : List Packed) (earlier : List Transfer) → parts_of all (onto options number bundles earlier) ≡ parts_of all earlier ++ contents bundles
+  parts_onto : (number : ℕ) (bundles : List Packed) (earlier : List Transfer)
+      → parts_of all (onto options number bundles earlier)
+      ≡ parts_of all earlier ++ contents bundles
   unfolding onto
   parts_onto number [] earlier = sym (append-nil (parts_of all earlier))
   parts_onto number (bundle ∷ more) earlier =
@@ -54,11 +58,15 @@ module _ (options : PackOptions) where
       ∙ ap (λ parts. parts ++ contents more) (parts_more all latest earlier)
       ∙ append_assoc (parts_of all earlier) bundle.bytes (contents more)
 
-  parts_length : (number : ℕ) (bundle : Packed) (earlier : List Transfer) → length (parts_of all (transfer_of options number bundle ∷ earlier)) ≡ length (parts_of all earlier) + length bundle.bytes
+  parts_length : (number : ℕ) (bundle : Packed) (earlier : List Transfer)
+      → length (parts_of all (transfer_of options number bundle ∷ earlier))
+      ≡ length (parts_of all earlier) + length bundle.bytes
   parts_length number bundle earlier = ap length (parts_more all (transfer_of options number bundle) earlier) ∙ length-append (parts_of all earlier) bundle.bytes
 
-  lines_onto : (number : ℕ) (bundles : List Packed) (earlier : List Transfer) → AreBundles options.peer_transfer bundles
-      → lines_of all (onto options number bundles earlier) ≡ lines_of all earlier ++ good_lines number (length (parts_of all earlier)) bundles
+  lines_onto : (number : ℕ) (bundles : List Packed) (earlier : List Transfer)
+      → AreBundles options.peer_transfer bundles
+      → lines_of all (onto options number bundles earlier) ≡ lines_of all earlier
+      ++ good_lines number (length (parts_of all earlier)) bundles
   unfolding onto good_lines
   lines_onto number [] earlier are = sym (append-nil (lines_of all earlier))
   lines_onto number (bundle ∷ more) earlier are =
@@ -72,7 +80,9 @@ module _ (options : PackOptions) where
       ∙ append_assoc (lines_of all earlier) (line_of all latest earlier) rest
       ∙ ap (λ j. lines_of all earlier ++ (transfer_text (record { id = number; start = start; written = size; length = size; judgement = j }) ++ rest)) good
 
-  good_onto : (number : ℕ) (bundles : List Packed) (earlier : List Transfer) → AreBundles options.peer_transfer bundles → are_good earlier ≡ true → are_good (onto options number bundles earlier) ≡ true
+  good_onto : (number : ℕ) (bundles : List Packed) (earlier : List Transfer)
+      → AreBundles options.peer_transfer bundles → are_good earlier ≡ true
+      → are_good (onto options number bundles earlier) ≡ true
   unfolding onto
   good_onto number [] earlier are good = good
   good_onto number (bundle ∷ more) earlier are good =
@@ -101,7 +111,8 @@ over_clean wanted transfers = record {
 }
 
 -- what comes of a stream whose messages are these
-unpacked_so : (options : PackOptions) (wanted : Wanted) (stream : List ℕ) (entries : List Entry) (transfers : List Transfer) → IsPackedSo entries stream → AreCarried options entries transfers
+unpacked_so : (options : PackOptions) (wanted : Wanted) (stream : List ℕ) (entries : List Entry)
+    (transfers : List Transfer) → IsPackedSo entries stream → AreCarried options entries transfers
     → unpacking wanted stream ≡ over_clean wanted transfers
 unfolding unpacking
 unpacked_so options wanted stream entries transfers so carries =
@@ -109,7 +120,8 @@ unpacked_so options wanted stream entries transfers so carries =
 
 -- ---- the whole
 
-module _ (options : PackOptions) (bytes : List ℕ) (fit : OptionsFit options) (fits : InputFits bytes)
+module _ (options : PackOptions) (bytes : List ℕ)
+    (fit : OptionsFit options) (fits : InputFits bytes)
     (only : (stream : List ℕ) (reading : Reading) → IsReading stream reading → reading ≡ reading_of stream) where
   abbrev stream : List ℕ
   stream = (packing options bytes).texts.output
@@ -117,7 +129,8 @@ module _ (options : PackOptions) (bytes : List ℕ) (fit : OptionsFit options) (
   abbrev bundles : List Packed
   bundles = (divided options.peer_transfer bytes).bundles
 
-  unpacked : (packing options bytes).status ≡ 0 → unpacking all stream ≡ over_clean all (onto options 0 bundles [])
+  unpacked : (packing options bytes).status ≡ 0
+      → unpacking all stream ≡ over_clean all (onto options 0 bundles [])
   unpacked is =
       unpacked_so options all stream _ _ (packed_so options bytes fit fits only) (carried options bytes fit fits only)
       ∙ ap (λ rest. over_clean all (rest_onto options (length bundles) rest (onto options 0 bundles []))) (nothing_left options bytes is)

@@ -20,39 +20,50 @@ use Rattle.link_laws.proofs.Transfers.{Precedes, precedes_same, precedes_trans, 
 
 -- ---- a head that is refused
 
-stays_by : (refused : Option OrderFault) (head : Entry) (rest later : Ordered) (stop : ℕ × OrderFault) → (rest.refused ≡ Some stop → later ≡ rest)
-    → (ordered_by refused head rest).refused ≡ Some stop → ordered_by refused head later ≡ ordered_by refused head rest
+stays_by : (refused : Option OrderFault) (head : Entry) (rest later : Ordered)
+    (stop : ℕ × OrderFault) → (rest.refused ≡ Some stop → later ≡ rest)
+    → (ordered_by refused head rest).refused ≡ Some stop
+    → ordered_by refused head later ≡ ordered_by refused head rest
 stays_by (Some fault) head rest later stop same is = refl
 stays_by None head rest later stop same is = ap (ordered_by None head) (same is)
 
 -- nothing behind it changes what is in order
-refused_stays : (heads more : List Entry) (seen : List Message) (stop : ℕ × OrderFault) → (ordered_after seen heads).refused ≡ Some stop → ordered_after seen (heads ++ more) ≡ ordered_after seen heads
+refused_stays : (heads more : List Entry) (seen : List Message) (stop : ℕ × OrderFault)
+    → (ordered_after seen heads).refused ≡ Some stop
+    → ordered_after seen (heads ++ more) ≡ ordered_after seen heads
 unfolding ordered_after
 refused_stays [] more seen stop is = absurd (cc)
 refused_stays (head ∷ heads) more seen stop is =
     stays_by (refusal seen (event_of head.message)) head _ _ stop (refused_stays heads more (seen ++ head.message ∷ []) stop) is
 
-module _ (offset : ℕ) (sent : Message) (content other : List ℕ) (others : List Entry) (stop : ℕ × OrderFault) where
-  last_by : (refused : Option OrderFault) (none later : Ordered) → none.refused ≡ None → (ordered_by refused (entry offset sent content) none).refused ≡ Some stop
-      → ordered_by refused (entry offset sent other) later ≡ ordered_by refused (entry offset sent content) none
+module _ (offset : ℕ) (sent : Message) (content other : List ℕ) (others : List Entry)
+    (stop : ℕ × OrderFault) where
+  last_by : (refused : Option OrderFault) (none later : Ordered) → none.refused ≡ None
+      → (ordered_by refused (entry offset sent content) none).refused ≡ Some stop
+      → ordered_by refused (entry offset sent other) later
+      ≡ ordered_by refused (entry offset sent content) none
   last_by (Some fault) none later clean is = refl
   last_by None none later clean is = let never = sym clean ∙ is in absurd (cc)
 
   -- nor does its own data
-  grown_stays : (heads : List Entry) (seen : List Message) → (ordered_after seen (heads ++ entry offset sent content ∷ [])).refused ≡ Some stop
-      → ordered_after seen (heads ++ entry offset sent other ∷ others) ≡ ordered_after seen (heads ++ entry offset sent content ∷ [])
+  grown_stays : (heads : List Entry) (seen : List Message)
+      → (ordered_after seen (heads ++ entry offset sent content ∷ [])).refused ≡ Some stop
+      → ordered_after seen (heads ++ entry offset sent other ∷ others)
+      ≡ ordered_after seen (heads ++ entry offset sent content ∷ [])
   unfolding ordered_after
   grown_stays [] seen is = last_by (refusal seen (event_of sent)) _ _ refl is
   grown_stays (head ∷ heads) seen is = stays_by (refusal seen (event_of head.message)) head _ _ stop (grown_stays heads (seen ++ head.message ∷ [])) is
 
 -- ---- heads of which none is refused
 
-unrefused_by : (refused : Option OrderFault) (head : Entry) (rest : Ordered) (heads : List Entry) → (rest.refused ≡ None → rest ≡ all heads) → (ordered_by refused head rest).refused ≡ None
+unrefused_by : (refused : Option OrderFault) (head : Entry) (rest : Ordered) (heads : List Entry)
+    → (rest.refused ≡ None → rest ≡ all heads) → (ordered_by refused head rest).refused ≡ None
     → ordered_by refused head rest ≡ all (head ∷ heads)
 unrefused_by (Some fault) head rest heads later is = absurd (cc)
 unrefused_by None head rest heads later is = ap (ordered_by None head) (later is)
 
-unrefused : (heads : List Entry) (seen : List Message) → (ordered_after seen heads).refused ≡ None → ordered_after seen heads ≡ all heads
+unrefused : (heads : List Entry) (seen : List Message) → (ordered_after seen heads).refused ≡ None
+    → ordered_after seen heads ≡ all heads
 unfolding ordered_after
 unrefused [] seen is = refl
 unrefused (head ∷ heads) seen is =
@@ -62,7 +73,8 @@ all_in_order : (heads : List Entry) → (ordered heads).refused ≡ None → Are
 unfolding ordered
 all_in_order heads is = unrefused heads [] is
 
-transfers_then : (heads more : List Entry) → transfers_of (heads ++ more) ≡ with_heads (transfers_of heads) more
+transfers_then : (heads more : List Entry)
+    → transfers_of (heads ++ more) ≡ with_heads (transfers_of heads) more
 unfolding transfers_of
 transfers_then heads more = fold-append (λ (ts : List Transfer) (head : Entry). after_message ts head.message head.content) [] heads more
 
@@ -73,15 +85,19 @@ unclosed_by false size length short = refl
 unclosed_by true size length short = ne_eqb size length (λ same. absurd (omega arith))
 
 module _ (wanted : Wanted) where
-  segment_grows : (transfers : List Transfer) (head : SegmentHead) (content piece : List ℕ) → length content < head.length
-      → Precedes wanted (after_message transfers (message.Segment head) content) (after_message transfers (message.Segment head) (content ++ piece))
+  segment_grows : (transfers : List Transfer) (head : SegmentHead) (content piece : List ℕ)
+      → length content < head.length
+      → Precedes wanted (after_message transfers (message.Segment head) content)
+      (after_message transfers (message.Segment head) (content ++ piece))
   segment_grows transfers head content piece short =
       rw (transfer_grows transfers head content piece)
       (continued_front wanted _ piece _ (segment_open transfers head content (unclosed_by (is_end head.flags) (length content) head.length short)))
 
   -- more of its data changes the latest transfer alone, which it does not close yet
-  message_grows : (transfers : List Transfer) (sent : Message) (content piece : List ℕ) → length content < data_length sent
-      → Precedes wanted (after_message transfers sent content) (after_message transfers sent (content ++ piece))
+  message_grows : (transfers : List Transfer) (sent : Message) (content piece : List ℕ)
+      → length content < data_length sent
+      → Precedes wanted (after_message transfers sent content)
+      (after_message transfers sent (content ++ piece))
   message_grows transfers sent content piece short =
       ⊎_elim
       (λ segment. rw segment.1 (segment_grows transfers segment.0 content piece (subst (λ (m : Message). length content < data_length m) segment.1 short)))
@@ -92,10 +108,12 @@ module _ (wanted : Wanted) where
 
   pub record OrderGoesOn (before after : Ordered) : Type 0 where
     pub stays : (stop : ℕ × OrderFault) → before.refused ≡ Some stop → after ≡ before
-    pub precedes : before.refused ≡ None → Precedes wanted (transfers_of before.heads) (transfers_of after.heads)
+    pub precedes : before.refused ≡ None
+        → Precedes wanted (transfers_of before.heads) (transfers_of after.heads)
 
   -- more heads
-  more_precedes : (heads more : List Entry) → AreInOrder heads → Precedes wanted (transfers_of heads) (transfers_of (ordered (heads ++ more)).heads)
+  more_precedes : (heads more : List Entry) → AreInOrder heads
+      → Precedes wanted (transfers_of heads) (transfers_of (ordered (heads ++ more)).heads)
   unfolding ordered
   more_precedes heads more are =
       rw (then_ordered [] heads more are, transfers_then)
@@ -111,7 +129,8 @@ module _ (wanted : Wanted) where
   }
 
   -- the last goes on, and then others come
-  module _ (heads others : List Entry) (offset : ℕ) (sent : Message) (content piece : List ℕ) (short : length content < data_length sent) where
+  module _ (heads others : List Entry) (offset : ℕ) (sent : Message) (content piece : List ℕ)
+      (short : length content < data_length sent) where
     abbrev last : Entry
     last = entry offset sent content
 
@@ -119,13 +138,17 @@ module _ (wanted : Wanted) where
     grown = entry offset sent (content ++ piece)
 
     grown_ordered : AreInOrder heads → refusal (messages_of heads) (event_of sent) ≡ None
-        → ordered (heads ++ grown ∷ others) ≡ followed heads (followed (grown ∷ []) (ordered_after (messages_of heads ++ sent ∷ []) others))
+        → ordered (heads ++ grown ∷ others)
+        ≡ followed heads (followed (grown ∷ [])
+        (ordered_after (messages_of heads ++ sent ∷ []) others))
     unfolding ordered ordered_after
     grown_ordered are may =
         then_ordered [] heads (grown ∷ others) are
         ∙ ap (λ (refused : Option OrderFault). followed heads (ordered_by refused grown (ordered_after (messages_of heads ++ sent ∷ []) others))) may
 
-    grown_precedes : AreInOrder (heads ++ last ∷ []) → Precedes wanted (transfers_of (heads ++ last ∷ [])) (transfers_of (ordered (heads ++ grown ∷ others)).heads)
+    grown_precedes : AreInOrder (heads ++ last ∷ [])
+        → Precedes wanted (transfers_of (heads ++ last ∷ []))
+        (transfers_of (ordered (heads ++ grown ∷ others)).heads)
     grown_precedes are =
         let parts = in_order_parts heads last are in
         rw (grown_ordered parts.0 parts.1, transfers_push heads last, transfers_then)

@@ -15,11 +15,14 @@ use Rattle.link_wire.proofs.Shrinks.{both_read}
 use Rattle.link_run.specs.Ends.{is_lasting}
 
 pub record Lasts {A : Type 0} (part : List ℕ → Part A) : Type 0 where
-  pub read : (bytes more : List ℕ) (value : A) (rest : List ℕ) → part bytes ≡ Ok (value, rest) → part (bytes ++ more) ≡ Ok (value, rest ++ more)
-  pub shown : (bytes more : List ℕ) (fault : WireFault) → is_lasting fault ≡ true → part bytes ≡ Err fault → part (bytes ++ more) ≡ Err fault
+  pub read : (bytes more : List ℕ) (value : A) (rest : List ℕ) → part bytes ≡ Ok (value, rest)
+      → part (bytes ++ more) ≡ Ok (value, rest ++ more)
+  pub shown : (bytes more : List ℕ) (fault : WireFault) → is_lasting fault ≡ true
+      → part bytes ≡ Err fault → part (bytes ++ more) ≡ Err fault
 
 -- a fault of two steps was shown in the first, or in the second
-both_shown : {A B : Type 0} (read : Result A WireFault) (next : A → Result B WireFault) (fault : WireFault) → read >>= next ≡ Err fault
+both_shown : {A B : Type 0} (read : Result A WireFault) (next : A → Result B WireFault)
+    (fault : WireFault) → read >>= next ≡ Err fault
     → (read ≡ Err fault) ⊎ ((first : A) × (read ≡ Ok first) × (next first ≡ Err fault))
 both_shown (Ok first) next fault is = inr (first, refl, is)
 both_shown {A} (Err other) next fault is = inl (let same : other ≡ fault = cc in ap (λ f. let r : Result A WireFault = Err f in r) same)
@@ -32,11 +35,13 @@ lasts_pure {A} value = record {
   shown = λ bytes more fault stays is. absurd (cc);
 }
 
-lasts_err : {A : Type 0} (fault : WireFault) → Lasts (λ bytes. let part : Part A = Err fault in part)
+lasts_err : {A : Type 0} (fault : WireFault)
+    → Lasts (λ bytes. let part : Part A = Err fault in part)
 lasts_err fault = record { read = λ bytes more value rest is. absurd (cc); shown = λ bytes more other stays is. is }
 
 module _ {A B : Type 0} (part : List ℕ → Part A) (next : A × List ℕ → Part B) where
-  lasts_then : Lasts part → ((value : A) → Lasts (λ bytes. next (value, bytes))) → Lasts (λ bytes. part bytes >>= next)
+  lasts_then : Lasts part → ((value : A) → Lasts (λ bytes. next (value, bytes)))
+      → Lasts (λ bytes. part bytes >>= next)
   lasts_then first second = record {
     read = λ bytes more value rest is.
         let both = both_read (part bytes) next (value, rest) is in
@@ -48,13 +53,15 @@ module _ {A B : Type 0} (part : List ℕ → Part A) (next : A × List ℕ → P
         (both_shown (part bytes) next fault is);
   }
 
-lasts_if : {A : Type 0} (test : Bool) (part other : List ℕ → Part A) → Lasts part → Lasts other → Lasts (λ bytes. if test then part bytes else other bytes)
+lasts_if : {A : Type 0} (test : Bool) (part other : List ℕ → Part A) → Lasts part → Lasts other
+    → Lasts (λ bytes. if test then part bytes else other bytes)
 lasts_if true part other p q = p
 lasts_if false part other p q = q
 
 -- ---- fields
 
-cut_lasts : {A : Type 0} (fault : WireFault) → (let r : Part A = Err Truncated in r) ≡ Err fault → is_lasting fault ≡ true → ⊥
+cut_lasts : {A : Type 0} (fault : WireFault) → (let r : Part A = Err Truncated in r) ≡ Err fault
+    → is_lasting fault ≡ true → ⊥
 cut_lasts fault is stays = let same : Truncated ≡ fault = cc in false≢true (ap is_lasting same ∙ stays)
 
 lasts_bytes : (n : ℕ) → Lasts (bytes_at n)

@@ -32,12 +32,14 @@ module _ (options : PackOptions) where
   abbrev Fits : Entry → Type 0
   Fits head = SegmentFits options head.message
 
-  due_fit : (number count : ℕ) (whole : Bool) (bytes : List ℕ) (offset : ℕ) → count ≤ chunk_count (segment_size options) (length bytes)
+  due_fit : (number count : ℕ) (whole : Bool) (bytes : List ℕ) (offset : ℕ)
+      → count ≤ chunk_count (segment_size options) (length bytes)
       → All Fits (segment_entries number (sending options whole bytes) 0 count offset)
   due_fit number count whole bytes offset few =
       segments_fit number (sending options whole bytes) options (some_size options) (omega arith) (omega arith) 0 count offset (omega arith)
 
-  bundles_fit : (number : ℕ) (bundles : List Packed) (offset : ℕ) → All Fits (bundle_entries options number bundles offset)
+  bundles_fit : (number : ℕ) (bundles : List Packed) (offset : ℕ)
+      → All Fits (bundle_entries options number bundles offset)
   unfolding bundle_entries due
   bundles_fit number [] offset = All-nil Fits
   bundles_fit number (bundle ∷ more) offset =
@@ -47,7 +49,8 @@ module _ (options : PackOptions) where
       (due_fit number (chunk_count (segment_size options) (length bundle.bytes)) true bundle.bytes offset (omega arith))
       (bundles_fit (suc number) more after)
 
-  rest_fit : (number : ℕ) (rest : Option Rest) (offset : ℕ) → All Fits (rest_entries options number rest offset)
+  rest_fit : (number : ℕ) (rest : Option Rest) (offset : ℕ)
+      → All Fits (rest_entries options number rest offset)
   unfolding due
   rest_fit number None offset = All-nil Fits
   rest_fit number (Some rest) offset =
@@ -85,20 +88,24 @@ total_announced : (total : ℕ) → announced_of (announced (Some total)) ≡ To
 unfolding announced_of
 total_announced total = refl
 
-announces_by : (whole test : Bool) (size : ℕ) → Announces whole size (if whole && test then Some size else None)
+announces_by : (whole test : Bool) (size : ℕ)
+    → Announces whole size (if whole && test then Some size else None)
 announces_by true true size = inr (refl, total_announced size)
 announces_by true false size = inl none_announced
 announces_by false test size = inl none_announced
 
-pub announces : (so_far : Cutting) → Announces so_far.whole (length so_far.bundle) (announcement so_far)
+pub announces : (so_far : Cutting)
+    → Announces so_far.whole (length so_far.bundle) (announcement so_far)
 unfolding announcement
 announces so_far = announces_by so_far.whole (nat_lt so_far.segment (length so_far.bundle) && nat_le (length so_far.bundle) so_far.hold) (length so_far.bundle)
 
 module _ (options : PackOptions) where
-  bundle_kept : (number : ℕ) (bundle : Packed) → length bundle.bytes ≤ options.peer_transfer → TransferFits options (transfer_of options number bundle)
+  bundle_kept : (number : ℕ) (bundle : Packed) → length bundle.bytes ≤ options.peer_transfer
+      → TransferFits options (transfer_of options number bundle)
   bundle_kept number bundle within = (within, announces (cutting_of (sending options true bundle.bytes)))
 
-  bundles_kept : (number : ℕ) (bundles : List Packed) (earlier : List Transfer) → AreBundles options.peer_transfer bundles → All (TransferFits options) earlier
+  bundles_kept : (number : ℕ) (bundles : List Packed) (earlier : List Transfer)
+      → AreBundles options.peer_transfer bundles → All (TransferFits options) earlier
       → All (TransferFits options) (onto options number bundles earlier)
   unfolding onto
   bundles_kept number [] earlier are kept = kept
@@ -106,11 +113,13 @@ module _ (options : PackOptions) where
       bundles_kept (suc number) more (transfer_of options number bundle ∷ earlier) are.1
       (All-cons (TransferFits options) (transfer_of options number bundle) earlier (bundle_kept number bundle are.0.within) kept)
 
-  unannounced : (size : ℕ) (announce : Option ℕ) → Announces false size announce → announced_of (announced announce) ≡ Absent
+  unannounced : (size : ℕ) (announce : Option ℕ) → Announces false size announce
+      → announced_of (announced announce) ≡ Absent
   unannounced size announce (inl absent) = absent
   unannounced size announce (inr never) = let not = never.0 in absurd (cc)
 
-  part_kept : (number count : ℕ) (part : List ℕ) (earlier : List Transfer) → length part ≤ options.peer_transfer → All (TransferFits options) earlier
+  part_kept : (number count : ℕ) (part : List ℕ) (earlier : List Transfer)
+      → length part ≤ options.peer_transfer → All (TransferFits options) earlier
       → All (TransferFits options) (partly number (sending options false part) count earlier)
   part_kept number zero part earlier within kept = kept
   part_kept number (suc count) part earlier within kept =
@@ -118,7 +127,8 @@ module _ (options : PackOptions) where
       let open_part = cutting_of (sending options false part) in
       All-cons (TransferFits options) _ earlier (omega arith, inl (unannounced (length part) (announcement open_part) (announces open_part))) kept
 
-  rest_kept : (number : ℕ) (rest : Option Rest) (earlier : List Transfer) → IfSome rest (IsRest options.peer_transfer) → All (TransferFits options) earlier
+  rest_kept : (number : ℕ) (rest : Option Rest) (earlier : List Transfer)
+      → IfSome rest (IsRest options.peer_transfer) → All (TransferFits options) earlier
       → All (TransferFits options) (rest_onto options number rest earlier)
   rest_kept number None earlier is kept = kept
   rest_kept number (Some rest) earlier is kept = part_kept number (due (cutting_of (sending options false rest.accepted))) rest.accepted earlier is.within kept
@@ -129,7 +139,8 @@ listing_status : (stream : List ℕ) → (listing stream).status ≡ end_status 
 unfolding listing
 listing_status stream = refl
 
-module _ (options : PackOptions) (bytes : List ℕ) (fit : OptionsFit options) (fits : InputFits bytes)
+module _ (options : PackOptions) (bytes : List ℕ)
+    (fit : OptionsFit options) (fits : InputFits bytes)
     (only : (stream : List ℕ) (reading : Reading) → IsReading stream reading → reading ≡ reading_of stream) where
   pub keeps : KeepsLimits options (packing options bytes).texts.output
   keeps =

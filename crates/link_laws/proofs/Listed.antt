@@ -21,19 +21,22 @@ use Rattle.link_laws.proofs.Segments.{chunk_of, segment_entries}
 
 -- ---- sizes
 
-length-list : (start : Bool) (announce : Option ℕ) → length (list_bytes start announce) ≡ list_size start announce
+length-list : (start : Bool) (announce : Option ℕ)
+    → length (list_bytes start announce) ≡ list_size start announce
 unfolding announce_bytes total_bytes
 length-list true None = refl
 length-list true (Some total) = refl
 length-list false announce = refl
 
-length-head : (flags id size : ℕ) (announce : Option ℕ) → length (segment_head_bytes flags id size announce) ≡ segment_head_size flags announce
+length-head : (flags id size : ℕ) (announce : Option ℕ)
+    → length (segment_head_bytes flags id size announce) ≡ segment_head_size flags announce
 unfolding segment_head_bytes
 length-head flags id size announce =
     let list = list_bytes (is_start flags) announce in
     omega (arith, length-append (be 1 1 ++ be 1 flags ++ be 8 id ++ list) (be 8 size), length-append (be 1 1 ++ be 1 flags ++ be 8 id) list, length-list (is_start flags) announce)
 
-length-init : (interval segment_mru transfer_mru : ℕ) (node : List ℕ) → length (sess_init_bytes interval segment_mru transfer_mru node) ≡ 25 + length node
+length-init : (interval segment_mru transfer_mru : ℕ) (node : List ℕ)
+    → length (sess_init_bytes interval segment_mru transfer_mru node) ≡ 25 + length node
 unfolding sess_init_bytes
 length-init interval segment_mru transfer_mru node =
     let front = be 1 7 ++ be 2 interval ++ be 8 segment_mru ++ be 8 transfer_mru in
@@ -41,13 +44,15 @@ length-init interval segment_mru transfer_mru node =
     omega (arith, length-append (front ++ text) (be 4 0), length-append front text, length-append (be 2 (length node)) node)
 
 module _ (id : ℕ) (sending : Sending) where
-  length-segment : (k : ℕ) → length (segment_bytes id (cut_at sending k) (chunk_of sending k)) ≡ segment_span sending k
+  length-segment : (k : ℕ)
+      → length (segment_bytes id (cut_at sending k) (chunk_of sending k)) ≡ segment_span sending k
   length-segment k =
       let head = segment_head_bytes (flags_at sending k) id (length_at sending k) (cut_at sending k).announce in
       length-append head (chunk_of sending k)
       ∙ ap (λ n. n + length_at sending k) (length-head (flags_at sending k) id (length_at sending k) (cut_at sending k).announce)
 
-  length-segments : (k count : ℕ) → length (segments_from id sending k count) ≡ segments_span sending k count
+  length-segments : (k count : ℕ)
+      → length (segments_from id sending k count) ≡ segments_span sending k count
   unfolding segments_from segments_span
   length-segments k zero = refl
   length-segments k (suc count) =
@@ -56,7 +61,9 @@ module _ (id : ℕ) (sending : Sending) where
 
   -- ---- lines
 
-  segments_listed : (k count offset : ℕ) → message_lines (segment_entries id sending k count offset) ≡ segment_lines id sending k count offset
+  segments_listed : (k count offset : ℕ)
+      → message_lines (segment_entries id sending k count offset)
+      ≡ segment_lines id sending k count offset
   unfolding message_lines segment_entries segment_lines
   segments_listed k zero offset = refl
   segments_listed k (suc count) offset =
@@ -64,7 +71,8 @@ module _ (id : ℕ) (sending : Sending) where
       (segments_listed (suc k) count (offset + length (segment_bytes id (cut_at sending k) (chunk_of sending k)))
       ∙ ap (λ n. segment_lines id sending (suc k) count (offset + n)) (length-segment k))
 
-lines_then : (entries more : List Entry) → message_lines (entries ++ more) ≡ message_lines entries ++ message_lines more
+lines_then : (entries more : List Entry)
+    → message_lines (entries ++ more) ≡ message_lines entries ++ message_lines more
 unfolding message_lines
 lines_then [] more = refl
 lines_then (head ∷ entries) more =
@@ -76,13 +84,17 @@ unfolding message_lines
 one_listed head = append-nil (message_text head.offset head.message)
 
 module _ (options : PackOptions) where
-  term_listed : (asked : Bool) (offset : ℕ) → message_lines (term_entries options asked offset) ≡ term_line asked offset
+  term_listed : (asked : Bool) (offset : ℕ)
+      → message_lines (term_entries options asked offset) ≡ term_line asked offset
   unfolding message_lines
   term_listed true offset = append-nil _
   term_listed false offset = refl
 
-  bundles_listed : (number : ℕ) (bundles : List Packed) (offset after : ℕ) → after ≡ offset + length (transfers_of options number bundles)
-      → message_lines (bundle_entries options number bundles offset ++ term_entries options options.send_term after) ≡ bundle_lines options number offset bundles
+  bundles_listed : (number : ℕ) (bundles : List Packed) (offset after : ℕ)
+      → after ≡ offset + length (transfers_of options number bundles)
+      → message_lines (bundle_entries options number bundles offset
+      ++ term_entries options options.send_term after)
+      ≡ bundle_lines options number offset bundles
   unfolding bundle_entries bundle_lines transfers_of due
   bundles_listed number [] offset after at = term_listed options.send_term after ∙ ap (term_line options.send_term) (omega (arith, at))
   bundles_listed number (bundle ∷ more) offset after at =
@@ -118,17 +130,21 @@ listing_of : (stream : List ℕ) → listing stream ≡ listing_by (reading_of s
 unfolding listing
 listing_of stream = refl
 
-module _ (options : PackOptions) (bytes : List ℕ) (fit : OptionsFit options) (fits : InputFits bytes)
+module _ (options : PackOptions) (bytes : List ℕ)
+    (fit : OptionsFit options) (fits : InputFits bytes)
     (only : (stream : List ℕ) (reading : Reading) → IsReading stream reading → reading ≡ reading_of stream) where
   abbrev bundles : List Packed
   bundles = (divided options.peer_transfer bytes).bundles
 
-  listing_is : (packing options bytes).status ≡ 0 → listing (packing options bytes).texts.output ≡ listing_by (packed_reading options (record { bundles = bundles; rest = None }))
+  listing_is : (packing options bytes).status ≡ 0
+      → listing (packing options bytes).texts.output
+      ≡ listing_by (packed_reading options (record { bundles = bundles; rest = None }))
   listing_is is =
       listing_of _ ∙ ap listing_by (sym (packed_reads options bytes fit fits only))
       ∙ ap (λ rest. listing_by (packed_reading options (record { bundles = bundles; rest = rest }))) (nothing_left options bytes is)
 
-  pub listed : (packing options bytes).status ≡ 0 → IsListed options bytes (packing options bytes).texts.output
+  pub listed : (packing options bytes).status ≡ 0
+      → IsListed options bytes (packing options bytes).texts.output
   listed is = record {
     output = ap (λ (o : Outcome). o.texts.output) (listing_is is)
         ∙ ap (λ lines. contact_text (record { flags = 0 }) ++ lines) (messages_listed options bundles)

@@ -18,13 +18,15 @@ message_lines-none : message_lines [] ≡ []
 unfolding message_lines
 message_lines-none = refl
 
-message_lines-append : (entries more : List Entry) → message_lines (entries ++ more) ≡ message_lines entries ++ message_lines more
+message_lines-append : (entries more : List Entry)
+    → message_lines (entries ++ more) ≡ message_lines entries ++ message_lines more
 unfolding message_lines
 message_lines-append entries more = flat_map-append (λ (entry : Entry). message_text entry.offset entry.message) entries more
 
 -- ---- the output
 
-entries_on : (before after : Stream) → GoesOn before after → IsFrontOf (message_lines before.entries) (message_lines after.entries)
+entries_on : (before after : Stream) → GoesOn before after
+    → IsFrontOf (message_lines before.entries) (message_lines after.entries)
 entries_on before after on =
     (message_lines on.rest.entries, ap (λ (s : Stream). message_lines s.entries) on.are ∙ message_lines-append before.entries on.rest.entries)
 
@@ -32,7 +34,8 @@ module _ (before after : Reading) (on : ReadingGoesOn before after) where
   same_contact : after.contact ≡ before.contact → IsFrontOf (lines_of before) (lines_of after)
   same_contact same = rw same (front_after (contact_lines before.contact) _ _ (entries_on (stream_of before) (stream_of after) on.messages))
 
-  no_contact : (before.contact ≡ None) × (before.entries ≡ []) → IsFrontOf (lines_of before) (lines_of after)
+  no_contact : (before.contact ≡ None) × (before.entries ≡ [])
+      → IsFrontOf (lines_of before) (lines_of after)
   no_contact none = rw (none.0, none.1, message_lines-none) (front_none _)
 
   output_on : IsFrontOf (lines_of before) (lines_of after)
@@ -41,16 +44,19 @@ module _ (before after : Reading) (on : ReadingGoesOn before after) where
 -- ---- the report
 
 -- a fault that more bytes may mend has no line
-pub mended_line : (offset : ℕ) (fault : WireFault) → is_lasting fault ≡ false → lasting_line offset fault ≡ []
+pub mended_line : (offset : ℕ) (fault : WireFault) → is_lasting fault ≡ false
+    → lasting_line offset fault ≡ []
 mended_line offset Truncated mends = refl
 mended_line offset fault mends = absurd (cc)
 
 -- another has the line of the fault that ends the stream
-pub lasting_end : (offset : ℕ) (fault : WireFault) → is_lasting fault ≡ true → lasting_line offset fault ≡ fault_text (Wire offset fault)
+pub lasting_end : (offset : ℕ) (fault : WireFault) → is_lasting fault ≡ true
+    → lasting_line offset fault ≡ fault_text (Wire offset fault)
 lasting_end offset Truncated stays = absurd (cc)
 lasting_end offset fault stays = refl
 
-end_on : (end : End) (rest : Stream) → IsBehind end rest → IsFrontOf (lasting_lines end) (end_lines rest.end)
+end_on : (end : End) (rest : Stream) → IsBehind end rest
+    → IsFrontOf (lasting_lines end) (end_lines rest.end)
 end_on Clean rest behind = front_none _
 end_on (Cut offset message content) rest behind = front_none _
 end_on (Fault offset fault) rest behind =
@@ -59,7 +65,8 @@ end_on (Fault offset fault) rest behind =
     (λ mends. rw (mended_line offset fault mends) (front_none _))
     (cases_Bool (is_lasting fault))
 
-report_on : (before after : Stream) → GoesOn before after → IsFrontOf (lasting_lines before.end) (end_lines after.end)
+report_on : (before after : Stream) → GoesOn before after
+    → IsFrontOf (lasting_lines before.end) (end_lines after.end)
 report_on before after on = rw on.are (end_on before.end on.rest on.behind)
 
 pub list_prefix : (bytes more : List ℕ) → IsPrefixed list_tool bytes more

@@ -18,14 +18,17 @@ use Rattle.link_laws.proofs.Divisions.{IsRefused, IsOpen, refused_so, is_divided
 use Rattle.link_laws.proofs.Fronts.{front_same, front_then, front_after, front_first, front_none, take-append}
 
 -- where bytes go on that are needed, and then are not, some come
-some_come : (begun run : List ℕ) → bundle_goes begun ≡ true → bundle_goes (begun ++ run) ≡ false → 0 < length run
+some_come : (begun run : List ℕ) → bundle_goes begun ≡ true → bundle_goes (begun ++ run) ≡ false
+    → 0 < length run
 some_come begun [] goes stops = absurd (false≢true (sym stops ∙ ap bundle_goes (append-nil begun) ∙ goes))
 some_come begun (byte ∷ bytes) goes stops = omega arith
 
 module _ (options : PackOptions) where
   -- ---- of some bundles and others
 
-  transfers_of-append : (number : ℕ) (bundles more : List Packed) → transfers_of options number (bundles ++ more) ≡ transfers_of options number bundles ++ transfers_of options (number + length bundles) more
+  transfers_of-append : (number : ℕ) (bundles more : List Packed)
+      → transfers_of options number (bundles ++ more) ≡ transfers_of options number bundles
+      ++ transfers_of options (number + length bundles) more
   unfolding transfers_of
   transfers_of-append number [] more = ap (λ n. transfers_of options n more) (sym (add-zero number))
   transfers_of-append number (bundle ∷ bundles) more =
@@ -33,7 +36,9 @@ module _ (options : PackOptions) where
       (transfers_of-append (suc number) bundles more ∙ ap (λ n. transfers_of options (suc number) bundles ++ transfers_of options n more) {y = number + suc (length bundles)} (omega arith))
       ∙ sym (append_assoc (segments_of number (sending options true bundle.bytes)) (transfers_of options (suc number) bundles) _)
 
-  lines_of-append : (number : ℕ) (bundles more : List Packed) → lines_of options number (bundles ++ more) ≡ lines_of options number bundles ++ lines_of options (number + length bundles) more
+  lines_of-append : (number : ℕ) (bundles more : List Packed)
+      → lines_of options number (bundles ++ more) ≡ lines_of options number bundles
+      ++ lines_of options (number + length bundles) more
   unfolding lines_of
   lines_of-append number [] more = ap (λ n. lines_of options n more) (sym (add-zero number))
   lines_of-append number (bundle ∷ bundles) more =
@@ -54,31 +59,41 @@ module _ (options : PackOptions) where
   some_segment = let some = options.some in omega arith
 
   module _ (number : ℕ) (begun : List ℕ) where
-    grown : (run : List ℕ) (whole : Bool) → 0 < length run → IsFrontOf (begun_segments number begun) (segments_of number (sending options whole (begun ++ run)))
+    grown : (run : List ℕ) (whole : Bool) → 0 < length run
+        → IsFrontOf (begun_segments number begun)
+        (segments_of number (sending options whole (begun ++ run)))
     grown run whole some = (_, sym (segments_grow number (segment_size options) options.announce begun run whole some_segment some))
 
-    grown_any : (run : List ℕ) → IsFrontOf (begun_segments number begun) (begun_segments number (begun ++ run))
+    grown_any : (run : List ℕ)
+        → IsFrontOf (begun_segments number begun) (begun_segments number (begun ++ run))
     grown_any [] = front_same _ _ (ap (begun_segments number) (sym (append-nil begun)))
     grown_any (byte ∷ bytes) = grown (byte ∷ bytes) false (omega arith)
 
     -- it has become whole
     whole_front : (run : List ℕ) (info : BundleInfo) (later : Divided) → 0 < length run
-        → IsFrontOf (begun_segments number begun) (segments number (with_bundle (record { bytes = begun ++ run; info = info }) later))
+        → IsFrontOf (begun_segments number begun)
+        (segments number (with_bundle (record { bytes = begun ++ run; info = info }) later))
     unfolding transfers_of
     whole_front run info later some = front_then _ _ _ (front_then _ _ _ (grown run true some))
 
     -- it is refused, or goes on
-    rest_front : (run accepted : List ℕ) (refusal : Refusal) → accepted ≡ begun ++ run → IsFrontOf (begun_segments number begun) (segments number (refused_so [] refusal accepted))
+    rest_front : (run accepted : List ℕ) (refusal : Refusal) → accepted ≡ begun ++ run
+        → IsFrontOf (begun_segments number begun) (segments number (refused_so [] refusal accepted))
     unfolding transfers_of
     rest_front run accepted refusal is = rw (is, add-zero) (grown_any run)
 
-    module _ (run : List ℕ) (goes : bundle_goes begun ≡ true) (next : List ℕ → Divided) (bytes : List ℕ) where
+    module _ (run : List ℕ) (goes : bundle_goes begun ≡ true)
+        (next : List ℕ → Divided) (bytes : List ℕ) where
       -- more bytes than the peer takes
-      longer_front : (limit : ℕ) → length begun ≤ limit → IsFrontOf (begun_segments number begun) (segments number (divided_by next (begun ++ run) bytes (Err (Longer limit))))
+      longer_front : (limit : ℕ) → length begun ≤ limit
+          → IsFrontOf (begun_segments number begun)
+          (segments number (divided_by next (begun ++ run) bytes (Err (Longer limit))))
       longer_front limit within = rest_front (take (limit - length begun) run) _ (Longer limit) (take-append limit begun run within)
 
-      faulty_front : (stays : Bool) (fault : BundleFault) (place : ℕ) → lasts fault ≡ stays → verdict (begun ++ run) ≡ Err (fault, place)
-          → IsFrontOf (begun_segments number begun) (segments number (divided_by next (begun ++ run) bytes (Err (Faulty fault place))))
+      faulty_front : (stays : Bool) (fault : BundleFault) (place : ℕ) → lasts fault ≡ stays
+          → verdict (begun ++ run) ≡ Err (fault, place)
+          → IsFrontOf (begun_segments number begun)
+          (segments number (divided_by next (begun ++ run) bytes (Err (Faulty fault place))))
       faulty_front true fault place stays is =
           let some = some_come begun run goes (faulty_stops (begun ++ run) fault place is stays) in
           let size = length-append begun run in
@@ -90,11 +105,13 @@ module _ (options : PackOptions) where
           (ap (λ (test : Bool). if test then take (length (begun ++ run) - 1) (begun ++ run) else begun ++ run) stays)
 
       judged_front : (said : Result BundleInfo (BundleFault × ℕ)) → verdict (begun ++ run) ≡ said
-          → IsFrontOf (begun_segments number begun) (segments number (divided_by next (begun ++ run) bytes (refused_by said)))
+          → IsFrontOf (begun_segments number begun)
+          (segments number (divided_by next (begun ++ run) bytes (refused_by said)))
       judged_front (Ok info) is = whole_front run info _ (some_come begun run goes (whole_stops (begun ++ run) info is))
       judged_front (Err (fault, place)) is = faulty_front (lasts fault) fault place refl is
 
-  begun_front : (limit number : ℕ) (begun more : List ℕ) → front_of begun ≡ begun → bundle_goes begun ≡ true → length begun ≤ limit
+  begun_front : (limit number : ℕ) (begun more : List ℕ) → front_of begun ≡ begun
+      → bundle_goes begun ≡ true → length begun ≤ limit
       → IsFrontOf (begun_segments number begun) (segments number (divided limit (begun ++ more)))
   begun_front limit number [] more front goes within = rw (segments_none number (segment_size options) options.announce) (front_none _)
   begun_front limit number (byte ∷ bytes) more front goes within =
@@ -113,8 +130,11 @@ module _ (options : PackOptions) where
   -- ---- of an input
 
   -- what stands behind some bundles
-  output_front : (bundles : List Packed) (begun : List ℕ) (input : Divided) → IsFrontOf (begun_segments (length bundles) begun) (segments (length bundles) input)
-      → IsFrontOf (prelude_bytes options ++ transfers_of options 0 bundles ++ begun_segments (length bundles) begun) (bundles_output options (joined bundles input) ++ end_bytes options input.rest)
+  output_front : (bundles : List Packed) (begun : List ℕ) (input : Divided)
+      → IsFrontOf (begun_segments (length bundles) begun) (segments (length bundles) input)
+      → IsFrontOf (prelude_bytes options ++ transfers_of options 0 bundles
+      ++ begun_segments (length bundles) begun) (bundles_output options (joined bundles input)
+      ++ end_bytes options input.rest)
   output_front bundles begun input front =
       let from : 0 + length bundles ≡ length bundles = omega arith in
       let before = prelude_bytes options ++ transfers_of options 0 bundles in
@@ -125,7 +145,9 @@ module _ (options : PackOptions) where
       front_then (before ++ begun_segments (length bundles) begun) (bundles_output options (joined bundles input)) (end_bytes options input.rest)
       (rw all (front_after before _ _ front))
 
-  report_front : (bundles : List Packed) (input : Divided) (line : List ℕ) → IsFrontOf (lines_of options 0 bundles) (lines_of options 0 (bundles ++ input.bundles) ++ line)
+  report_front : (bundles : List Packed) (input : Divided) (line : List ℕ)
+      → IsFrontOf (lines_of options 0 bundles) (lines_of options 0 (bundles ++ input.bundles)
+      ++ line)
   report_front bundles input line = front_then _ _ line (rw (lines_of-append 0 bundles input.bundles) (front_first _ _))
 
   module _ (bytes more : List ℕ) where
@@ -142,7 +164,8 @@ module _ (options : PackOptions) where
         }
 
     -- all of it stays
-    refused_prefix : IsRefused options.peer_transfer bytes → IsPrefixed (pack_tool options) bytes more
+    refused_prefix : IsRefused options.peer_transfer bytes
+        → IsPrefixed (pack_tool options) bytes more
     refused_prefix refused =
         let here = ap (divided options.peer_transfer) (sym (append-nil bytes)) ∙ refused.divides [] in
         let sofar = sofar_refused options bytes refused.bundles refused.accepted refused.refusal refused.shown here in

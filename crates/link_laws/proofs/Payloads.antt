@@ -8,11 +8,13 @@ use Rattle.link_laws.proofs.Fronts.{front_none}
 
 module _ (bytes more : List ℕ) where
   -- where its bytes are is not known yet, and so it was not known of fewer bytes
-  not_known : (known : Option (ℕ × ℕ)) → payload_of (judged bytes) ≡ known → payload_of (judged (bytes ++ more)) ≡ None → known ≡ None
+  not_known : (known : Option (ℕ × ℕ)) → payload_of (judged bytes) ≡ known
+      → payload_of (judged (bytes ++ more)) ≡ None → known ≡ None
   not_known None is none = refl
   not_known (Some payload) is none = let known = sym none ∙ PayloadLasts-holds bytes more payload is in absurd (cc)
 
-  payload_by : (known : Option (ℕ × ℕ)) → payload_of (judged (bytes ++ more)) ≡ known → IsFrontOf (payload_in bytes) (bytes_of known (bytes ++ more))
+  payload_by : (known : Option (ℕ × ℕ)) → payload_of (judged (bytes ++ more)) ≡ known
+      → IsFrontOf (payload_in bytes) (bytes_of known (bytes ++ more))
   unfolding payload_in
   payload_by None is =
       let none = not_known (payload_of (judged bytes)) refl is in

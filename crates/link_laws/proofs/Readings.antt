@@ -18,7 +18,8 @@ pub record IsPackedSo (messages : List Entry) (stream : List ℕ) : Type 0 where
   pub entries : (reading_of stream).entries ≡ messages
   pub heads : heads_of (reading_of stream) ≡ messages
 
-read_so : (reading : Reading) (stream : List ℕ) → reading.end ≡ Clean → reading ≡ reading_of stream → IsPackedSo reading.entries stream
+read_so : (reading : Reading) (stream : List ℕ) → reading.end ≡ Clean → reading ≡ reading_of stream
+    → IsPackedSo reading.entries stream
 read_so reading stream clean is = record {
   clean = ap (λ (r : Reading). r.end) (sym is) ∙ clean;
   entries = ap (λ (r : Reading). r.entries) (sym is);
@@ -30,11 +31,13 @@ no_rest : (rest : Option Rest) → rest_status rest ≡ 0 → rest ≡ None
 no_rest None is = refl
 no_rest (Some rest) is = absurd (omega arith)
 
-pub nothing_left : (options : PackOptions) (bytes : List ℕ) → (packing options bytes).status ≡ 0 → (divided options.peer_transfer bytes).rest ≡ None
+pub nothing_left : (options : PackOptions) (bytes : List ℕ) → (packing options bytes).status ≡ 0
+    → (divided options.peer_transfer bytes).rest ≡ None
 unfolding packing
 nothing_left options bytes is = no_rest (divided options.peer_transfer bytes).rest is
 
-module _ (options : PackOptions) (bytes : List ℕ) (fit : OptionsFit options) (fits : InputFits bytes)
+module _ (options : PackOptions) (bytes : List ℕ)
+    (fit : OptionsFit options) (fits : InputFits bytes)
     (only : (stream : List ℕ) (reading : Reading) → IsReading stream reading → reading ≡ reading_of stream) where
   abbrev pub input : Divided
   input = divided options.peer_transfer bytes

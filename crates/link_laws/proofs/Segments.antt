@@ -38,18 +38,23 @@ pub record SendingFits (sending : Sending) : Type 0 where
   pub are : AreBytes sending.bundle
 
 -- what is announced fits its field
-fits_by : (test : Bool) (size : ℕ) → (test ≡ true → size ≤ 1048576) → IfSome (if test then Some size else None) (λ total. total < 2 ^ 64)
+fits_by : (test : Bool) (size : ℕ) → (test ≡ true → size ≤ 1048576)
+    → IfSome (if test then Some size else None) (λ total. total < 2 ^ 64)
 fits_by true size most = let small = most refl in omega arith
 fits_by false size most = tt
 
-announcement_fits : (so_far : Cutting) → so_far.hold ≤ 1048576 → IfSome (announcement so_far) (λ total. total < 2 ^ 64)
+announcement_fits : (so_far : Cutting) → so_far.hold ≤ 1048576
+    → IfSome (announcement so_far) (λ total. total < 2 ^ 64)
 unfolding announcement
 announcement_fits so_far small =
     fits_by (so_far.whole && (nat_lt so_far.segment (length so_far.bundle) && nat_le (length so_far.bundle) so_far.hold)) (length so_far.bundle) (λ held. grind (arith, nat_tests))
 
 -- the head of a segment, which announces with the first chunk alone
-head_spelled : (first last : Bool) (id size : ℕ) (announce : Option ℕ) → id < 2 ^ 64 → size < 2 ^ 64 → IfSome announce (λ total. total < 2 ^ 64)
-    → (let told = if first then announce else None in HeadSpelled (segment_with (flags_of first last) id size told) (segment_head_bytes (flags_of first last) id size told))
+head_spelled : (first last : Bool) (id size : ℕ) (announce : Option ℕ) → id < 2 ^ 64 → size < 2 ^ 64
+    → IfSome announce (λ total. total < 2 ^ 64)
+    → (let told = if first then announce else None in
+    HeadSpelled (segment_with (flags_of first last) id size told)
+    (segment_head_bytes (flags_of first last) id size told))
 head_spelled true true id size announce id_fits size_fits fits = segment_spelled 3 id size announce (omega arith) id_fits size_fits fits (λ some. refl)
 head_spelled true false id size announce id_fits size_fits fits = segment_spelled 2 id size announce (omega arith) id_fits size_fits fits (λ some. refl)
 head_spelled false true id size announce id_fits size_fits fits = segment_spelled 1 id size None (omega arith) id_fits size_fits tt (λ some. absurd (cc))
@@ -62,7 +67,9 @@ module _ (id : ℕ) (sending : Sending) (fits : SendingFits sending) (id_fits : 
       omega (arith, length-take sending.segment (drop (k * sending.segment) sending.bundle))
 
   -- the segments are these messages
-  pub segments_stream : (k count offset : ℕ) → IsStream (segment_entries id sending k count offset) Clean offset (segments_from id sending k count)
+  pub segments_stream : (k count offset : ℕ)
+      → IsStream (segment_entries id sending k count offset) Clean offset
+      (segments_from id sending k count)
   unfolding segments_from segment_entries
   segments_stream k zero offset = refl
   segments_stream k (suc count) offset =

@@ -30,18 +30,23 @@ module _ (id : ℕ) (sending : Sending) where
   SentSo earlier count heads = Stands heads (carrying (open_by id (last_at id sending count))) (sent id sending (suc count) (last_at id sending count) ∷ earlier)
 
   module _ (earlier : List Transfer) where
-    sent_as : (count other : ℕ) (heads others : List Entry) → heads ≡ others → count ≡ other → SentSo earlier count heads → SentSo earlier other others
+    sent_as : (count other : ℕ) (heads others : List Entry) → heads ≡ others → count ≡ other
+        → SentSo earlier count heads → SentSo earlier other others
     sent_as count other heads others same equal at =
         subst (λ n. SentSo earlier n others) equal (subst (SentSo earlier count) same at)
 
-    sent_one : (count : ℕ) (heads : List Entry) (offset : ℕ) → suc count < chunks_of → SentSo earlier count heads → SentSo earlier (suc count) (heads ++ segment_at id sending (suc count) offset ∷ [])
+    sent_one : (count : ℕ) (heads : List Entry) (offset : ℕ) → suc count < chunks_of
+        → SentSo earlier count heads
+        → SentSo earlier (suc count) (heads ++ segment_at id sending (suc count) offset ∷ [])
     sent_one count heads offset below at =
         let going : last_at id sending count ≡ false = not_last sending.whole (count + 1) chunks_of (omega arith) in
         stands_next id sending (suc count) (last_at id sending count) heads earlier offset (ne_eqb (suc count) 0 (λ same. absurd (omega arith)))
         (subst (λ last. Stands heads (carrying (open_by id last)) (sent id sending (suc count) (last_at id sending count) ∷ earlier)) going at)
 
-    sent_more : (count more : ℕ) (heads : List Entry) (offset : ℕ) → suc count + more ≤ chunks_of → SentSo earlier count heads
-        → SentSo earlier (count + more) (heads ++ segment_entries id sending (suc count) more offset)
+    sent_more : (count more : ℕ) (heads : List Entry) (offset : ℕ) → suc count + more ≤ chunks_of
+        → SentSo earlier count heads
+        → SentSo earlier (count + more) (heads
+        ++ segment_entries id sending (suc count) more offset)
     unfolding segment_entries
     sent_more count zero heads offset within at = sent_as count (count + 0) heads (heads ++ []) (sym (append-nil heads)) (omega arith) at
     sent_more count (suc more) heads offset within at =
@@ -51,7 +56,8 @@ module _ (id : ℕ) (sending : Sending) where
         sent_as (suc count + more) (count + suc more) ((heads ++ one ∷ []) ++ rest) (heads ++ one ∷ rest) (append_assoc heads (one ∷ []) rest) (omega arith)
         (sent_more (suc count) more (heads ++ one ∷ []) after (omega arith) (sent_one count heads offset (omega arith) at))
 
-    pub sent_all : (count : ℕ) (heads : List Entry) (offset : ℕ) → suc count ≤ chunks_of → Stands heads (carrying None) earlier
+    pub sent_all : (count : ℕ) (heads : List Entry) (offset : ℕ) → suc count ≤ chunks_of
+        → Stands heads (carrying None) earlier
         → SentSo earlier count (heads ++ segment_entries id sending 0 (suc count) offset)
     unfolding segment_entries
     sent_all count heads offset within at =
@@ -63,8 +69,11 @@ module _ (id : ℕ) (sending : Sending) where
 
   -- ---- within the limits
 
-  module _ (options : PackOptions) (some : 0 < sending.segment) (taken : sending.segment ≤ options.peer_segment) (small : sending.segment ≤ 65536) where
-    pub segments_fit : (k count offset : ℕ) → k + count ≤ chunks_of → All (λ (head : Entry). SegmentFits options head.message) (segment_entries id sending k count offset)
+  module _ (options : PackOptions) (some : 0 < sending.segment)
+      (taken : sending.segment ≤ options.peer_segment) (small : sending.segment ≤ 65536) where
+    pub segments_fit : (k count offset : ℕ) → k + count ≤ chunks_of
+        → All (λ (head : Entry). SegmentFits options head.message)
+        (segment_entries id sending k count offset)
     unfolding segment_entries
     segments_fit k zero offset within = All-nil (λ (head : Entry). SegmentFits options head.message)
     segments_fit k (suc count) offset within =

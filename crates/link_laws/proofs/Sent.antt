@@ -31,11 +31,13 @@ ends_as false true = refl
 ends_as false false = refl
 
 -- a first segment may come where no transfer is open, and another where its own is
-first_may : (last : Bool) (id : ℕ) → refusal_by true false None (Segment (flags_of true last) id) ≡ None
+first_may : (last : Bool) (id : ℕ)
+    → refusal_by true false None (Segment (flags_of true last) id) ≡ None
 first_may true id = refl
 first_may false id = refl
 
-next_may : (last : Bool) (id : ℕ) → refusal_by true false (Some id) (Segment (flags_of false last) id) ≡ None
+next_may : (last : Bool) (id : ℕ)
+    → refusal_by true false (Some id) (Segment (flags_of false last) id) ≡ None
 next_may true id = rw (eq-eqb id id refl) refl
 next_may false id = rw (eq-eqb id id refl) refl
 
@@ -43,7 +45,8 @@ next_may false id = rw (eq-eqb id id refl) refl
 abbrev pub open_by : (id : ℕ) (last : Bool) → Option ℕ
 open_by id last = if last then None else Some id
 
-opens_by : (first last : Bool) (id : ℕ) → open_after (Segment (flags_of first last) id) ≡ open_by id last
+opens_by : (first last : Bool) (id : ℕ)
+    → open_after (Segment (flags_of first last) id) ≡ open_by id last
 opens_by first last id = ap (λ test. if test then None else Some id) (ends_as first last)
 
 -- ---- what a segment makes of the transfers
@@ -60,7 +63,8 @@ head_of id sending k = record {
   length = length (chunk_of sending k);
 }
 
-closes_as : (head : SegmentHead) (content : List ℕ) (last : Bool) → is_end head.flags ≡ last → length content ≡ head.length → closes head content ≡ last
+closes_as : (head : SegmentHead) (content : List ℕ) (last : Bool) → is_end head.flags ≡ last
+    → length content ≡ head.length → closes head content ≡ last
 closes_as head content last ends size = rw (ends, eq-eqb (length content) head.length size) (and_true last)
 
 -- a transfer of which `count` chunks were sent
@@ -68,16 +72,21 @@ abbrev pub sent : (id : ℕ) → Sending → (count : ℕ) → (closed : Bool) �
 sent id sending count closed = record { first = head_of id sending 0; content = take (count * sending.segment) sending.bundle; closed = closed }
 
 -- a chunk more
-taken_more : (segment k : ℕ) (bundle : List ℕ) → take (k * segment) bundle ++ chunk_at segment k bundle ≡ take (suc k * segment) bundle
+taken_more : (segment k : ℕ) (bundle : List ℕ)
+    → take (k * segment) bundle ++ chunk_at segment k bundle ≡ take (suc k * segment) bundle
 taken_more segment k bundle =
     sym (take-add (k * segment) segment bundle) ∙ ap (λ n. take n bundle) (omega arith)
 
-taken_first : (segment : ℕ) (bundle : List ℕ) → chunk_at segment 0 bundle ≡ take (1 * segment) bundle
+taken_first : (segment : ℕ) (bundle : List ℕ)
+    → chunk_at segment 0 bundle ≡ take (1 * segment) bundle
 taken_first segment bundle =
     ap (λ n. take n bundle ++ chunk_at segment 0 bundle) {x = 0} {y = 0 * segment} (omega arith) ∙ taken_more segment 0 bundle
 
-transfer_as : (first : SegmentHead) (content taken : List ℕ) (closed last : Bool) (earlier : List Transfer) → content ≡ taken → closed ≡ last
-    → ◌≡◌ {A = List Transfer} (record { first = first; content = content; closed = closed } ∷ earlier) (record { first = first; content = taken; closed = last } ∷ earlier)
+transfer_as : (first : SegmentHead) (content taken : List ℕ) (closed last : Bool)
+    (earlier : List Transfer) → content ≡ taken → closed ≡ last
+    → ◌≡◌ {A = List Transfer}
+    (record { first = first; content = content; closed = closed } ∷ earlier)
+    (record { first = first; content = taken; closed = last } ∷ earlier)
 transfer_as first content taken closed last earlier same ends = cc
 
 -- one segment
@@ -91,33 +100,42 @@ module _ (id : ℕ) (sending : Sending) where
   closes_at : (k : ℕ) → closes (head_of id sending k) (chunk_of sending k) ≡ last_at k
   closes_at k = closes_as (head_of id sending k) (chunk_of sending k) (last_at k) (ends_as (k == 0) (last_at k)) refl
 
-  first_sent : (earlier : List Transfer) → after_message earlier (message_of id sending 0) (chunk_of sending 0) ≡ sent id sending 1 (last_at 0) ∷ earlier
+  first_sent : (earlier : List Transfer)
+      → after_message earlier (message_of id sending 0) (chunk_of sending 0)
+      ≡ sent id sending 1 (last_at 0) ∷ earlier
   first_sent earlier =
       transfer_begins earlier (head_of id sending 0) (chunk_of sending 0) (starts_as true (last_at 0))
       ∙ transfer_as (head_of id sending 0) (chunk_of sending 0) (take (1 * sending.segment) sending.bundle) (closes (head_of id sending 0) (chunk_of sending 0)) (last_at 0) earlier
       (taken_first sending.segment sending.bundle) (closes_at 0)
 
   next_sent : (k : ℕ) (closed : Bool) (earlier : List Transfer) → (k == 0) ≡ false
-      → after_message (sent id sending k closed ∷ earlier) (message_of id sending k) (chunk_of sending k) ≡ sent id sending (suc k) (last_at k) ∷ earlier
+      → after_message (sent id sending k closed ∷ earlier) (message_of id sending k)
+      (chunk_of sending k) ≡ sent id sending (suc k) (last_at k) ∷ earlier
   next_sent k closed earlier later =
       transfer_continues (sent id sending k closed ∷ earlier) (head_of id sending k) (chunk_of sending k) (starts_as (k == 0) (last_at k) ∙ later)
       ∙ transfer_as (head_of id sending 0) (take (k * sending.segment) sending.bundle ++ chunk_of sending k) (take (suc k * sending.segment) sending.bundle)
       (closes (head_of id sending k) (chunk_of sending k)) (last_at k) earlier
       (taken_more sending.segment k sending.bundle) (closes_at k)
 
-  stands_as : (heads : List Entry) (transfer other : Option ℕ) (transfers others : List Transfer) → transfer ≡ other → transfers ≡ others
+  stands_as : (heads : List Entry) (transfer other : Option ℕ) (transfers others : List Transfer)
+      → transfer ≡ other → transfers ≡ others
       → Stands heads (carrying transfer) transfers → Stands heads (carrying other) others
   stands_as heads transfer other transfers others same_open same at =
       subst (λ t. Stands heads (carrying t) others) same_open (subst (λ ts. Stands heads (carrying transfer) ts) same at)
 
-  pub stands_first : (heads : List Entry) (earlier : List Transfer) (offset : ℕ) → Stands heads (carrying None) earlier
-      → Stands (heads ++ segment_at 0 offset ∷ []) (carrying (open_by id (last_at 0))) (sent id sending 1 (last_at 0) ∷ earlier)
+  pub stands_first : (heads : List Entry) (earlier : List Transfer) (offset : ℕ)
+      → Stands heads (carrying None) earlier
+      → Stands (heads ++ segment_at 0 offset ∷ []) (carrying (open_by id (last_at 0)))
+      (sent id sending 1 (last_at 0) ∷ earlier)
   stands_first heads earlier offset at =
       stands_as (heads ++ segment_at 0 offset ∷ []) _ _ _ _ (opens_by true (last_at 0) id) (first_sent earlier)
       (stands_more heads (carrying None) earlier (segment_at 0 offset) (Segment (flags_of true (last_at 0)) id) refl (first_may (last_at 0) id) at)
 
-  pub stands_next : (k : ℕ) (closed : Bool) (heads : List Entry) (earlier : List Transfer) (offset : ℕ) → (k == 0) ≡ false → Stands heads (carrying (Some id)) (sent id sending k closed ∷ earlier)
-      → Stands (heads ++ segment_at k offset ∷ []) (carrying (open_by id (last_at k))) (sent id sending (suc k) (last_at k) ∷ earlier)
+  pub stands_next : (k : ℕ) (closed : Bool) (heads : List Entry) (earlier : List Transfer)
+      (offset : ℕ) → (k == 0) ≡ false
+      → Stands heads (carrying (Some id)) (sent id sending k closed ∷ earlier)
+      → Stands (heads ++ segment_at k offset ∷ []) (carrying (open_by id (last_at k)))
+      (sent id sending (suc k) (last_at k) ∷ earlier)
   stands_next k closed heads earlier offset later at =
       stands_as (heads ++ segment_at k offset ∷ []) _ _ _ _ (opens_by (k == 0) (last_at k) id) (next_sent k closed earlier later)
       (stands_more heads (carrying (Some id)) (sent id sending k closed ∷ earlier) (segment_at k offset) (Segment (flags_of (k == 0) (last_at k)) id) refl

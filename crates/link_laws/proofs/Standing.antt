@@ -30,14 +30,19 @@ carrying transfer = record { initiated = true; terminated = false; transfer = tr
 pub stands_none : Stands [] fresh []
 stands_none = record { in_order = in_order_none; joins = IsJoinerAt-none; makes = no_transfers }
 
-may_come : (joiner : Joiner) (before : List Message) (event : Event) → IsJoinerAt joiner before → refusal_by joiner.initiated joiner.terminated joiner.transfer event ≡ None → refusal before event ≡ None
+may_come : (joiner : Joiner) (before : List Message) (event : Event) → IsJoinerAt joiner before
+    → refusal_by joiner.initiated joiner.terminated joiner.transfer event ≡ None
+    → refusal before event ≡ None
 unfolding refusal
 may_come joiner before event at may = rw (sym at.initiated, sym at.terminated, sym at.transfer) may
 
 -- one head that may come
-pub stands_more : (heads : List Entry) (joiner : Joiner) (transfers : List Transfer) (head : Entry) (event : Event) → event_of head.message ≡ event
-    → refusal_by joiner.initiated joiner.terminated joiner.transfer event ≡ None → Stands heads joiner transfers
-    → Stands (heads ++ head ∷ []) (joiner_after joiner event) (after_message transfers head.message head.content)
+pub stands_more : (heads : List Entry) (joiner : Joiner) (transfers : List Transfer) (head : Entry)
+    (event : Event) → event_of head.message ≡ event
+    → refusal_by joiner.initiated joiner.terminated joiner.transfer event ≡ None
+    → Stands heads joiner transfers
+    → Stands (heads ++ head ∷ []) (joiner_after joiner event)
+    (after_message transfers head.message head.content)
 stands_more heads joiner transfers head event is may at = record {
   in_order = in_order_more heads head at.in_order (ap (refusal (messages_of heads)) is ∙ may_come joiner (messages_of heads) event at.joins may);
   joins = subst (IsJoinerAt (joiner_after joiner event)) (sym (messages_push heads head)) (IsJoinerAt-then joiner (messages_of heads) head.message event is at.joins);

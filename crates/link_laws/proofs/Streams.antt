@@ -10,7 +10,8 @@ use Rattle.link_wire.specs.declared.message.Message.{Message}
 use Rattle.link_unpack.proofs.Heads.{entry}
 
 -- messages, and then what follows them
-pub stream_then : (entries more : List Entry) (end : End) (offset : ℕ) (front back : List ℕ) → IsStream entries Clean offset front → IsStream more end (offset + length front) back
+pub stream_then : (entries more : List Entry) (end : End) (offset : ℕ) (front back : List ℕ)
+    → IsStream entries Clean offset front → IsStream more end (offset + length front) back
     → IsStream (entries ++ more) end offset (front ++ back)
 stream_then [] more end offset front back none is =
     let P : List ℕ → Type 0 = λ before. IsStream more end (offset + length before) back → IsStream more end offset (before ++ back) in
@@ -29,7 +30,8 @@ stream_then (first ∷ entries) more end offset front back stands is =
     }
 
 -- one message with its data
-pub stream_one : (offset : ℕ) (message : Message) (head content : List ℕ) → HeadSpelled message head → length content ≡ data_length message → AreBytes content
+pub stream_one : (offset : ℕ) (message : Message) (head content : List ℕ) → HeadSpelled message head
+    → length content ≡ data_length message → AreBytes content
     → IsStream (entry offset message content ∷ []) Clean offset (head ++ content)
 stream_one offset message head content spells size are = record {
   place = refl;
@@ -41,6 +43,7 @@ stream_one offset message head content spells size are = record {
 }
 
 -- one message without data
-pub stream_plain : (offset : ℕ) (message : Message) (head : List ℕ) → HeadSpelled message head → data_length message ≡ 0 → IsStream (entry offset message [] ∷ []) Clean offset head
+pub stream_plain : (offset : ℕ) (message : Message) (head : List ℕ) → HeadSpelled message head
+    → data_length message ≡ 0 → IsStream (entry offset message [] ∷ []) Clean offset head
 stream_plain offset message head spells none =
     subst (IsStream (entry offset message [] ∷ []) Clean offset) (append-nil head) (stream_one offset message head [] spells (sym none) (All-nil IsByte))

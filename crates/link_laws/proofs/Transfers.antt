@@ -38,24 +38,31 @@ module _ (wanted : Wanted) where
   pub precedes_same : (transfers : List Transfer) → Precedes transfers transfers
   precedes_same transfers = record { output = front_same _ _ refl; report = front_same _ _ refl }
 
-  pub precedes_trans : (first mid second : List Transfer) → Precedes first mid → Precedes mid second → Precedes first second
+  pub precedes_trans : (first mid second : List Transfer) → Precedes first mid
+      → Precedes mid second → Precedes first second
   precedes_trans first mid second one two = record { output = front_trans _ _ _ one.output two.output; report = front_trans _ _ _ one.report two.report }
 
   -- ---- another transfer
 
-  lines_front : (latest : Transfer) (earlier : List Transfer) → IsFrontOf (lines_of wanted earlier) (lines_of wanted (latest ∷ earlier))
+  lines_front : (latest : Transfer) (earlier : List Transfer)
+      → IsFrontOf (lines_of wanted earlier) (lines_of wanted (latest ∷ earlier))
   lines_front latest earlier = rw lines_more (front_first _ _)
 
-  settled_by : (closed : Bool) (latest : Transfer) (earlier : List Transfer) → IsFrontOf (lines_of wanted (if closed then latest ∷ earlier else earlier)) (lines_of wanted (latest ∷ earlier))
+  settled_by : (closed : Bool) (latest : Transfer) (earlier : List Transfer)
+      → IsFrontOf (lines_of wanted (if closed then latest ∷ earlier else earlier))
+      (lines_of wanted (latest ∷ earlier))
   settled_by true latest earlier = front_same _ _ refl
   settled_by false latest earlier = lines_front latest earlier
 
   -- those that are over have the first lines
-  pub settled_front : (transfers : List Transfer) → IsFrontOf (lines_of wanted (settled transfers)) (lines_of wanted transfers)
+  pub settled_front : (transfers : List Transfer)
+      → IsFrontOf (lines_of wanted (settled transfers)) (lines_of wanted transfers)
   settled_front [] = front_same _ _ refl
   settled_front (latest ∷ earlier) = settled_by latest.closed latest earlier
 
-  after_settled : (closed : Bool) (latest : Transfer) (earlier : List Transfer) → IsFrontOf (lines_of wanted earlier) (lines_of wanted (if closed then latest ∷ earlier else earlier))
+  after_settled : (closed : Bool) (latest : Transfer) (earlier : List Transfer)
+      → IsFrontOf (lines_of wanted earlier) (lines_of wanted (if closed
+      then latest ∷ earlier else earlier))
   after_settled true latest earlier = lines_front latest earlier
   after_settled false latest earlier = front_same _ _ refl
 
@@ -68,26 +75,31 @@ module _ (wanted : Wanted) where
   -- ---- more data of the latest
 
   chosen_front : (selected payload : Bool) (content piece : List ℕ)
-      → IsFrontOf (if selected then (if payload then payload_in content else content) else []) (if selected then (if payload then payload_in (content ++ piece) else content ++ piece) else [])
+      → IsFrontOf (if selected then (if payload then payload_in content else content)
+      else []) (if selected
+      then (if payload then payload_in (content ++ piece) else content ++ piece) else [])
   chosen_front false payload content piece = front_none _
   chosen_front true false content piece = front_first content piece
   chosen_front true true content piece = payload_front content piece
 
-  grown_front : (latest : Transfer) (earlier : List Transfer) (piece : List ℕ) (closed : Bool) → latest.closed ≡ false → Precedes (latest ∷ earlier) (grown latest piece closed ∷ earlier)
+  grown_front : (latest : Transfer) (earlier : List Transfer) (piece : List ℕ) (closed : Bool)
+      → latest.closed ≡ false → Precedes (latest ∷ earlier) (grown latest piece closed ∷ earlier)
   grown_front latest earlier piece closed unclosed = record {
     output = rw (parts_more wanted latest earlier, parts_more wanted (grown latest piece closed) earlier)
         (front_after (parts_of wanted earlier) _ _ (chosen_front (is_selected wanted.only latest.first.id) wanted.payload latest.content piece));
     report = rw unclosed (after_settled closed (grown latest piece closed) earlier);
   }
 
-  pub continued_front : (transfers : List Transfer) (piece : List ℕ) (closed : Bool) → latest_closed transfers ≡ false → Precedes transfers (continued transfers piece closed)
+  pub continued_front : (transfers : List Transfer) (piece : List ℕ) (closed : Bool)
+      → latest_closed transfers ≡ false → Precedes transfers (continued transfers piece closed)
   continued_front [] piece closed unclosed = precedes_same []
   continued_front (latest ∷ earlier) piece closed unclosed = grown_front latest earlier piece closed unclosed
 
 -- ---- heads that are in order
 
 -- a segment, or another message
-pub kind_of : (sent : Message) → ((head : SegmentHead) × (sent ≡ message.Segment head)) ⊎ (is_segment (event_of sent) ≡ false)
+pub kind_of : (sent : Message) → ((head : SegmentHead) × (sent ≡ message.Segment head))
+    ⊎ (is_segment (event_of sent) ≡ false)
 kind_of (message.SessInit keepalive segment_mru transfer_mru node items) = inr refl
 kind_of (message.Segment head) = inl (head, refl)
 kind_of (message.Ack flags id size) = inr refl
@@ -103,14 +115,16 @@ pub record KnowsOpen (transfers : List Transfer) (before : List Message) : Type 
 knows_none : KnowsOpen [] []
 knows_none = record { unclosed = λ some. refl }
 
-segment_closes : (starts : Bool) (transfers : List Transfer) (head : SegmentHead) (content : List ℕ) → is_start head.flags ≡ starts → closes head content ≡ false
+segment_closes : (starts : Bool) (transfers : List Transfer) (head : SegmentHead) (content : List ℕ)
+    → is_start head.flags ≡ starts → closes head content ≡ false
     → latest_closed (after_segment transfers head content) ≡ false
 segment_closes true transfers head content starts unclosed = rw starts unclosed
 segment_closes false [] head content starts unclosed = rw starts refl
 segment_closes false (latest ∷ earlier) head content starts unclosed = rw starts unclosed
 
 -- a segment that does not close its transfer leaves it open
-pub segment_open : (transfers : List Transfer) (head : SegmentHead) (content : List ℕ) → closes head content ≡ false → latest_closed (after_segment transfers head content) ≡ false
+pub segment_open : (transfers : List Transfer) (head : SegmentHead) (content : List ℕ)
+    → closes head content ≡ false → latest_closed (after_segment transfers head content) ≡ false
 segment_open transfers head content unclosed = segment_closes (is_start head.flags) transfers head content refl unclosed
 
 unended : (ends : Bool) (id : ℕ) → is_some (if ends then None else Some id) ≡ true → ends ≡ false
@@ -118,14 +132,16 @@ unended true id some = absurd (false≢true some)
 unended false id some = refl
 
 module _ (transfers : List Transfer) (before : List Message) (content : List ℕ) where
-  knows_segment : (head : SegmentHead) → KnowsOpen (after_segment transfers head content) (before ++ message.Segment head ∷ [])
+  knows_segment : (head : SegmentHead)
+      → KnowsOpen (after_segment transfers head content) (before ++ message.Segment head ∷ [])
   knows_segment head = record {
     unclosed = λ some.
         let ends = unended (is_end head.flags) head.id (ap is_some (sym (after-segment before (message.Segment head) head.flags head.id refl)) ∙ some) in
         segment_open transfers head content (ap (λ e. e && (length content == head.length)) ends);
   }
 
-  pub knows_more : (sent : Message) → KnowsOpen transfers before → KnowsOpen (after_message transfers sent content) (before ++ sent ∷ [])
+  pub knows_more : (sent : Message) → KnowsOpen transfers before
+      → KnowsOpen (after_message transfers sent content) (before ++ sent ∷ [])
   knows_more sent knows =
       ⊎_elim
       (λ segment. rw segment.1 (knows_segment segment.0))
@@ -140,7 +156,9 @@ module _ (transfers : List Transfer) (before : List Message) (content : List ℕ
 abbrev pub with_heads : List Transfer → List Entry → List Transfer
 with_heads transfers heads = fold (λ ts head. after_message ts head.message head.content) transfers heads
 
-knows_after : (heads : List Entry) (transfers : List Transfer) (before : List Message) → KnowsOpen transfers before → KnowsOpen (with_heads transfers heads) (before ++ messages_of heads)
+knows_after : (heads : List Entry) (transfers : List Transfer) (before : List Message)
+    → KnowsOpen transfers before
+    → KnowsOpen (with_heads transfers heads) (before ++ messages_of heads)
 knows_after [] transfers before knows = rw append-nil knows
 knows_after (head ∷ heads) transfers before knows =
     rw (← messages_then before head heads)
@@ -151,8 +169,10 @@ unfolding transfers_of
 knows_all heads = knows_after heads [] [] knows_none
 
 module _ (wanted : Wanted) where
-  module _ (transfers : List Transfer) (before : List Message) (content : List ℕ) (knows : KnowsOpen transfers before) where
-    segment_front : (head : SegmentHead) → refusal before (event_of (message.Segment head)) ≡ None → Precedes wanted transfers (after_segment transfers head content)
+  module _ (transfers : List Transfer) (before : List Message) (content : List ℕ)
+      (knows : KnowsOpen transfers before) where
+    segment_front : (head : SegmentHead) → refusal before (event_of (message.Segment head)) ≡ None
+        → Precedes wanted transfers (after_segment transfers head content)
     segment_front head may =
         ⊎_elim
         (λ starts. rw (transfer_begins transfers head content starts) (begins_front wanted _ transfers))
@@ -160,21 +180,25 @@ module _ (wanted : Wanted) where
         (continued_front wanted transfers content _ (knows.unclosed (open_where_continued before head.flags head.id continues may))))
         (cases_Bool (is_start head.flags))
 
-    message_front : (sent : Message) → refusal before (event_of sent) ≡ None → Precedes wanted transfers (after_message transfers sent content)
+    message_front : (sent : Message) → refusal before (event_of sent) ≡ None
+        → Precedes wanted transfers (after_message transfers sent content)
     message_front sent may =
         ⊎_elim
         (λ segment. rw segment.1 (segment_front segment.0 (ap (λ m. refusal before (event_of m)) (sym segment.1) ∙ may)))
         (λ other. rw (transfers_same transfers sent content other) (precedes_same wanted transfers))
         (kind_of sent)
 
-  heads_by : (refused : Option OrderFault) (transfers : List Transfer) (before : List Message) (head : Entry) (rest : Ordered)
+  heads_by : (refused : Option OrderFault) (transfers : List Transfer) (before : List Message)
+      (head : Entry) (rest : Ordered)
       → refusal before (event_of head.message) ≡ refused → KnowsOpen transfers before
-      → Precedes wanted (after_message transfers head.message head.content) (with_heads (after_message transfers head.message head.content) rest.heads)
+      → Precedes wanted (after_message transfers head.message head.content)
+      (with_heads (after_message transfers head.message head.content) rest.heads)
       → Precedes wanted transfers (with_heads transfers (ordered_by refused head rest).heads)
   heads_by (Some fault) transfers before head rest is knows later = precedes_same wanted transfers
   heads_by None transfers before head rest is knows later = precedes_trans wanted _ _ _ (message_front transfers before head.content knows head.message is) later
 
-  pub heads_front : (heads : List Entry) (transfers : List Transfer) (before : List Message) → KnowsOpen transfers before
+  pub heads_front : (heads : List Entry) (transfers : List Transfer) (before : List Message)
+      → KnowsOpen transfers before
       → Precedes wanted transfers (with_heads transfers (ordered_after before heads).heads)
   unfolding ordered_after
   heads_front [] transfers before knows = precedes_same wanted transfers

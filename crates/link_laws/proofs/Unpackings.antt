@@ -18,7 +18,8 @@ use Rattle.link_laws.proofs.Transfers.{Precedes, settled_front}
 -- ---- a fault of the wire that lasts
 
 -- more bytes leave what was read
-stays_behind : (end : End) (rest : Stream) → IsBehind end rest → is_shown end ≡ true → rest ≡ ended end
+stays_behind : (end : End) (rest : Stream) → IsBehind end rest
+    → is_shown end ≡ true → rest ≡ ended end
 stays_behind Clean rest behind shown = absurd (false≢true shown)
 stays_behind (Cut offset message content) rest behind shown = absurd (false≢true shown)
 stays_behind (Fault offset fault) rest behind shown = behind shown
@@ -32,7 +33,8 @@ module _ (wanted : Wanted) where
   -- ---- the order of the heads
 
   order_behind : (entries : List Entry) (end : End) (rest : Stream) → IsBehind end rest
-      → OrderGoesOn wanted (ordered (entries ++ cut_heads end)) (ordered (entries ++ (rest.entries ++ cut_heads rest.end)))
+      → OrderGoesOn wanted (ordered (entries ++ cut_heads end))
+      (ordered (entries ++ (rest.entries ++ cut_heads rest.end)))
   order_behind entries Clean rest behind = rw append-nil (more_on wanted entries _)
   order_behind entries (Cut offset message content) rest behind =
       rw behind.heads (grown_on wanted entries behind.others offset message content behind.piece behind.short)
@@ -41,7 +43,9 @@ module _ (wanted : Wanted) where
   -- ---- the texts
 
   -- the lines of the transfers that are over
-  over_front : (refused : Option (ℕ × OrderFault)) (end : End) (transfers : List Transfer) → IsFrontOf (lines_of wanted (settled transfers)) (lines_of wanted (over refused end transfers))
+  over_front : (refused : Option (ℕ × OrderFault)) (end : End) (transfers : List Transfer)
+      → IsFrontOf (lines_of wanted (settled transfers))
+      (lines_of wanted (over refused end transfers))
   over_front (Some refused) end transfers = front_same _ _ refl
   over_front None Clean transfers = settled_front wanted transfers
   over_front None (Cut offset message content) transfers = front_same _ _ refl
@@ -54,13 +58,15 @@ module _ (wanted : Wanted) where
   whole_report refused end transfers = lines_of wanted (over refused end transfers) ++ stop_lines refused end
 
   -- both end with the line of a fault that lasts
-  shown_report : (end : End) (transfers : List Transfer) → is_shown end ≡ true → sofar_report None end transfers ≡ whole_report None end transfers
+  shown_report : (end : End) (transfers : List Transfer) → is_shown end ≡ true
+      → sofar_report None end transfers ≡ whole_report None end transfers
   shown_report Clean transfers shown = absurd (false≢true shown)
   shown_report (Cut offset message content) transfers shown = absurd (false≢true shown)
   shown_report (Fault offset fault) transfers shown = ap (λ (line : List ℕ). lines_of wanted (settled transfers) ++ line) (lasting_end offset fault shown)
 
   -- no such fault is known yet
-  unshown_report : (end later : End) (refused : Option (ℕ × OrderFault)) (transfers more : List Transfer) → is_shown end ≡ false → Precedes wanted transfers more
+  unshown_report : (end later : End) (refused : Option (ℕ × OrderFault))
+      (transfers more : List Transfer) → is_shown end ≡ false → Precedes wanted transfers more
       → IsFrontOf (sofar_report None end transfers) (whole_report refused later more)
   unshown_report end later refused transfers more mends precedes =
       rw (unshown_lines end mends, append-nil)
@@ -71,17 +77,21 @@ module _ (wanted : Wanted) where
     pub report : IsFrontOf texts.report whole.report
 
   -- a head is refused
-  refused_fronts : (end later : End) (before after : Ordered) (stop : ℕ × OrderFault) → before.refused ≡ Some stop → after ≡ before
+  refused_fronts : (end later : End) (before after : Ordered) (stop : ℕ × OrderFault)
+      → before.refused ≡ Some stop → after ≡ before
       → AreFronts (unpacking_sofar_by wanted end before) (unpacking_by wanted later after).texts
   refused_fronts end later before after stop refused same =
       rw (same, refused) (record { output = front_same _ _ refl; report = front_same _ _ refl })
 
   -- a fault of the wire is shown
-  shown_fronts : (end : End) (order : Ordered) → order.refused ≡ None → is_shown end ≡ true → AreFronts (unpacking_sofar_by wanted end order) (unpacking_by wanted end order).texts
+  shown_fronts : (end : End) (order : Ordered) → order.refused ≡ None → is_shown end ≡ true
+      → AreFronts (unpacking_sofar_by wanted end order) (unpacking_by wanted end order).texts
   shown_fronts end order none shown =
       rw none (record { output = front_same _ _ refl; report = front_same _ _ (shown_report end (transfers_of order.heads) shown) })
 
-  unshown_fronts : (end later : End) (before after : Ordered) → before.refused ≡ None → is_shown end ≡ false → Precedes wanted (transfers_of before.heads) (transfers_of after.heads)
+  unshown_fronts : (end later : End) (before after : Ordered) → before.refused ≡ None
+      → is_shown end ≡ false
+      → Precedes wanted (transfers_of before.heads) (transfers_of after.heads)
       → AreFronts (unpacking_sofar_by wanted end before) (unpacking_by wanted later after).texts
   unshown_fronts end later before after none mends precedes =
       rw none (record { output = precedes.output; report = unshown_report end later after.refused _ _ mends precedes })
@@ -95,7 +105,8 @@ module _ (wanted : Wanted) where
     abbrev with_rest : Stream → Texts
     with_rest later = (unpacking_by wanted later.end (ordered (entries ++ (later.entries ++ cut_heads later.end)))).texts
 
-    unrefused_texts : before.refused ≡ None → AreFronts (unpacking_sofar_by wanted end before) (with_rest rest)
+    unrefused_texts : before.refused ≡ None
+        → AreFronts (unpacking_sofar_by wanted end before) (with_rest rest)
     unrefused_texts none =
         ⊎_elim
         (λ shown.
@@ -104,7 +115,8 @@ module _ (wanted : Wanted) where
         (λ mends. unshown_fronts end rest.end before _ none mends ((order_behind entries end rest behind).precedes none))
         (cases_Bool (is_shown end))
 
-    texts_by : (refused : Option (ℕ × OrderFault)) → before.refused ≡ refused → AreFronts (unpacking_sofar_by wanted end before) (with_rest rest)
+    texts_by : (refused : Option (ℕ × OrderFault)) → before.refused ≡ refused
+        → AreFronts (unpacking_sofar_by wanted end before) (with_rest rest)
     texts_by (Some stop) is = refused_fronts end rest.end before _ stop is ((order_behind entries end rest behind).stays stop is)
     texts_by None is = unrefused_texts is
 
@@ -112,7 +124,8 @@ module _ (wanted : Wanted) where
     texts_on = texts_by before.refused refl
 
   reading_texts : (before after : Reading) → GoesOn (stream_of before) (stream_of after)
-      → AreFronts (unpacking_sofar_by wanted before.end (ordered (heads_of before))) (unpacking_by wanted after.end (ordered (heads_of after))).texts
+      → AreFronts (unpacking_sofar_by wanted before.end (ordered (heads_of before)))
+      (unpacking_by wanted after.end (ordered (heads_of after))).texts
   reading_texts before after on =
       let P : Stream → Type 0 = λ later. AreFronts (unpacking_sofar_by wanted before.end (ordered (heads_of before))) (unpacking_by wanted later.end (ordered (later.entries ++ cut_heads later.end))).texts in
       subst P (sym on.are) (rw append_assoc (texts_on before.entries before.end on.rest on.behind))

@@ -20,14 +20,17 @@ order_of bytes = ordered (heads_of (reading_of bytes))
 
 -- of all transfers, without payload, the output is the data of the segments that were accepted, in order
 abbrev pub HasEveryByte : List ℕ → Type 0
-HasEveryByte bytes = (unpacking (record { only = None; payload = false }) bytes).texts.output ≡ flat_map data_of (order_of bytes).heads
+HasEveryByte bytes =
+    (unpacking (record { only = None; payload = false }) bytes).texts.output
+    ≡ flat_map data_of (order_of bytes).heads
 
 -- ---- the report
 
 -- what the lines of these transfers say, the latest of which is the first here and the last there
 unfoldable pub entries_of : Wanted → List Transfer → List TransferEntry
 entries_of wanted [] = []
-entries_of wanted (latest ∷ earlier) = entries_of wanted earlier ++ entry_of wanted latest (length (parts_of wanted earlier)) ∷ []
+entries_of wanted (latest ∷ earlier) =
+    entries_of wanted earlier ++ entry_of wanted latest (length (parts_of wanted earlier)) ∷ []
 
 -- each begins where the ones before it end
 unfoldable pub Follow : (start : ℕ) → List TransferEntry → Type 0
@@ -40,15 +43,19 @@ written_by (entry ∷ more) = entry.written + written_by more
 
 -- the transfers that have a line
 abbrev pub reported : List ℕ → List Transfer
-reported bytes = over (order_of bytes).refused (reading_of bytes).end (transfers_of (order_of bytes).heads)
+reported bytes =
+    over (order_of bytes).refused (reading_of bytes).end (transfers_of (order_of bytes).heads)
 
 -- The report is the lines of these transfers and then that of the fault. What they say was written follows one another from
 -- the beginning of the output, and what is left of the output is that of the transfer that has no line.
 pub record CutsOutput (wanted : Wanted) (bytes : List ℕ) : Type 0 where
-  pub lines : (unpacking wanted bytes).texts.report ≡ flat_map transfer_text (entries_of wanted (reported bytes)) ++ stop_lines (order_of bytes).refused (reading_of bytes).end
+  pub lines : (unpacking wanted bytes).texts.report
+      ≡ flat_map transfer_text (entries_of wanted (reported bytes))
+      ++ stop_lines (order_of bytes).refused (reading_of bytes).end
   pub follow : Follow 0 (entries_of wanted (reported bytes))
   -- a transfer that has no line is the latest, and stands last in the output
   pub left : List Transfer
   pub one : length left ≤ 1
   pub whole : (unpacking wanted bytes).texts.output ≡ parts_of wanted (left ++ reported bytes)
-  pub size : length (parts_of wanted (reported bytes)) ≡ written_by (entries_of wanted (reported bytes))
+  pub size : length (parts_of wanted (reported bytes))
+      ≡ written_by (entries_of wanted (reported bytes))

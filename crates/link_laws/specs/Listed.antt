@@ -20,18 +20,23 @@ length_at sending k = length (chunk_at sending.segment k sending.bundle)
 
 -- the line of the segment of chunk number `k`, where it stands at this offset
 abbrev pub segment_line : (id : ℕ) → Sending → (k offset : ℕ) → List ℕ
-segment_line id sending k offset = message_text offset (segment_with (flags_at sending k) id (length_at sending k) (cut_at sending k).announce)
+segment_line id sending k offset =
+    message_text offset (segment_with (flags_at sending k) id (length_at sending k)
+    (cut_at sending k).announce)
 
 -- how many bytes the segment has: its head, and its data
 abbrev pub segment_span : Sending → (k : ℕ) → ℕ
-segment_span sending k = segment_head_size (flags_at sending k) (cut_at sending k).announce + length_at sending k
+segment_span sending k =
+    segment_head_size (flags_at sending k) (cut_at sending k).announce + length_at sending k
 
 -- ---- segments
 
 -- the lines of `count` segments from number `k` on, the first of them at this offset
 unfoldable pub segment_lines : (id : ℕ) → Sending → (k count offset : ℕ) → List ℕ
 segment_lines id sending k zero offset = []
-segment_lines id sending k (suc count) offset = segment_line id sending k offset ++ segment_lines id sending (suc k) count (offset + segment_span sending k)
+segment_lines id sending k (suc count) offset =
+    segment_line id sending k offset
+    ++ segment_lines id sending (suc k) count (offset + segment_span sending k)
 
 unfoldable pub segments_span : Sending → (k count : ℕ) → ℕ
 segments_span sending k zero = 0
@@ -53,17 +58,20 @@ bundle_lines options number offset [] = term_line options.send_term offset
 bundle_lines options number offset (bundle ∷ more) =
     let whole = sending options true bundle.bytes in
     let count = chunks_of options bundle in
-    segment_lines number whole 0 count offset ++ bundle_lines options (suc number) (offset + segments_span whole 0 count) more
+    segment_lines number whole 0 count offset
+    ++ bundle_lines options (suc number) (offset + segments_span whole 0 count) more
 
 -- the contact header has 6 bytes, and SESS_INIT 25 and the node ID
 abbrev pub packed_lines : PackOptions → List Packed → List ℕ
 packed_lines options bundles =
     contact_text (record { flags = 0 })
-    ++ message_text 6 (sess_init_with options.keepalive options.segment_mru options.transfer_mru options.node.items)
+    ++ message_text 6 (sess_init_with options.keepalive options.segment_mru
+    options.transfer_mru options.node.items)
     ++ bundle_lines options 0 (31 + length options.node.items) bundles
 
 -- listing the stream shows these lines, and no fault
 pub record IsListed (options : PackOptions) (bytes stream : List ℕ) : Type 0 where
-  pub output : (listing stream).texts.output ≡ packed_lines options (divided options.peer_transfer bytes).bundles
+  pub output : (listing stream).texts.output
+      ≡ packed_lines options (divided options.peer_transfer bytes).bundles
   pub report : (listing stream).texts.report ≡ []
   pub status : (listing stream).status ≡ 0

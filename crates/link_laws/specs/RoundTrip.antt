@@ -15,11 +15,18 @@ all = record { only = None; payload = false }
 unfoldable pub good_lines : (number start : ℕ) → List Packed → List ℕ
 good_lines number start [] = []
 good_lines number start (bundle ∷ more) =
-    transfer_text (record { id = number; start = start; written = length bundle.bytes; length = length bundle.bytes; judgement = Good bundle.info })
+    transfer_text (record {
+      id = number;
+      start = start;
+      written = length bundle.bytes;
+      length = length bundle.bytes;
+      judgement = Good bundle.info;
+    })
     ++ good_lines (suc number) (start + length bundle.bytes) more
 
 -- unpacking the stream gives the bundles back, each good
 pub record GivesBack (options : PackOptions) (bytes stream : List ℕ) : Type 0 where
   pub output : (unpacking all stream).texts.output ≡ bytes
-  pub report : (unpacking all stream).texts.report ≡ good_lines 0 0 (divided options.peer_transfer bytes).bundles
+  pub report : (unpacking all stream).texts.report
+      ≡ good_lines 0 0 (divided options.peer_transfer bytes).bundles
   pub status : (unpacking all stream).status ≡ 0

@@ -23,8 +23,10 @@ use link_wire::laws::exactly_one_reading;
 /// written a prefix of what a run over all bytes writes.
 pub fn sofar_is_prefix()
     ensures list { (bytes more : List ℕ) → IsPrefixed list_tool bytes more }
-    ensures unpack { (wanted : Wanted) (bytes more : List ℕ) → IsPrefixed (unpack_tool wanted) bytes more }
-    ensures pack { (options : PackOptions) (bytes more : List ℕ) → IsPrefixed (pack_tool options) bytes more }
+    ensures unpack { (wanted : Wanted) (bytes more : List ℕ)
+        → IsPrefixed (unpack_tool wanted) bytes more }
+    ensures pack { (options : PackOptions) (bytes more : List ℕ)
+        → IsPrefixed (pack_tool options) bytes more }
 {}
 
 /// What is packed keeps the limits of the peer, whatever the input and however the packing ends: the stream is read
@@ -41,7 +43,8 @@ pub fn keeps_limits(options: &PackOptions, bytes: &[u8])
 /// Unpacking undoes packing: where an input is packed without a fault, unpacking the stream gives the input back, with a
 /// line for each bundle, numbered from 0, each of them good.
 pub fn unpack_of_pack(options: &PackOptions, bytes: &[u8])
-    ensures { (packing options.now bytes.now).status ≡ 0 → GivesBack options.now bytes.now (packing options.now bytes.now).texts.output }
+    ensures { (packing options.now bytes.now).status ≡ 0
+        → GivesBack options.now bytes.now (packing options.now bytes.now).texts.output }
 {
     options_fit(options);
     input_fits(bytes);
@@ -52,7 +55,8 @@ pub fn unpack_of_pack(options: &PackOptions, bytes: &[u8])
 /// header, SESS_INIT, a segment for each chunk of each bundle with its flags, ID, length and offset, and SESS_TERM where
 /// it was asked for.
 pub fn list_of_pack(options: &PackOptions, bytes: &[u8])
-    ensures { (packing options.now bytes.now).status ≡ 0 → IsListed options.now bytes.now (packing options.now bytes.now).texts.output }
+    ensures { (packing options.now bytes.now).status ≡ 0
+        → IsListed options.now bytes.now (packing options.now bytes.now).texts.output }
 {
     options_fit(options);
     input_fits(bytes);

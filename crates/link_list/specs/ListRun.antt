@@ -52,7 +52,8 @@ latest_line latest = message_text latest.offset (message_of latest.message)
 -- inside the data of a segment data does, and the segment's line waits.
 abbrev pub IsWaiting : Stage → List ℕ → End → Type 0
 IsWaiting now line Clean = (now ≡ stage.Message)
-IsWaiting now line (Cut offset message content) = (now ≡ stage.Data) × (line ≡ message_text offset message)
+IsWaiting now line (Cut offset message content) =
+    (now ≡ stage.Data) × (line ≡ message_text offset message)
 IsWaiting now line (Fault offset fault) = ⊥
 
 -- of a segment that is open none of the data has come
@@ -76,52 +77,73 @@ progress_of stage.Data = Ok More
 progress_of (stage.Ended answer) = answer_of answer
 
 module _ {R W E : Type 0} where
-  module _ (in_look : R → Input) (out_look : W → Output) (report_look : E → Output) (start : Devices R W E) where
+  module _ (in_look : R → Input) (out_look : W → Output) (report_look : E → Output)
+      (start : Devices R W E) where
     -- a run that begins: nothing was given and nothing written
     pub record Begins (s : Session R) (w : Writers W E) (history : List ℕ) : Type 0 where
       pub nothing : history ≡ []
       pub opens : may_open s ≡ true
-      pub written : HasWritten in_look out_look report_look start (place_of (source_of s) w) [] (record { output = []; report = [] })
+      pub written : HasWritten in_look out_look report_look start (place_of (source_of s) w) []
+          (record { output = []; report = [] })
       pub sound : NoneFailed in_look out_look report_look (devices_at (place_of (source_of s) w))
 
     -- a run that was given exactly these bytes, and has written exactly what they determine
-    pub record Lists (now : Stage) (s : Session R) (w : Writers W E) (line history : List ℕ) : Type 0 where
+    pub record Lists (now : Stage) (s : Session R) (w : Writers W E)
+        (line history : List ℕ) : Type 0 where
       pub session : IsSessionAt in_look s history
-      pub written : HasWritten in_look out_look report_look start (place_of (source_of s) w) history (listing_sofar history)
+      pub written : HasWritten in_look out_look report_look start (place_of (source_of s) w)
+          history (listing_sofar history)
       pub sound : NoneFailed in_look out_look report_look (devices_at (place_of (source_of s) w))
       pub waits : IsWaiting now line (reading_of history).end
 
     -- by the stage, with the line of the message that was read last
     abbrev pub IsListing : Stage → Session R → Writers W E → (line history : List ℕ) → Type 0
     IsListing stage.Contact session writers line history = Begins session writers history
-    IsListing stage.Message session writers line history = Lists stage.Message session writers line history
-    IsListing stage.Data session writers line history = Lists stage.Data session writers line history
+    IsListing stage.Message session writers line history =
+        Lists stage.Message session writers line history
+    IsListing stage.Data session writers line history =
+        Lists stage.Data session writers line history
     IsListing (stage.Ended answer) session writers line history = ⊥
 
     -- what a step at the stage `now` gives that leads to the stage `next`
-    abbrev pub GivesStage : (now : Stage) → (old new : Session R) → (after : Writers W E) → (line history : List ℕ) → (next : Stage) → Type 0
-    GivesStage now old new after line history (stage.Ended answer) = LastStep in_look out_look report_look list_tool start (devices_at (place_of (source_of new) after)) (most_given now) history answer
+    abbrev pub GivesStage : (now : Stage) → (old new : Session R) → (after : Writers W E)
+        → (line history : List ℕ) → (next : Stage) → Type 0
+    GivesStage now old new after line history (stage.Ended answer) =
+        LastStep in_look out_look report_look list_tool start
+        (devices_at (place_of (source_of new) after)) (most_given now) history answer
     GivesStage now old new after line history stage.Contact = ⊥
-    GivesStage now old new after line history stage.Message = WentOn (source_of old) (source_of new) (Lists stage.Message new after line) (most_given now) history
-    GivesStage now old new after line history stage.Data = WentOn (source_of old) (source_of new) (λ bytes. Lists stage.Data new after line bytes × IsWaitingAfter now (reading_of bytes).end) (most_given now) history
+    GivesStage now old new after line history stage.Message =
+        WentOn (source_of old) (source_of new) (Lists stage.Message new after line) (most_given now)
+        history
+    GivesStage now old new after line history stage.Data =
+        WentOn (source_of old) (source_of new) (λ bytes. Lists stage.Data new after line bytes
+        × IsWaitingAfter now (reading_of bytes).end) (most_given now) history
 
     -- The message that a step at the stage `now` was given is whole: nothing but its line is still to be written.
-    pub record IsDue (now : Stage) (old new : Session R) (w : Writers W E) (line history : List ℕ) : Type 0 where
+    pub record IsDue (now : Stage) (old new : Session R) (w : Writers W E)
+        (line history : List ℕ) : Type 0 where
       pub given : List ℕ
       pub some : 0 < length given
       pub size : length given ≤ most_given now
       pub count : given_by (source_of new) ≡ given_by (source_of old) + length given
       pub window : length (window_of (source_of new)) < window_size
       pub session : IsSessionAt in_look new (history ++ given)
-      pub written : HasWritten in_look out_look report_look start (place_of (source_of new) w) (history ++ given) (listing_sofar history)
+      pub written : HasWritten in_look out_look report_look start (place_of (source_of new) w)
+          (history ++ given) (listing_sofar history)
       pub sound : NoneFailed in_look out_look report_look (devices_at (place_of (source_of new) w))
-      pub texts : listing_sofar (history ++ given) ≡ record { output = (listing_sofar history).output ++ line; report = (listing_sofar history).report }
+      pub texts : listing_sofar (history ++ given)
+          ≡ record {
+            output = (listing_sofar history).output ++ line;
+            report = (listing_sofar history).report;
+          }
       pub clean : (reading_of (history ++ given)).end ≡ Clean
 
     -- what the first part of a step gives
-    abbrev pub GivesRead : (now : Stage) → (old new : Session R) → (after : Writers W E) → (line history : List ℕ) → Next → Type 0
+    abbrev pub GivesRead : (now : Stage) → (old new : Session R) → (after : Writers W E)
+        → (line history : List ℕ) → Next → Type 0
     GivesRead now old new after line history next.Line = IsDue now old new after line history
-    GivesRead now old new after line history (next.Stage stage) = GivesStage now old new after line history stage
+    GivesRead now old new after line history (next.Stage stage) =
+        GivesStage now old new after line history stage
 
 -- what the parts of a step do
 module _ {W E : Type 0} (out_look : W → Output) (report_look : E → Output) where
@@ -131,14 +153,16 @@ module _ {W E : Type 0} (out_look : W → Output) (report_look : E → Output) w
   GivesLine line old new stage.Message = Writes out_look report_look old new (on_output line)
   GivesLine line old new stage.Data = ⊥
   GivesLine line old new (stage.Ended (Ok status)) = ⊥
-  GivesLine line old new (stage.Ended (Err fault)) = WritesPart out_look report_look old new (on_output line) fault
+  GivesLine line old new (stage.Ended (Err fault)) =
+      WritesPart out_look report_look old new (on_output line) fault
 
   -- a fault of the wire was reported, or a failure of the reader ends the run
   abbrev pub GivesEnd : Stop → (old new : Writers W E) → (next : Stage) → Type 0
   GivesEnd why old new stage.Contact = ⊥
   GivesEnd why old new stage.Message = ⊥
   GivesEnd why old new stage.Data = ⊥
-  GivesEnd (stop.Wire offset fault) old new (stage.Ended answer) = GivesReport out_look report_look old new (fault_text (Wire offset fault)) answer
+  GivesEnd (stop.Wire offset fault) old new (stage.Ended answer) =
+      GivesReport out_look report_look old new (fault_text (Wire offset fault)) answer
   GivesEnd (stop.Io fault) old new (stage.Ended answer) = (answer ≡ Err fault) × (new ≡ old)
 
 -- the line waits where data is to come, and is due where none is

@@ -20,7 +20,12 @@ module _ {R W E : Type 0} where
 
   -- the run has ended, and its steps return this
   abbrev pub list_has_ended : ListRun R W E → Result Progress IoFault → Type 0
-  list_has_ended run answer = (given : Result Status IoFault) × (run.stage ≡ stage.Ended given) × (answer ≡ progress_of (stage.Ended given))
+  list_has_ended run answer =
+      (given : Result Status IoFault) × (run.stage ≡ stage.Ended given)
+      × (answer ≡ progress_of (stage.Ended given))
 
-  abbrev pub list_stands : (R → Input) → (W → Output) → (E → Output) → ListRun R W E → Devices R W E → List ℕ → Type 0
-  list_stands in_look out_look report_look run start history = IsListing in_look out_look report_look start run.stage run.session run.writers (latest_line run.latest) history
+  abbrev pub list_stands : (R → Input) → (W → Output) → (E → Output) → ListRun R W E
+      → Devices R W E → List ℕ → Type 0
+  list_stands in_look out_look report_look run start history =
+      IsListing in_look out_look report_look start run.stage run.session run.writers
+      (latest_line run.latest) history

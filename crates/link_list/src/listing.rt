@@ -79,9 +79,14 @@ fn take<R: InDevice, W: OutDevice, E: OutDevice>(
 ) -> Stage
     requires { IsTrue (may_go_on stage session.old) }
     ensures fits { IsTrue (may_go_on result session.new) }
-    ensures gives { (start : Devices R W E) (history : List ℕ) → IsListing R.state W.state E.state start stage session.old writers.old (latest_line latest.old) history →
-        GivesStage R.state W.state E.state start stage session.old session.new writers.new (latest_line latest.new) history result }
-    ensures ended { (answer : _) → stage ≡ Stage.Ended answer → (session.new ≡ session.old) × (writers.new ≡ writers.old) × (latest.new ≡ latest.old) × (result ≡ stage) }
+    ensures gives { (start : Devices R W E) (history : List ℕ)
+        → IsListing R.state W.state E.state start stage session.old writers.old
+        (latest_line latest.old) history
+        → GivesStage R.state W.state E.state start stage session.old session.new writers.new
+        (latest_line latest.new) history result }
+    ensures ended { (answer : _) → stage ≡ Stage.Ended answer
+        → (session.new ≡ session.old) × (writers.new ≡ writers.old)
+        × (latest.new ≡ latest.old) × (result ≡ stage) }
 {
     match read(stage, session, writers, latest) {
         Next::Line => write_line(writers, latest),
@@ -99,9 +104,14 @@ fn read<R: InDevice, W: OutDevice, E: OutDevice>(
 ) -> Next
     requires { IsTrue (may_go_on stage session.old) }
     ensures fits { IsTrue (may_go_next result session.new) }
-    ensures gives { (start : Devices R W E) (history : List ℕ) → IsListing R.state W.state E.state start stage session.old writers.old (latest_line latest.old) history →
-        GivesRead R.state W.state E.state start stage session.old session.new writers.new (latest_line latest.new) history result }
-    ensures ended { (answer : _) → stage ≡ Stage.Ended answer → (session.new ≡ session.old) × (writers.new ≡ writers.old) × (latest.new ≡ latest.old) × (result ≡ Next.Stage stage) }
+    ensures gives { (start : Devices R W E) (history : List ℕ)
+        → IsListing R.state W.state E.state start stage session.old writers.old
+        (latest_line latest.old) history
+        → GivesRead R.state W.state E.state start stage session.old session.new writers.new
+        (latest_line latest.new) history result }
+    ensures ended { (answer : _) → stage ≡ Stage.Ended answer
+        → (session.new ≡ session.old) × (writers.new ≡ writers.old) × (latest.new ≡ latest.old)
+        × (result ≡ Next.Stage stage) }
 {
     match stage {
         Stage::Contact => Next::Stage(take_contact(session, writers)),
@@ -120,8 +130,10 @@ fn take_contact<R: InDevice, W: OutDevice, E: OutDevice>(
 ) -> Stage
     requires { IsTrue (may_open session.old) }
     ensures fits { IsTrue (may_go_on result session.new) }
-    ensures gives { (start : Devices R W E) (line history : List ℕ) → IsListing R.state W.state E.state start Stage.Contact session.old writers.old line history →
-        GivesStage R.state W.state E.state start Stage.Contact session.old session.new writers.new line history result }
+    ensures gives { (start : Devices R W E) (line history : List ℕ)
+        → IsListing R.state W.state E.state start Stage.Contact session.old writers.old line history
+        → GivesStage R.state W.state E.state start Stage.Contact session.old session.new
+        writers.new line history result }
 {
     match session.open() {
         Ok(contact) => {
@@ -142,8 +154,11 @@ fn read_message<R: InDevice, W: OutDevice, E: OutDevice>(
 ) -> Next
     requires { IsTrue (may_read session.old) }
     ensures fits { IsTrue (may_go_next result session.new) }
-    ensures gives { (start : Devices R W E) (history : List ℕ) → IsListing R.state W.state E.state start Stage.Message session.old writers.old (latest_line latest.old) history →
-        GivesRead R.state W.state E.state start Stage.Message session.old session.new writers.new (latest_line latest.new) history result }
+    ensures gives { (start : Devices R W E) (history : List ℕ)
+        → IsListing R.state W.state E.state start Stage.Message session.old writers.old
+        (latest_line latest.old) history
+        → GivesRead R.state W.state E.state start Stage.Message session.old session.new writers.new
+        (latest_line latest.new) history result }
 {
     match next_message(session, writers, &mut latest.message) {
         Ok(Some(offset)) => {
@@ -163,8 +178,10 @@ fn pass_data<R: InDevice, W: OutDevice, E: OutDevice>(
 ) -> Next
     requires { IsTrue (is_opened session.old) }
     ensures fits { IsTrue (may_go_next result session.new) }
-    ensures gives { (start : Devices R W E) (line history : List ℕ) → IsListing R.state W.state E.state start Stage.Data session.old writers.old line history →
-        GivesRead R.state W.state E.state start Stage.Data session.old session.new writers.new line history result }
+    ensures gives { (start : Devices R W E) (line history : List ℕ)
+        → IsListing R.state W.state E.state start Stage.Data session.old writers.old line history
+        → GivesRead R.state W.state E.state start Stage.Data session.old session.new
+        writers.new line history result }
 {
     match load_data(session, writers) {
         Ok(ready) => {
@@ -191,7 +208,8 @@ fn go_on<R: InDevice>(session: &Session<R>) -> Next
 /// Writes the line of the message that was read last.
 #[inline(always)]
 fn write_line<W: OutDevice, E: OutDevice>(writers: &mut Writers<W, E>, latest: &mut Latest) -> Stage
-    ensures line { GivesLine W.state E.state (latest_line latest.old) writers.old writers.new result }
+    ensures line { GivesLine W.state E.state (latest_line latest.old)
+        writers.old writers.new result }
     ensures latest { latest_line latest.new ≡ latest_line latest.old }
 {
     latest.kept.keep(latest.offset);
@@ -238,8 +256,10 @@ impl<R: InDevice, W: OutDevice, E: OutDevice> ListRun<R, W, E> {
         requires reader { (R.state reader).failed ≡ false }
         requires output { (W.state output).failed ≡ false }
         requires report { (E.state report).failed ≡ false }
-        ensures start { list_stands R.state W.state E.state result (devices_at (place_of_list result)) [] }
-        ensures devices { devices_at (place_of_list result) ≡ record { reader = reader; output = output; report = report } }
+        ensures start { list_stands R.state W.state E.state result
+            (devices_at (place_of_list result)) [] }
+        ensures devices { devices_at (place_of_list result)
+            ≡ record { reader = reader; output = output; report = report } }
     {
         ListRun {
             session: Session::new(Source::new(reader)),

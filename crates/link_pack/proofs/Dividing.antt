@@ -16,7 +16,8 @@ use Rattle.link_pack.specs.Packer.{IsCut}
 -- ---- fronts
 
 -- of what is taken all is taken
-pub taken_again : (goes : List ℕ → Bool) (seen bytes : List ℕ) → taken goes seen (taken goes seen bytes) ≡ taken goes seen bytes
+pub taken_again : (goes : List ℕ → Bool) (seen bytes : List ℕ)
+    → taken goes seen (taken goes seen bytes) ≡ taken goes seen bytes
 taken_again goes seen [] = rw (taken-nil goes seen) (taken-nil goes seen)
 taken_again goes seen (byte ∷ bytes) =
     ⊎_elim
@@ -27,7 +28,8 @@ taken_again goes seen (byte ∷ bytes) =
     (cases_Bool (goes seen))
 
 -- bytes that are their own front take of what follows what they need
-pub front_more : (part more : List ℕ) → front_of part ≡ part → front_of (part ++ more) ≡ part ++ taken bundle_goes part more
+pub front_more : (part more : List ℕ) → front_of part ≡ part
+    → front_of (part ++ more) ≡ part ++ taken bundle_goes part more
 front_more part more front =
     joins_pieces bundle_goes [] part more ∙ ap (λ (seen : List ℕ). seen ++ taken bundle_goes seen more) front
 
@@ -38,7 +40,8 @@ front_kept part piece front =
     ∙ ap (λ (bytes : List ℕ). part ++ bytes) (taken_again bundle_goes part piece)
 
 -- nothing, where no more are needed
-pub front_stopped : (front more : List ℕ) → front_of front ≡ front → bundle_goes front ≡ false → front_of (front ++ more) ≡ front
+pub front_stopped : (front more : List ℕ) → front_of front ≡ front → bundle_goes front ≡ false
+    → front_of (front ++ more) ≡ front
 front_stopped front more is idle =
     front_more front more is ∙ ap (λ (bytes : List ℕ). front ++ bytes) (taken-idle bundle_goes front more idle) ∙ append-nil front
 
@@ -48,10 +51,12 @@ verdict_none : verdict [] ≡ Err (Cut, 0)
 unfolding verdict judged bundle_at opening_at
 verdict_none = refl
 
-pub whole_stops : (bundle : List ℕ) (info : BundleInfo) → verdict bundle ≡ Ok info → bundle_goes bundle ≡ false
+pub whole_stops : (bundle : List ℕ) (info : BundleInfo) → verdict bundle ≡ Ok info
+    → bundle_goes bundle ≡ false
 whole_stops bundle info is = ap (λ said. is_going (state_of said)) is
 
-pub faulty_stops : (front : List ℕ) (fault : BundleFault) (place : ℕ) → verdict front ≡ Err (fault, place) → lasts fault ≡ true → bundle_goes front ≡ false
+pub faulty_stops : (front : List ℕ) (fault : BundleFault) (place : ℕ)
+    → verdict front ≡ Err (fault, place) → lasts fault ≡ true → bundle_goes front ≡ false
 faulty_stops front fault place is stays =
     ap (λ said. is_going (state_of said)) is ∙ ap (λ test. is_going (if test then state.Failed fault place else state.Going)) stays
 
@@ -67,16 +72,19 @@ pub some_stopped : (front : List ℕ) → bundle_goes front ≡ false → 0 < le
 some_stopped [] idle = absurd (false≢true (sym idle ∙ none_goes))
 some_stopped (byte ∷ bytes) idle = omega arith
 
-going_mends : (stays : Bool) (fault : BundleFault) (place : ℕ) → is_going (if stays then state.Failed fault place else state.Going) ≡ true → stays ≡ false
+going_mends : (stays : Bool) (fault : BundleFault) (place : ℕ)
+    → is_going (if stays then state.Failed fault place else state.Going) ≡ true → stays ≡ false
 going_mends true fault place goes = absurd (cc)
 going_mends false fault place goes = refl
 
-cut_by : (part : List ℕ) (said : Result BundleInfo (BundleFault × ℕ)) → verdict part ≡ said → is_going (state_of said) ≡ true → IsCut part
+cut_by : (part : List ℕ) (said : Result BundleInfo (BundleFault × ℕ)) → verdict part ≡ said
+    → is_going (state_of said) ≡ true → IsCut part
 cut_by part (Ok info) is goes = absurd (cc)
 cut_by part (Err (fault, place)) is goes = record { fault = fault; place = place; is = is; mends = going_mends (lasts fault) fault place goes }
 
 -- such a fault is mended by more bytes
-pub open_mends : (part : List ℕ) (fault : BundleFault) (place : ℕ) → verdict part ≡ Err (fault, place) → bundle_goes part ≡ true → lasts fault ≡ false
+pub open_mends : (part : List ℕ) (fault : BundleFault) (place : ℕ)
+    → verdict part ≡ Err (fault, place) → bundle_goes part ≡ true → lasts fault ≡ false
 open_mends part fault place is goes = going_mends (lasts fault) fault place (ap (λ said. is_going (state_of said)) (sym is) ∙ goes)
 
 pub goes_cut : (part : List ℕ) → bundle_goes part ≡ true → IsCut part
@@ -84,42 +92,52 @@ goes_cut part goes = cut_by part (verdict part) refl goes
 
 -- ---- a front judged
 
-pub within_limit : (limit : ℕ) (front : List ℕ) → length front ≤ limit → judged_front limit front ≡ refused_by (verdict front)
+pub within_limit : (limit : ℕ) (front : List ℕ) → length front ≤ limit
+    → judged_front limit front ≡ refused_by (verdict front)
 within_limit limit front within = rw (le-ltb limit (length front) within) refl
 
-pub beyond_limit : (limit : ℕ) (front : List ℕ) → limit < length front → judged_front limit front ≡ Err (Longer limit)
+pub beyond_limit : (limit : ℕ) (front : List ℕ) → limit < length front
+    → judged_front limit front ≡ Err (Longer limit)
 beyond_limit limit front beyond = rw (lt-ltb limit (length front) beyond) refl
 
-refused_whole : (said : Result BundleInfo (BundleFault × ℕ)) (info : BundleInfo) → refused_by said ≡ Ok info → said ≡ Ok info
+refused_whole : (said : Result BundleInfo (BundleFault × ℕ)) (info : BundleInfo)
+    → refused_by said ≡ Ok info → said ≡ Ok info
 refused_whole (Ok other) info is = cc
 refused_whole (Err (fault, place)) info is = absurd (cc)
 
 judged_whole_by : (beyond : Bool) (limit : ℕ) (front : List ℕ) (info : BundleInfo)
-    → (if beyond then Err (Longer limit) else refused_by (verdict front)) ≡ Ok info → verdict front ≡ Ok info
+    → (if beyond then Err (Longer limit) else refused_by (verdict front)) ≡ Ok info
+    → verdict front ≡ Ok info
 judged_whole_by true limit front info is = absurd (cc)
 judged_whole_by false limit front info is = refused_whole (verdict front) info is
 
 -- what is taken for a bundle is one
-judged_whole : (limit : ℕ) (front : List ℕ) (info : BundleInfo) → judged_front limit front ≡ Ok info → verdict front ≡ Ok info
+judged_whole : (limit : ℕ) (front : List ℕ) (info : BundleInfo) → judged_front limit front ≡ Ok info
+    → verdict front ≡ Ok info
 judged_whole limit front info is = judged_whole_by (nat_lt limit (length front)) limit front info is
 
 -- ---- an input divided
 
 -- two ways to divide what stands behind a bundle that agree there
-divided_by-same : (next other : List ℕ → Divided) (front bytes : List ℕ) (said : Result BundleInfo Refusal)
-    → ((info : BundleInfo) → said ≡ Ok info → next (drop (length front) bytes) ≡ other (drop (length front) bytes))
+divided_by-same : (next other : List ℕ → Divided) (front bytes : List ℕ)
+    (said : Result BundleInfo Refusal)
+    → ((info : BundleInfo) → said ≡ Ok info
+    → next (drop (length front) bytes) ≡ other (drop (length front) bytes))
     → divided_by next front bytes said ≡ divided_by other front bytes said
 divided_by-same next other front bytes (Ok info) same = ap (with_bundle (record { bytes = front; info = info })) (same info refl)
 divided_by-same next other front bytes (Err refusal) same = refl
 
 -- behind a bundle fewer bytes are left
-fewer_left : (limit byte : ℕ) (bytes front : List ℕ) (info : BundleInfo) → judged_front limit front ≡ Ok info → length (drop (length front) (byte ∷ bytes)) ≤ length bytes
+fewer_left : (limit byte : ℕ) (bytes front : List ℕ) (info : BundleInfo)
+    → judged_front limit front ≡ Ok info
+    → length (drop (length front) (byte ∷ bytes)) ≤ length bytes
 fewer_left limit byte bytes front info is =
     let some = some_stopped front (whole_stops front info (judged_whole limit front info is)) in
     omega (arith, length-drop (length front) (byte ∷ bytes))
 
 -- as many turns as there are bytes are enough
-enough_turns : (count other limit : ℕ) (bytes : List ℕ) → length bytes ≤ count → length bytes ≤ other → divided_in count limit bytes ≡ divided_in other limit bytes
+enough_turns : (count other limit : ℕ) (bytes : List ℕ) → length bytes ≤ count
+    → length bytes ≤ other → divided_in count limit bytes ≡ divided_in other limit bytes
 unfolding divided_in
 enough_turns zero zero limit bytes p q = refl
 enough_turns zero (suc other) limit [] p q = refl
@@ -151,8 +169,10 @@ divided_front limit front (byte ∷ bytes) some is =
     enough_turns (length bytes) (length (drop (length front) (byte ∷ bytes))) limit (drop (length front) (byte ∷ bytes)) (fewer_left limit byte bytes front info whole) (omega arith))
 
 -- a bundle that the peer takes stands first
-pub divided_whole : (limit : ℕ) (bundle more : List ℕ) (info : BundleInfo) → front_of bundle ≡ bundle → verdict bundle ≡ Ok info → length bundle ≤ limit
-    → divided limit (bundle ++ more) ≡ with_bundle (record { bytes = bundle; info = info }) (divided limit more)
+pub divided_whole : (limit : ℕ) (bundle more : List ℕ) (info : BundleInfo)
+    → front_of bundle ≡ bundle → verdict bundle ≡ Ok info → length bundle ≤ limit
+    → divided limit (bundle ++ more)
+    ≡ with_bundle (record { bytes = bundle; info = info }) (divided limit more)
 divided_whole limit bundle more info front is within =
     let stops = whole_stops bundle info is in
     let some = some_stopped bundle stops in
@@ -161,8 +181,10 @@ divided_whole limit bundle more info front is within =
     ∙ ap (λ (left : List ℕ). with_bundle (record { bytes = bundle; info = info }) (divided limit left)) (drop-append_seam bundle more)
 
 -- more than the peer takes of what goes on
-pub divided_longer : (limit : ℕ) (part : List ℕ) (byte : ℕ) (more : List ℕ) → front_of part ≡ part → bundle_goes part ≡ true → length part ≡ limit
-    → divided limit (part ++ byte ∷ more) ≡ record { bundles = []; rest = Some (record { accepted = part; refusal = Longer limit }) }
+pub divided_longer : (limit : ℕ) (part : List ℕ) (byte : ℕ) (more : List ℕ) → front_of part ≡ part
+    → bundle_goes part ≡ true → length part ≡ limit
+    → divided limit (part ++ byte ∷ more)
+    ≡ record { bundles = []; rest = Some (record { accepted = part; refusal = Longer limit }) }
 divided_longer limit part byte more front goes full =
     let rest = taken bundle_goes (part ++ byte ∷ []) more in
     divided_front limit (part ++ byte ∷ rest) (part ++ byte ∷ more) (omega (arith, length-append part (byte ∷ more)))
@@ -171,8 +193,17 @@ divided_longer limit part byte more front goes full =
     ∙ ap (refused_with (Longer limit)) (ap (λ count. take count (part ++ byte ∷ rest)) (sym full) ∙ take-append_seam part (byte ∷ rest))
 
 -- the last byte of the front shows a fault
-pub divided_faulty : (limit : ℕ) (front more : List ℕ) (fault : BundleFault) (place : ℕ) → front_of front ≡ front → verdict front ≡ Err (fault, place) → lasts fault ≡ true → length front ≤ limit
-    → divided limit (front ++ more) ≡ record { bundles = []; rest = Some (record { accepted = take (length front - 1) front; refusal = Faulty fault place }) }
+pub divided_faulty : (limit : ℕ) (front more : List ℕ) (fault : BundleFault) (place : ℕ)
+    → front_of front ≡ front → verdict front ≡ Err (fault, place)
+    → lasts fault ≡ true → length front ≤ limit
+    → divided limit (front ++ more)
+    ≡ record {
+      bundles = [];
+      rest = Some (record {
+        accepted = take (length front - 1) front;
+        refusal = Faulty fault place;
+      });
+    }
 divided_faulty limit front more fault place is said stays within =
     let stops = faulty_stops front fault place said stays in
     let some = some_stopped front stops in
@@ -181,8 +212,14 @@ divided_faulty limit front more fault place is said stays within =
     ∙ ap (λ test. refused_with (Faulty fault place) (if test then take (length front - 1) front else front)) stays
 
 -- the bytes end inside a bundle
-pub divided_open : (limit : ℕ) (part : List ℕ) (fault : BundleFault) (place : ℕ) → front_of part ≡ part → bundle_goes part ≡ true → 0 < length part → length part ≤ limit → verdict part ≡ Err (fault, place)
-    → divided limit part ≡ record { bundles = []; rest = Some (record { accepted = part; refusal = Faulty fault place }) }
+pub divided_open : (limit : ℕ) (part : List ℕ) (fault : BundleFault) (place : ℕ)
+    → front_of part ≡ part → bundle_goes part ≡ true → 0 < length part → length part ≤ limit
+    → verdict part ≡ Err (fault, place)
+    → divided limit part
+    ≡ record {
+      bundles = [];
+      rest = Some (record { accepted = part; refusal = Faulty fault place });
+    }
 divided_open limit part fault place front goes some within said =
     divided_front limit part part some front
     ∙ ap (divided_by (divided limit) part part) (within_limit limit part within ∙ ap refused_by said)
@@ -190,5 +227,6 @@ divided_open limit part fault place front goes some within said =
 
 -- ---- what is divided so far
 
-pub joined_push : (bundles : List Packed) (bundle : Packed) (more : Divided) → joined bundles (with_bundle bundle more) ≡ joined (bundles ++ bundle ∷ []) more
+pub joined_push : (bundles : List Packed) (bundle : Packed) (more : Divided)
+    → joined bundles (with_bundle bundle more) ≡ joined (bundles ++ bundle ∷ []) more
 joined_push bundles bundle more = ap (λ (all : List Packed). record { bundles = all; rest = more.rest }) (sym (append_assoc bundles (bundle ∷ []) more.bundles))

@@ -15,11 +15,15 @@ module _ (options : PackOptions) where
   some_segment = let some = options.some in omega arith
 
   grown : (number : ℕ) (begun run : List ℕ) (whole : Bool) → 0 < length run
-      → segments_of number (sending options false begun) ++ run_segments options number begun run whole ≡ segments_of number (sending options whole (begun ++ run))
+      → segments_of number (sending options false begun)
+      ++ run_segments options number begun run whole
+      ≡ segments_of number (sending options whole (begun ++ run))
   grown number begun run whole some = segments_grow number (segment_size options) options.announce begun run whole some_segment some
 
   grown_any : (number : ℕ) (begun run : List ℕ)
-      → segments_of number (sending options false begun) ++ run_segments options number begun run false ≡ segments_of number (sending options false (begun ++ run))
+      → segments_of number (sending options false begun)
+      ++ run_segments options number begun run false
+      ≡ segments_of number (sending options false (begun ++ run))
   grown_any number begun [] =
       ap (λ (xs : List ℕ). segments_of number (sending options false begun) ++ xs) (segments_idle number (segment_size options) options.announce begun)
       ∙ append-nil _ ∙ ap (λ (bytes : List ℕ). segments_of number (sending options false bytes)) (sym (append-nil begun))
@@ -27,26 +31,34 @@ module _ (options : PackOptions) where
 
   -- after what stands before it
   behind : (bundles : List Packed) (segments more all : List ℕ) → segments ++ more ≡ all
-      → (prelude_bytes options ++ transfers_of options 0 bundles ++ segments) ++ more ≡ prelude_bytes options ++ transfers_of options 0 bundles ++ all
+      → (prelude_bytes options ++ transfers_of options 0 bundles ++ segments) ++ more
+      ≡ prelude_bytes options ++ transfers_of options 0 bundles ++ all
   behind bundles segments more all is =
       append_assoc (prelude_bytes options ++ transfers_of options 0 bundles) segments more
       ∙ ap (λ (xs : List ℕ). prelude_bytes options ++ transfers_of options 0 bundles ++ xs) is
 
   -- the bundle goes on
   pub texts_grown : (bundles : List Packed) (begun run : List ℕ)
-      → texts_of options bundles begun then on_output (run_segments options (length bundles) begun run false) ≡ texts_of options bundles (begun ++ run)
+      → texts_of options bundles begun
+      then on_output (run_segments options (length bundles) begun run false)
+      ≡ texts_of options bundles (begun ++ run)
   texts_grown bundles begun run =
       texts_as (behind bundles _ _ _ (grown_any (length bundles) begun run)) (append-nil (lines_of options 0 bundles))
 
   -- it is refused
   pub texts_refused : (bundles : List Packed) (begun run line : List ℕ)
-      → texts_of options bundles begun then (record { output = run_segments options (length bundles) begun run false; report = line }) ≡ texts_of options bundles (begun ++ run) then on_report line
+      → texts_of options bundles begun
+      then (record {
+        output = run_segments options (length bundles) begun run false;
+        report = line;
+      }) ≡ texts_of options bundles (begun ++ run) then on_report line
   texts_refused bundles begun run line =
       texts_as (behind bundles _ _ _ (grown_any (length bundles) begun run) ∙ sym (append-nil _)) refl
 
   -- it is whole, and nothing of the next one has come
   whole_output : (bundles : List Packed) (bundle : Packed) (idle : List ℕ) → idle ≡ []
-      → prelude_bytes options ++ transfers_of options 0 bundles ++ segments_of (length bundles) (sending options true bundle.bytes)
+      → prelude_bytes options ++ transfers_of options 0 bundles
+      ++ segments_of (length bundles) (sending options true bundle.bytes)
       ≡ prelude_bytes options ++ transfers_of options 0 (bundles ++ bundle ∷ []) ++ idle
   whole_output bundles bundle idle none =
       append_assoc (prelude_bytes options) (transfers_of options 0 bundles) _
@@ -54,8 +66,13 @@ module _ (options : PackOptions) where
       ∙ ap (λ (xs : List ℕ). prelude_bytes options ++ xs) (sym (transfers_of_push options 0 bundles bundle))
       ∙ sym (append-nil _) ∙ ap (λ (xs : List ℕ). prelude_bytes options ++ transfers_of options 0 (bundles ++ bundle ∷ []) ++ xs) (sym none)
 
-  pub texts_whole : (bundles : List Packed) (begun run : List ℕ) (bundle : Packed) → bundle.bytes ≡ begun ++ run → 0 < length run
-      → texts_of options bundles begun then (record { output = run_segments options (length bundles) begun run true; report = line_of options (length bundles) bundle })
+  pub texts_whole : (bundles : List Packed) (begun run : List ℕ) (bundle : Packed)
+      → bundle.bytes ≡ begun ++ run → 0 < length run
+      → texts_of options bundles begun
+      then (record {
+        output = run_segments options (length bundles) begun run true;
+        report = line_of options (length bundles) bundle;
+      })
       ≡ texts_of options (bundles ++ bundle ∷ []) []
   texts_whole bundles begun run bundle is some =
       texts_as

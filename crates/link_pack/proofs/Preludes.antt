@@ -18,7 +18,8 @@ use Rattle.link_pack.proofs.Outcomes.{pack_reports, sofar_going}
 use Rattle.link_pack.proofs.Sending.{segments_none}
 
 -- what is written before any bundle
-prelude_texts : (options : PackOptions) → no_texts then on_output (prelude_bytes options) ≡ texts_of options [] []
+prelude_texts : (options : PackOptions) → no_texts
+    then on_output (prelude_bytes options) ≡ texts_of options [] []
 unfolding transfers_of lines_of
 prelude_texts options =
     texts_as
@@ -26,13 +27,18 @@ prelude_texts options =
     ∙ ap (λ (xs : List ℕ). (prelude_bytes options ++ []) ++ xs) (sym (segments_none 0 (segment_size options) options.announce)))
     refl
 
-module _ {R W E : Type 0} (in_look : R → Input) (out_look : W → Output) (report_look : E → Output) (start : Devices R W E) where
-  module _ (source : Source R) (before after : Writers W E) (packer : Packer) (fresh : Begins in_look out_look report_look start source before packer []) where
+module _ {R W E : Type 0} (in_look : R → Input) (out_look : W → Output) (report_look : E → Output)
+    (start : Devices R W E) where
+  module _ (source : Source R) (before after : Writers W E) (packer : Packer)
+      (fresh : Begins in_look out_look report_look start source before packer []) where
     few : length (window_of source) < window_size
     few = let none = ap length fresh.unread in omega arith
 
-    from_none : (next : Stage) → GivesWritten out_look report_look before after (on_output (prelude_bytes packer.options)) (Unit {0}) next
-        → GivesStage in_look out_look report_look start packer.options stage.Prelude source source after packer [] next
+    from_none : (next : Stage)
+        → GivesWritten out_look report_look before after (on_output (prelude_bytes packer.options))
+        (Unit {0}) next
+        → GivesStage in_look out_look report_look start packer.options stage.Prelude source
+        source after packer [] next
     from_none stage.Prelude gives = absurd gives
     from_none stage.Bundles gives = record {
       given = [];
@@ -60,9 +66,12 @@ module _ {R W E : Type 0} (in_look : R → Input) (out_look : W → Output) (rep
           (prelude_texts packer.options ∙ sym (sofar_going packer.options [] [] [] fresh.holds.front fresh.holds.goes fresh.holds.within refl)) (inl refl) few (λ some. inl refl) gives;
     }
 
-  pub begun : (source : Source R) (before after : Writers W E) (packer : Packer) (history : List ℕ) (next : Stage) → Begins in_look out_look report_look start source before packer history
-      → GivesWritten out_look report_look before after (on_output (prelude_bytes packer.options)) (Unit {0}) next
-      → GivesStage in_look out_look report_look start packer.options stage.Prelude source source after packer history next
+  pub begun : (source : Source R) (before after : Writers W E) (packer : Packer) (history : List ℕ)
+      (next : Stage) → Begins in_look out_look report_look start source before packer history
+      → GivesWritten out_look report_look before after (on_output (prelude_bytes packer.options))
+      (Unit {0}) next
+      → GivesStage in_look out_look report_look start packer.options stage.Prelude source source
+      after packer history next
   begun source before after packer history next begins gives =
       let Q : List ℕ → Type 0 = λ h. Begins in_look out_look report_look start source before packer h in
       let P : List ℕ → Type 0 = λ h. GivesStage in_look out_look report_look start packer.options stage.Prelude source source after packer h next in

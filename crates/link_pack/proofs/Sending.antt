@@ -12,7 +12,8 @@ use Rattle.link_pack.specs.Segments.{segment_bytes, Sending, cut_at, segments_fr
 
 -- some segments, and then some more
 pub segments_from-add : (id : ℕ) (sending : Sending) (k a b : ℕ)
-    → segments_from id sending k (a + b) ≡ segments_from id sending k a ++ segments_from id sending (k + a) b
+    → segments_from id sending k (a + b) ≡ segments_from id sending k a
+    ++ segments_from id sending (k + a) b
 unfolding segments_from
 segments_from-add id sending k zero b = ap₂ (λ first count. segments_from id sending first count) {y = k + 0} (omega arith) (omega arith)
 segments_from-add id sending k (suc a) b =
@@ -49,7 +50,8 @@ none_kept true segment hold size over = grind (arith, nat_tests)
 
 -- how it is cut
 same_cut : (first l m : Bool) (a b : Option ℕ) → l ≡ m → a ≡ b
-    → ◌≡◌ {A = Cut} (record { first = first; last = l; announce = a }) (record { first = first; last = m; announce = b })
+    → ◌≡◌ {A = Cut} (record { first = first; last = l; announce = a })
+    (record { first = first; last = m; announce = b })
 same_cut first l m a b last announce = cc
 
 -- the bytes that have come, and whether they are all
@@ -57,18 +59,22 @@ abbrev sends : (segment hold : ℕ) (bundle : List ℕ) (last : Bool) → Sendin
 sends segment hold bundle last = record { segment = segment; hold = hold; bundle = bundle; whole = last }
 
 -- it is cut as it was
-cut_kept : (segment hold : ℕ) (bundle run : List ℕ) (last : Bool) (k : ℕ) → 0 < segment → 0 < length run
+cut_kept : (segment hold : ℕ) (bundle run : List ℕ) (last : Bool) (k : ℕ)
+    → 0 < segment → 0 < length run
     → hold < length bundle → k * segment + segment ≤ length bundle
-    → cut_at (sends segment hold bundle false) k ≡ cut_at (sends segment hold (bundle ++ run) last) k
+    → cut_at (sends segment hold bundle false) k
+    ≡ cut_at (sends segment hold (bundle ++ run) last) k
 unfolding announcement
 cut_kept segment hold bundle run last k some next over within =
     rw length-append
     (same_cut (eqb k 0) _ _ _ _ (last_kept last segment k (length bundle) (length run) some next within)
     (ap (λ (announce : Option ℕ). cond (eqb k 0) announce None) (none_kept last segment hold (length bundle + length run) (omega arith))))
 
-kept_from : (id segment hold : ℕ) (bundle run : List ℕ) (last : Bool) (k count : ℕ) → 0 < segment → 0 < length run
+kept_from : (id segment hold : ℕ) (bundle run : List ℕ) (last : Bool) (k count : ℕ)
+    → 0 < segment → 0 < length run
     → hold < length bundle → (k + count) * segment ≤ length bundle
-    → segments_from id (sends segment hold bundle false) k count ≡ segments_from id (sends segment hold (bundle ++ run) last) k count
+    → segments_from id (sends segment hold bundle false) k count
+    ≡ segments_from id (sends segment hold (bundle ++ run) last) k count
 unfolding segments_from
 kept_from id segment hold bundle run last k zero some next over within = refl
 kept_from id segment hold bundle run last k (suc count) some next over within =
@@ -78,12 +84,15 @@ kept_from id segment hold bundle run last k (suc count) some next over within =
     (kept_from id segment hold bundle run last (suc k) count some next over (omega arith))
 
 -- a chunk is due only where no length is announced
-due_over : (segment hold size count : ℕ) → 0 < count → count ≤ due_of false segment hold size → hold < size
+due_over : (segment hold size count : ℕ) → 0 < count → count ≤ due_of false segment hold size
+    → hold < size
 due_over segment hold size count some few = grind (arith, nat_tests)
 
-pub segments_kept : (id segment hold : ℕ) (bundle run : List ℕ) (last : Bool) (count : ℕ) → 0 < segment → 0 < length run
+pub segments_kept : (id segment hold : ℕ) (bundle run : List ℕ) (last : Bool) (count : ℕ)
+    → 0 < segment → 0 < length run
     → count ≤ due_of false segment hold (length bundle)
-    → segments_from id (record { segment = segment; hold = hold; bundle = bundle; whole = false }) 0 count
+    → segments_from id (record { segment = segment; hold = hold; bundle = bundle; whole = false }) 0
+    count
     ≡ segments_from id (record { segment = segment; hold = hold; bundle = bundle ++ run; whole = last }) 0 count
 unfolding segments_from
 segments_kept id segment hold bundle run last zero some next few = refl
@@ -94,7 +103,8 @@ segments_kept id segment hold bundle run last (suc count) some next few =
 
 -- ---- a bundle that goes on, of which all that are due were given
 
-first_chunks-length : (segment count : ℕ) (bundle : List ℕ) → length (first_chunks segment count bundle) ≡ count
+first_chunks-length : (segment count : ℕ) (bundle : List ℕ)
+    → length (first_chunks segment count bundle) ≡ count
 unfolding first_chunks
 first_chunks-length segment zero bundle = refl
 first_chunks-length segment (suc count) bundle =
@@ -112,23 +122,27 @@ segments_none id segment hold = rw (due_none segment hold) refl
 pub open_none : (segment hold : ℕ) → going segment hold [] ≡ beginning segment hold
 open_none segment hold = rw (due_none segment hold, first_chunks-zero segment []) refl
 
-pub left_none : (id : ℕ) (sending : Sending) (k due : ℕ) → k ≡ due → segments_from id sending k (due - k) ≡ []
+pub left_none : (id : ℕ) (sending : Sending) (k due : ℕ) → k ≡ due
+    → segments_from id sending k (due - k) ≡ []
 unfolding segments_from
 left_none id sending k due same =
     let none : due - k ≡ 0 = omega arith in
     rw none refl
 
 -- nothing more is due until more bytes come
-pub segments_idle : (id segment hold : ℕ) (bundle : List ℕ) → segments_left id (going segment hold bundle) ≡ []
+pub segments_idle : (id segment hold : ℕ) (bundle : List ℕ)
+    → segments_left id (going segment hold bundle) ≡ []
 unfolding due
 segments_idle id segment hold bundle =
     let count = due_of false segment hold (length bundle) in
     left_none id (sends segment hold bundle false) (length (first_chunks segment count bundle)) count (first_chunks-length segment count bundle)
 
 -- the segments before, and those that are due with more bytes
-grow_from : (id segment hold : ℕ) (bundle run : List ℕ) (last : Bool) (given before after : ℕ) → 0 < segment → 0 < length run
+grow_from : (id segment hold : ℕ) (bundle run : List ℕ) (last : Bool) (given before after : ℕ)
+    → 0 < segment → 0 < length run
     → before ≡ due_of false segment hold (length bundle) → given ≡ before → before ≤ after
-    → segments_from id (sends segment hold bundle false) 0 before ++ segments_from id (sends segment hold (bundle ++ run) last) given (after - given)
+    → segments_from id (sends segment hold bundle false) 0 before
+    ++ segments_from id (sends segment hold (bundle ++ run) last) given (after - given)
     ≡ segments_from id (sends segment hold (bundle ++ run) last) 0 after
 grow_from id segment hold bundle run last given before after some next is same few =
     let all : before + (after - before) ≡ after = omega arith in
@@ -138,7 +152,8 @@ grow_from id segment hold bundle run last given before after some next is same f
     ∙ sym (segments_from-add id (sends segment hold (bundle ++ run) last) 0 before (after - before))
     ∙ ap (from 0) all
 
-pub segments_grow : (id segment hold : ℕ) (bundle run : List ℕ) (last : Bool) → 0 < segment → 0 < length run
+pub segments_grow : (id segment hold : ℕ) (bundle run : List ℕ) (last : Bool)
+    → 0 < segment → 0 < length run
     → segments_of id (record { segment = segment; hold = hold; bundle = bundle; whole = false })
     ++ segments_left id (with_bytes run last (going segment hold bundle))
     ≡ segments_of id (record { segment = segment; hold = hold; bundle = bundle ++ run; whole = last })
@@ -154,7 +169,8 @@ segments_grow id segment hold bundle (byte ∷ bytes) last some next =
 -- ---- once all that are due were given
 
 pub all_given_open : (segment hold : ℕ) (bundle run : List ℕ) → 0 < length run
-    → all_given (with_bytes run false (going segment hold bundle)) ≡ going segment hold (bundle ++ run)
+    → all_given (with_bytes run false (going segment hold bundle))
+    ≡ going segment hold (bundle ++ run)
 unfolding due
 all_given_open segment hold bundle [] next = absurd (omega arith)
 all_given_open segment hold bundle (byte ∷ bytes) next = refl

@@ -16,11 +16,13 @@ use Rattle.link_pack.specs.declared.packing.Stage.TheVariants as stage
 use Rattle.link_pack.proofs.Outcomes.{pack_reports}
 use Rattle.link_pack.proofs.Steps.{due, unshown}
 
-module _ {R W E : Type 0} (in_look : R → Input) (out_look : W → Output) (report_look : E → Output) (start : Devices R W E)
+module _ {R W E : Type 0} (in_look : R → Input) (out_look : W → Output)
+    (report_look : E → Output) (start : Devices R W E)
     (s new : Source R) (before mid : Writers W E) (packer : Packer) (history : List ℕ) where
   -- the run stands where it stood
   pub settled : Writes out_look report_look before mid no_texts
-      → Packs in_look out_look report_look start s before packer history → Packs in_look out_look report_look start s mid packer history
+      → Packs in_look out_look report_look start s before packer history
+      → Packs in_look out_look report_look start s mid packer history
   settled writes at = record {
     source = at.source;
     live = at.live;
@@ -34,8 +36,11 @@ module _ {R W E : Type 0} (in_look : R → Input) (out_look : W → Output) (rep
   }
 
   -- a writer failed in it, and the run has ended
-  pub lost_now : (fault : IoFault) → Unsettled out_look report_look before mid fault → length (window_of s) < window_size
-      → Packs in_look out_look report_look start s before packer history → LastStep in_look out_look report_look (pack_tool packer.options) start (devices_at (place_of s mid)) (most_given stage.Bundles) history (Err fault)
+  pub lost_now : (fault : IoFault) → Unsettled out_look report_look before mid fault
+      → length (window_of s) < window_size
+      → Packs in_look out_look report_look start s before packer history
+      → LastStep in_look out_look report_look (pack_tool packer.options) start
+      (devices_at (place_of s mid)) (most_given stage.Bundles) history (Err fault)
   lost_now fault part few at = record {
     given = [];
     size = omega arith;

@@ -20,15 +20,18 @@ use Rattle.link_pack.specs.declared.packing.Stage.{Stage}
 use Rattle.link_pack.specs.declared.packing.Stage.TheVariants as stage
 use Rattle.link_pack.proofs.Outcomes.{pack_reports, sofar_going, unshown_going}
 
-module _ {R W E : Type 0} (in_look : R → Input) (out_look : W → Output) (report_look : E → Output) (start : Devices R W E) where
-  module _ (old : Source R) (before : Writers W E) (packer : Packer) (history : List ℕ) (at : Packs in_look out_look report_look start old before packer history) where
+module _ {R W E : Type 0} (in_look : R → Input) (out_look : W → Output) (report_look : E → Output)
+    (start : Devices R W E) where
+  module _ (old : Source R) (before : Writers W E) (packer : Packer) (history : List ℕ)
+      (at : Packs in_look out_look report_look start old before packer history) where
     abbrev pub options : PackOptions
     options = packer.options
 
     abbrev pub texts : Texts
     texts = texts_of options at.bundles at.begun
 
-    pub divided_so : divided options.peer_transfer history ≡ joined at.bundles (divided options.peer_transfer at.begun)
+    pub divided_so : divided options.peer_transfer history
+        ≡ joined at.bundles (divided options.peer_transfer at.begun)
     divided_so =
         ap (divided options.peer_transfer) (sym (append-nil history)) ∙ at.divides []
         ∙ ap (λ (bytes : List ℕ). joined at.bundles (divided options.peer_transfer bytes)) (append-nil at.begun)
@@ -44,18 +47,23 @@ module _ {R W E : Type 0} (in_look : R → Input) (out_look : W → Output) (rep
 
     -- ---- bytes were given
 
-    module _ (new : Source R) (run : List ℕ) (takes : Takes in_look old new run) (live : IsLive in_look new) (some : 0 < length run) (size : length run ≤ 4096) where
-      mid : HasWritten in_look out_look report_look start (place_of new before) (history ++ run) texts
+    module _ (new : Source R) (run : List ℕ) (takes : Takes in_look old new run)
+        (live : IsLive in_look new) (some : 0 < length run) (size : length run ≤ 4096) where
+      mid : HasWritten in_look out_look report_look start (place_of new before) (history ++ run)
+          texts
       mid = written_given in_look out_look report_look start old new before history run texts at.written takes
 
       sound : NoneFailed in_look out_look report_look (devices_at (place_of new before))
       sound = sound_given in_look out_look report_look old new before run at.sound takes
 
       -- the run goes on
-      module _ (more : Texts) (bundles : List Packed) (begun : List ℕ) (grown : texts then more ≡ texts_of options bundles begun)
+      module _ (more : Texts) (bundles : List Packed) (begun : List ℕ)
+          (grown : texts then more ≡ texts_of options bundles begun)
           (divides : (rest : List ℕ) → divided options.peer_transfer ((history ++ run) ++ rest) ≡ joined bundles (divided options.peer_transfer (begun ++ rest)))
           (few : length bundles + length begun ≤ length (history ++ run)) (now_due : packing_sofar options (history ++ run) ≡ texts_of options bundles begun) where
-        stands : (after : Writers W E) (next : Packer) → next.options ≡ options → Writes out_look report_look before after more → Holds next bundles begun → Packs in_look out_look report_look start new after next (history ++ run)
+        stands : (after : Writers W E) (next : Packer) → next.options ≡ options
+            → Writes out_look report_look before after more → Holds next bundles begun
+            → Packs in_look out_look report_look start new after next (history ++ run)
         stands after next same writes holds =
             let P : PackOptions → Type 0 = λ o. HasWritten in_look out_look report_look start (place_of new after) (history ++ run) (texts_of o bundles begun) in
             let Q : PackOptions → Type 0 = λ o. (rest : List ℕ) → divided o.peer_transfer ((history ++ run) ++ rest) ≡ joined bundles (divided o.peer_transfer (begun ++ rest)) in
@@ -71,8 +79,11 @@ module _ {R W E : Type 0} (in_look : R → Input) (out_look : W → Output) (rep
               sound = sound_written in_look out_look report_look new before after more sound writes;
             }
 
-        pub goes_on : (after : Writers W E) (packed : Packer) (next : Stage) → packed.options ≡ options → GivesWritten out_look report_look before after more (Holds packed bundles begun) next
-            → GivesStage in_look out_look report_look start options stage.Bundles old new after packed history next
+        pub goes_on : (after : Writers W E) (packed : Packer) (next : Stage)
+            → packed.options ≡ options
+            → GivesWritten out_look report_look before after more (Holds packed bundles begun) next
+            → GivesStage in_look out_look report_look start options stage.Bundles old new
+            after packed history next
         goes_on after packed stage.Prelude same gives = absurd gives
         goes_on after packed stage.Bundles same gives =
             record { given = run; some = λ may. some; size = size; count = takes.count; window = takes.window.less some; at = stands after packed same gives.0 gives.1 }
@@ -86,15 +97,19 @@ module _ {R W E : Type 0} (in_look : R → Input) (out_look : W → Output) (rep
 
     -- ---- the run ends
 
-    module _ (new : Source R) (run : List ℕ) (takes : Takes in_look old new run) (size : length run ≤ 4096) (more : Texts) (status : ℕ)
+    module _ (new : Source R) (run : List ℕ) (takes : Takes in_look old new run)
+        (size : length run ≤ 4096) (more : Texts) (status : ℕ)
         (whole : texts then more ≡ (packing options (history ++ run)).texts) (ends : (packing options (history ++ run)).status ≡ status)
         (shown : IsOver in_look new ⊎ ((texts then more ≡ packing_sofar options (history ++ run)) × ((rest : List ℕ) → packing options ((history ++ run) ++ rest) ≡ packing options (history ++ run))))
         (few : length (window_of new) < window_size) where
-      last : HasWritten in_look out_look report_look start (place_of new before) (history ++ run) texts
+      last : HasWritten in_look out_look report_look start (place_of new before) (history ++ run)
+          texts
       last = written_given in_look out_look report_look start old new before history run texts at.written takes
 
-      pub ended : (after : Writers W E) (packed : Packer) (next : Stage) → GivesLast out_look report_look before after more status next
-          → GivesStage in_look out_look report_look start options stage.Bundles old new after packed history next
+      pub ended : (after : Writers W E) (packed : Packer) (next : Stage)
+          → GivesLast out_look report_look before after more status next
+          → GivesStage in_look out_look report_look start options stage.Bundles old new
+          after packed history next
       ended after packed stage.Prelude gives = absurd gives
       ended after packed stage.Bundles gives = absurd gives
       ended after packed (stage.Ended (Ok is)) gives =
@@ -119,8 +134,10 @@ module _ {R W E : Type 0} (in_look : R → Input) (out_look : W → Output) (rep
           }
 
     -- the reader failed
-    pub read_lost : (new : Source R) (packed : Packer) (fault : IoFault) → StopsAfter in_look old new [] fault
-        → GivesStage in_look out_look report_look start options stage.Bundles old new before packed history (stage.Ended (Err fault))
+    pub read_lost : (new : Source R) (packed : Packer) (fault : IoFault)
+        → StopsAfter in_look old new [] fault
+        → GivesStage in_look out_look report_look start options stage.Bundles old new before packed
+        history (stage.Ended (Err fault))
     read_lost new packed fault stops =
         let same : history ++ [] ≡ history = append-nil history in
         record {

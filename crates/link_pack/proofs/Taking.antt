@@ -30,8 +30,10 @@ use Rattle.link_pack.proofs.Dividing.{front_kept, divided_longer, divided_faulty
 
 -- ---- a byte past the peer's limit
 
-pub too_long : (packer : Packer) (bundles : List Packed) (begun piece : List ℕ) → Holds packer bundles begun → 0 < length piece
-    → length begun ≡ packer.options.peer_transfer → Refuses packer begun (take 1 piece) (TooLong packer.number packer.options.peer_transfer)
+pub too_long : (packer : Packer) (bundles : List Packed) (begun piece : List ℕ)
+    → Holds packer bundles begun → 0 < length piece
+    → length begun ≡ packer.options.peer_transfer
+    → Refuses packer begun (take 1 piece) (TooLong packer.number packer.options.peer_transfer)
 too_long packer bundles begun [] holds some full = absurd (omega arith)
 too_long packer bundles begun (byte ∷ bytes) holds some full = record {
   accepted = [];
@@ -45,15 +47,18 @@ too_long packer bundles begun (byte ∷ bytes) holds some full = record {
 
 -- ---- a run that was scanned
 
-pub taken_some : (begun piece : List ℕ) → bundle_goes begun ≡ true → 0 < length piece → 0 < length (taken bundle_goes begun piece)
+pub taken_some : (begun piece : List ℕ) → bundle_goes begun ≡ true → 0 < length piece
+    → 0 < length (taken bundle_goes begun piece)
 taken_some begun [] goes some = absurd (omega arith)
 taken_some begun (byte ∷ bytes) goes some = rw (taken-cons bundle_goes begun byte bytes goes) (omega arith)
 
-taken_is : (begun piece : List ℕ) → taken bundle_goes begun piece ≡ take (length (taken bundle_goes begun piece)) piece
+taken_is : (begun piece : List ℕ)
+    → taken bundle_goes begun piece ≡ take (length (taken bundle_goes begun piece)) piece
 taken_is begun piece = ((takes_shortest bundle_goes begun piece (taken bundle_goes begun piece)).1 refl).is_front
 
 -- of the first `size` bytes of a piece these are taken
-module _ (begun piece : List ℕ) (size count : ℕ) (counted : count ≡ length (taken bundle_goes begun (take size piece))) where
+module _ (begun piece : List ℕ) (size count : ℕ)
+    (counted : count ≡ length (taken bundle_goes begun (take size piece))) where
   taken_few : (count ≤ size) × (count ≤ length piece)
   taken_few =
       let is = ap length (taken_is begun (take size piece)) in
@@ -73,8 +78,10 @@ pub record Comes (packer : Packer) (begun run : List ℕ) : Type 0 where
   pub within : length (begun ++ run) ≤ packer.options.peer_transfer
 
 -- these are the bytes that a scan takes of the first `size` bytes of a piece
-pub comes : (packer : Packer) (begun piece : List ℕ) (size count : ℕ) → count ≡ length (taken bundle_goes begun (take size piece))
-    → 0 < count → HasScanned packer.scan (begun ++ taken bundle_goes begun (take size piece)) → front_of begun ≡ begun
+pub comes : (packer : Packer) (begun piece : List ℕ) (size count : ℕ)
+    → count ≡ length (taken bundle_goes begun (take size piece))
+    → 0 < count → HasScanned packer.scan (begun ++ taken bundle_goes begun (take size piece))
+    → front_of begun ≡ begun
     → length begun + size ≤ packer.options.peer_transfer → Comes packer begun (take count piece)
 comes packer begun piece size count counted some scanned kept within =
     let is = taken_front begun piece size count counted in
@@ -87,7 +94,8 @@ comes packer begun piece size count counted some scanned kept within =
     }
 
 -- all but the last byte
-but_last : (begun run : List ℕ) → 0 < length run → take (length (begun ++ run) - 1) (begun ++ run) ≡ begun ++ take (length run - 1) run
+but_last : (begun run : List ℕ) → 0 < length run
+    → take (length (begun ++ run) - 1) (begun ++ run) ≡ begun ++ take (length run - 1) run
 but_last begun run some =
     let size : length (begun ++ run) - 1 ≡ length begun + (length run - 1) = omega (arith, length-append begun run) in
     ap (λ n. take n (begun ++ run)) size ∙ take-append-add begun run (length run - 1)
@@ -97,12 +105,16 @@ module _ (packer : Packer) (begun run : List ℕ) (here : Comes packer begun run
   Cuts : Found → Type 0
   Cuts found = IsCutterAt packer.cutter (with_bytes (accepted_of found run) (is_whole found) (cutting packer.options begun))
 
-  grows : (whole : Bool) → IsCutterAt packer.cutter (with_bytes run whole (cutting packer.options begun)) → Grows packer begun run whole
+  grows : (whole : Bool)
+      → IsCutterAt packer.cutter (with_bytes run whole (cutting packer.options begun))
+      → Grows packer begun run whole
   grows whole cut = record { scanned = here.scanned; cut = cut; front = here.front; within = here.within }
 
-  took_fault : (fault : BundleFault) (place : ℕ) (test : Bool) → lasts fault ≡ test → verdict (begun ++ run) ≡ Err (fault, place)
+  took_fault : (fault : BundleFault) (place : ℕ) (test : Bool) → lasts fault ≡ test
+      → verdict (begun ++ run) ≡ Err (fault, place)
       → Cuts (found_by packer.number (if test then state.Failed fault place else state.Going))
-      → MakesOf packer begun run (found_by packer.number (if test then state.Failed fault place else state.Going))
+      → MakesOf packer begun run (found_by packer.number (if test
+      then state.Failed fault place else state.Going))
   unfolding Cuts
   took_fault fault place true lasting told cut = record {
     accepted = take (length run - 1) run;
@@ -119,19 +131,24 @@ module _ (packer : Packer) (begun run : List ℕ) (here : Comes packer begun run
   )
 
   took_told : (told : Result BundleInfo (BundleFault × ℕ)) → verdict (begun ++ run) ≡ told
-      → Cuts (found_by packer.number (state_of told)) → MakesOf packer begun run (found_by packer.number (state_of told))
+      → Cuts (found_by packer.number (state_of told))
+      → MakesOf packer begun run (found_by packer.number (state_of told))
   unfolding Cuts
   took_told (Ok info) told cut = (grows true cut, (info, told))
   took_told (Err (fault, place)) told cut = took_fault fault place (lasts fault) refl told cut
 
   pub took : (found : Found) → found ≡ found_by packer.number (state_of (verdict (begun ++ run)))
-      → IsCutterAt packer.cutter (with_bytes (accepted_of found run) (is_whole found) (cutting packer.options begun)) → MakesOf packer begun run found
+      → IsCutterAt packer.cutter
+      (with_bytes (accepted_of found run) (is_whole found) (cutting packer.options begun))
+      → MakesOf packer begun run found
   unfolding Cuts
   took found is cut = subst (MakesOf packer begun run) (sym is) (took_told (verdict (begun ++ run)) refl (subst Cuts is cut))
 
 -- the cutter took a whole run, with the bundle's last byte
-pub whole_pushed : (cutter : Cutter) (so_far : Cutting) (run : List ℕ) (count : ℕ) → count ≡ length run
-    → IsCutterAt cutter (with_bytes (take count run) (count == length run) so_far) → IsCutterAt cutter (with_bytes run true so_far)
+pub whole_pushed : (cutter : Cutter) (so_far : Cutting) (run : List ℕ)
+    (count : ℕ) → count ≡ length run
+    → IsCutterAt cutter (with_bytes (take count run) (count == length run) so_far)
+    → IsCutterAt cutter (with_bytes run true so_far)
 whole_pushed cutter so_far run count counted pushed =
     let all : take count run ≡ run = ap (λ n. take n run) counted ∙ take-length run in
     subst (λ whole. IsCutterAt cutter (with_bytes run whole so_far)) (eq-eqb count (length run) counted)
@@ -139,20 +156,24 @@ whole_pushed cutter so_far run count counted pushed =
 
 -- ---- the line
 
-rounded_up : (segment size count : ℕ) → 0 < segment → size ≤ count * segment → count * segment < size + segment → count ≡ chunk_count segment size
+rounded_up : (segment size count : ℕ) → 0 < segment → size ≤ count * segment
+    → count * segment < size + segment → count ≡ chunk_count segment size
 rounded_up segment size count some least most =
     grind (arith, fits_back segment count (size + (segment - 1)) some, fits segment (count + 1) (size + (segment - 1)) some)
 
 -- the chunks of `size` bytes, counted by a division that rounds up
-pub chunks_counted : (segment size : ℕ) → 0 < segment → size / segment + min 1 (size % segment) ≡ chunk_count segment size
+pub chunks_counted : (segment size : ℕ) → 0 < segment
+    → size / segment + min 1 (size % segment) ≡ chunk_count segment size
 chunks_counted segment size some =
     let within = div_ceil_times size segment some in
     rounded_up segment size (size / segment + min 1 (size % segment)) some within.0 within.1
 
 -- the entry of a bundle makes its line
-pub line_is : (options : PackOptions) (number segments size : ℕ) (bytes : List ℕ) (seen info : BundleInfo) → segments ≡ chunk_count (segment_size options) size
+pub line_is : (options : PackOptions) (number segments size : ℕ) (bytes : List ℕ)
+    (seen info : BundleInfo) → segments ≡ chunk_count (segment_size options) size
     → size ≡ length bytes → ◌≡◌ {A = Result BundleInfo (BundleFault × ℕ)} (Ok seen) (Ok info)
-    → packed_text (record { number = number; segments = segments; length = size; info = seen }) ≡ line_of options number (record { bytes = bytes; info = info })
+    → packed_text (record { number = number; segments = segments; length = size; info = seen })
+    ≡ line_of options number (record { bytes = bytes; info = info })
 line_is options number segments size bytes seen info counted sized is =
     let same : seen ≡ info = cc in
     rw (counted, sized, same) refl

@@ -12,8 +12,10 @@ own_number number = omega arith
 next_number : (number count : ℕ) → suc number + count ≡ number + suc count
 next_number number count = omega arith
 
-pub transfers_of_push : (options : PackOptions) (number : ℕ) (bundles : List Packed) (bundle : Packed)
-    → transfers_of options number (bundles ++ bundle ∷ []) ≡ transfers_of options number bundles ++ segments_of (number + length bundles) (sending options true bundle.bytes)
+pub transfers_of_push : (options : PackOptions) (number : ℕ)
+    (bundles : List Packed) (bundle : Packed)
+    → transfers_of options number (bundles ++ bundle ∷ []) ≡ transfers_of options number bundles
+    ++ segments_of (number + length bundles) (sending options true bundle.bytes)
 unfolding transfers_of
 transfers_of_push options number [] bundle =
     append-nil _ ∙ ap (λ n. segments_of n (sending options true bundle.bytes)) (own_number number)
@@ -24,7 +26,8 @@ transfers_of_push options number (first ∷ bundles) bundle =
     ∙ sym (append_assoc (segments_of number (sending options true first.bytes)) (transfers_of options (suc number) bundles) _)
 
 pub lines_of_push : (options : PackOptions) (number : ℕ) (bundles : List Packed) (bundle : Packed)
-    → lines_of options number (bundles ++ bundle ∷ []) ≡ lines_of options number bundles ++ line_of options (number + length bundles) bundle
+    → lines_of options number (bundles ++ bundle ∷ []) ≡ lines_of options number bundles
+    ++ line_of options (number + length bundles) bundle
 unfolding lines_of
 lines_of_push options number [] bundle = append-nil _ ∙ ap (λ n. line_of options n bundle) (own_number number)
 lines_of_push options number (first ∷ bundles) bundle =

@@ -21,7 +21,8 @@ use Rattle.link_pack.proofs.Sending.{due_none, left_none}
 
 -- the head of a segment that is not the first has no list
 head_of : (id size : ℕ) (first last : Bool) (announce : Option ℕ)
-    → segment_head_bytes (flags_of first last) id size (cond first announce None) ≡ segment_head_bytes (flags_of first last) id size announce
+    → segment_head_bytes (flags_of first last) id size (cond first announce None)
+    ≡ segment_head_bytes (flags_of first last) id size announce
 unfolding segment_head_bytes
 head_of id size true last announce = refl
 head_of id size false true announce = refl
@@ -38,8 +39,10 @@ head_put id size flags cut announce before after empty put same_flags same_annou
     ∙ head_of id size cut.first cut.last cut.announce
 
 module _ {W E : Type 0} (out_look : W → Output) (report_look : E → Output) where
-  pub gives_then : (old mid new : Writers W E) (first second : List ℕ) (result : Result (Unit {0}) IoFault)
-      → Writes out_look report_look old mid (on_output first) → GivesTexts out_look report_look mid new (on_output second) result
+  pub gives_then : (old mid new : Writers W E) (first second : List ℕ)
+      (result : Result (Unit {0}) IoFault)
+      → Writes out_look report_look old mid (on_output first)
+      → GivesTexts out_look report_look mid new (on_output second) result
       → GivesTexts out_look report_look old new (on_output (first ++ second)) result
   gives_then old mid new first second (Ok done) one two = writes_then out_look report_look old mid new (on_output first) (on_output second) one two
   gives_then old mid new first second (Err fault) one part = part_behind out_look report_look old mid new first (on_output second) fault one part
@@ -60,7 +63,8 @@ cut_is now cut is =
     (ltb-true (length now.given) (due now) parts.0, parts.1)
 
 -- after the last chunk all are given
-last_due : (now : Cutting) → is_last now ≡ true → (now.whole ≡ true) × (length now.given + 1 ≡ due now)
+last_due : (now : Cutting) → is_last now ≡ true
+    → (now.whole ≡ true) × (length now.given + 1 ≡ due now)
 unfolding due
 last_due now is =
     let parts = and_parts now.whole _ is in
@@ -89,7 +93,8 @@ left_by last now =
     cond last (record (beginning now.segment now.hold) { chunk = Some (next_chunk now) })
     (record now { given = now.given ++ next_chunk now ∷ []; chunk = Some (next_chunk now) })
 
-left_after : (id : ℕ) (now : Cutting) (last : Bool) → is_last now ≡ last → length now.given < due now
+left_after : (id : ℕ) (now : Cutting) (last : Bool) → is_last now ≡ last
+    → length now.given < due now
     → segments_left id now
     ≡ segment_bytes id (cut_at (sending_of now) (length now.given)) (next_chunk now) ++ segments_left id (left_by last now)
 unfolding due
@@ -101,7 +106,8 @@ left_after id now false is some =
     segment_then id (sending_of now) (length now.given) (length (now.given ++ next_chunk now ∷ [])) (due now) some
     (sym (length_push now.given (next_chunk now)))
 
-ends_after : (now : Cutting) (last : Bool) → is_last now ≡ last → all_given (left_by last now) ≡ all_given now
+ends_after : (now : Cutting) (last : Bool) → is_last now ≡ last
+    → all_given (left_by last now) ≡ all_given now
 unfolding due
 ends_after now true is = rw ((last_due now is).0, due_none now.segment now.hold, first_chunks-zero now.segment []) refl
 ends_after now false is = refl
@@ -111,20 +117,23 @@ unfolding shown
 shown_after now true = refl
 shown_after now false = refl
 
-after_is : (now : Cutting) (cut : Cut) → next_cut now ≡ Some cut → after_cut now ≡ left_by (is_last now) now
+after_is : (now : Cutting) (cut : Cut) → next_cut now ≡ Some cut
+    → after_cut now ≡ left_by (is_last now) now
 unfolding after_cut
 after_is now cut is = rw is refl
 
 -- its segment is the first of those that are left
 cut_left : (id : ℕ) (now : Cutting) (cut : Cut) → next_cut now ≡ Some cut
-    → segments_left id now ≡ segment_bytes id cut (shown (after_cut now)) ++ segments_left id (after_cut now)
+    → segments_left id now ≡ segment_bytes id cut (shown (after_cut now))
+    ++ segments_left id (after_cut now)
 cut_left id now cut is =
     let waits = cut_is now cut is in
     rw (after_is now cut is)
     (left_after id now (is_last now) refl waits.0
     ∙ ap₂ (λ cut chunk. segment_bytes id cut chunk ++ segments_left id (left_by (is_last now) now)) waits.1 (sym (shown_after now (is_last now))))
 
-cut_ends : (now : Cutting) (cut : Cut) → next_cut now ≡ Some cut → all_given (after_cut now) ≡ all_given now
+cut_ends : (now : Cutting) (cut : Cut) → next_cut now ≡ Some cut
+    → all_given (after_cut now) ≡ all_given now
 cut_ends now cut is = rw (after_is now cut is) (ends_after now (is_last now) refl)
 
 -- ---- where no cut waits
@@ -136,7 +145,8 @@ all_due cutter now at is =
     let few = at.few in
     omega arith
 
-quiet_left : (id : ℕ) (cutter : Cutter) (now : Cutting) → IsCutterAt cutter now → next_cut now ≡ None
+quiet_left : (id : ℕ) (cutter : Cutter) (now : Cutting)
+    → IsCutterAt cutter now → next_cut now ≡ None
     → segments_left id now ≡ []
 quiet_left id cutter now at is = left_none id (sending_of now) (length now.given) (due now) (all_due cutter now at is)
 
@@ -153,7 +163,8 @@ quiet_ends cutter now at is =
 
 module _ {W E : Type 0} (out_look : W → Output) (report_look : E → Output) where
   -- the writers and the cutter after some segments: these were written, and the others are left
-  pub record Sent (id : ℕ) (start : Cutting) (old new : Writers W E) (cutter : Cutter) : Type 0 where
+  pub record Sent (id : ℕ) (start : Cutting) (old new : Writers W E)
+      (cutter : Cutter) : Type 0 where
     pub now : Cutting
     pub at : IsCutterAt cutter now
     pub sent : List ℕ
@@ -161,10 +172,12 @@ module _ {W E : Type 0} (out_look : W → Output) (report_look : E → Output) w
     pub left : segments_left id start ≡ sent ++ segments_left id now
     pub ends : all_given now ≡ all_given start
 
-  pub sent_more : (id : ℕ) (start : Cutting) (old mid new : Writers W E) (before after : Cutter) (cut : Cut) (chunk : List ℕ)
+  pub sent_more : (id : ℕ) (start : Cutting) (old mid new : Writers W E) (before after : Cutter)
+      (cut : Cut) (chunk : List ℕ)
       → (some : Sent id start old mid before) → next_cut some.now ≡ Some cut
       → IsCutterAt after (after_cut some.now) → chunk ≡ shown (after_cut some.now)
-      → Writes out_look report_look mid new (on_output (segment_bytes id cut chunk)) → Sent id start old new after
+      → Writes out_look report_look mid new (on_output (segment_bytes id cut chunk))
+      → Sent id start old new after
   sent_more id start old mid new before after cut chunk some is at same writes = record {
     now = after_cut some.now;
     at = at;
@@ -177,8 +190,10 @@ module _ {W E : Type 0} (out_look : W → Output) (report_look : E → Output) w
   }
 
   -- a writer failed in a segment
-  pub sent_part : (id : ℕ) (start : Cutting) (old mid new : Writers W E) (before : Cutter) (cut : Cut) (chunk : List ℕ) (fault : IoFault)
-      → (some : Sent id start old mid before) → next_cut some.now ≡ Some cut → chunk ≡ shown (after_cut some.now)
+  pub sent_part : (id : ℕ) (start : Cutting) (old mid new : Writers W E) (before : Cutter)
+      (cut : Cut) (chunk : List ℕ) (fault : IoFault)
+      → (some : Sent id start old mid before) → next_cut some.now ≡ Some cut
+      → chunk ≡ shown (after_cut some.now)
       → WritesPart out_look report_look mid new (on_output (segment_bytes id cut chunk)) fault
       → WritesPart out_look report_look old new (on_output (segments_left id start)) fault
   sent_part id start old mid new before cut chunk fault some is same part =
@@ -190,13 +205,17 @@ module _ {W E : Type 0} (out_look : W → Output) (report_look : E → Output) w
       (part_more out_look report_look mid new (segment_bytes id cut chunk) (segments_left id (after_cut some.now)) fault part))
 
   -- all that were left are written
-  pub sent_all : (id : ℕ) (start : Cutting) (old new : Writers W E) (cutter : Cutter) → (all : Sent id start old new cutter)
-      → next_cut all.now ≡ None → Writes out_look report_look old new (on_output (segments_left id start))
+  pub sent_all : (id : ℕ) (start : Cutting) (old new : Writers W E) (cutter : Cutter)
+      → (all : Sent id start old new cutter)
+      → next_cut all.now ≡ None
+      → Writes out_look report_look old new (on_output (segments_left id start))
   sent_all id start old new cutter all is =
       let whole : segments_left id start ≡ all.sent =
       all.left ∙ ap (λ (more : List ℕ). all.sent ++ more) (quiet_left id cutter all.now all.at is) ∙ append-nil all.sent in
       rw whole all.writes
 
-  pub sent_ends : (id : ℕ) (start : Cutting) (old new : Writers W E) (cutter after : Cutter) → (all : Sent id start old new cutter)
-      → next_cut all.now ≡ None → IsCutterAt after (after_cut all.now) → IsCutterAt after (all_given start)
+  pub sent_ends : (id : ℕ) (start : Cutting) (old new : Writers W E) (cutter after : Cutter)
+      → (all : Sent id start old new cutter)
+      → next_cut all.now ≡ None → IsCutterAt after (after_cut all.now)
+      → IsCutterAt after (all_given start)
   sent_ends id start old new cutter after all is at = rw (sym (quiet_ends cutter all.now all.at is ∙ all.ends)) at

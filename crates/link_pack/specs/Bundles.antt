@@ -36,20 +36,28 @@ refused_by (Err (fault, place)) = Err (Faulty fault place)
 
 -- whether they are a bundle that the peer takes: of at most `limit` bytes (RFC 9174 section 4.6)
 abbrev pub judged_front : (limit : ℕ) → (front : List ℕ) → Result BundleInfo Refusal
-judged_front limit front = if nat_lt limit (length front) then Err (Longer limit) else refused_by (verdict front)
+judged_front limit front =
+    if nat_lt limit (length front) then Err (Longer limit) else refused_by (verdict front)
 
 -- the byte that shows a fault is not accepted
 abbrev pub accepted_by : Refusal → (front : List ℕ) → List ℕ
 accepted_by (Longer limit) front = take limit front
-accepted_by (Faulty fault place) front = if lasts fault then take (length front - 1) front else front
+accepted_by (Faulty fault place) front =
+    if lasts fault then take (length front - 1) front else front
 
 abbrev pub with_bundle : Packed → Divided → Divided
 with_bundle bundle more = record { bundles = bundle ∷ more.bundles; rest = more.rest }
 
 -- `next` divides what stands behind the bundle
-abbrev pub divided_by : (next : List ℕ → Divided) → (front bytes : List ℕ) → Result BundleInfo Refusal → Divided
-divided_by next front bytes (Ok info) = with_bundle (record { bytes = front; info = info }) (next (drop (length front) bytes))
-divided_by next front bytes (Err refusal) = record { bundles = []; rest = Some (record { accepted = accepted_by refusal front; refusal = refusal }) }
+abbrev pub divided_by : (next : List ℕ → Divided) → (front bytes : List ℕ)
+    → Result BundleInfo Refusal → Divided
+divided_by next front bytes (Ok info) =
+    with_bundle (record { bytes = front; info = info }) (next (drop (length front) bytes))
+divided_by next front bytes (Err refusal) =
+    record {
+      bundles = [];
+      rest = Some (record { accepted = accepted_by refusal front; refusal = refusal });
+    }
 
 -- `count` bundles at most. The second case is never met where `count` is the number of the bytes, since each bundle has a
 -- byte at least.
@@ -57,7 +65,8 @@ unfoldable pub divided_in : (count limit : ℕ) → List ℕ → Divided
 divided_in count limit [] = record { bundles = []; rest = None }
 divided_in zero limit (byte ∷ bytes) = record { bundles = []; rest = None }
 divided_in (suc count) limit (byte ∷ bytes) =
-    divided_by (divided_in count limit) (front_of (byte ∷ bytes)) (byte ∷ bytes) (judged_front limit (front_of (byte ∷ bytes)))
+    divided_by (divided_in count limit) (front_of (byte ∷ bytes)) (byte ∷ bytes)
+    (judged_front limit (front_of (byte ∷ bytes)))
 
 unfoldable pub divided : (limit : ℕ) → List ℕ → Divided
 divided limit bytes = divided_in (length bytes) limit bytes

@@ -23,7 +23,12 @@ module _ {R W E : Type 0} where
 
   -- the run has ended, and its steps return this
   abbrev pub pack_has_ended : PackRun R W E → Result Progress IoFault → Type 0
-  pack_has_ended run answer = (given : Result Status IoFault) × (run.stage ≡ stage.Ended given) × (answer ≡ progress_of (stage.Ended given))
+  pack_has_ended run answer =
+      (given : Result Status IoFault) × (run.stage ≡ stage.Ended given)
+      × (answer ≡ progress_of (stage.Ended given))
 
-  abbrev pub pack_stands : (R → Input) → (W → Output) → (E → Output) → PackRun R W E → Devices R W E → List ℕ → Type 0
-  pack_stands in_look out_look report_look run start history = IsPacking in_look out_look report_look start run.stage run.source run.writers run.packer history
+  abbrev pub pack_stands : (R → Input) → (W → Output) → (E → Output) → PackRun R W E
+      → Devices R W E → List ℕ → Type 0
+  pack_stands in_look out_look report_look run start history =
+      IsPacking in_look out_look report_look start run.stage run.source
+      run.writers run.packer history

@@ -48,12 +48,19 @@ pub record Refuses (packer : Packer) (begun run : List ℕ) (fault : Fault) : Ty
   pub cut : IsCutterAt packer.cutter (with_bytes accepted false (cutting packer.options begun))
   pub text : fault_text fault ≡ refusal_line packer.number refusal
   pub lasts : lasting refusal ≡ true
-  pub divides : (more : List ℕ) → divided packer.options.peer_transfer ((begun ++ run) ++ more) ≡ record { bundles = []; rest = Some (record { accepted = begun ++ accepted; refusal = refusal }) }
+  pub divides : (more : List ℕ)
+      → divided packer.options.peer_transfer ((begun ++ run) ++ more)
+      ≡ record {
+        bundles = [];
+        rest = Some (record { accepted = begun ++ accepted; refusal = refusal });
+      }
 
 -- what a run of bytes makes of the bundle
 abbrev pub MakesOf : Packer → (begun run : List ℕ) → Found → Type 0
-MakesOf packer begun run found.Part = Grows packer begun run false × (bundle_goes (begun ++ run) ≡ true)
-MakesOf packer begun run found.Whole = Grows packer begun run true × ((info : BundleInfo) × (verdict (begun ++ run) ≡ Ok info))
+MakesOf packer begun run found.Part =
+    Grows packer begun run false × (bundle_goes (begun ++ run) ≡ true)
+MakesOf packer begun run found.Whole =
+    Grows packer begun run true × ((info : BundleInfo) × (verdict (begun ++ run) ≡ Ok info))
 MakesOf packer begun run (found.Refused fault) = Refuses packer begun run fault
 
 -- these bytes end inside a bundle
@@ -66,7 +73,9 @@ pub record IsCut (bytes : List ℕ) : Type 0 where
 -- why the input's last bytes are no bundle
 abbrev pub CutShort : (number : ℕ) → (begun : List ℕ) → Option Fault → Type 0
 CutShort number begun None = begun ≡ []
-CutShort number begun (Some fault) = (0 < length begun) × ((cut : IsCut begun) × (fault_text fault ≡ refusal_line number (Faulty cut.fault cut.place)))
+CutShort number begun (Some fault) =
+    (0 < length begun) × ((cut : IsCut begun)
+    × (fault_text fault ≡ refusal_line number (Faulty cut.fault cut.place)))
 
 -- what the state of the scan makes of the bundle
 abbrev pub found_by : (number : ℕ) → State → Found

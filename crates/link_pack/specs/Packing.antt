@@ -15,7 +15,9 @@ use Rattle.link_pack.specs.declared.options.PackOptions.{PackOptions}
 
 -- the contact header (section 4.2) and SESS_INIT (section 4.6)
 unfoldable pub prelude_bytes : PackOptions → List ℕ
-prelude_bytes options = contact_bytes 0 ++ sess_init_bytes options.keepalive options.segment_mru options.transfer_mru options.node.items
+prelude_bytes options =
+    contact_bytes 0 ++ sess_init_bytes options.keepalive options.segment_mru
+    options.transfer_mru options.node.items
 
 -- the most data of a segment: what the peer takes, and no more than 65,536 bytes
 abbrev pub segment_size : PackOptions → ℕ
@@ -23,12 +25,19 @@ segment_size options = min options.peer_segment 65536
 
 -- a whole bundle, or the bytes of one that are accepted so far, for the segments of a transfer
 abbrev pub sending : PackOptions → (whole : Bool) → List ℕ → Sending
-sending options whole bundle = record { segment = segment_size options; hold = options.announce; bundle = bundle; whole = whole }
+sending options whole bundle =
+    record {
+      segment = segment_size options;
+      hold = options.announce;
+      bundle = bundle;
+      whole = whole;
+    }
 
 -- each bundle is a transfer (section 5.2.2), whose ID is the bundle's number
 unfoldable pub transfers_of : PackOptions → (number : ℕ) → List Packed → List ℕ
 transfers_of options number [] = []
-transfers_of options number (bundle ∷ more) = segments_of number (sending options true bundle.bytes) ++ transfers_of options (suc number) more
+transfers_of options number (bundle ∷ more) =
+    segments_of number (sending options true bundle.bytes) ++ transfers_of options (suc number) more
 
 -- what is no bundle that the peer takes: the segments of its accepted bytes that are due, none of which is the last
 abbrev pub rest_segments : PackOptions → (number : ℕ) → Option Rest → List ℕ
@@ -53,7 +62,8 @@ line_of options number bundle = packed_text (record {
 -- a line for each bundle
 unfoldable pub lines_of : PackOptions → (number : ℕ) → List Packed → List ℕ
 lines_of options number [] = []
-lines_of options number (bundle ∷ more) = line_of options number bundle ++ lines_of options (suc number) more
+lines_of options number (bundle ∷ more) =
+    line_of options number bundle ++ lines_of options (suc number) more
 
 abbrev pub refusal_line : (number : ℕ) → Refusal → List ℕ
 refusal_line number (Longer limit) = fault_text (TooLong number limit)
@@ -80,7 +90,8 @@ rest_status (Some rest) = 3
 
 abbrev pub bundles_output : PackOptions → Divided → List ℕ
 bundles_output options input =
-    prelude_bytes options ++ transfers_of options 0 input.bundles ++ rest_segments options (length input.bundles) input.rest
+    prelude_bytes options ++ transfers_of options 0 input.bundles
+    ++ rest_segments options (length input.bundles) input.rest
 
 abbrev pub packing_by : PackOptions → Divided → Outcome
 packing_by options input = record {
@@ -98,7 +109,9 @@ packing options bytes = packing_by options (divided options.peer_transfer bytes)
 abbrev pub packing_sofar_by : PackOptions → Divided → Texts
 packing_sofar_by options input = record {
   output = bundles_output options input;
-  report = lines_of options 0 input.bundles ++ (if is_shown input.rest then rest_line (length input.bundles) input.rest else []);
+  report =
+      lines_of options 0 input.bundles ++ (if is_shown input.rest
+      then rest_line (length input.bundles) input.rest else []);
 }
 
 -- what of it these bytes determine, however they go on
@@ -110,4 +123,5 @@ unfoldable pub packing_shows : PackOptions → List ℕ → Bool
 packing_shows options bytes = is_shown (divided options.peer_transfer bytes).rest
 
 abbrev pub pack_tool : PackOptions → Tool
-pack_tool options = record { whole = packing options; sofar = packing_sofar options; shows = packing_shows options }
+pack_tool options =
+    record { whole = packing options; sofar = packing_sofar options; shows = packing_shows options }

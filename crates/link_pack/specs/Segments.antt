@@ -11,7 +11,8 @@ flags_of first last = (if first then 2 else 0) + (if last then 1 else 0)
 
 -- a chunk that was cut so, as a segment
 abbrev pub segment_bytes : (id : ℕ) → Cut → (chunk : List ℕ) → List ℕ
-segment_bytes id cut chunk = segment_head_bytes (flags_of cut.first cut.last) id (length chunk) cut.announce ++ chunk
+segment_bytes id cut chunk =
+    segment_head_bytes (flags_of cut.first cut.last) id (length chunk) cut.announce ++ chunk
 
 -- the bytes of a bundle that have come: how they are cut
 pub record Sending : Type 0 where
@@ -23,7 +24,15 @@ pub record Sending : Type 0 where
 
 -- nothing is given of it yet
 abbrev pub cutting_of : Sending → Cutting
-cutting_of sending = record { segment = sending.segment; hold = sending.hold; bundle = sending.bundle; whole = sending.whole; given = []; chunk = None }
+cutting_of sending =
+    record {
+      segment = sending.segment;
+      hold = sending.hold;
+      bundle = sending.bundle;
+      whole = sending.whole;
+      given = [];
+      chunk = None;
+    }
 
 -- how chunk number `k`, from 0, is cut: the first chunk announces the length
 abbrev pub cut_at : Sending → (k : ℕ) → Cut
@@ -37,7 +46,8 @@ cut_at sending k = record {
 unfoldable pub segments_from : (id : ℕ) → Sending → (k count : ℕ) → List ℕ
 segments_from id sending k zero = []
 segments_from id sending k (suc count) =
-    segment_bytes id (cut_at sending k) (chunk_at sending.segment k sending.bundle) ++ segments_from id sending (suc k) count
+    segment_bytes id (cut_at sending k) (chunk_at sending.segment k sending.bundle)
+    ++ segments_from id sending (suc k) count
 
 -- all that are due: of a whole bundle all, of one that goes on those of its full chunks, once its length is announced no more
 abbrev pub segments_of : (id : ℕ) → Sending → List ℕ
@@ -46,17 +56,27 @@ segments_of id sending = segments_from id sending 0 (due (cutting_of sending))
 -- ---- of a cutter
 
 abbrev pub sending_of : Cutting → Sending
-sending_of so_far = record { segment = so_far.segment; hold = so_far.hold; bundle = so_far.bundle; whole = so_far.whole }
+sending_of so_far =
+    record {
+      segment = so_far.segment;
+      hold = so_far.hold;
+      bundle = so_far.bundle;
+      whole = so_far.whole;
+    }
 
 -- the segments that are due and were not given
 abbrev pub segments_left : (id : ℕ) → Cutting → List ℕ
-segments_left id so_far = segments_from id (sending_of so_far) (length so_far.given) (due so_far - length so_far.given)
+segments_left id so_far =
+    segments_from id (sending_of so_far) (length so_far.given) (due so_far - length so_far.given)
 
 -- all that are due were given; after a whole bundle another begins
 abbrev pub all_given : Cutting → Cutting
 all_given so_far =
     if so_far.whole then beginning so_far.segment so_far.hold
-    else record so_far { given = first_chunks so_far.segment (due so_far) so_far.bundle; chunk = None }
+    else record so_far {
+      given = first_chunks so_far.segment (due so_far) so_far.bundle;
+      chunk = None;
+    }
 
 -- a bundle that goes on, of which all chunks that are due were given
 abbrev pub going : (segment hold : ℕ) → (bundle : List ℕ) → Cutting

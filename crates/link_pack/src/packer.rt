@@ -70,7 +70,8 @@ impl Packer {
 
     /// A packer over this cutter, where it was given memory.
     fn over(cutter: Result<Cutter, AllocError>, options: PackOptions) -> Result<Packer, AllocError>
-        requires start { IfOk cutter (λ it. IsCutterAt it (beginning (segment_size options) options.announce)) }
+        requires start { IfOk cutter
+            (λ it. IsCutterAt it (beginning (segment_size options) options.announce)) }
         requires quiet { IfOk cutter (λ it. cut_waits it ≡ false) }
         ensures start { IfOk result (λ packer. Holds packer [] []) }
         ensures options { IfOk result (λ packer. packer.options ≡ options) }
@@ -97,7 +98,8 @@ impl Packer {
 
     /// How many bytes more the bundle may have.
     fn room(&self) -> u64
-        ensures { result ≡ min self.now.options.peer_transfer (2 ^ 63 - 1) - scan_size self.now.scan }
+        ensures { result
+            ≡ min self.now.options.peer_transfer (2 ^ 63 - 1) - scan_size self.now.scan }
     {
         self.options
             .peer_transfer
@@ -112,9 +114,11 @@ impl Packer {
         requires some { 0 < length piece.now }
         requires quiet { cut_waits self.old.cutter ≡ false }
         ensures within { result.0 ≤ length piece.now }
-        ensures some { (bundles : List Packed) (begun : List ℕ) → Holds self.old bundles begun → length begun + length piece.now < 2 ^ 63
+        ensures some { (bundles : List Packed) (begun : List ℕ) → Holds self.old bundles begun
+            → length begun + length piece.now < 2 ^ 63
             → 0 < result.0 }
-        ensures took { (bundles : List Packed) (begun : List ℕ) → Holds self.old bundles begun → length begun + length piece.now < 2 ^ 63
+        ensures took { (bundles : List Packed) (begun : List ℕ) → Holds self.old bundles begun
+            → length begun + length piece.now < 2 ^ 63
             → MakesOf self.new begun (take result.0 piece.now) result.1 }
         ensures options { self.new.options ≡ self.old.options }
         ensures number { self.new.number ≡ self.old.number }
@@ -133,7 +137,8 @@ impl Packer {
 
     /// What the bytes that were scanned make of the bundle.
     fn found(&self) -> Found
-        ensures { (seen : List ℕ) → HasScanned self.now.scan seen → result ≡ found_by self.now.number (state_of (verdict seen)) }
+        ensures { (seen : List ℕ) → HasScanned self.now.scan seen
+            → result ≡ found_by self.now.number (state_of (verdict seen)) }
     {
         match self.scan.state() {
             State::Going => Found::Part,
@@ -147,8 +152,10 @@ impl Packer {
     /// Hands the cutter what was accepted of a run: the byte that shows a fault is not.
     fn cut(&mut self, run: &[u8], found: Found)
         requires { cut_waits self.old.cutter ≡ false }
-        ensures cut { (so_far : Cutting) → IsCutterAt self.old.cutter so_far → length run.now ≤ wanted_by self.old.cutter
-            → IsCutterAt self.new.cutter (with_bytes (accepted_of found run.now) (is_whole found) so_far) }
+        ensures cut { (so_far : Cutting) → IsCutterAt self.old.cutter so_far
+            → length run.now ≤ wanted_by self.old.cutter
+            → IsCutterAt self.new.cutter
+            (with_bytes (accepted_of found run.now) (is_whole found) so_far) }
         ensures scan { self.new.scan ≡ self.old.scan }
         ensures number { self.new.number ≡ self.old.number }
         ensures options { self.new.options ≡ self.old.options }
@@ -166,8 +173,10 @@ impl Packer {
     /// Makes an empty line that of the bundle, which is whole.
     pub fn put_line(&self, line: &mut Line)
         requires { line.old.items ≡ [] }
-        ensures { (bytes : List ℕ) (info : BundleInfo) → HasScanned self.now.scan bytes → verdict bytes ≡ Ok info
-            → line.new.items ≡ line_of self.now.options self.now.number (record { bytes = bytes; info = info }) }
+        ensures { (bytes : List ℕ) (info : BundleInfo) → HasScanned self.now.scan bytes
+            → verdict bytes ≡ Ok info
+            → line.new.items ≡ line_of self.now.options self.now.number
+            (record { bytes = bytes; info = info }) }
     {
         if let Ok(info) = self.scan.view() {
             let length = self.scan.count();
@@ -194,7 +203,8 @@ impl Packer {
 
     /// Why the bytes that have come are no bundle; `None` where none has come.
     pub fn cut_short(&self) -> Option<Fault>
-        ensures { (begun : List ℕ) → HasScanned self.now.scan begun → bundle_goes begun ≡ true → CutShort self.now.number begun result }
+        ensures { (begun : List ℕ) → HasScanned self.now.scan begun → bundle_goes begun ≡ true
+            → CutShort self.now.number begun result }
     {
         if self.scan.count() == 0 {
             return None;

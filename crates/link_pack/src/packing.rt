@@ -61,10 +61,13 @@ fn take<R: InDevice, W: OutDevice, E: OutDevice>(
     requires { IsTrue (may_go_on stage packer.old) }
     ensures begun { IsTrue (is_begun result) }
     ensures fits { IsTrue (may_go_on result packer.new) }
-    ensures gives { (start : Devices R W E) (history : List ℕ) → IsPacking R.state W.state E.state start stage source.old writers.old packer.old history →
-        GivesStage R.state W.state E.state start packer.old.options stage source.old source.new writers.new packer.new history result }
+    ensures gives { (start : Devices R W E) (history : List ℕ)
+        → IsPacking R.state W.state E.state start stage source.old writers.old packer.old history
+        → GivesStage R.state W.state E.state start packer.old.options stage source.old source.new
+        writers.new packer.new history result }
     ensures options { packer.new.options ≡ packer.old.options }
-    ensures ended { (answer : _) → stage ≡ Stage.Ended answer → (source.new ≡ source.old) × (writers.new ≡ writers.old)
+    ensures ended { (answer : _) → stage ≡ Stage.Ended answer
+        → (source.new ≡ source.old) × (writers.new ≡ writers.old)
         × (packer.new ≡ packer.old) × (head.new ≡ head.old) × (result ≡ stage) }
 {
     match stage {
@@ -100,7 +103,8 @@ fn write_prelude<W: OutDevice, E: OutDevice>(
     head: &mut HeadBuf,
 ) -> Stage
     ensures begun { IsTrue (is_begun result) }
-    ensures gives { GivesWritten W.state E.state writers.old writers.new (on_output (prelude_bytes packer.now.options)) (Unit {0}) result }
+    ensures gives { GivesWritten W.state E.state writers.old writers.new
+        (on_output (prelude_bytes packer.now.options)) (Unit {0}) result }
 {
     head.clear();
     put_prelude(head, &packer.options);
@@ -120,8 +124,11 @@ fn take_bundles<R: InDevice, W: OutDevice, E: OutDevice>(
     requires { cut_waits packer.old.cutter ≡ false }
     ensures begun { IsTrue (is_begun result) }
     ensures fits { IsTrue (may_go_on result packer.new) }
-    ensures gives { (start : Devices R W E) (history : List ℕ) → IsPacking R.state W.state E.state start Stage.Bundles source.old writers.old packer.old history →
-        GivesStage R.state W.state E.state start packer.old.options Stage.Bundles source.old source.new writers.new packer.new history result }
+    ensures gives { (start : Devices R W E) (history : List ℕ)
+        → IsPacking R.state W.state E.state start Stage.Bundles source.old
+        writers.old packer.old history
+        → GivesStage R.state W.state E.state start packer.old.options Stage.Bundles source.old
+        source.new writers.new packer.new history result }
     ensures options { packer.new.options ≡ packer.old.options }
 {
     if source.window().is_empty() && source.may_wait() {
@@ -142,8 +149,11 @@ fn take_bytes<R: InDevice, W: OutDevice, E: OutDevice>(
     requires { cut_waits packer.old.cutter ≡ false }
     ensures begun { IsTrue (is_begun result) }
     ensures fits { IsTrue (may_go_on result packer.new) }
-    ensures gives { (start : Devices R W E) (history : List ℕ) → IsPacking R.state W.state E.state start Stage.Bundles source.old writers.old packer.old history →
-        GivesStage R.state W.state E.state start packer.old.options Stage.Bundles source.old source.new writers.new packer.new history result }
+    ensures gives { (start : Devices R W E) (history : List ℕ)
+        → IsPacking R.state W.state E.state start Stage.Bundles source.old
+        writers.old packer.old history
+        → GivesStage R.state W.state E.state start packer.old.options Stage.Bundles source.old
+        source.new writers.new packer.new history result }
     ensures options { packer.new.options ≡ packer.old.options }
 {
     let ready = match source.ready() {
@@ -166,8 +176,11 @@ fn go_on<W: OutDevice, E: OutDevice>(
 ) -> Stage
     ensures begun { IsTrue (is_begun result) }
     ensures fits { IsTrue (may_go_on result packer.new) }
-    ensures gives { (bundles : List Packed) (begun run : List ℕ) → packer.old.number ≡ length bundles → length bundles + 1 < 2 ^ 64 → 0 < length run
-        → (took : MakesOf packer.old begun run found) → GivesFound W.state E.state packer.old bundles begun run writers.old writers.new packer.new found took result }
+    ensures gives { (bundles : List Packed) (begun run : List ℕ)
+        → packer.old.number ≡ length bundles → length bundles + 1 < 2 ^ 64 → 0 < length run
+        → (took : MakesOf packer.old begun run found)
+        → GivesFound W.state E.state packer.old bundles begun run writers.old writers.new
+        packer.new found took result }
     ensures options { packer.new.options ≡ packer.old.options }
 {
     if let Err(fault) = write_segments(packer.number, &mut packer.cutter, head, writers) {
@@ -185,8 +198,11 @@ fn end_bundle<W: OutDevice, E: OutDevice>(writers: &mut Writers<W, E>, packer: &
     requires { cut_waits packer.old.cutter ≡ false }
     ensures begun { IsTrue (is_begun result) }
     ensures fits { IsTrue (may_go_on result packer.new) }
-    ensures gives { (bytes : List ℕ) (info : BundleInfo) → HasScanned packer.old.scan bytes → verdict bytes ≡ Ok info → packer.old.number + 1 < 2 ^ 64 →
-        GivesWritten W.state E.state writers.old writers.new (on_report (line_of packer.old.options packer.old.number (record { bytes = bytes; info = info })))
+    ensures gives { (bytes : List ℕ) (info : BundleInfo) → HasScanned packer.old.scan bytes
+        → verdict bytes ≡ Ok info → packer.old.number + 1 < 2 ^ 64
+        → GivesWritten W.state E.state writers.old writers.new
+        (on_report (line_of packer.old.options packer.old.number
+        (record { bytes = bytes; info = info })))
         (HasScanned packer.new.scan [] × (packer.new.number ≡ packer.old.number + 1)) result }
     ensures options { packer.new.options ≡ packer.old.options }
     ensures cutter { packer.new.cutter ≡ packer.old.cutter }
@@ -209,8 +225,8 @@ fn finish<W: OutDevice, E: OutDevice>(
 ) -> Stage
     ensures begun { IsTrue (is_begun result) }
     ensures fits { IsTrue (may_go_on result packer.now) }
-    ensures gives { (begun : List ℕ) → HasScanned packer.now.scan begun → bundle_goes begun ≡ true →
-        GivesFinish W.state E.state packer.now begun writers.old writers.new result }
+    ensures gives { (begun : List ℕ) → HasScanned packer.now.scan begun → bundle_goes begun ≡ true
+        → GivesFinish W.state E.state packer.now begun writers.old writers.new result }
 {
     if let Some(fault) = packer.cut_short() {
         return Stage::Ended(writers.report_fault(&fault));
@@ -227,7 +243,8 @@ fn write_end<W: OutDevice, E: OutDevice>(
     options: &PackOptions,
     head: &mut HeadBuf,
 ) -> Result<(), IoFault>
-    ensures { GivesTexts W.state E.state writers.old writers.new (on_output (end_bytes options.now None)) result }
+    ensures { GivesTexts W.state E.state writers.old writers.new
+        (on_output (end_bytes options.now None)) result }
 {
     if !options.send_term {
         return Ok(());
@@ -269,10 +286,13 @@ impl<R: InDevice, W: OutDevice, E: OutDevice> PackRun<R, W, E> {
         requires reader { (R.state reader).failed ≡ false }
         requires output { (W.state output).failed ≡ false }
         requires report { (E.state report).failed ≡ false }
-        ensures start { IfOk result (λ run. pack_stands R.state W.state E.state run (devices_at (place_of_pack run)) []) }
+        ensures start { IfOk result
+            (λ run. pack_stands R.state W.state E.state run (devices_at (place_of_pack run)) []) }
         ensures tool { IfOk result (λ run. tool_of_pack run ≡ pack_tool options) }
-        ensures devices { IfOk result (λ run. devices_at (place_of_pack run) ≡ record { reader = reader; output = output; report = report }) }
-        ensures memory { IfErr result (λ end. LacksMemory (record { reader = reader; output = output; report = report })
+        ensures devices { IfOk result (λ run. devices_at (place_of_pack run)
+            ≡ record { reader = reader; output = output; report = report }) }
+        ensures memory { IfErr result
+            (λ end. LacksMemory (record { reader = reader; output = output; report = report })
             (record { reader = end.reader; output = end.output; report = end.report }) end.answer) }
     {
         PackRun::over(Packer::new(alloc, options), reader, output, report)
@@ -290,10 +310,13 @@ impl<R: InDevice, W: OutDevice, E: OutDevice> PackRun<R, W, E> {
         requires report { (E.state report).failed ≡ false }
         requires start { IfOk packer (λ it. Holds it [] []) }
         requires quiet { IfOk packer (λ it. cut_waits it.cutter ≡ false) }
-        ensures start { IfOk result (λ run. pack_stands R.state W.state E.state run (devices_at (place_of_pack run)) []) }
+        ensures start { IfOk result
+            (λ run. pack_stands R.state W.state E.state run (devices_at (place_of_pack run)) []) }
         ensures packer { IfOk result (λ run. packer ≡ Ok run.packer) }
-        ensures devices { IfOk result (λ run. devices_at (place_of_pack run) ≡ record { reader = reader; output = output; report = report }) }
-        ensures memory { IfErr result (λ end. LacksMemory (record { reader = reader; output = output; report = report })
+        ensures devices { IfOk result (λ run. devices_at (place_of_pack run)
+            ≡ record { reader = reader; output = output; report = report }) }
+        ensures memory { IfErr result
+            (λ end. LacksMemory (record { reader = reader; output = output; report = report })
             (record { reader = end.reader; output = end.output; report = end.report }) end.answer) }
         ensures given { is_ok result ≡ is_ok packer }
     {
@@ -315,9 +338,11 @@ impl<R: InDevice, W: OutDevice, E: OutDevice> PackRun<R, W, E> {
         requires report { (E.state report).failed ≡ false }
         requires start { Holds packer [] [] }
         requires quiet { cut_waits packer.cutter ≡ false }
-        ensures start { pack_stands R.state W.state E.state result (devices_at (place_of_pack result)) [] }
+        ensures start { pack_stands R.state W.state E.state result
+            (devices_at (place_of_pack result)) [] }
         ensures packer { result.packer ≡ packer }
-        ensures devices { devices_at (place_of_pack result) ≡ record { reader = reader; output = output; report = report } }
+        ensures devices { devices_at (place_of_pack result)
+            ≡ record { reader = reader; output = output; report = report } }
     {
         PackRun {
             source: Source::new(reader),
@@ -330,8 +355,11 @@ impl<R: InDevice, W: OutDevice, E: OutDevice> PackRun<R, W, E> {
 
     /// Steps to the end, where the run was given memory.
     fn finish(begun: Result<PackRun<R, W, E>, RunEnd<R, W, E>>) -> RunEnd<R, W, E>
-        requires { IfOk begun (λ run. pack_stands R.state W.state E.state run (devices_at (place_of_pack run)) []) }
-        ensures ran { IfOk begun (λ run. GivesAnswer R.state W.state E.state (tool_of_pack run) (devices_at (place_of_pack run))
+        requires { IfOk begun
+            (λ run. pack_stands R.state W.state E.state run (devices_at (place_of_pack run)) []) }
+        ensures ran { IfOk begun
+            (λ run. GivesAnswer R.state W.state E.state (tool_of_pack run)
+            (devices_at (place_of_pack run))
             (record { reader = result.reader; output = result.output; report = result.report }) result.answer) }
         ensures lacked { IfErr begun (λ end. result ≡ end) }
     {
@@ -407,7 +435,8 @@ pub fn pack<R: InDevice, W: OutDevice, E: OutDevice>(
     requires reader { (R.state reader).failed ≡ false }
     requires output { (W.state output).failed ≡ false }
     requires report { (E.state report).failed ≡ false }
-    ensures { GivesAnswer R.state W.state E.state (pack_tool options) (record { reader = reader; output = output; report = report })
+    ensures { GivesAnswer R.state W.state E.state (pack_tool options)
+        (record { reader = reader; output = output; report = report })
         (record { reader = result.reader; output = result.output; report = result.report }) result.answer
         ⊎ LacksMemory (record { reader = reader; output = output; report = report })
         (record { reader = result.reader; output = result.output; report = result.report }) result.answer }

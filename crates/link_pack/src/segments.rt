@@ -22,7 +22,8 @@ fn flags(cut: Cut) -> u8
 
 /// Puts the head of a chunk's segment into the buffer, in place of what it holds.
 fn put_head(head: &mut HeadBuf, id: u64, cut: Cut, size: u64)
-    ensures { head.new.items ≡ segment_head_bytes (flags_of cut.first cut.last) id size cut.announce }
+    ensures { head.new.items
+        ≡ segment_head_bytes (flags_of cut.first cut.last) id size cut.announce }
 {
     // Only a first segment has the list in which the length stands.
     let announce = if cut.first { cut.announce } else { None };
@@ -38,7 +39,8 @@ fn write_segment<W: OutDevice, E: OutDevice>(
     head: &mut HeadBuf,
     writers: &mut Writers<W, E>,
 ) -> Result<(), IoFault>
-    ensures gives { GivesTexts W.state E.state writers.old writers.new (on_output (segment_bytes id cut chunk.now)) result }
+    ensures gives { GivesTexts W.state E.state writers.old writers.new
+        (on_output (segment_bytes id cut chunk.now)) result }
 {
     put_head(head, id, cut, chunk.len() as u64);
     writers.write_output(head.as_slice())?;
@@ -52,10 +54,11 @@ pub fn write_segments<W: OutDevice, E: OutDevice>(
     head: &mut HeadBuf,
     writers: &mut Writers<W, E>,
 ) -> Result<(), IoFault>
-    ensures gives { (so_far : Cutting) → IsCutterAt cutter.old so_far →
-        GivesTexts W.state E.state writers.old writers.new (on_output (segments_left id so_far)) result }
-    ensures after { (so_far : Cutting) → IsCutterAt cutter.old so_far →
-        OnOk result (IsCutterAt cutter.new (all_given so_far)) }
+    ensures gives { (so_far : Cutting) → IsCutterAt cutter.old so_far
+        → GivesTexts W.state E.state writers.old writers.new (on_output (segments_left id so_far))
+        result }
+    ensures after { (so_far : Cutting) → IsCutterAt cutter.old so_far
+        → OnOk result (IsCutterAt cutter.new (all_given so_far)) }
     ensures quiet { OnOk result (cut_waits cutter.new ≡ false) }
 {
     while let Some(cut) = cutter.cut() {

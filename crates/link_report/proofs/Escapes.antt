@@ -15,7 +15,8 @@ unfolding escaped_byte
 escaped_byte-plain byte plain = rw plain
 
 -- any other byte is four
-pub escaped_byte-other : (byte : ℕ) → is_plain byte ≡ false → escaped_byte byte ≡ codes "\\x" ++ hex2 byte
+pub escaped_byte-other : (byte : ℕ) → is_plain byte ≡ false
+    → escaped_byte byte ≡ codes "\\x" ++ hex2 byte
 unfolding escaped_byte
 escaped_byte-other byte other = rw other
 
@@ -36,7 +37,8 @@ length-escaped-le (byte ∷ bytes) =
     omega (arith, here, rest, length-append (escaped_byte byte) (escaped bytes))
 
 -- plain bytes stand
-pub escaped-plain : (bytes : List ℕ) → ((k : ℕ) → k < length bytes → is_plain (get_or bytes k 0) ≡ true) →
+pub escaped-plain : (bytes : List ℕ)
+    → ((k : ℕ) → k < length bytes → is_plain (get_or bytes k 0) ≡ true) →
     escaped bytes ≡ bytes
 unfolding escaped
 escaped-plain [] plain = refl
@@ -87,7 +89,8 @@ escaped-step line rest total run first so_far =
     simp append_assoc (simp append_assoc at (rw (escaped-at rest run first) at so_far))
 
 -- the room that the next escape needs
-pub escaped-room : (line rest start text : List ℕ) (run top : ℕ) → position is_other rest ≡ Some run →
+pub escaped-room : (line rest start text : List ℕ) (run top : ℕ) → position is_other rest ≡ Some run
+    →
     line ++ escaped rest ≡ start ++ text → length start + length text ≤ top →
     (length line + length (take run rest) + 4 ≤ top) × (run + 4 ≤ top)
 unfolding hex2

@@ -4,7 +4,8 @@ use Rattle.std.proofs.Math.Seq.{take-append-add}
 use Rattle.std.proofs.lemmas.List.{length-take-le, take-append-le}
 
 -- the first bytes of a text that stands there
-pub front_behind : (old new text : List ℕ) (at end count : ℕ) → at ≤ length old → count ≤ length text → take end new ≡ take at old ++ text →
+pub front_behind : (old new text : List ℕ) (at end count : ℕ) → at ≤ length old
+    → count ≤ length text → take end new ≡ take at old ++ text →
     take (at + count) new ≡ take at old ++ take count text
 front_behind old new text at end count within fits stands =
     let size : length (take at old) ≡ at = length-take-le at old within in

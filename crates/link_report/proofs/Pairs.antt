@@ -8,7 +8,8 @@ abbrev are_pairs : ℕ → Bool
 are_pairs zero = true
 are_pairs (suc pair) = (eqb (get_or PAIRS (pair * 2) 0) (48 + pair / 10) && eqb (get_or PAIRS (pair * 2 + 1) 0) (48 + pair % 10)) && are_pairs pair
 
-below : (n pair : ℕ) → T (are_pairs n) → pair < n → (get_or PAIRS (pair * 2) 0 ≡ 48 + pair / 10) × (get_or PAIRS (pair * 2 + 1) 0 ≡ 48 + pair % 10)
+below : (n pair : ℕ) → T (are_pairs n) → pair < n → (get_or PAIRS (pair * 2) 0 ≡ 48 + pair / 10)
+    × (get_or PAIRS (pair * 2 + 1) 0 ≡ 48 + pair % 10)
 below zero pair holds few = absurd (omega arith)
 below (suc n) pair holds few =
     elim (eq-zero-or-pos (n - pair)) [
@@ -16,5 +17,6 @@ below (suc n) pair holds few =
       | inr before ↦ below n pair (and_r _ (are_pairs n) holds) (omega arith)
     ]
 
-pub pair_at : (pair : ℕ) → pair < 100 → (get_or PAIRS (pair * 2) 0 ≡ 48 + pair / 10) × (get_or PAIRS (pair * 2 + 1) 0 ≡ 48 + pair % 10)
+pub pair_at : (pair : ℕ) → pair < 100 → (get_or PAIRS (pair * 2) 0 ≡ 48 + pair / 10)
+    × (get_or PAIRS (pair * 2 + 1) 0 ≡ 48 + pair % 10)
 pair_at pair few = below 100 pair tt few

@@ -10,4 +10,5 @@ eid_text DtnNone = codes "dtn:none"
 eid_text (Dtn name) = codes "dtn:" ++ escaped name.items
 eid_text (Ipn node service) = number_text (codes "ipn:") node ++ number_text (codes ".") service
 eid_text (Ipn3 allocator node service) =
-    number_text (codes "ipn:") allocator ++ number_text (codes ".") node ++ number_text (codes ".") service
+    number_text (codes "ipn:") allocator ++ number_text (codes ".") node
+    ++ number_text (codes ".") service

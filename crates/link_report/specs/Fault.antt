@@ -34,7 +34,8 @@ offset_text offset = number_text (codes "byte ") offset ++ codes ": "
 
 -- the number of the bundle in which a fault stands, and the fault's offset in it
 unfoldable pub bundle_offset_text : ℕ → ℕ → List ℕ
-bundle_offset_text number offset = number_text (codes "bundle ") number ++ number_text (codes " byte ") offset ++ codes ": "
+bundle_offset_text number offset =
+    number_text (codes "bundle ") number ++ number_text (codes " byte ") offset ++ codes ": "
 
 -- where a fault stands, and what it is
 unfoldable pub place_text : Fault → List ℕ
@@ -42,7 +43,8 @@ place_text (Wire offset fault) = offset_text offset ++ wire_text fault
 place_text (Order offset fault) = offset_text offset ++ order_text fault
 place_text (Bundle number offset fault) =
     bundle_offset_text number offset ++ code_text fault ++ codes " " ++ bundle_fault_text fault
-place_text (TooLong number offset) = bundle_offset_text number offset ++ codes "P1 longer than the peer's transfer limit"
+place_text (TooLong number offset) =
+    bundle_offset_text number offset ++ codes "P1 longer than the peer's transfer limit"
 
 -- the line of a fault
 unfoldable pub fault_text : Fault → List ℕ

@@ -9,7 +9,8 @@ use Rattle.link_report.specs.Text.{number_text}
 -- a fragment's offset and the total length; nothing of a bundle that is no fragment
 unfoldable pub fragment_text : Option (ℕ × ℕ) → List ℕ
 fragment_text None = []
-fragment_text (Some (offset, total)) = number_text (codes " fragment=") offset ++ number_text (codes "/") total
+fragment_text (Some (offset, total)) =
+    number_text (codes " fragment=") offset ++ number_text (codes "/") total
 
 -- a source, and the time and the sequence number of a creation timestamp
 unfoldable pub origin_text : Eid → ℕ → ℕ → List ℕ
@@ -19,5 +20,6 @@ origin_text source time sequence =
 
 unfoldable pub identity_text : BundleInfo → List ℕ
 identity_text info =
-    origin_text info.source info.time info.sequence ++ codes " destination=" ++ eid_text info.destination
+    origin_text info.source info.time info.sequence ++ codes " destination="
+    ++ eid_text info.destination
     ++ number_text (codes " payload=") info.payload ++ fragment_text info.fragment

@@ -23,18 +23,21 @@ judged_data (Err (fault, offset)) = Bad fault offset
 -- 5.2.5.1)
 abbrev pub judged_length : Announced → ℕ → Result BundleInfo (BundleFault × ℕ) → Judgement
 judged_length Absent size verdict = judged_data verdict
-judged_length (Total total) size verdict = if total == size then judged_data verdict else LengthDiffers total
+judged_length (Total total) size verdict =
+    if total == size then judged_data verdict else LengthDiffers total
 judged_length Malformed size verdict = BadLengthItem
 
 -- the first that holds: another transfer began, the length item is bad, another length is announced, no bundle, a bundle
 abbrev pub judged : Bool → Announced → ℕ → Result BundleInfo (BundleFault × ℕ) → Judgement
-judged abandoned announced size verdict = if abandoned then Abandoned else judged_length announced size verdict
+judged abandoned announced size verdict =
+    if abandoned then Abandoned else judged_length announced size verdict
 
 unfoldable pub judgement_text : Judgement → List ℕ
 judgement_text Abandoned = codes "abandoned"
 judgement_text BadLengthItem = codes "bad-length-item"
 judgement_text (LengthDiffers announced) = number_text (codes "length-differs announced=") announced
-judgement_text (Bad fault offset) = codes "bad=" ++ code_text fault ++ number_text (codes " byte=") offset
+judgement_text (Bad fault offset) =
+    codes "bad=" ++ code_text fault ++ number_text (codes " byte=") offset
 judgement_text (Good info) = codes "good " ++ identity_text info
 
 -- the judgement that a view shows

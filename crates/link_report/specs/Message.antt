@@ -18,7 +18,9 @@ reason_text reason name = codes " reason=" ++ hex2 reason ++ codes "/" ++ name
 
 -- an extension item: its flags, its type and how many bytes its value has (RFC 9174 section 4.8)
 unfoldable pub item_text : Item → List ℕ
-item_text item = codes " item=" ++ hex2 item.flags ++ codes ":" ++ hex4 item.kind ++ number_text (codes ":") item.length
+item_text item =
+    codes " item=" ++ hex2 item.flags ++ codes ":" ++ hex4 item.kind
+    ++ number_text (codes ":") item.length
 
 -- an extension list: how many items there are, and each of them
 unfoldable pub items_text : List Item → List ℕ
@@ -27,7 +29,8 @@ items_text items = number_text (codes " items=") (length items) ++ flat_map item
 -- RFC 9174 section 4.6, before the session extension items
 unfoldable pub parameters_text : ℕ → ℕ → ℕ → List ℕ → List ℕ
 parameters_text keepalive segment_mru transfer_mru node =
-    number_text (codes " sess-init keepalive=") keepalive ++ number_text (codes " segment-mru=") segment_mru
+    number_text (codes " sess-init keepalive=") keepalive
+    ++ number_text (codes " segment-mru=") segment_mru
     ++ number_text (codes " transfer-mru=") transfer_mru ++ codes " node=" ++ escaped node
 
 -- the items of a segment, where its flags say that it begins its transfer (RFC 9174 section 5.2.5)
@@ -46,14 +49,17 @@ body_text (SessInit keepalive segment_mru transfer_mru node items) =
     parameters_text keepalive segment_mru transfer_mru node.items ++ items_text items.items
 body_text (Segment head) = segment_text head.flags head.id head.items.items head.length
 body_text (Ack flags id length) =
-    codes " xfer-ack" ++ flags_text flags ++ number_text (codes " id=") id ++ number_text (codes " length=") length
+    codes " xfer-ack" ++ flags_text flags ++ number_text (codes " id=") id
+    ++ number_text (codes " length=") length
 body_text (Refuse reason id) =
-    codes " xfer-refuse" ++ reason_text reason (name_in refuse_names reason) ++ number_text (codes " id=") id
+    codes " xfer-refuse" ++ reason_text reason (name_in refuse_names reason)
+    ++ number_text (codes " id=") id
 body_text Keepalive = codes " keepalive"
 body_text (SessTerm flags reason) =
     codes " sess-term" ++ flags_text flags ++ reason_text reason (name_in term_names reason)
 body_text (MsgReject reason header) =
-    codes " msg-reject" ++ reason_text reason (name_in reject_names reason) ++ codes " header=" ++ hex2 header
+    codes " msg-reject" ++ reason_text reason (name_in reject_names reason)
+    ++ codes " header=" ++ hex2 header
 
 -- the line of the contact header (RFC 9174 section 4.2)
 unfoldable pub contact_text : Contact → List ℕ

@@ -9,9 +9,15 @@ use Rattle.link_report.specs.Text.{number_text, newline}
 unfoldable pub packed_text : PackedEntry → List ℕ
 packed_text entry =
     number_text (codes "bundle ") entry.number ++ number_text (codes " segments=") entry.segments
-    ++ number_text (codes " length=") entry.length ++ codes " " ++ identity_text entry.info ++ newline
+    ++ number_text (codes " length=") entry.length ++ codes " "
+    ++ identity_text entry.info ++ newline
 
 -- the entry that a view shows
 abbrev pub viewed_packed : PackedView → PackedEntry
 viewed_packed view =
-    record { number = view.number; segments = view.segments; length = view.length; info = viewed_info view.info }
+    record {
+      number = view.number;
+      segments = view.segments;
+      length = view.length;
+      info = viewed_info view.info;
+    }

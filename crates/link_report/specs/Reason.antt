@@ -16,7 +16,8 @@ term_names =
 -- the reasons of MSG_REJECT from 00 on, which names none (RFC 9174 section 5.1.2)
 abbrev pub reject_names : List (List ℕ)
 reject_names =
-    codes "?" ∷ codes "message-type-unknown" ∷ codes "message-unsupported" ∷ codes "message-unexpected" ∷ []
+    codes "?" ∷ codes "message-type-unknown" ∷ codes "message-unsupported"
+    ∷ codes "message-unexpected" ∷ []
 
 -- the name of a code, or `?` where it has none
 unfoldable pub name_in : List (List ℕ) → ℕ → List ℕ

@@ -13,9 +13,16 @@ extent_text id start written size =
 
 unfoldable pub transfer_text : TransferEntry → List ℕ
 transfer_text entry =
-    extent_text entry.id entry.start entry.written entry.length ++ codes " " ++ judgement_text entry.judgement ++ newline
+    extent_text entry.id entry.start entry.written entry.length ++ codes " "
+    ++ judgement_text entry.judgement ++ newline
 
 -- the entry that a view shows
 abbrev pub viewed_transfer : TransferView → TransferEntry
 viewed_transfer view =
-    record { id = view.id; start = view.start; written = view.written; length = view.length; judgement = viewed_judgement view.judgement }
+    record {
+      id = view.id;
+      start = view.start;
+      written = view.written;
+      length = view.length;
+      judgement = viewed_judgement view.judgement;
+    }

@@ -68,8 +68,8 @@ pub fn judge<'a>(
 ) -> JudgementView<'a>
     ensures judged { viewed_judgement result
         ≡ judged abandoned announced length (viewed_verdict verdict.entry) }
-    ensures short { IfOk verdict.entry (λ view. HasShortNames (viewed_info view)) →
-        IsShortJudgement (viewed_judgement result) }
+    ensures short { IfOk verdict.entry (λ view. HasShortNames (viewed_info view))
+        → IsShortJudgement (viewed_judgement result) }
 {
     if abandoned {
         return JudgementView::Abandoned;

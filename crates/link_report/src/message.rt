@@ -88,8 +88,10 @@ fn put_items(line: &mut Line, items: &[Item])
 #[tactic(auto, unfolding(crate::specs::Message::parameters_text))]
 fn put_parameters(line: &mut Line, keepalive: u16, segment_mru: u64, transfer_mru: u64, node: &[u8])
     requires { array_vec_len line.old + 114 + length (escaped node.now) ≤ LINE_MAX }
-    ensures items { line.new.items ≡ line.old.items ++ parameters_text keepalive segment_mru transfer_mru node.now }
-    ensures len { array_vec_len line.new ≤ array_vec_len line.old + 114 + length (escaped node.now) }
+    ensures items { line.new.items
+        ≡ line.old.items ++ parameters_text keepalive segment_mru transfer_mru node.now }
+    ensures len { array_vec_len line.new
+        ≤ array_vec_len line.old + 114 + length (escaped node.now) }
 {
     put_number(line, " sess-init keepalive=", u64::from(keepalive));
     put_number(line, " segment-mru=", segment_mru);
@@ -114,7 +116,8 @@ fn write_session(
     requires room { at + BODY_MAX ≤ length page.old }
     requires node { length node.now ≤ MAX_NODE_ID }
     requires items { length items.now ≤ MAX_ITEMS }
-    ensures text { take result page.new ≡ take at page.old ++ parameters_text keepalive segment_mru transfer_mru node.now ++ items_text items.now }
+    ensures text { take result page.new ≡ take at page.old
+        ++ parameters_text keepalive segment_mru transfer_mru node.now ++ items_text items.now }
     ensures fits { result ≤ at + BODY_MAX }
     ensures size { length page.new ≡ length page.old }
 {

@@ -98,7 +98,8 @@ fn write_few_digits(page: &mut [u8], at: usize, number: u64) -> usize
 pub(crate) fn write_four_digits(page: &mut [u8], at: usize, number: u32) -> usize
     requires few { number < 10000 }
     requires room { at + 4 ≤ length page.old }
-    ensures text { take result page.new ≡ take at page.old ++ two_digits (number / 100) ++ two_digits (number % 100) }
+    ensures text { take result page.new ≡ take at page.old ++ two_digits (number / 100)
+        ++ two_digits (number % 100) }
     ensures end { result ≡ at + 4 }
     ensures size { length page.new ≡ length page.old }
 {

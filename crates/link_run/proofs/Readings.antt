@@ -10,12 +10,16 @@ use Rattle.link_run.specs.Writers.{on_output, Writes}
 use Rattle.link_run.specs.declared.writers.Writers.{Writers}
 
 -- what the session gives, once what was written was handed on
-module _ {R W E : Type 0} (in_look : R → Input) (out_look : W → Output) (report_look : E → Output) (old new : Session R) (before after : Writers W E) (history : List ℕ)
+module _ {R W E : Type 0} (in_look : R → Input) (out_look : W → Output) (report_look : E → Output)
+    (old new : Session R) (before after : Writers W E) (history : List ℕ)
     (writes : Writes out_look report_look before after (on_output [])) where
-  pub message_given : (next : Result (Option (ℕ × Message)) Stop) → GivesNext in_look old new history next → ReadsMessage in_look out_look report_look old new before after history next
+  pub message_given : (next : Result (Option (ℕ × Message)) Stop)
+      → GivesNext in_look old new history next
+      → ReadsMessage in_look out_look report_look old new before after history next
   message_given (Ok next) gives = (writes, gives)
   message_given (Err why) gives = inl (writes, gives)
 
-  pub data_given : (next : Result ℕ Stop) → GivesLoad in_look old new history next → ReadsData in_look out_look report_look old new before after history next
+  pub data_given : (next : Result ℕ Stop) → GivesLoad in_look old new history next
+      → ReadsData in_look out_look report_look old new before after history next
   data_given (Ok n) gives = (writes, gives)
   data_given (Err why) gives = inl (writes, gives)

@@ -26,7 +26,8 @@ abbrev pub ◌then◌ : Texts → Texts → Texts
 first then second = record { output = first.output ++ second.output; report = first.report ++ second.report }
 
 -- what is ahead is the window and then what the reader has left
-Consumes-ahead : (window : List ℕ) (left : Option (List ℕ)) → Consumes (prepend_known window left) left window
+Consumes-ahead : (window : List ℕ) (left : Option (List ℕ))
+    → Consumes (prepend_known window left) left window
 Consumes-ahead window None = tt
 Consumes-ahead window (Some xs) = refl
 
@@ -37,7 +38,8 @@ texts_as {p} {q} output report =
     let of_report : List ℕ → Texts = λ xs. record { output = q.output; report = xs } in
     ap of_output output ∙ ap of_report report
 
-pub then_assoc : (first second third : Texts) → first then (second then third) ≡ (first then second) then third
+pub then_assoc : (first second third : Texts) → first then (second then third) ≡ (first then second)
+    then third
 then_assoc first second third = texts_as (sym (append_assoc first.output second.output third.output)) (sym (append_assoc first.report second.report third.report))
 
 pub then_none : (texts : Texts) → texts then no_texts ≡ texts
@@ -48,9 +50,11 @@ then_none texts = texts_as (append-nil texts.output) (append-nil texts.report)
 abbrev pub ReportsFaults : Tool → Type 0
 ReportsFaults tool =
     (given : List ℕ) → (tool.whole given).status ≡ 3
-    → ((tool.shows given ≡ true) × (tool.sofar given ≡ (tool.whole given).texts)) ⊎ (length (tool.sofar given).report < length (tool.whole given).texts.report)
+    → ((tool.shows given ≡ true) × (tool.sofar given ≡ (tool.whole given).texts))
+    ⊎ (length (tool.sofar given).report < length (tool.whole given).texts.report)
 
-module _ {R W E : Type 0} (in_look : R → Input) (out_look : W → Output) (report_look : E → Output) where
+module _ {R W E : Type 0} (in_look : R → Input) (out_look : W → Output)
+    (report_look : E → Output) where
   pub moves_none : (p : Place R W E) → Moves in_look out_look report_look p p [] no_texts
   moves_none p = record {
     takes = Consumes-nil (ahead in_look p.source);
@@ -59,7 +63,10 @@ module _ {R W E : Type 0} (in_look : R → Input) (out_look : W → Output) (rep
     reports = Appends-nil (report_look p.report).written;
   }
 
-  pub moves_then : (old mid new : Place R W E) (xs ys : List ℕ) (p q : Texts) → Moves in_look out_look report_look old mid xs p → Moves in_look out_look report_look mid new ys q → Moves in_look out_look report_look old new (xs ++ ys) (p then q)
+  pub moves_then : (old mid new : Place R W E) (xs ys : List ℕ) (p q : Texts)
+      → Moves in_look out_look report_look old mid xs p
+      → Moves in_look out_look report_look mid new ys q
+      → Moves in_look out_look report_look old new (xs ++ ys) (p then q)
   moves_then old mid new xs ys p q first second =
       let one = first.count in
       let two = second.count in
@@ -70,7 +77,10 @@ module _ {R W E : Type 0} (in_look : R → Input) (out_look : W → Output) (rep
         reports = Appends-trans (report_look old.report).written (report_look mid.report).written (report_look new.report).written p.report q.report first.reports second.reports;
       }
 
-  pub written_then : (start : Devices R W E) (mid new : Place R W E) (xs ys : List ℕ) (p q : Texts) → HasWritten in_look out_look report_look start mid xs p → Moves in_look out_look report_look mid new ys q → HasWritten in_look out_look report_look start new (xs ++ ys) (p then q)
+  pub written_then : (start : Devices R W E) (mid new : Place R W E) (xs ys : List ℕ) (p q : Texts)
+      → HasWritten in_look out_look report_look start mid xs p
+      → Moves in_look out_look report_look mid new ys q
+      → HasWritten in_look out_look report_look start new (xs ++ ys) (p then q)
   written_then start mid new xs ys p q first second =
       let one = first.count in
       let two = second.count in
@@ -82,7 +92,10 @@ module _ {R W E : Type 0} (in_look : R → Input) (out_look : W → Output) (rep
       }
 
   -- the devices as they are handed back, with what was read and not given
-  pub written_left : (start : Devices R W E) (now : Place R W E) (bytes : List ℕ) (texts : Texts) → HasWritten in_look out_look report_look start now bytes texts → HandedBack in_look out_look report_look start (devices_at now) (bytes ++ window_of now.source) texts
+  pub written_left : (start : Devices R W E) (now : Place R W E) (bytes : List ℕ) (texts : Texts)
+      → HasWritten in_look out_look report_look start now bytes texts
+      → HandedBack in_look out_look report_look start (devices_at now) (bytes
+      ++ window_of now.source) texts
   written_left start now bytes texts written = record {
     takes = Consumes-trans (in_look start.reader).left (ahead in_look now.source) (in_look (reader_of now.source)).left bytes (window_of now.source) written.takes (Consumes-ahead (window_of now.source) (in_look (reader_of now.source)).left);
     writes = written.writes;
@@ -90,7 +103,11 @@ module _ {R W E : Type 0} (in_look : R → Input) (out_look : W → Output) (rep
   }
 
   -- the answer with the devices that were handed back
-  pub handed_back : (tool other : Tool) (start now devices : Devices R W E) (given : List ℕ) (answer result : Result Status IoFault) → EndedRun in_look out_look report_look tool start now given answer → tool ≡ other → devices ≡ now → result ≡ answer → GivesAnswer in_look out_look report_look other start devices result
+  pub handed_back : (tool other : Tool) (start now devices : Devices R W E) (given : List ℕ)
+      (answer result : Result Status IoFault)
+      → EndedRun in_look out_look report_look tool start now given answer → tool ≡ other
+      → devices ≡ now → result ≡ answer
+      → GivesAnswer in_look out_look report_look other start devices result
   handed_back tool other start now devices given answer result gave same back is =
       let P : Tool → Type 0 = λ t. GivesAnswer in_look out_look report_look t start devices result in
       let Q : Devices R W E → Type 0 = λ d. GivesAnswer in_look out_look report_look tool start d result in
@@ -98,13 +115,15 @@ module _ {R W E : Type 0} (in_look : R → Input) (out_look : W → Output) (rep
       subst P same (subst Q (sym back) (subst S (sym is) (record { given = given; gave = gave })))
 
 -- a source that has ended has given all that it read
-none_between : (window : List ℕ) (start end : ℕ) → start ≡ end → take (end - start) (drop start window) ≡ []
+none_between : (window : List ℕ) (start end : ℕ) → start ≡ end
+    → take (end - start) (drop start window) ≡ []
 none_between window start end same =
     let none : end - start ≡ 0 = omega arith in
     rw none refl
 
 -- nothing is left of an input that is over
-pub few_over : {R : Type 0} (look : R → Input) (s : Source R) → IsOver look s → length (window_of s) < window_size
+pub few_over : {R : Type 0} (look : R → Input) (s : Source R) → IsOver look s
+    → length (window_of s) < window_size
 few_over look s over = let none = ap length (none_between s.window s.start s.end over.ended.1) in omega arith
 
 -- these texts are what some of the bytes determine
@@ -118,9 +137,12 @@ pub record StoodAt (tool : Tool) (given : List ℕ) (texts : Texts) : Type 0 whe
 abbrev pub Stood : Tool → (given : List ℕ) → Texts → Type 0
 Stood tool given texts = (texts.report ≡ []) ⊎ StoodAt tool given texts
 
-module _ {R W E : Type 0} (in_look : R → Input) (out_look : W → Output) (report_look : E → Output) where
+module _ {R W E : Type 0} (in_look : R → Input) (out_look : W → Output)
+    (report_look : E → Output) where
   -- bytes were given, and nothing was written
-  pub takes_moves : (old new : Source R) (w : Writers W E) (bytes : List ℕ) → Takes in_look old new bytes → Moves in_look out_look report_look (place_of old w) (place_of new w) bytes no_texts
+  pub takes_moves : (old new : Source R) (w : Writers W E) (bytes : List ℕ)
+      → Takes in_look old new bytes
+      → Moves in_look out_look report_look (place_of old w) (place_of new w) bytes no_texts
   takes_moves old new w bytes takes = record {
     takes = takes.next;
     count = takes.count;
@@ -129,7 +151,9 @@ module _ {R W E : Type 0} (in_look : R → Input) (out_look : W → Output) (rep
   }
 
   -- texts were written, and nothing was given
-  pub writes_moves : (s : Source R) (old new : Writers W E) (texts : Texts) → Writes out_look report_look old new texts → Moves in_look out_look report_look (place_of s old) (place_of s new) [] texts
+  pub writes_moves : (s : Source R) (old new : Writers W E) (texts : Texts)
+      → Writes out_look report_look old new texts
+      → Moves in_look out_look report_look (place_of s old) (place_of s new) [] texts
   writes_moves s old new texts writes = record {
     takes = Consumes-nil (ahead in_look s);
     count = omega arith;
@@ -137,37 +161,60 @@ module _ {R W E : Type 0} (in_look : R → Input) (out_look : W → Output) (rep
     reports = writes.report;
   }
 
-  pub written_as : {start : Devices R W E} {now : Place R W E} {xs ys : List ℕ} {p q : Texts} → HasWritten in_look out_look report_look start now xs p → xs ≡ ys → p ≡ q → HasWritten in_look out_look report_look start now ys q
+  pub written_as : {start : Devices R W E} {now : Place R W E} {xs ys : List ℕ} {p q : Texts}
+      → HasWritten in_look out_look report_look start now xs p → xs ≡ ys → p ≡ q
+      → HasWritten in_look out_look report_look start now ys q
   written_as {start} {now} {xs} {ys} {p} {q} written bytes texts =
       let P : List ℕ → Type 0 = λ b. HasWritten in_look out_look report_look start now b q in
       let Q : Texts → Type 0 = λ t. HasWritten in_look out_look report_look start now xs t in
       subst P bytes (subst Q texts written)
 
   -- given bytes and written texts, after what was written before
-  pub written_given : (start : Devices R W E) (old new : Source R) (w : Writers W E) (history bytes : List ℕ) (texts : Texts) → HasWritten in_look out_look report_look start (place_of old w) history texts → Takes in_look old new bytes → HasWritten in_look out_look report_look start (place_of new w) (history ++ bytes) texts
+  pub written_given : (start : Devices R W E) (old new : Source R) (w : Writers W E)
+      (history bytes : List ℕ) (texts : Texts)
+      → HasWritten in_look out_look report_look start (place_of old w) history texts
+      → Takes in_look old new bytes
+      → HasWritten in_look out_look report_look start (place_of new w) (history ++ bytes) texts
   written_given start old new w history bytes texts written takes =
       written_as (written_then in_look out_look report_look start (place_of old w) (place_of new w) history bytes texts no_texts written (takes_moves old new w bytes takes)) refl (then_none texts)
 
-  pub written_more : (start : Devices R W E) (s : Source R) (old new : Writers W E) (history : List ℕ) (before texts : Texts) → HasWritten in_look out_look report_look start (place_of s old) history before → Writes out_look report_look old new texts → HasWritten in_look out_look report_look start (place_of s new) history (before then texts)
+  pub written_more : (start : Devices R W E) (s : Source R) (old new : Writers W E)
+      (history : List ℕ) (before texts : Texts)
+      → HasWritten in_look out_look report_look start (place_of s old) history before
+      → Writes out_look report_look old new texts
+      → HasWritten in_look out_look report_look start (place_of s new) history (before then texts)
   written_more start s old new history before texts written writes =
       written_as (written_then in_look out_look report_look start (place_of s old) (place_of s new) history [] before texts written (writes_moves s old new texts writes)) (append-nil history) refl
 
-  pub sound_given : (old new : Source R) (w : Writers W E) (bytes : List ℕ) → NoneFailed in_look out_look report_look (devices_at (place_of old w)) → Takes in_look old new bytes → NoneFailed in_look out_look report_look (devices_at (place_of new w))
+  pub sound_given : (old new : Source R) (w : Writers W E) (bytes : List ℕ)
+      → NoneFailed in_look out_look report_look (devices_at (place_of old w))
+      → Takes in_look old new bytes
+      → NoneFailed in_look out_look report_look (devices_at (place_of new w))
   sound_given old new w bytes sound takes = record { reader = takes.device ∙ sound.reader; output = sound.output; report = sound.report }
 
-  pub sound_written : (s : Source R) (old new : Writers W E) (texts : Texts) → NoneFailed in_look out_look report_look (devices_at (place_of s old)) → Writes out_look report_look old new texts → NoneFailed in_look out_look report_look (devices_at (place_of s new))
+  pub sound_written : (s : Source R) (old new : Writers W E) (texts : Texts)
+      → NoneFailed in_look out_look report_look (devices_at (place_of s old))
+      → Writes out_look report_look old new texts
+      → NoneFailed in_look out_look report_look (devices_at (place_of s new))
   sound_written s old new texts sound writes = record { reader = sound.reader; output = writes.output_sound ∙ sound.output; report = writes.report_sound ∙ sound.report }
 
   -- ---- how a run ends
 
   -- all of the input was given
-  pub all_given : (s : Source R) (w : Writers W E) → IsOver in_look s → AllGiven in_look out_look report_look (devices_at (place_of s w)) (window_of s)
+  pub all_given : (s : Source R) (w : Writers W E) → IsOver in_look s
+      → AllGiven in_look out_look report_look (devices_at (place_of s w)) (window_of s)
   all_given s w over = (none_between s.window s.start s.end over.ended.1, over.empty)
 
   -- the run has written all that there is
-  pub answered : (tool : Tool) (start : Devices R W E) (s : Source R) (w : Writers W E) (given : List ℕ) (status : Status) → HasWritten in_look out_look report_look start (place_of s w) given (tool.whole given).texts → NoneFailed in_look out_look report_look (devices_at (place_of s w)) → status.0 ≡ (tool.whole given).status
-      → AllGiven in_look out_look report_look (devices_at (place_of s w)) (window_of s) ⊎ ((more : List ℕ) → tool.whole (given ++ more) ≡ tool.whole given)
-      → length (window_of s) < window_size → FinishedRun in_look out_look report_look tool start (devices_at (place_of s w)) given status
+  pub answered : (tool : Tool) (start : Devices R W E) (s : Source R) (w : Writers W E)
+      (given : List ℕ) (status : Status)
+      → HasWritten in_look out_look report_look start (place_of s w) given (tool.whole given).texts
+      → NoneFailed in_look out_look report_look (devices_at (place_of s w))
+      → status.0 ≡ (tool.whole given).status
+      → AllGiven in_look out_look report_look (devices_at (place_of s w)) (window_of s)
+      ⊎ ((more : List ℕ) → tool.whole (given ++ more) ≡ tool.whole given)
+      → length (window_of s) < window_size
+      → FinishedRun in_look out_look report_look tool start (devices_at (place_of s w)) given status
   answered tool start s w given status written sound ends settled few = record {
     unread = window_of s;
     few = few;
@@ -178,8 +225,10 @@ module _ {R W E : Type 0} (in_look : R → Input) (out_look : W → Output) (rep
   }
 
   -- where the output failed in texts, nothing of the report speaks of what it lacks
-  behind : (tool : Tool) (given : List ℕ) (before : Texts) (output report : ℕ) → Stood tool given before → report ≡ 0
-      → ((length before.report + report ≡ 0) ⊎ IsBehind tool given (length before.output + output) (length before.report + report))
+  behind : (tool : Tool) (given : List ℕ) (before : Texts) (output report : ℕ)
+      → Stood tool given before → report ≡ 0
+      → ((length before.report + report ≡ 0)
+      ⊎ IsBehind tool given (length before.output + output) (length before.report + report))
   behind tool given before output report stood none =
       ⊎_elim
       (λ empty. inl (let no_report = ap length empty in omega arith))
@@ -193,9 +242,13 @@ module _ {R W E : Type 0} (in_look : R → Input) (out_look : W → Output) (rep
       stood
 
   -- where a text that is due lacks some bytes, and the input ends in a fault, one of the whole texts does
-  lacking : (tool : Tool) (now : Devices R W E) (given unread : List ℕ) (due : Texts) (output report : ℕ) → ReportsFaults tool → AreDue in_look out_look report_look tool now given unread due
-      → report ≤ length due.report → (output < length due.output) ⊎ (report < length due.report) → (tool.whole given).status ≡ 3
-      → (output < length (tool.whole given).texts.output) ⊎ (report < length (tool.whole given).texts.report)
+  lacking : (tool : Tool) (now : Devices R W E) (given unread : List ℕ) (due : Texts)
+      (output report : ℕ) → ReportsFaults tool
+      → AreDue in_look out_look report_look tool now given unread due
+      → report ≤ length due.report → (output < length due.output) ⊎ (report < length due.report)
+      → (tool.whole given).status ≡ 3
+      → (output < length (tool.whole given).texts.output)
+      ⊎ (report < length (tool.whole given).texts.report)
   lacking tool now given unread due output report faults (inl is) most less is_fault =
       let P : Texts → Type 0 = λ t. (output < length t.output) ⊎ (report < length t.report) in
       ⊎_elim
@@ -207,11 +260,17 @@ module _ {R W E : Type 0} (in_look : R → Input) (out_look : W → Output) (rep
       subst P is.1 less
 
   -- a writer failed in texts that are due
-  pub writer_lost : (tool : Tool) → ReportsFaults tool → (start : Devices R W E) (s : Source R) (old new : Writers W E) (given : List ℕ) (before texts due : Texts) (fault : IoFault)
-      → HasWritten in_look out_look report_look start (place_of s old) given before → NoneFailed in_look out_look report_look (devices_at (place_of s old)) → before then texts ≡ due
-      → AreDue in_look out_look report_look tool (devices_at (place_of s new)) given (window_of s) due
+  pub writer_lost : (tool : Tool) → ReportsFaults tool → (start : Devices R W E) (s : Source R)
+      (old new : Writers W E) (given : List ℕ) (before texts due : Texts) (fault : IoFault)
+      → HasWritten in_look out_look report_look start (place_of s old) given before
+      → NoneFailed in_look out_look report_look (devices_at (place_of s old))
+      → before then texts ≡ due
+      → AreDue in_look out_look report_look tool (devices_at (place_of s new)) given (window_of s)
+      due
       → length (window_of s) < window_size → (0 < length texts.output → Stood tool given before)
-      → WritesPart out_look report_look old new texts fault → EndedRun in_look out_look report_look tool start (devices_at (place_of s new)) given (Err fault)
+      → WritesPart out_look report_look old new texts fault
+      → EndedRun in_look out_look report_look tool start (devices_at (place_of s new)) given
+      (Err fault)
   writer_lost tool faults start s old new given before texts due fault written sound same are_due few stood part =
       let last : Moves in_look out_look report_look (place_of s old) (place_of s new) [] (record { output = take part.output_count texts.output; report = take part.report_count texts.report }) = record {
         takes = Consumes-nil (ahead in_look s);
@@ -251,10 +310,14 @@ module _ {R W E : Type 0} (in_look : R → Input) (out_look : W → Output) (rep
       })
 
   -- a writer failed when what was written was handed on
-  pub settle_lost : (tool : Tool) → ReportsFaults tool → (start : Devices R W E) (s : Source R) (old new : Writers W E) (given : List ℕ) (fault : IoFault)
-      → HasWritten in_look out_look report_look start (place_of s old) given (tool.sofar given) → NoneFailed in_look out_look report_look (devices_at (place_of s old))
+  pub settle_lost : (tool : Tool) → ReportsFaults tool → (start : Devices R W E) (s : Source R)
+      (old new : Writers W E) (given : List ℕ) (fault : IoFault)
+      → HasWritten in_look out_look report_look start (place_of s old) given (tool.sofar given)
+      → NoneFailed in_look out_look report_look (devices_at (place_of s old))
       → tool.shows given ≡ false → length (window_of s) < window_size
-      → Unsettled out_look report_look old new fault → EndedRun in_look out_look report_look tool start (devices_at (place_of s new)) given (Err fault)
+      → Unsettled out_look report_look old new fault
+      → EndedRun in_look out_look report_look tool start (devices_at (place_of s new)) given
+      (Err fault)
   settle_lost tool faults start s old new given fault written sound unshown few part =
       let due = tool.sofar given in
       let kept : Moves in_look out_look report_look (place_of s old) (place_of s new) [] no_texts = record {
@@ -284,9 +347,14 @@ module _ {R W E : Type 0} (in_look : R → Input) (out_look : W → Output) (rep
       })
 
   -- the source stopped after some bytes, and what is due was written
-  pub reader_lost : (tool : Tool) (start : Devices R W E) (old new : Source R) (w : Writers W E) (history given : List ℕ) (texts : Texts) (fault : IoFault)
-      → HasWritten in_look out_look report_look start (place_of old w) history texts → NoneFailed in_look out_look report_look (devices_at (place_of old w)) → texts ≡ tool.sofar (history ++ given) → tool.shows (history ++ given) ≡ false
-      → StopsAfter in_look old new given fault → EndedRun in_look out_look report_look tool start (devices_at (place_of new w)) (history ++ given) (Err fault)
+  pub reader_lost : (tool : Tool) (start : Devices R W E) (old new : Source R) (w : Writers W E)
+      (history given : List ℕ) (texts : Texts) (fault : IoFault)
+      → HasWritten in_look out_look report_look start (place_of old w) history texts
+      → NoneFailed in_look out_look report_look (devices_at (place_of old w))
+      → texts ≡ tool.sofar (history ++ given) → tool.shows (history ++ given) ≡ false
+      → StopsAfter in_look old new given fault
+      → EndedRun in_look out_look report_look tool start (devices_at (place_of new w))
+      (history ++ given) (Err fault)
   reader_lost tool start old new w history given texts io.Read written sound due unshown stops =
       let none : given ++ stops.past ≡ given = rw stops.cause.0 (append-nil given) in
       record {
@@ -321,13 +389,16 @@ module _ {R W E : Type 0} (in_look : R → Input) (out_look : W → Output) (rep
   reader_lost tool start old new w history given texts io.Memory written sound due unshown stops = absurd stops.cause
 
 -- what was written of a text, with others after it that were not begun
-take_less : (count : ℕ) (text more : List ℕ) → take count text ≡ take (min count (length text)) (text ++ more)
+take_less : (count : ℕ) (text more : List ℕ)
+    → take count text ≡ take (min count (length text)) (text ++ more)
 take_less count text more = sym (take-append-le (min count (length text)) text more (min-le_right count (length text)) ∙ take_min count text)
 
 module _ {W E : Type 0} (out_look : W → Output) (report_look : E → Output) where
   -- a writer failed in texts, before others; where it was the report, these have nothing for the output
-  pub part_of_more : (old new : Writers W E) (texts more : Texts) (fault : IoFault) → (0 < length texts.report → more.output ≡ [])
-      → WritesPart out_look report_look old new texts fault → WritesPart out_look report_look old new (texts then more) fault
+  pub part_of_more : (old new : Writers W E) (texts more : Texts) (fault : IoFault)
+      → (0 < length texts.report → more.output ≡ [])
+      → WritesPart out_look report_look old new texts fault
+      → WritesPart out_look report_look old new (texts then more) fault
   part_of_more old new texts more fault same part = record {
     kind = part.kind;
     output_count = min part.output_count (length texts.output);
@@ -355,7 +426,9 @@ module _ {W E : Type 0} (out_look : W → Output) (report_look : E → Output) w
     report_sound = refl;
   }
 
-  pub writes_then : (old mid new : Writers W E) (first second : Texts) → Writes out_look report_look old mid first → Writes out_look report_look mid new second → Writes out_look report_look old new (first then second)
+  pub writes_then : (old mid new : Writers W E) (first second : Texts)
+      → Writes out_look report_look old mid first → Writes out_look report_look mid new second
+      → Writes out_look report_look old new (first then second)
   writes_then old mid new first second one two = record {
     output = Appends-trans (out_look old.output).written (out_look mid.output).written (out_look new.output).written first.output second.output one.output two.output;
     report = Appends-trans (report_look old.report).written (report_look mid.report).written (report_look new.report).written first.report second.report one.report two.report;
@@ -364,7 +437,10 @@ module _ {W E : Type 0} (out_look : W → Output) (report_look : E → Output) w
   }
 
   -- a text was written to the output, and then a writer failed in others
-  pub part_behind : (old mid new : Writers W E) (first : List ℕ) (second : Texts) (fault : IoFault) → Writes out_look report_look old mid (on_output first) → WritesPart out_look report_look mid new second fault → WritesPart out_look report_look old new (on_output first then second) fault
+  pub part_behind : (old mid new : Writers W E) (first : List ℕ) (second : Texts) (fault : IoFault)
+      → Writes out_look report_look old mid (on_output first)
+      → WritesPart out_look report_look mid new second fault
+      → WritesPart out_look report_look old new (on_output first then second) fault
   part_behind old mid new first second fault one part = record {
     kind = part.kind;
     output_count = length first + part.output_count;
@@ -378,7 +454,10 @@ module _ {W E : Type 0} (out_look : W → Output) (report_look : E → Output) w
   }
 
   -- what was written was handed on: it is written still
-  pub settle_kept : {R : Type 0} (in_look : R → Input) (start : Devices R W E) (s : Source R) (old new : Writers W E) (history : List ℕ) (texts : Texts)
-      → HasWritten in_look out_look report_look start (place_of s old) history texts → Writes out_look report_look old new no_texts → HasWritten in_look out_look report_look start (place_of s new) history texts
+  pub settle_kept : {R : Type 0} (in_look : R → Input) (start : Devices R W E) (s : Source R)
+      (old new : Writers W E) (history : List ℕ) (texts : Texts)
+      → HasWritten in_look out_look report_look start (place_of s old) history texts
+      → Writes out_look report_look old new no_texts
+      → HasWritten in_look out_look report_look start (place_of s new) history texts
   settle_kept in_look start s old new history texts written writes =
       written_as in_look out_look report_look (written_more in_look out_look report_look start s old new history texts no_texts written writes) refl (then_none texts)

@@ -41,7 +41,8 @@ pub record Place (R W E : Type 0) : Type 0 where
   pub report : E
 
 abbrev pub devices_at : {R W E : Type 0} → Place R W E → Devices R W E
-devices_at place = record { reader = reader_of place.source; output = place.output; report = place.report }
+devices_at place =
+    record { reader = reader_of place.source; output = place.output; report = place.report }
 
 -- the answer of a run, as its last step returns it
 abbrev pub answer_of : Result Status IoFault → Result Progress IoFault
@@ -60,7 +61,8 @@ pub record IsBehind (tool : Tool) (given : List ℕ) (output_count report_count 
 module _ {R : Type 0} where
   -- A step went on: it was given at most `most` bytes, at least one where `most` is not 0, and the run stands after them. No
   -- more was read than is needed: less than a window was read and not given.
-  pub record WentOn (old new : Source R) (stands : List ℕ → Type 0) (most : ℕ) (history : List ℕ) : Type 0 where
+  pub record WentOn (old new : Source R) (stands : List ℕ → Type 0) (most : ℕ)
+      (history : List ℕ) : Type 0 where
     pub given : List ℕ
     pub some : 0 < most → 0 < length given
     pub size : length given ≤ most
@@ -69,7 +71,8 @@ module _ {R : Type 0} where
     pub at : stands (history ++ given)
 
 -- `in_look`, `out_look` and `report_look` are what a contract sees of the devices.
-module _ {R W E : Type 0} (in_look : R → Input) (out_look : W → Output) (report_look : E → Output) where
+module _ {R W E : Type 0} (in_look : R → Input) (out_look : W → Output)
+    (report_look : E → Output) where
   -- no device has failed
   pub record NoneFailed (devices : Devices R W E) : Type 0 where
     pub reader : (in_look devices.reader).failed ≡ false
@@ -81,20 +84,24 @@ module _ {R W E : Type 0} (in_look : R → Input) (out_look : W → Output) (rep
     pub takes : Consumes (ahead in_look old.source) (ahead in_look new.source) bytes
     pub count : given_by new.source ≡ given_by old.source + length bytes
     pub writes : Appends (out_look old.output).written (out_look new.output).written texts.output
-    pub reports : Appends (report_look old.report).written (report_look new.report).written texts.report
+    pub reports : Appends (report_look old.report).written
+        (report_look new.report).written texts.report
 
   -- since the devices stood as in `start`, these bytes were given, and these texts were written
-  pub record HasWritten (start : Devices R W E) (now : Place R W E) (bytes : List ℕ) (texts : Texts) : Type 0 where
+  pub record HasWritten (start : Devices R W E) (now : Place R W E) (bytes : List ℕ)
+      (texts : Texts) : Type 0 where
     pub takes : Consumes (in_look start.reader).left (ahead in_look now.source) bytes
     pub count : given_by now.source ≡ length bytes
     pub writes : Appends (out_look start.output).written (out_look now.output).written texts.output
-    pub reports : Appends (report_look start.report).written (report_look now.report).written texts.report
+    pub reports : Appends (report_look start.report).written
+        (report_look now.report).written texts.report
 
   -- the same of devices that were handed back: these bytes were taken
   pub record HandedBack (start now : Devices R W E) (bytes : List ℕ) (texts : Texts) : Type 0 where
     pub takes : Consumes (in_look start.reader).left (in_look now.reader).left bytes
     pub writes : Appends (out_look start.output).written (out_look now.output).written texts.output
-    pub reports : Appends (report_look start.report).written (report_look now.report).written texts.report
+    pub reports : Appends (report_look start.report).written
+        (report_look now.report).written texts.report
 
   -- all of the input was given
   abbrev pub AllGiven : Devices R W E → (unread : List ℕ) → Type 0
@@ -102,13 +109,15 @@ module _ {R W E : Type 0} (in_look : R → Input) (out_look : W → Output) (rep
 
   -- The run has written what comes of the bytes that it was given, and no device failed. They are all of the input, or what comes of
   -- them is the same however they go on. Nothing was read that was not needed: less than a window of bytes was read and not given.
-  pub record FinishedRun (tool : Tool) (start now : Devices R W E) (given : List ℕ) (status : Status) : Type 0 where
+  pub record FinishedRun (tool : Tool) (start now : Devices R W E) (given : List ℕ)
+      (status : Status) : Type 0 where
     pub unread : List ℕ
     pub few : length unread < window_size
     pub written : HandedBack start now (given ++ unread) (tool.whole given).texts
     pub sound : NoneFailed now
     pub ends : status.0 ≡ (tool.whole given).status
-    pub settled : AllGiven now unread ⊎ ((more : List ℕ) → tool.whole (given ++ more) ≡ tool.whole given)
+    pub settled : AllGiven now unread
+        ⊎ ((more : List ℕ) → tool.whole (given ++ more) ≡ tool.whole given)
 
   -- The reader failed, and no writer: all bytes that were read were given, they show no fault, and the texts are those that
   -- they determine.
@@ -132,14 +141,18 @@ module _ {R W E : Type 0} (in_look : R → Input) (out_look : W → Output) (rep
 
   -- the texts that the bytes given determine; where they are all of the input, it may be those of the whole input
   abbrev pub AreDue : Tool → Devices R W E → (given unread : List ℕ) → Texts → Type 0
-  AreDue tool now given unread texts = (texts ≡ tool.sofar given) ⊎ (AllGiven now unread × (texts ≡ (tool.whole given).texts))
+  AreDue tool now given unread texts =
+      (texts ≡ tool.sofar given) ⊎ (AllGiven now unread × (texts ≡ (tool.whole given).texts))
 
   -- Which writer failed, and not the other: the output, and no line of the report speaks of what it lacks; or the report, and
   -- the output is whole.
-  abbrev pub IsLost : Tool → Devices R W E → (given : List ℕ) → (due : Texts) → (output report : ℕ) → Type 0
+  abbrev pub IsLost : Tool → Devices R W E → (given : List ℕ) → (due : Texts)
+      → (output report : ℕ) → Type 0
   IsLost tool now given due output report =
-      (((out_look now.output).failed ≡ true) × ((report_look now.report).failed ≡ false) × ((report ≡ 0) ⊎ IsBehind tool given output report))
-      ⊎ (((report_look now.report).failed ≡ true) × ((out_look now.output).failed ≡ false) × (length due.output ≤ output))
+      (((out_look now.output).failed ≡ true) × ((report_look now.report).failed ≡ false)
+      × ((report ≡ 0) ⊎ IsBehind tool given output report))
+      ⊎ (((report_look now.report).failed ≡ true) × ((out_look now.output).failed ≡ false)
+      × (length due.output ≤ output))
 
   -- One writer failed, and not the reader: the texts are prefixes of those that are due (`AreDue`). Where the bytes given show a
   -- fault, it is the writer that failed which lacks some of its text. Where they are all of an input that ends in a fault, part
@@ -151,12 +164,16 @@ module _ {R W E : Type 0} (in_look : R → Input) (out_look : W → Output) (rep
     pub are_due : AreDue tool now given unread due
     pub output : ℕ
     pub report : ℕ
-    pub written : HandedBack start now (given ++ unread) (record { output = take output due.output; report = take report due.report })
+    pub written : HandedBack start now (given ++ unread)
+        (record { output = take output due.output; report = take report due.report })
     pub reader : (in_look now.reader).failed ≡ false
     pub failed : IsLost tool now given due output report
-    pub unended : tool.shows given ≡ true → (output < length due.output) ⊎ (((report_look now.report).failed ≡ true) × (report < length due.report))
+    pub unended : tool.shows given ≡ true
+        → (output < length due.output)
+        ⊎ (((report_look now.report).failed ≡ true) × (report < length due.report))
     pub unreported : AllGiven now unread → (tool.whole given).status ≡ 3
-        → (output < length (tool.whole given).texts.output) ⊎ (report < length (tool.whole given).texts.report)
+        → (output < length (tool.whole given).texts.output)
+        ⊎ (report < length (tool.whole given).texts.report)
 
   -- what holds after each failure; want of memory is none of a run
   abbrev pub FailedRun : Tool → Devices R W E → Devices R W E → List ℕ → IoFault → Type 0
@@ -166,26 +183,33 @@ module _ {R W E : Type 0} (in_look : R → Input) (out_look : W → Output) (rep
   FailedRun tool start now given io.Memory = ⊥
 
   -- what holds at each end
-  abbrev pub EndedRun : Tool → Devices R W E → Devices R W E → List ℕ → Result Status IoFault → Type 0
+  abbrev pub EndedRun : Tool → Devices R W E → Devices R W E → List ℕ
+      → Result Status IoFault → Type 0
   EndedRun tool start now given (Ok status) = FinishedRun tool start now given status
   EndedRun tool start now given (Err fault) = FailedRun tool start now given fault
 
   -- what a whole run gives
-  pub record GivesAnswer (tool : Tool) (start now : Devices R W E) (answer : Result Status IoFault) : Type 0 where
+  pub record GivesAnswer (tool : Tool) (start now : Devices R W E)
+      (answer : Result Status IoFault) : Type 0 where
     pub given : List ℕ
     pub gave : EndedRun tool start now given answer
 
   -- a step was the last of its run: it was given at most `most` bytes
-  pub record LastStep (tool : Tool) (start now : Devices R W E) (most : ℕ) (history : List ℕ) (answer : Result Status IoFault) : Type 0 where
+  pub record LastStep (tool : Tool) (start now : Devices R W E) (most : ℕ) (history : List ℕ)
+      (answer : Result Status IoFault) : Type 0 where
     pub given : List ℕ
     pub size : length given ≤ most
     pub gave : EndedRun tool start now (history ++ given) answer
 
   -- what a step gives after these bytes
-  abbrev pub GivesStep : Tool → Devices R W E → (old new : Place R W E) → (stands : List ℕ → Type 0) → (most : ℕ) → (history : List ℕ) → Result Progress IoFault → Type 0
-  GivesStep tool start old new stands most history (Ok More) = WentOn old.source new.source stands most history
-  GivesStep tool start old new stands most history (Ok (Done status)) = LastStep tool start (devices_at new) most history (Ok status)
-  GivesStep tool start old new stands most history (Err fault) = LastStep tool start (devices_at new) most history (Err fault)
+  abbrev pub GivesStep : Tool → Devices R W E → (old new : Place R W E) → (stands : List ℕ → Type 0)
+      → (most : ℕ) → (history : List ℕ) → Result Progress IoFault → Type 0
+  GivesStep tool start old new stands most history (Ok More) =
+      WentOn old.source new.source stands most history
+  GivesStep tool start old new stands most history (Ok (Done status)) =
+      LastStep tool start (devices_at new) most history (Ok status)
+  GivesStep tool start old new stands most history (Err fault) =
+      LastStep tool start (devices_at new) most history (Err fault)
 
 -- the last step of a run returns this
 abbrev pub IsEnd : Result Progress IoFault → Type 0

@@ -21,25 +21,29 @@ next_line writers = writers.line.items
 
 -- where a run stands, by its source and its writers
 abbrev pub place_of : {R W E : Type 0} → Source R → Writers W E → Place R W E
-place_of source writers = record { source = source; output = writers.output; report = writers.report }
+place_of source writers =
+    record { source = source; output = writers.output; report = writers.report }
 
 module _ {W E : Type 0} (out_look : W → Output) (report_look : E → Output) where
   -- these texts were written, and no writer has failed that had not
   pub record Writes (old new : Writers W E) (texts : Texts) : Type 0 where
     pub output : Appends (out_look old.output).written (out_look new.output).written texts.output
-    pub report : Appends (report_look old.report).written (report_look new.report).written texts.report
+    pub report : Appends (report_look old.report).written
+        (report_look new.report).written texts.report
     pub output_sound : (out_look new.output).failed ≡ (out_look old.output).failed
     pub report_sound : (report_look new.report).failed ≡ (report_look old.report).failed
 
   -- the output failed before all of its text was written, and nothing was written to the report
-  pub record LostOutput (old new : Writers W E) (texts : Texts) (output_count report_count : ℕ) : Type 0 where
+  pub record LostOutput (old new : Writers W E) (texts : Texts)
+      (output_count report_count : ℕ) : Type 0 where
     pub failed : (out_look new.output).failed ≡ true
     pub part : output_count < length texts.output
     pub none : report_count ≡ 0
     pub report_sound : (report_look new.report).failed ≡ (report_look old.report).failed
 
   -- the report failed before all of its text was written, and all of the output was
-  pub record LostReport (old new : Writers W E) (texts : Texts) (output_count report_count : ℕ) : Type 0 where
+  pub record LostReport (old new : Writers W E) (texts : Texts)
+      (output_count report_count : ℕ) : Type 0 where
     pub failed : (report_look new.report).failed ≡ true
     pub part : report_count < length texts.report
     pub whole : length texts.output ≤ output_count
@@ -50,9 +54,12 @@ module _ {W E : Type 0} (out_look : W → Output) (report_look : E → Output) w
     pub kind : fault ≡ io.Write
     pub output_count : ℕ
     pub report_count : ℕ
-    pub output : Appends (out_look old.output).written (out_look new.output).written (take output_count texts.output)
-    pub report : Appends (report_look old.report).written (report_look new.report).written (take report_count texts.report)
-    pub failed : LostOutput old new texts output_count report_count ⊎ LostReport old new texts output_count report_count
+    pub output : Appends (out_look old.output).written (out_look new.output).written
+        (take output_count texts.output)
+    pub report : Appends (report_look old.report).written (report_look new.report).written
+        (take report_count texts.report)
+    pub failed : LostOutput old new texts output_count report_count
+        ⊎ LostReport old new texts output_count report_count
 
   abbrev pub GivesTexts : Writers W E → Writers W E → Texts → Result (Unit {0}) IoFault → Type 0
   GivesTexts old new texts (Ok done) = Writes old new texts
@@ -74,7 +81,8 @@ module _ {W E : Type 0} (out_look : W → Output) (report_look : E → Output) w
     pub report : Appends (report_look old.report).written (report_look new.report).written []
     pub failed :
         (((out_look new.output).failed ≡ true) × (new.report ≡ old.report))
-        ⊎ (((report_look new.report).failed ≡ true) × ((out_look new.output).failed ≡ (out_look old.output).failed))
+        ⊎ (((report_look new.report).failed ≡ true)
+        × ((out_look new.output).failed ≡ (out_look old.output).failed))
 
   -- what was written is handed on
   abbrev pub GivesHandedOn : Writers W E → Writers W E → Result (Unit {0}) IoFault → Type 0
@@ -82,6 +90,8 @@ module _ {W E : Type 0} (out_look : W → Output) (report_look : E → Output) w
   GivesHandedOn old new (Err fault) = Unsettled old new fault
 
 -- no writer holds back anything of what was written; what a writer holds back no more is known by the last two functions
-pub record HasHandedOn {W E : Type 0} (out_look : W → Output) (report_look : E → Output) (out_handed : W → Option (List ℕ)) (report_handed : E → Option (List ℕ)) (writers : Writers W E) : Type 0 where
+pub record HasHandedOn {W E : Type 0} (out_look : W → Output) (report_look : E → Output)
+    (out_handed : W → Option (List ℕ)) (report_handed : E → Option (List ℕ))
+    (writers : Writers W E) : Type 0 where
   pub output : out_handed writers.output ≡ (out_look writers.output).written
   pub report : report_handed writers.report ≡ (report_look writers.report).written

@@ -22,8 +22,11 @@ pub fn next_message<R: InDevice, W: OutDevice, E: OutDevice>(
     requires { IsTrue (may_read session.old) }
     ensures opened { IsTrue (is_opened session.new) }
     ensures gives { (history : List ℕ) → IsSessionAt R.state session.old history
-        → ReadsMessage R.state W.state E.state session.old session.new writers.old writers.new history (with_message_read (message_of message.new) result) }
-    ensures handed { HoldsNothingBack R.state W.state E.state W.handed E.handed session.old writers.new }
+        → ReadsMessage R.state W.state E.state session.old session.new
+        writers.old writers.new history
+        (with_message_read (message_of message.new) result) }
+    ensures handed { HoldsNothingBack R.state W.state E.state W.handed E.handed
+        session.old writers.new }
     ensures totals { IfOk result (λ got. IfSome got (λ offset. SegmentHasTotals message.new)) }
     ensures left { IfErr result (λ _. left_of session.new ≡ left_of session.old) }
     ensures line { next_line writers.new ≡ next_line writers.old }
@@ -47,8 +50,10 @@ fn read_message<R: InDevice, W: OutDevice, E: OutDevice>(
     requires { IsTrue (may_read session.old) }
     ensures opened { IsTrue (is_opened session.new) }
     ensures gives { (history : List ℕ) → IsSessionAt R.state session.old history
-        → ReadsMessage R.state W.state E.state session.old session.new writers.old writers.new history (with_message_read (message_of message.new) result) }
-    ensures handed { HoldsNothingBack R.state W.state E.state W.handed E.handed session.old writers.new }
+        → ReadsMessage R.state W.state E.state session.old session.new writers.old writers.new
+        history (with_message_read (message_of message.new) result) }
+    ensures handed { HoldsNothingBack R.state W.state E.state W.handed E.handed
+        session.old writers.new }
     ensures totals { IfOk result (λ got. IfSome got (λ offset. SegmentHasTotals message.new)) }
     ensures left { IfErr result (λ _. left_of session.new ≡ left_of session.old) }
     ensures line { next_line writers.new ≡ next_line writers.old }
@@ -72,8 +77,10 @@ pub fn load_data<R: InDevice, W: OutDevice, E: OutDevice>(
     ensures here { 0 < length (data_in session.old) → writers.new ≡ writers.old }
     ensures opened { IsTrue (is_opened session.old) → IsTrue (is_opened session.new) }
     ensures gives { (history : List ℕ) → IsSessionAt R.state session.old history
-        → ReadsData R.state W.state E.state session.old session.new writers.old writers.new history result }
-    ensures handed { HoldsNothingBack R.state W.state E.state W.handed E.handed session.old writers.new }
+        → ReadsData R.state W.state E.state session.old session.new writers.old
+        writers.new history result }
+    ensures handed { HoldsNothingBack R.state W.state E.state W.handed E.handed
+        session.old writers.new }
     ensures left { IfErr result (λ _. left_of session.new ≡ left_of session.old) }
     ensures line { next_line writers.new ≡ next_line writers.old }
     ensures stopped { (stop : _) → HasStopped session.old stop
@@ -95,9 +102,11 @@ fn settle_before<R: InDevice, W: OutDevice, E: OutDevice>(
     ensures gives { MatchResult result
         (λ _. Writes W.state E.state writers.old writers.new (on_output []))
         (NotHandedOn R.state W.state E.state session.now session.now writers.old writers.new) }
-    ensures handed { HoldsNothingBack R.state W.state E.state W.handed E.handed session.now writers.new }
+    ensures handed { HoldsNothingBack R.state W.state E.state W.handed E.handed
+        session.now writers.new }
     ensures line { next_line writers.new ≡ next_line writers.old }
-    ensures stopped { (stop : _) → HasStopped session.now stop → (writers.new ≡ writers.old) × (IsOk result) }
+    ensures stopped { (stop : _) → HasStopped session.now stop
+        → (writers.new ≡ writers.old) × (IsOk result) }
 {
     if !session.may_wait() {
         return Ok(());

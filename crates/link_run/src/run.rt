@@ -64,15 +64,18 @@ pub trait Run<R: InDevice, W: OutDevice, E: OutDevice>: Sized {
     /// the same again and does no I/O.
     fn step(&mut self) -> Result<Progress, IoFault>
         ensures tool { tool self.new ≡ tool self.old }
-        ensures gives { (start : Devices R W E) (history : List ℕ) → stands self.old start history →
-            GivesStep R.state W.state E.state (tool self.old) start (place self.old) (place self.new) (stands self.new start) (most self.old) history result }
+        ensures gives { (start : Devices R W E) (history : List ℕ) → stands self.old start history
+            → GivesStep R.state W.state E.state (tool self.old) start (place self.old)
+            (place self.new) (stands self.new start) (most self.old) history result }
         ensures goes_on { most self.new ≡ 0 → IsEnd result }
         ensures ends { IsEnd result → has_ended self.new result }
-        ensures again { (answer : _) → has_ended self.old answer → (self.new ≡ self.old) × (result ≡ answer) };
+        ensures again { (answer : _) → has_ended self.old answer
+            → (self.new ≡ self.old) × (result ≡ answer) };
 
     /// The reader, the output and the report, as they stand.
     fn into_parts(self) -> (R, W, E)
-        ensures { record { reader = result.0; output = result.1; report = result.2 } ≡ devices_at (place self) };
+        ensures { record { reader = result.0; output = result.1; report = result.2 }
+            ≡ devices_at (place self) };
 
     /// Steps to the end.
     final fn run(self) -> RunEnd<R, W, E>
@@ -96,7 +99,11 @@ fn end<R: InDevice, W: OutDevice, E: OutDevice, T: Run<R, W, E>>(
     run: T,
     answer: Result<Status, IoFault>,
 ) -> RunEnd<R, W, E>
-    ensures devices { record { reader = result.reader; output = result.output; report = result.report } ≡ devices_at (T.place run) }
+    ensures devices { record {
+      reader = result.reader;
+      output = result.output;
+      report = result.report;
+    } ≡ devices_at (T.place run) }
     ensures answer { result.answer ≡ answer }
 {
     let (reader, output, report) = run.into_parts();

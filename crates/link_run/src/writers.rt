@@ -60,7 +60,8 @@ impl<W: OutDevice, E: OutDevice> Writers<W, E> {
 
     /// Writes the line to the output.
     pub fn write_line(&mut self) -> Result<(), IoFault>
-        ensures gives { GivesTexts W.state E.state self.old self.new (on_output (next_line self.old)) result }
+        ensures gives { GivesTexts W.state E.state self.old self.new
+            (on_output (next_line self.old)) result }
         ensures report { self.new.report ≡ self.old.report }
         ensures line { next_line self.new ≡ next_line self.old }
     {
@@ -70,7 +71,8 @@ impl<W: OutDevice, E: OutDevice> Writers<W, E> {
     /// Writes a text to the output, which is made where it is to stand.
     #[inline(always)]
     pub fn write_text<T: Text>(&mut self, text: &T) -> Result<(), IoFault>
-        ensures gives { GivesTexts W.state E.state self.old self.new (on_output (T.text text.now)) result }
+        ensures gives { GivesTexts W.state E.state self.old self.new
+            (on_output (T.text text.now)) result }
         ensures report { self.new.report ≡ self.old.report }
         ensures line { next_line self.new ≡ next_line self.old }
     {
@@ -88,7 +90,8 @@ impl<W: OutDevice, E: OutDevice> Writers<W, E> {
 
     /// Writes the line to the report.
     pub fn report_line(&mut self) -> Result<(), IoFault>
-        ensures gives { GivesTexts W.state E.state self.old self.new (on_report (next_line self.old)) result }
+        ensures gives { GivesTexts W.state E.state self.old self.new
+            (on_report (next_line self.old)) result }
         ensures output { self.new.output ≡ self.old.output }
         ensures line { next_line self.new ≡ next_line self.old }
     {
@@ -98,8 +101,10 @@ impl<W: OutDevice, E: OutDevice> Writers<W, E> {
     /// Hands on what the writers hold back of what was written.
     pub fn settle(&mut self) -> Result<(), IoFault>
         ensures gives { GivesHandedOn W.state E.state self.old self.new result }
-        ensures output { OnOk result (W.handed self.new.output ≡ (W.state self.new.output).written) }
-        ensures report { OnOk result (E.handed self.new.report ≡ (E.state self.new.report).written) }
+        ensures output { OnOk result (W.handed self.new.output
+            ≡ (W.state self.new.output).written) }
+        ensures report { OnOk result (E.handed self.new.report
+            ≡ (E.state self.new.report).written) }
         ensures line { next_line self.new ≡ next_line self.old }
     {
         if self.output.settle().is_err() {
@@ -114,7 +119,8 @@ impl<W: OutDevice, E: OutDevice> Writers<W, E> {
     /// Writes the line of a fault to the report, and returns the status with which the run ends.
     #[cold]
     pub fn report_fault(&mut self, fault: &Fault) -> Result<Status, IoFault>
-        ensures gives { GivesReport W.state E.state self.old self.new (fault_text fault.now) result }
+        ensures gives { GivesReport W.state E.state self.old self.new
+            (fault_text fault.now) result }
         ensures output { self.new.output ≡ self.old.output }
         ensures line { next_line self.new ≡ fault_text fault.now }
     {

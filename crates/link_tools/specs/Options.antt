@@ -23,7 +23,8 @@ AsksForMemory (Unpack wanted) = ⊥
 AsksForMemory (Pack options) = Unit {0}
 
 -- what a whole run gives: what its tool writes, or want of memory
-abbrev pub GivesRun : {R W E : Type 0} → (R → Input) → (W → Output) → (E → Output) → Options → (start now : Devices R W E) → Result Status IoFault → Type 0
+abbrev pub GivesRun : {R W E : Type 0} → (R → Input) → (W → Output) → (E → Output) → Options
+    → (start now : Devices R W E) → Result Status IoFault → Type 0
 GivesRun in_look out_look report_look options start now answer =
     GivesAnswer in_look out_look report_look (tool_of options) start now answer
     ⊎ (AsksForMemory options × LacksMemory start now answer)

@@ -32,7 +32,8 @@ pub fn run_tool<R: InDevice, W: OutDevice, E: OutDevice>(
     requires reader { (R.state reader).failed ≡ false }
     requires output { (W.state output).failed ≡ false }
     requires report { (E.state report).failed ≡ false }
-    ensures { GivesRun R.state W.state E.state options (record { reader = reader; output = output; report = report })
+    ensures { GivesRun R.state W.state E.state options
+        (record { reader = reader; output = output; report = report })
         (record { reader = result.reader; output = result.output; report = result.report }) result.answer }
 {
     match options {

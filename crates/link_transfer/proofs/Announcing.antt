@@ -24,7 +24,8 @@ by_all-push (one ∷ []) item = after-one (eqb one.length 8) one.total item
 by_all-push (one ∷ another ∷ more) item = refl
 
 with-test : (items : List Item) (item : Item) (test : Bool) → is_transfer_length item ≡ test
-    → announced_of (items ++ item ∷ []) ≡ cond test (announced_after (announced_of items) item) (announced_of items)
+    → announced_of (items ++ item ∷ [])
+    ≡ cond test (announced_after (announced_of items) item) (announced_of items)
 unfolding announced_of
 with-test items item true is =
     let kept : filter is_transfer_length (item ∷ []) ≡ item ∷ [] = rw is refl in
@@ -40,5 +41,6 @@ pub announced_of-push : (items : List Item) (item : Item)
 announced_of-push items item = with-test items item (is_transfer_length item) refl
 
 pub announced_of-more : (items : List Item) (at : ℕ) (item : Item) → at < length items
-    → announced_of (take (at + 1) items) ≡ announced_with (announced_of (take at items)) (get_or items at item)
+    → announced_of (take (at + 1) items)
+    ≡ announced_with (announced_of (take at items)) (get_or items at item)
 announced_of-more items at item below = ap announced_of (take_more items at item below) ∙ announced_of-push (take at items) (get_or items at item)

@@ -10,7 +10,8 @@ use Rattle.link_transfer.proofs.Due.{fits, fits_back}
 
 -- the first chunk, and then those of the other bytes
 first_chunks-suc : (segment count : ℕ) (bundle : List ℕ)
-    → first_chunks segment (suc count) bundle ≡ take segment bundle ∷ first_chunks segment count (drop segment bundle)
+    → first_chunks segment (suc count) bundle
+    ≡ take segment bundle ∷ first_chunks segment count (drop segment bundle)
 unfolding first_chunks
 first_chunks-suc segment zero bundle =
     let none : drop (0 * segment) bundle ≡ bundle = ap (λ n. drop n bundle) {y = 0} (omega arith) in

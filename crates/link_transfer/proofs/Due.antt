@@ -24,7 +24,8 @@ given_within segment hold count size some few =
 pub waits_as_due : (whole : Bool) (segment hold count size : ℕ) → 0 < segment
     → count ≤ due_of whole segment hold size
     → (whole ≡ true → count < due_of whole segment hold size)
-    → ltb count (due_of whole segment hold size) ≡ waits (ltb 0 count) whole segment hold (size - count * segment)
+    → ltb count (due_of whole segment hold size)
+    ≡ waits (ltb 0 count) whole segment hold (size - count * segment)
 waits_as_due true segment hold count size some few left = grind (arith, nat_tests, left refl)
 waits_as_due false segment hold count size some few left =
     grind (arith, nat_tests, fits segment count size some, fits segment (count + 1) size some, fits_back segment (count + 1) size some)

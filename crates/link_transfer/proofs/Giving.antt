@@ -19,7 +19,8 @@ use Rattle.link_transfer.proofs.Steps.{waits-at, next_cut-is, size_of}
 -- the same in numbers
 last_is : (whole : Bool) (segment hold count size : ℕ) → 0 < segment
     → (whole ≡ true → count < due_of whole segment hold size)
-    → is_last_of whole segment (size - count * segment) ≡ (whole && eqb (count + 1) (chunk_count segment size))
+    → is_last_of whole segment (size - count * segment)
+    ≡ (whole && eqb (count + 1) (chunk_count segment size))
 last_is true segment hold count size some left = last_of segment count size some (left refl)
 last_is false segment hold count size some left = refl
 
@@ -35,7 +36,8 @@ first_is : (count : ℕ) → not (ltb 0 count) ≡ eqb count 0
 first_is count = grind (arith, nat_tests)
 
 same_cut : (f g l m : Bool) (a b : Option ℕ) → f ≡ g → l ≡ m → a ≡ b
-    → ◌≡◌ {A = Cut} (record { first = f; last = l; announce = a }) (record { first = g; last = m; announce = b })
+    → ◌≡◌ {A = Cut} (record { first = f; last = l; announce = a })
+    (record { first = g; last = m; announce = b })
 same_cut f g l m a b first last announce = cc
 
 pub last-at : (cutter : Cutter) (so_far : Cutting) → IsCutterAt cutter so_far
@@ -46,7 +48,8 @@ last-at cutter so_far at =
     (last_is so_far.whole so_far.segment so_far.hold (length so_far.given) (length so_far.bundle) at.some at.left)
 
 announced-at : (cutter : Cutter) (so_far : Cutting) → IsCutterAt cutter so_far
-    → announced_by cutter.begun cutter.ended cutter.segment cutter.hold (length cutter.held.bytes) ≡ cond (is_first so_far) (announcement so_far) None
+    → announced_by cutter.begun cutter.ended cutter.segment cutter.hold (length cutter.held.bytes)
+    ≡ cond (is_first so_far) (announcement so_far) None
 unfolding announcement
 announced-at cutter so_far at =
     rw (at.begun, at.ended, at.segment, at.hold, size_of cutter so_far at)
@@ -58,13 +61,18 @@ waiting_test : (cutter : Cutter) (so_far : Cutting) (waiting : Bool) → IsCutte
 waiting_test cutter so_far waiting at is = sym (next_cut-is so_far) ∙ sym (waits-at cutter so_far at) ∙ is
 
 next_cut-some : (so_far : Cutting) → ltb (length so_far.given) (due so_far) ≡ true
-    → next_cut so_far ≡ Some (record { first = is_first so_far; last = is_last so_far; announce = cond (is_first so_far) (announcement so_far) None })
+    → next_cut so_far ≡ Some (record {
+      first = is_first so_far;
+      last = is_last so_far;
+      announce = cond (is_first so_far) (announcement so_far) None;
+    })
 unfolding next_cut
 next_cut-some so_far test = rw test refl
 
 pub next_cut-at : (cutter : Cutter) (so_far : Cutting) → IsCutterAt cutter so_far
     → cut_waits cutter ≡ true
-    → Some (cut_of cutter.begun cutter.ended cutter.segment cutter.hold (length cutter.held.bytes)) ≡ next_cut so_far
+    → Some (cut_of cutter.begun cutter.ended cutter.segment cutter.hold (length cutter.held.bytes))
+    ≡ next_cut so_far
 next_cut-at cutter so_far at waiting =
     ap (λ (cut : Cut). Some cut)
     (same_cut _ _ _ _ _ _ (ap not at.begun ∙ first_is (length so_far.given)) (last-at cutter so_far at) (announced-at cutter so_far at))
@@ -157,7 +165,8 @@ not_last so_far is whole = rw whole at is
 -- and a whole bundle has a further one after any other
 next_left : (so_far : Cutting) → is_last so_far ≡ false → so_far.whole ≡ true
     → length so_far.given < chunk_count so_far.segment (length so_far.bundle)
-    → length (so_far.given ++ next_chunk so_far ∷ []) < due_of so_far.whole so_far.segment so_far.hold (length so_far.bundle)
+    → length (so_far.given ++ next_chunk so_far ∷ [])
+    < due_of so_far.whole so_far.segment so_far.hold (length so_far.bundle)
 next_left so_far is whole below =
     let apart = not_last so_far is whole in
     let count = length_push so_far.given (next_chunk so_far) in
@@ -166,7 +175,8 @@ next_left so_far is whole below =
 with_next : (old new : Cutter) (so_far : Cutting) (last : Bool) → is_last so_far ≡ last
     → Gives old new last → IsCutterAt old so_far
     → length so_far.given < due so_far
-    → IsCutterAt new (cond last (record (beginning so_far.segment so_far.hold) { chunk = Some (next_chunk so_far) })
+    → IsCutterAt new (cond last
+    (record (beginning so_far.segment so_far.hold) { chunk = Some (next_chunk so_far) })
     (record so_far { given = so_far.given ++ next_chunk so_far ∷ []; chunk = Some (next_chunk so_far) }))
 unfolding due
 with_next old new so_far true is gives at few =

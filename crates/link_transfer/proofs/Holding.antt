@@ -8,7 +8,8 @@ use Rattle.link_transfer.specs.Held.{HeldBytes}
 
 -- a record of the same parts
 pub same_held : (r s : ℕ) (g h a b : List ℕ) → r ≡ s → g ≡ h → a ≡ b
-    → ◌≡◌ {A = HeldBytes} (record { room = r; given = g; bytes = a }) (record { room = s; given = h; bytes = b })
+    → ◌≡◌ {A = HeldBytes} (record { room = r; given = g; bytes = a })
+    (record { room = s; given = h; bytes = b })
 same_held r s g h a b same_room same_given same_bytes = cc
 
 pub length_range : (buffer : List ℕ) (start end : ℕ) → start ≤ end → end ≤ length buffer

@@ -13,7 +13,8 @@ use Rattle.link_transfer.specs.declared.event.Event.TheVariants.{SessInit, SessT
 use Rattle.link_transfer.specs.declared.joiner.Joiner.{Joiner}
 
 any-push : (test : Event → Bool) (before : List Message) (message : Message)
-    → list_any test (events_of (before ++ message ∷ [])) ≡ (list_any test (events_of before) || test (event_of message))
+    → list_any test (events_of (before ++ message ∷ []))
+    ≡ (list_any test (events_of before) || test (event_of message))
 any-push test before message =
     ap (list_any test) (map_push event_of before message)
     ∙ list_any-append test (events_of before) (event_of message ∷ [])
@@ -32,17 +33,22 @@ last-push before message =
     ∙ ap (find is_segment) (reverse-append (events_of before) (event_of message ∷ []))
 
 has_sess_init-push : (before : List Message) (message : Message)
-    → has_sess_init (before ++ message ∷ []) ≡ (has_sess_init before || is_sess_init (event_of message))
+    → has_sess_init (before ++ message ∷ [])
+    ≡ (has_sess_init before || is_sess_init (event_of message))
 unfolding has_sess_init
 has_sess_init-push before message = any-push is_sess_init before message
 
 has_sess_term-push : (before : List Message) (message : Message)
-    → has_sess_term (before ++ message ∷ []) ≡ (has_sess_term before || is_sess_term (event_of message))
+    → has_sess_term (before ++ message ∷ [])
+    ≡ (has_sess_term before || is_sess_term (event_of message))
 unfolding has_sess_term
 has_sess_term-push before message = any-push is_sess_term before message
 
 open_of-push : (before : List Message) (message : Message)
-    → open_of (before ++ message ∷ []) ≡ option_and_then open_after (cond (is_segment (event_of message)) (Some (event_of message)) (find is_segment (reverse (events_of before))))
+    → open_of (before ++ message ∷ [])
+    ≡ option_and_then open_after
+    (cond (is_segment (event_of message)) (Some (event_of message))
+    (find is_segment (reverse (events_of before))))
 unfolding open_of
 open_of-push before message = ap (option_and_then open_after) (last-push before message)
 
@@ -52,7 +58,8 @@ pub after-segment : (before : List Message) (message : Message) (flags id : ℕ)
     → open_of (before ++ message ∷ []) ≡ open_after (Segment flags id)
 after-segment before message flags id is = rw (open_of-push before message, is) refl
 
-pub after-other : (before : List Message) (message : Message) → is_segment (event_of message) ≡ false
+pub after-other : (before : List Message) (message : Message)
+    → is_segment (event_of message) ≡ false
     → open_of (before ++ message ∷ []) ≡ open_of before
 unfolding open_of
 after-other before message is = rw (open_of-push before message, is) refl
@@ -66,7 +73,8 @@ left_alone : (flag before test : Bool) → flag ≡ (before || test) → test �
 left_alone flag true test same is = sym same
 left_alone flag false test same is = sym (same ∙ is)
 
-pub IsJoinerAt-none : IsJoinerAt (record { initiated = false; terminated = false; transfer = None }) []
+pub IsJoinerAt-none : IsJoinerAt (record { initiated = false; terminated = false; transfer = None })
+    []
 unfolding has_sess_init has_sess_term open_of
 IsJoinerAt-none = record { initiated = refl; terminated = refl; transfer = refl }
 
@@ -96,6 +104,7 @@ IsJoinerAt-then joiner before message Other is at = record {
 
 -- what is refused and what is done, from what a joiner knows
 pub judged-at : (joiner : Joiner) (before : List Message) (event : Event) → IsJoinerAt joiner before
-    → judged_by (refusal_by joiner.initiated joiner.terminated joiner.transfer event) (turn_by joiner.transfer event) ≡ judged before event
+    → judged_by (refusal_by joiner.initiated joiner.terminated joiner.transfer event)
+    (turn_by joiner.transfer event) ≡ judged before event
 unfolding judged refusal turn_of
 judged-at joiner before event at = rw (at.initiated, at.terminated, at.transfer) refl

@@ -23,7 +23,8 @@ pub record Quiet (so_far : Cutting) : Type 0 where
   pub some : 0 < so_far.segment
   pub going : so_far.whole ≡ false
   pub few : length so_far.given ≤ due_of false so_far.segment so_far.hold (length so_far.bundle)
-  pub none : ltb (length so_far.given) (due_of false so_far.segment so_far.hold (length so_far.bundle)) ≡ false
+  pub none : ltb (length so_far.given)
+      (due_of false so_far.segment so_far.hold (length so_far.bundle)) ≡ false
 
 -- how many bytes are held, and how many are wanted
 abbrev held : Cutting → ℕ
@@ -51,13 +52,16 @@ held_after byte flag so_far quiet =
     omega arith
 
 few_after : (byte : ℕ) (flag : Bool) (so_far : Cutting) → Quiet so_far
-    → length so_far.given ≤ due_of false so_far.segment so_far.hold (length (after_byte byte flag so_far).bundle)
+    → length so_far.given
+    ≤ due_of false so_far.segment so_far.hold (length (after_byte byte flag so_far).bundle)
 few_after byte flag so_far quiet =
     rw length_push (due_more false so_far.segment so_far.hold (length so_far.given) (length so_far.bundle) 1 quiet.some (omega arith) quiet.few)
 
 -- whether a cut waits then
 due_after : (byte : ℕ) (flag : Bool) (so_far : Cutting) → Quiet so_far
-    → ltb (length so_far.given) (due_of false so_far.segment so_far.hold (length (after_byte byte flag so_far).bundle)) ≡ leb (wanted so_far) 1
+    → ltb (length so_far.given)
+    (due_of false so_far.segment so_far.hold (length (after_byte byte flag so_far).bundle))
+    ≡ leb (wanted so_far) 1
 due_after byte flag so_far quiet =
     waits_as_due false so_far.segment so_far.hold (length so_far.given) (length (after_byte byte flag so_far).bundle) quiet.some
     (few_after byte flag so_far quiet) (λ is. absurd (false≢true is))
@@ -99,7 +103,8 @@ each_stop byte bytes last so_far stops = rw stops refl
 
 each_go : (byte : ℕ) (bytes : List ℕ) (last : Bool) (so_far : Cutting)
     → is_some (next_cut (after_byte byte (last && is_empty bytes) so_far)) ≡ false
-    → with_each (byte ∷ bytes) last so_far ≡ with_each bytes last (after_byte byte (last && is_empty bytes) so_far)
+    → with_each (byte ∷ bytes) last so_far
+    ≡ with_each bytes last (after_byte byte (last && is_empty bytes) so_far)
 unfolding with_each
 each_go byte bytes last so_far goes = rw goes refl
 
@@ -121,7 +126,8 @@ eqb-suc a b = grind (arith, nat_tests)
 
 -- bytes that follow a byte
 with_bytes-cons : (byte next : ℕ) (bytes : List ℕ) (flag last : Bool) (so_far : Cutting)
-    → with_bytes (next ∷ bytes) last (after_byte byte flag so_far) ≡ with_bytes (byte ∷ next ∷ bytes) last so_far
+    → with_bytes (next ∷ bytes) last (after_byte byte flag so_far)
+    ≡ with_bytes (byte ∷ next ∷ bytes) last so_far
 with_bytes-cons byte next bytes flag last so_far =
     ap (λ (bundle : List ℕ). record so_far { bundle = bundle; whole = last; chunk = None }) (append_assoc so_far.bundle (byte ∷ []) (next ∷ bytes))
 
@@ -129,7 +135,8 @@ with_bytes-cons byte next bytes flag last so_far =
 pub with_each-is : (byte : ℕ) (bytes : List ℕ) (last : Bool) (so_far : Cutting) (count : ℕ)
     → Quiet so_far
     → count ≡ min (wanted so_far) (length (byte ∷ bytes))
-    → with_bytes (take count (byte ∷ bytes)) (last && eqb count (length (byte ∷ bytes))) so_far ≡ with_each (byte ∷ bytes) last so_far
+    → with_bytes (take count (byte ∷ bytes)) (last && eqb count (length (byte ∷ bytes))) so_far
+    ≡ with_each (byte ∷ bytes) last so_far
 with_each-is byte [] last so_far count quiet is =
     let some = wanted_first so_far quiet in
     let one : count ≡ 1 = omega arith in
@@ -151,7 +158,8 @@ with_each-is byte (next ∷ bytes) last so_far (suc (suc count)) quiet is =
 pub with_each-slice : (bytes : List ℕ) (last : Bool) (so_far : Cutting) (count : ℕ)
     → 0 < length bytes → Quiet so_far
     → count ≡ min (wanted so_far) (length bytes)
-    → with_bytes (take count bytes) (last && eqb count (length bytes)) so_far ≡ with_each bytes last so_far
+    → with_bytes (take count bytes) (last && eqb count (length bytes)) so_far
+    ≡ with_each bytes last so_far
 with_each-slice [] last so_far count some quiet is = absurd (omega arith)
 with_each-slice (byte ∷ bytes) last so_far count some quiet is = with_each-is byte bytes last so_far count quiet is
 

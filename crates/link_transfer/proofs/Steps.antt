@@ -92,7 +92,8 @@ pub record Pushes (old new : Cutter) (pushed : List ℕ) (last : Bool) : Type 0 
   pub begun : new.begun ≡ old.begun
   pub ended : new.ended ≡ last
 
-pub IsCutterAt-push : (old new : Cutter) (so_far : Cutting) (byte : ℕ) (bytes : List ℕ) (last : Bool)
+pub IsCutterAt-push : (old new : Cutter) (so_far : Cutting) (byte : ℕ)
+    (bytes : List ℕ) (last : Bool)
     → AreBytes (byte ∷ bytes)
     → cut_waits old ≡ false → Pushes old new (byte ∷ bytes) last → IsCutterAt old so_far
     → IsCutterAt new (with_bytes (byte ∷ bytes) last so_far)

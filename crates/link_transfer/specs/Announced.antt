@@ -33,4 +33,5 @@ announced_after (Total total) item = Malformed
 announced_after Malformed item = Malformed
 
 abbrev pub announced_with : Announced → Item → Announced
-announced_with announced item = if is_transfer_length item then announced_after announced item else announced
+announced_with announced item =
+    if is_transfer_length item then announced_after announced item else announced

@@ -11,7 +11,8 @@ chunk_at segment k bundle = take segment (drop (k * segment) bundle)
 -- the first chunks of a bundle
 unfoldable pub first_chunks : (segment count : ℕ) → List ℕ → List (List ℕ)
 first_chunks segment zero bundle = []
-first_chunks segment (suc count) bundle = first_chunks segment count bundle ++ chunk_at segment count bundle ∷ []
+first_chunks segment (suc count) bundle =
+    first_chunks segment count bundle ++ chunk_at segment count bundle ∷ []
 
 -- how many chunks `size` bytes have: one for each segment, and one for what is left
 abbrev pub chunk_count : (segment size : ℕ) → ℕ
@@ -25,7 +26,8 @@ chunks segment bundle = first_chunks segment (chunk_count segment (length bundle
 abbrev pub AreSegments : (segment : ℕ) → List (List ℕ) → Type 0
 AreSegments segment [] = Unit {0}
 AreSegments segment (chunk ∷ []) = (0 < length chunk) × (length chunk ≤ segment)
-AreSegments segment (chunk ∷ next ∷ more) = (length chunk ≡ segment) × AreSegments segment (next ∷ more)
+AreSegments segment (chunk ∷ next ∷ more) =
+    (length chunk ≡ segment) × AreSegments segment (next ∷ more)
 
 -- The chunks in their own words: joined they are the bundle, and they have these sizes.
 pub record AreChunks (segment : ℕ) (bundle : List ℕ) (list : List (List ℕ)) : Type 0 where

@@ -8,7 +8,8 @@ use Rattle.link_transfer.specs.declared.cutter.Cutter.{Cutter}
 
 -- a cut waits
 abbrev pub cut_waits : Cutter → Bool
-cut_waits cutter = waits cutter.begun cutter.ended cutter.segment cutter.hold (length cutter.held.bytes)
+cut_waits cutter =
+    waits cutter.begun cutter.ended cutter.segment cutter.hold (length cutter.held.bytes)
 
 -- after how many further bytes of a bundle that goes on a cut waits
 abbrev pub wanted_by : Cutter → ℕ

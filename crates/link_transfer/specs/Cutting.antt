@@ -17,12 +17,14 @@ pub record Cutting : Type 0 where
 
 -- nothing was pushed yet
 abbrev pub beginning : (segment hold : ℕ) → Cutting
-beginning segment hold = record { segment = segment; hold = hold; bundle = []; whole = false; given = []; chunk = None }
+beginning segment hold =
+    record { segment = segment; hold = hold; bundle = []; whole = false; given = []; chunk = None }
 
 -- These bytes were pushed. `last` says that they end with the bundle's last byte.
 abbrev pub with_bytes : List ℕ → (last : Bool) → Cutting → Cutting
 with_bytes [] last so_far = so_far
-with_bytes (byte ∷ bytes) last so_far = record so_far { bundle = so_far.bundle ++ byte ∷ bytes; whole = last; chunk = None }
+with_bytes (byte ∷ bytes) last so_far =
+    record so_far { bundle = so_far.bundle ++ byte ∷ bytes; whole = last; chunk = None }
 
 -- How many chunks may be given, where `size` bytes of a bundle have come: all of a whole bundle. Of one that goes on none, as
 -- long as its length may yet be announced; then each that is full.
@@ -38,7 +40,8 @@ due so_far = due_of so_far.whole so_far.segment so_far.hold (length so_far.bundl
 -- The length that is announced (RFC 9174 section 5.2.5.1): that of a whole bundle of more than one segment that was held.
 unfoldable pub announcement : Cutting → Option ℕ
 announcement so_far =
-    if so_far.whole && (nat_lt so_far.segment (length so_far.bundle) && nat_le (length so_far.bundle) so_far.hold)
+    if so_far.whole && (nat_lt so_far.segment (length so_far.bundle)
+    && nat_le (length so_far.bundle) so_far.hold)
     then Some (length so_far.bundle)
     else None
 
@@ -48,7 +51,8 @@ next_chunk so_far = chunk_at so_far.segment (length so_far.given) so_far.bundle
 
 -- it is the last
 abbrev pub is_last : Cutting → Bool
-is_last so_far = so_far.whole && (length so_far.given + 1 == chunk_count so_far.segment (length so_far.bundle))
+is_last so_far =
+    so_far.whole && (length so_far.given + 1 == chunk_count so_far.segment (length so_far.bundle))
 
 abbrev pub is_first : Cutting → Bool
 is_first so_far = length so_far.given == 0
@@ -57,7 +61,11 @@ is_first so_far = length so_far.given == 0
 unfoldable pub next_cut : Cutting → Option Cut
 next_cut so_far =
     if nat_lt (length so_far.given) (due so_far)
-    then Some (record { first = is_first so_far; last = is_last so_far; announce = if is_first so_far then announcement so_far else None })
+    then Some (record {
+      first = is_first so_far;
+      last = is_last so_far;
+      announce = if is_first so_far then announcement so_far else None;
+    })
     else None
 
 -- The chunk was given. After the last one another bundle begins.
@@ -65,11 +73,15 @@ abbrev pub with_chunk : Cutting → Cutting
 with_chunk so_far =
     if is_last so_far
     then record (beginning so_far.segment so_far.hold) { chunk = Some (next_chunk so_far) }
-    else record so_far { given = so_far.given ++ next_chunk so_far ∷ []; chunk = Some (next_chunk so_far) }
+    else record so_far {
+      given = so_far.given ++ next_chunk so_far ∷ [];
+      chunk = Some (next_chunk so_far);
+    }
 
 -- a cut was asked for
 unfoldable pub after_cut : Cutting → Cutting
-after_cut so_far = if is_some (next_cut so_far) then with_chunk so_far else record so_far { chunk = None }
+after_cut so_far =
+    if is_some (next_cut so_far) then with_chunk so_far else record so_far { chunk = None }
 
 -- the bytes of the bundle that no cut has given
 abbrev pub left_of : Cutting → List ℕ

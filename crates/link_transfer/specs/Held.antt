@@ -28,4 +28,8 @@ announced_by begun ended segment hold size =
 -- the next cut, where one waits
 abbrev pub cut_of : (begun ended : Bool) (segment hold size : ℕ) → Cut
 cut_of begun ended segment hold size =
-    record { first = not begun; last = is_last_of ended segment size; announce = announced_by begun ended segment hold size }
+    record {
+      first = not begun;
+      last = is_last_of ended segment size;
+      announce = announced_by begun ended segment hold size;
+    }

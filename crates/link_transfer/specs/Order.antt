@@ -92,14 +92,16 @@ refusal_by initiated terminated transfer event =
 
 -- why a message may not follow those before it
 unfoldable pub refusal : List Message → Event → Option OrderFault
-refusal before event = refusal_by (has_sess_init before) (has_sess_term before) (open_of before) event
+refusal before event =
+    refusal_by (has_sess_init before) (has_sess_term before) (open_of before) event
 
 -- What an accepted message does to the transfers, of which this one is open: a segment with START begins a transfer, and
 -- abandons the open one; without START it goes on with the open one.
 abbrev pub turn_by : Option ℕ → Event → Turn
 turn_by transfer SessInit = turn.Other
 turn_by transfer SessTerm = turn.Other
-turn_by transfer (Segment flags id) = if is_start flags then turn.Begin transfer (is_end flags) else turn.Continue (is_end flags)
+turn_by transfer (Segment flags id) =
+    if is_start flags then turn.Begin transfer (is_end flags) else turn.Continue (is_end flags)
 turn_by transfer Other = turn.Other
 
 unfoldable pub turn_of : List Message → Event → Turn

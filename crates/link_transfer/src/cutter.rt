@@ -71,9 +71,10 @@ impl Cutter {
     #[inline]
     pub fn waiting(&self) -> bool
         ensures waits { result ≡ cut_waits self.now }
-        ensures cut { (so_far : Cutting) → IsCutterAt self.now so_far → result ≡ is_some (next_cut so_far) }
-        ensures given { (so_far : Cutting) → IsCutterAt self.now so_far →
-            OnFalse result (length so_far.given ≡ due so_far) }
+        ensures cut { (so_far : Cutting) → IsCutterAt self.now so_far
+            → result ≡ is_some (next_cut so_far) }
+        ensures given { (so_far : Cutting) → IsCutterAt self.now so_far
+            → OnFalse result (length so_far.given ≡ due so_far) }
     {
         self.waits()
     }
@@ -104,8 +105,8 @@ impl Cutter {
     #[inline]
     pub fn push(&mut self, byte: u8, last: bool)
         requires { cut_waits self.old ≡ false }
-        ensures { (so_far : Cutting) → IsCutterAt self.old so_far →
-            IsCutterAt self.new (with_bytes (byte ∷ []) last so_far) }
+        ensures { (so_far : Cutting) → IsCutterAt self.old so_far
+            → IsCutterAt self.new (with_bytes (byte ∷ []) last so_far) }
     {
         self.held.push(byte);
         self.ended = last;
@@ -120,11 +121,11 @@ impl Cutter {
         ensures within { result ≤ length bytes.now }
         ensures some { 0 < length bytes.now → 0 < result }
         ensures whole { length bytes.now ≤ wanted_by self.old → result ≡ length bytes.now }
-        ensures pushed { (so_far : Cutting) → IsCutterAt self.old so_far →
-            IsCutterAt self.new
+        ensures pushed { (so_far : Cutting) → IsCutterAt self.old so_far
+            → IsCutterAt self.new
             (with_bytes (take result bytes.now) (last && result == length bytes.now) so_far) }
-        ensures each { (so_far : Cutting) → IsCutterAt self.old so_far →
-            with_bytes (take result bytes.now) (last && result == length bytes.now) so_far
+        ensures each { (so_far : Cutting) → IsCutterAt self.old so_far
+            → with_bytes (take result bytes.now) (last && result == length bytes.now) so_far
             ≡ with_each bytes.now last so_far }
     {
         if bytes.is_empty() {
@@ -156,12 +157,14 @@ impl Cutter {
     /// begins another bundle.
     pub fn cut(&mut self) -> Option<Cut>
         ensures cut { (so_far : Cutting) → IsCutterAt self.old so_far → result ≡ next_cut so_far }
-        ensures after { (so_far : Cutting) → IsCutterAt self.old so_far → IsCutterAt self.new (after_cut so_far) }
+        ensures after { (so_far : Cutting) → IsCutterAt self.old so_far
+            → IsCutterAt self.new (after_cut so_far) }
         ensures waits { is_some result ≡ cut_waits self.old }
         ensures quiet { IfNone result (cut_waits self.new ≡ false) }
         ensures shrinks { OnSome result (held_size self.new < held_size self.old) }
         // With the last chunk all are given.
-        ensures all { (so_far : Cutting) → IsCutterAt self.old so_far → IfSome result (λ cut. OnTrue cut.last
+        ensures all { (so_far : Cutting) → IsCutterAt self.old so_far
+            → IfSome result (λ cut. OnTrue cut.last
             (so_far.given ++ next_chunk so_far ∷ [] ≡ chunks so_far.segment so_far.bundle)) }
     {
         if !self.waits() {

@@ -42,7 +42,8 @@ impl Event {
 
     /// The same of a message of these numbers.
     pub fn of_fields(fields: Fields) -> Event
-        ensures { (node : ArrayVec ℕ) (items : ArrayVec Item) → result ≡ event_of (message_with fields node items) }
+        ensures { (node : ArrayVec ℕ) (items : ArrayVec Item)
+            → result ≡ event_of (message_with fields node items) }
     {
         match fields {
             Fields::SessInit { .. } => Event::SessInit,

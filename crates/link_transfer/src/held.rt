@@ -43,7 +43,8 @@ fn with_room(buffer: &mut Vec<u8>, start: usize, end: usize, count: usize) -> (u
     requires order { start ≤ end }
     requires within { end ≤ length buffer.old.items }
     requires room { (end - start) + count ≤ length buffer.old.items }
-    ensures bytes { slice_range buffer.new.items result.0 result.1 ≡ slice_range buffer.old.items start end }
+    ensures bytes { slice_range buffer.new.items result.0 result.1
+        ≡ slice_range buffer.old.items start end }
     ensures order { result.0 ≤ result.1 }
     ensures room { result.1 + count ≤ length buffer.new.items }
     ensures size { length buffer.new.items ≡ length buffer.old.items }

@@ -65,7 +65,8 @@ impl Joiner {
 
     /// Why the event may not come now: the first reason that holds.
     fn refusal(&self, event: Event) -> Option<OrderFault>
-        ensures { result ≡ refusal_by self.now.initiated self.now.terminated self.now.transfer event }
+        ensures { result ≡ refusal_by self.now.initiated self.now.terminated
+            self.now.transfer event }
     {
         match event {
             Event::SessInit if self.initiated => Some(OrderFault::SecondSessInit),
@@ -135,10 +136,10 @@ impl Joiner {
     /// Accepts the message, and returns what it does to the transfers; or refuses it for the first reason that holds,
     /// and is unchanged.
     pub fn message(&mut self, message: &Message) -> Result<Turn, OrderFault>
-        ensures judged { (before : List Message) → IsJoinerAt self.old before →
-            result ≡ judged before (event_of message.now) }
-        ensures accepted { (before : List Message) → IsJoinerAt self.old before →
-            OnOk result (IsJoinerAt self.new (before ++ message.now ∷ [])) }
+        ensures judged { (before : List Message) → IsJoinerAt self.old before
+            → result ≡ judged before (event_of message.now) }
+        ensures accepted { (before : List Message) → IsJoinerAt self.old before
+            → OnOk result (IsJoinerAt self.new (before ++ message.now ∷ [])) }
         ensures refused { OnErr result (self.new ≡ self.old) }
     {
         self.event(Event::of(message))
@@ -146,10 +147,11 @@ impl Joiner {
 
     /// As `message`, of any message in which the order depends on this event.
     pub fn event(&mut self, event: Event) -> Result<Turn, OrderFault>
-        ensures judged { (before : List Message) → IsJoinerAt self.old before →
-            result ≡ judged before event }
-        ensures accepted { (before : List Message) (message : Message) → event_of message ≡ event →
-            IsJoinerAt self.old before → OnOk result (IsJoinerAt self.new (before ++ message ∷ [])) }
+        ensures judged { (before : List Message) → IsJoinerAt self.old before
+            → result ≡ judged before event }
+        ensures accepted { (before : List Message) (message : Message) → event_of message ≡ event
+            → IsJoinerAt self.old before
+            → OnOk result (IsJoinerAt self.new (before ++ message ∷ [])) }
         ensures refused { OnErr result (self.new ≡ self.old) }
     {
         if let Some(fault) = self.refusal(event) {

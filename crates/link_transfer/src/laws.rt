@@ -6,6 +6,6 @@ ghost use Rattle.link_transfer.specs.Chunks.{chunks, AreChunks};
 /// A bundle has one list of chunks: joined they are the bundle, and each has the size of a segment, but for the last,
 /// which has at least one byte and at most that many.
 pub fn one_cutting()
-    ensures { (segment : ℕ) (bundle : List ℕ) (list : List (List ℕ)) → 0 < segment →
-        AreChunks segment bundle list ↔ (list ≡ chunks segment bundle) }
+    ensures { (segment : ℕ) (bundle : List ℕ) (list : List (List ℕ)) → 0 < segment
+        → AreChunks segment bundle list ↔ (list ≡ chunks segment bundle) }
 {}

@@ -38,7 +38,8 @@ use Rattle.link_unpack.proofs.Steps.{fault_reported, read_lost}
 use Rattle.link_unpack.proofs.Texts.{unlined, parts_more, texts_open, texts_closed, sofar_in_order, settled_open}
 
 -- where a run stands inside the data of a segment
-pub record Inside (now : Stage) (is_open : Bool) (latest : TransferScan) (transfers : List Transfer) (end : End) (last : Bool) : Type 0 where
+pub record Inside (now : Stage) (is_open : Bool) (latest : TransferScan) (transfers : List Transfer)
+    (end : End) (last : Bool) : Type 0 where
   pub offset : ℕ
   pub sent : Message
   pub content : List ℕ
@@ -53,7 +54,9 @@ last_of stage.Message other = other
 last_of (stage.Data last) other = last
 last_of (stage.Ended answer) other = other
 
-pub inside : (last is_open : Bool) (latest : TransferScan) (transfers : List Transfer) (end : End) → IsWaiting (stage.Data last) is_open latest transfers end → Inside (stage.Data last) is_open latest transfers end last
+pub inside : (last is_open : Bool) (latest : TransferScan) (transfers : List Transfer) (end : End)
+    → IsWaiting (stage.Data last) is_open latest transfers end
+    → Inside (stage.Data last) is_open latest transfers end last
 inside last is_open latest transfers Clean waits = let never = waits.0 in absurd (cc)
 inside last is_open latest transfers (Cut offset sent content) waits =
     let same : waits.0 ≡ last = ap (λ (s : Stage). last_of s waits.0) (sym waits.1) in
@@ -69,27 +72,34 @@ inside last is_open latest transfers (Cut offset sent content) waits =
 inside last is_open latest transfers (Fault offset fault) waits = absurd waits
 
 -- how the reading ends after data
-after_data_by : (test : Bool) (offset : ℕ) (sent : Message) (content : List ℕ) (last : Bool) (left : ℕ) → nat_lt 0 left ≡ test → IsInSegment last sent
-    → IsAfter last left (if test then ended (Cut offset sent content) else with_entry (entry offset sent content) (ended Clean)).end
+after_data_by : (test : Bool) (offset : ℕ) (sent : Message) (content : List ℕ) (last : Bool)
+    (left : ℕ) → nat_lt 0 left ≡ test → IsInSegment last sent
+    → IsAfter last left (if test then ended (Cut offset sent content)
+    else with_entry (entry offset sent content) (ended Clean)).end
 after_data_by true offset sent content last left test in_segment = (ltb-true 0 left test, in_segment)
 after_data_by false offset sent content last left test in_segment = let none : left ≤ 0 = ltb-false 0 left test in omega arith
 
 -- how much data a segment has
-size_left : (offset left : ℕ) (end : End) (from : ℕ) (sent : Message) (content : List ℕ) → end ≡ Cut from sent content → IsLeft offset left end → data_length sent ≡ length content + left
+size_left : (offset left : ℕ) (end : End) (from : ℕ) (sent : Message) (content : List ℕ)
+    → end ≡ Cut from sent content → IsLeft offset left end
+    → data_length sent ≡ length content + left
 size_left offset left end from sent content cut is =
     let P : End → Type 0 = λ e. IsLeft offset left e in
     let parts : (0 < left) × (from ≡ offset) × (data_length sent ≡ length content + left) = subst P cut is in
     parts.2
 
-module _ {R W E : Type 0} (in_look : R → Input) (out_look : W → Output) (report_look : E → Output) (start : Devices R W E) where
-  module _ (last : Bool) (old : Session R) (before : Writers W E) (u : Unpacker) (history : List ℕ) (at : Unpacks in_look out_look report_look start (stage.Data last) old before u history) where
+module _ {R W E : Type 0} (in_look : R → Input) (out_look : W → Output) (report_look : E → Output)
+    (start : Devices R W E) where
+  module _ (last : Bool) (old : Session R) (before : Writers W E) (u : Unpacker) (history : List ℕ)
+      (at : Unpacks in_look out_look report_look start (stage.Data last) old before u history) where
     abbrev pub heads : List Entry
     heads = heads_of (reading_of history)
 
     abbrev pub transfers : List Transfer
     transfers = transfers_of heads
 
-    pub here : Inside (stage.Data last) (is_some (open_of (messages_of heads))) u.latest transfers (reading_of history).end last
+    pub here : Inside (stage.Data last) (is_some (open_of (messages_of heads))) u.latest transfers
+        (reading_of history).end last
     here = inside last _ u.latest transfers _ at.waits
 
     pub some_left : 0 < left_of old
@@ -98,7 +108,8 @@ module _ {R W E : Type 0} (in_look : R → Input) (out_look : W → Output) (rep
         let parts : (0 < old.left) × (here.offset ≡ old.offset) × (data_length here.sent ≡ length here.content + old.left) = subst P here.cut at.session.left in
         parts.0
 
-    heads_are : heads ≡ (reading_of history).entries ++ entry here.offset here.sent here.content ∷ []
+    heads_are : heads ≡ (reading_of history).entries
+        ++ entry here.offset here.sent here.content ∷ []
     heads_are = heads_cut (reading_of history) here.offset here.sent here.content here.cut
 
     abbrev pub transfer : Transfer
@@ -110,7 +121,9 @@ module _ {R W E : Type 0} (in_look : R → Input) (out_look : W → Output) (rep
     abbrev pub head : SegmentHead
     head = here.in_segment.head
 
-    module _ (mid new : Session R) (bytes : List ℕ) (n : ℕ) (ready : LoadedData in_look old mid history n) (gave : PassedBytes in_look mid new history bytes) (some : 0 < length bytes) where
+    module _ (mid new : Session R) (bytes : List ℕ) (n : ℕ)
+        (ready : LoadedData in_look old mid history n)
+        (gave : PassedBytes in_look mid new history bytes) (some : 0 < length bytes) where
       takes : Takes in_look (source_of old) (source_of new) bytes
       takes = Readies-takes in_look (source_of old) (source_of mid) (source_of new) bytes ready.readies gave.takes some
 
@@ -122,7 +135,8 @@ module _ {R W E : Type 0} (in_look : R → Input) (out_look : W → Output) (rep
           let within = (source_of new).within in
           omega arith
 
-      new_heads : heads_of (reading_of (history ++ bytes)) ≡ (reading_of history).entries ++ entry here.offset here.sent (here.content ++ bytes) ∷ []
+      new_heads : heads_of (reading_of (history ++ bytes)) ≡ (reading_of history).entries
+          ++ entry here.offset here.sent (here.content ++ bytes) ∷ []
       new_heads = ap heads_of gave.reading ∙ heads_with_data (reading_of history) here.offset here.sent here.content bytes (left_of new) here.cut
 
       same_messages : messages_of (heads_of (reading_of (history ++ bytes))) ≡ messages_of heads
@@ -150,10 +164,13 @@ module _ {R W E : Type 0} (in_look : R → Input) (out_look : W → Output) (rep
       closed = ap (λ b. b && (length (here.content ++ bytes) == head.length)) (sym here.in_segment.ends) ∙ ap (λ b. last && b) (is_whole (length (here.content ++ bytes)) (left_of new) head.length sizes)
 
       -- the transfers before the segment's head, and after it
-      with_content : (content : List ℕ) → transfers_of ((reading_of history).entries ++ entry here.offset here.sent content ∷ []) ≡ after_segment (transfers_of (reading_of history).entries) head content
+      with_content : (content : List ℕ)
+          → transfers_of ((reading_of history).entries ++ entry here.offset here.sent content ∷ [])
+          ≡ after_segment (transfers_of (reading_of history).entries) head content
       with_content content = transfers_push (reading_of history).entries (entry here.offset here.sent content) ∙ ap (λ m. after_message (transfers_of (reading_of history).entries) m content) here.in_segment.is
 
-      new_transfers : transfers_of (heads_of (reading_of (history ++ bytes))) ≡ grown transfer bytes closing ∷ earlier
+      new_transfers : transfers_of (heads_of (reading_of (history ++ bytes)))
+          ≡ grown transfer bytes closing ∷ earlier
       new_transfers =
           ap transfers_of new_heads ∙ with_content (here.content ++ bytes)
           ∙ transfer_grows (transfers_of (reading_of history).entries) head here.content bytes
@@ -167,8 +184,11 @@ module _ {R W E : Type 0} (in_look : R → Input) (out_look : W → Output) (rep
           subst P (sym gave.reading) (subst Q (sym here.cut) (after_data_by (nat_lt 0 (left_of new)) here.offset here.sent (here.content ++ bytes) last (left_of new) refl here.in_segment))
 
       -- what is written with a part of the data
-      module _ (part : List ℕ) (part_is : part_of u.latest.wanted (grown transfer bytes closing) ≡ part_of u.latest.wanted transfer ++ part) where
-        part_texts : texts_of u.latest.wanted transfers then on_output part ≡ unlined u.latest.wanted (grown transfer bytes closing) earlier
+      module _ (part : List ℕ)
+          (part_is : part_of u.latest.wanted (grown transfer bytes closing)
+          ≡ part_of u.latest.wanted transfer ++ part) where
+        part_texts : texts_of u.latest.wanted transfers
+            then on_output part ≡ unlined u.latest.wanted (grown transfer bytes closing) earlier
         part_texts =
             ap (λ (t : Texts). t then on_output part) (ap (texts_of u.latest.wanted) here.goes.are ∙ texts_open u.latest.wanted transfer earlier here.goes.is_open)
             ∙ texts_as
@@ -176,14 +196,20 @@ module _ {R W E : Type 0} (in_look : R → Input) (out_look : W → Output) (rep
             ∙ ap (λ (xs : List ℕ). parts_of u.latest.wanted earlier ++ xs) (sym part_is) ∙ sym (parts_more u.latest.wanted (grown transfer bytes closing) earlier))
             (append-nil (lines_of u.latest.wanted earlier))
 
-        given_written : HasWritten in_look out_look report_look start (place_of (source_of new) before) (history ++ bytes) (texts_of u.latest.wanted transfers)
+        given_written : HasWritten in_look out_look report_look start
+            (place_of (source_of new) before) (history ++ bytes)
+            (texts_of u.latest.wanted transfers)
         given_written = written_given in_look out_look report_look start (source_of old) (source_of new) before history bytes _ at.written takes
 
-        given_sound : NoneFailed in_look out_look report_look (devices_at (place_of (source_of new) before))
+        given_sound : NoneFailed in_look out_look report_look
+            (devices_at (place_of (source_of new) before))
         given_sound = sound_given in_look out_look report_look (source_of old) (source_of new) before bytes at.sound takes
 
-        pub grows : (written : Writers W E) (v : Unpacker) → Writes out_look report_look before written (on_output part) → Follows v.latest (grown transfer bytes closing) earlier
-            → v.latest.wanted ≡ u.latest.wanted → v.latest.total ≤ u.latest.total + length bytes → v.joiner ≡ u.joiner → v.good ≡ u.good
+        pub grows : (written : Writers W E) (v : Unpacker)
+            → Writes out_look report_look before written (on_output part)
+            → Follows v.latest (grown transfer bytes closing) earlier
+            → v.latest.wanted ≡ u.latest.wanted → v.latest.total ≤ u.latest.total + length bytes
+            → v.joiner ≡ u.joiner → v.good ≡ u.good
             → IsJoining in_look out_look report_look start last new written v (history ++ bytes)
         grows written v writes follows wanted total joiner good = record {
           session = gave.at;
@@ -203,10 +229,12 @@ module _ {R W E : Type 0} (in_look : R → Input) (out_look : W → Output) (rep
           after = after;
         }
 
-        sofar : unpacking_sofar u.latest.wanted (history ++ bytes) ≡ texts_of u.latest.wanted (grown transfer bytes closing ∷ earlier)
+        sofar : unpacking_sofar u.latest.wanted (history ++ bytes)
+            ≡ texts_of u.latest.wanted (grown transfer bytes closing ∷ earlier)
         sofar = sofar_in_order u.latest.wanted (history ++ bytes) new_in_order (after_lines last (left_of new) (reading_of (history ++ bytes)).end after) ∙ ap (texts_of u.latest.wanted) new_transfers
 
-        stood : Stood (unpack_tool u.latest.wanted) (history ++ bytes) (texts_of u.latest.wanted transfers)
+        stood : Stood (unpack_tool u.latest.wanted) (history ++ bytes)
+            (texts_of u.latest.wanted transfers)
         stood =
             inr (record {
               front = history;
@@ -215,8 +243,11 @@ module _ {R W E : Type 0} (in_look : R → Input) (out_look : W → Output) (rep
               is = sym (sofar_in_order u.latest.wanted history at.in_order (standing_lines old.offset old.left (reading_of history).end at.session.left));
             })
 
-        lost_by : (is_closed : Bool) → closing ≡ is_closed → (written : Writers W E) (fault : IoFault) → WritesPart out_look report_look before written (on_output part) fault
-            → EndedRun in_look out_look report_look (unpack_tool u.latest.wanted) start (devices_at (place_of (source_of new) written)) (history ++ bytes) (Err fault)
+        lost_by : (is_closed : Bool) → closing ≡ is_closed → (written : Writers W E)
+            (fault : IoFault) → WritesPart out_look report_look before
+            written (on_output part) fault
+            → EndedRun in_look out_look report_look (unpack_tool u.latest.wanted) start
+            (devices_at (place_of (source_of new) written)) (history ++ bytes) (Err fault)
         lost_by true is written fault lost =
             let more = on_report (line_of u.latest.wanted (grown transfer bytes closing) earlier) in
             writer_lost in_look out_look report_look (unpack_tool u.latest.wanted) (unpack_reports u.latest.wanted) start (source_of new) before written (history ++ bytes) _ _ _ fault given_written given_sound
@@ -226,12 +257,18 @@ module _ {R W E : Type 0} (in_look : R → Input) (out_look : W → Output) (rep
             writer_lost in_look out_look report_look (unpack_tool u.latest.wanted) (unpack_reports u.latest.wanted) start (source_of new) before written (history ++ bytes) _ _ _ fault given_written given_sound
             (part_texts ∙ sym (texts_open u.latest.wanted (grown transfer bytes closing) earlier is) ∙ sym sofar) (inl refl) (takes.window.less some) (λ some_output. stood) lost
 
-        pub part_lost : (written : Writers W E) (fault : IoFault) → WritesPart out_look report_look before written (on_output part) fault
-            → EndedRun in_look out_look report_look (unpack_tool u.latest.wanted) start (devices_at (place_of (source_of new) written)) (history ++ bytes) (Err fault)
+        pub part_lost : (written : Writers W E) (fault : IoFault)
+            → WritesPart out_look report_look before written (on_output part) fault
+            → EndedRun in_look out_look report_look (unpack_tool u.latest.wanted) start
+            (devices_at (place_of (source_of new) written)) (history ++ bytes) (Err fault)
         part_lost written fault lost = lost_by closing refl written fault lost
 
     -- the input ends inside the data, or the reader fails
-    pub data_ended : (new : Session R) (written : Writers W E) (why : Stop) (next : Stage) → GivesLoad in_look old new history (Err why) → GivesEnd out_look report_look why before written next → GivesStage in_look out_look report_look start u.latest.wanted (stage.Data last) old new written u history next
+    pub data_ended : (new : Session R) (written : Writers W E) (why : Stop) (next : Stage)
+        → GivesLoad in_look old new history (Err why)
+        → GivesEnd out_look report_look why before written next
+        → GivesStage in_look out_look report_look start u.latest.wanted (stage.Data last) old
+        new written u history next
     data_ended new written (stop.Wire offset fault) stage.Contact got gives = absurd gives
     data_ended new written (stop.Wire offset fault) stage.Message got gives = absurd gives
     data_ended new written (stop.Wire offset fault) (stage.Data l) got gives = absurd gives

@@ -24,26 +24,34 @@ entry offset sent content = record { offset = offset; message = sent; content = 
 pub heads_clean : (reading : Reading) → reading.end ≡ Clean → heads_of reading ≡ reading.entries
 heads_clean reading clean = ap (λ e. reading.entries ++ cut_heads e) clean ∙ append-nil reading.entries
 
-pub heads_cut : (reading : Reading) (offset : ℕ) (sent : Message) (content : List ℕ) → reading.end ≡ Cut offset sent content → heads_of reading ≡ reading.entries ++ entry offset sent content ∷ []
+pub heads_cut : (reading : Reading) (offset : ℕ) (sent : Message) (content : List ℕ)
+    → reading.end ≡ Cut offset sent content
+    → heads_of reading ≡ reading.entries ++ entry offset sent content ∷ []
 heads_cut reading offset sent content cut = ap (λ e. reading.entries ++ cut_heads e) cut
 
 -- a stream whose heads are one head and others
 one_head_by : (test : Bool) (offset : ℕ) (sent : Message) (content : List ℕ) (entries : List Entry)
-    → (let rest : Stream = if test then ended (Cut offset sent content) else with_entry (entry offset sent content) (ended Clean) in (entries ++ rest.entries) ++ cut_heads rest.end) ≡ entries ++ entry offset sent content ∷ []
+    → (let rest : Stream = if test then ended (Cut offset sent content)
+    else with_entry (entry offset sent content) (ended Clean) in
+    (entries ++ rest.entries) ++ cut_heads rest.end) ≡ entries ++ entry offset sent content ∷ []
 one_head_by true offset sent content entries = ap (λ es. es ++ entry offset sent content ∷ []) (append-nil entries)
 one_head_by false offset sent content entries = append-nil (entries ++ entry offset sent content ∷ [])
 
 module _ (reading : Reading) (offset : ℕ) (sent : Message) where
-  pub heads_with_message : reading.end ≡ Clean → heads_of (with_message offset sent reading) ≡ heads_of reading ++ entry offset sent [] ∷ []
+  pub heads_with_message : reading.end ≡ Clean
+      → heads_of (with_message offset sent reading) ≡ heads_of reading ++ entry offset sent [] ∷ []
   heads_with_message clean = one_head_by (nat_lt 0 (data_length sent)) offset sent [] reading.entries ∙ ap (λ es. es ++ entry offset sent [] ∷ []) (sym (heads_clean reading clean))
 
-  pub heads_with_data : (content bytes : List ℕ) (left : ℕ) → reading.end ≡ Cut offset sent content → heads_of (with_data left bytes reading) ≡ reading.entries ++ entry offset sent (content ++ bytes) ∷ []
+  pub heads_with_data : (content bytes : List ℕ) (left : ℕ) → reading.end ≡ Cut offset sent content
+      → heads_of (with_data left bytes reading) ≡ reading.entries
+      ++ entry offset sent (content ++ bytes) ∷ []
   heads_with_data content bytes left cut =
       ap (λ e. heads_of (joined reading (data_after left bytes e))) cut
       ∙ one_head_by (nat_lt 0 left) offset sent (content ++ bytes) reading.entries
 
 -- what follows the heads of a reading: nothing of it is another head before them
-pub heads_joined : (reading : Reading) (rest : Stream) → heads_of (joined reading rest) ≡ reading.entries ++ (rest.entries ++ cut_heads rest.end)
+pub heads_joined : (reading : Reading) (rest : Stream)
+    → heads_of (joined reading rest) ≡ reading.entries ++ (rest.entries ++ cut_heads rest.end)
 heads_joined reading rest = append_assoc reading.entries rest.entries (cut_heads rest.end)
 
 -- the data of a segment goes on, and its head stays
@@ -52,16 +60,20 @@ pub record StaysFirst (offset : ℕ) (sent : Message) (rest : Stream) : Type 0 w
   pub others : List Entry
   pub are : rest.entries ++ cut_heads rest.end ≡ entry offset sent content ∷ others
 
-stays_by : (test : Bool) (offset : ℕ) (sent : Message) (whole part : List ℕ) (rest : Stream) → StaysFirst offset sent (if test then ended (Cut offset sent whole) else with_entry (entry offset sent part) rest)
+stays_by : (test : Bool) (offset : ℕ) (sent : Message) (whole part : List ℕ) (rest : Stream)
+    → StaysFirst offset sent (if test then ended (Cut offset sent whole)
+    else with_entry (entry offset sent part) rest)
 stays_by true offset sent whole part rest = record { content = whole; others = []; are = refl }
 stays_by false offset sent whole part rest = record { content = part; others = rest.entries ++ cut_heads rest.end; are = refl }
 
-pub stays_first : (place left offset : ℕ) (sent : Message) (content more : List ℕ) → StaysFirst offset sent (rest_after place left (Cut offset sent content) more)
+pub stays_first : (place left offset : ℕ) (sent : Message) (content more : List ℕ)
+    → StaysFirst offset sent (rest_after place left (Cut offset sent content) more)
 stays_first place left offset sent content more = stays_by (nat_lt (length more) left) offset sent _ _ _
 
 -- ---- messages
 
-pub messages_push : (heads : List Entry) (head : Entry) → messages_of (heads ++ head ∷ []) ≡ messages_of heads ++ head.message ∷ []
+pub messages_push : (heads : List Entry) (head : Entry)
+    → messages_of (heads ++ head ∷ []) ≡ messages_of heads ++ head.message ∷ []
 messages_push heads head = map_push (λ (h : Entry). h.message) heads head
 
 -- ---- transfers
@@ -70,12 +82,15 @@ pub no_transfers : transfers_of [] ≡ []
 unfolding transfers_of
 no_transfers = refl
 
-pub transfers_push : (heads : List Entry) (head : Entry) → transfers_of (heads ++ head ∷ []) ≡ after_message (transfers_of heads) head.message head.content
+pub transfers_push : (heads : List Entry) (head : Entry)
+    → transfers_of (heads ++ head ∷ [])
+    ≡ after_message (transfers_of heads) head.message head.content
 unfolding transfers_of
 transfers_push heads head = fold-append (λ (ts : List Transfer) (h : Entry). after_message ts h.message h.content) [] heads (head ∷ [])
 
 -- a message that is no segment
-pub transfers_same : (transfers : List Transfer) (sent : Message) (content : List ℕ) → is_segment (event_of sent) ≡ false → after_message transfers sent content ≡ transfers
+pub transfers_same : (transfers : List Transfer) (sent : Message) (content : List ℕ)
+    → is_segment (event_of sent) ≡ false → after_message transfers sent content ≡ transfers
 transfers_same transfers (message.SessInit keepalive segment_mru transfer_mru node items) content is = refl
 transfers_same transfers (message.Segment head) content is = absurd (cc)
 transfers_same transfers (message.Ack flags id size) content is = refl
@@ -84,17 +99,26 @@ transfers_same transfers message.Keepalive content is = refl
 transfers_same transfers (message.SessTerm flags reason) content is = refl
 transfers_same transfers (message.MsgReject reason header) content is = refl
 
-pub transfer_begins : (transfers : List Transfer) (head : SegmentHead) (content : List ℕ) → is_start head.flags ≡ true → after_segment transfers head content ≡ record { first = head; content = content; closed = closes head content } ∷ transfers
+pub transfer_begins : (transfers : List Transfer) (head : SegmentHead) (content : List ℕ)
+    → is_start head.flags ≡ true
+    → after_segment transfers head content
+    ≡ record { first = head; content = content; closed = closes head content } ∷ transfers
 transfer_begins transfers head content starts = rw starts refl
 
-pub transfer_continues : (transfers : List Transfer) (head : SegmentHead) (content : List ℕ) → is_start head.flags ≡ false → after_segment transfers head content ≡ continued transfers content (closes head content)
+pub transfer_continues : (transfers : List Transfer) (head : SegmentHead) (content : List ℕ)
+    → is_start head.flags ≡ false
+    → after_segment transfers head content ≡ continued transfers content (closes head content)
 transfer_continues transfers head content starts = rw starts refl
 
 -- the latest transfer with more data of its latest segment
-pub transfer_grows : (transfers : List Transfer) (head : SegmentHead) (content bytes : List ℕ) → after_segment transfers head (content ++ bytes) ≡ continued (after_segment transfers head content) bytes (closes head (content ++ bytes))
+pub transfer_grows : (transfers : List Transfer) (head : SegmentHead) (content bytes : List ℕ)
+    → after_segment transfers head (content ++ bytes)
+    ≡ continued (after_segment transfers head content) bytes (closes head (content ++ bytes))
 transfer_grows transfers head content bytes = by_start (is_start head.flags) refl transfers
   where
-    by_start : (starts : Bool) → is_start head.flags ≡ starts → (ts : List Transfer) → after_segment ts head (content ++ bytes) ≡ continued (after_segment ts head content) bytes (closes head (content ++ bytes))
+    by_start : (starts : Bool) → is_start head.flags ≡ starts → (ts : List Transfer)
+        → after_segment ts head (content ++ bytes)
+        ≡ continued (after_segment ts head content) bytes (closes head (content ++ bytes))
     by_start true is ts = rw is refl
     by_start false is [] = rw is refl
     by_start false is (latest ∷ earlier) = rw is (ap (λ c. record { first = latest.first; content = c; closed = closes head (content ++ bytes) } ∷ earlier) (sym (append_assoc latest.content content bytes)))

@@ -23,30 +23,41 @@ use Rattle.link_unpack.proofs.Outcomes.{unpack_reports}
 use Rattle.link_unpack.proofs.Texts.{closes_none, closes_some, parts_sum, texts_open, texts_closed, sofar_in_order, good_more, settled_open, settled_closed}
 
 -- where data is to come, the reading ends inside a segment, and where none is, between two messages
-waits_data : (last is_open : Bool) (left : ℕ) (latest : TransferScan) (transfers : List Transfer) (end : End) → 0 < left → is_open ≡ not last → GoesOn latest transfers → IsAfter last left end → IsWaiting (stage.Data last) is_open latest transfers end
+waits_data : (last is_open : Bool) (left : ℕ) (latest : TransferScan) (transfers : List Transfer)
+    (end : End) → 0 < left → is_open ≡ not last → GoesOn latest transfers → IsAfter last left end
+    → IsWaiting (stage.Data last) is_open latest transfers end
 waits_data last is_open left latest transfers Clean some opened goes after = absurd (omega arith)
 waits_data last is_open left latest transfers (Cut offset message content) some opened goes after = (last, refl, opened, after.1, goes)
 waits_data last is_open left latest transfers (Fault offset fault) some opened goes after = absurd after
 
-waits_message : (last is_open : Bool) (left : ℕ) (latest : TransferScan) (transfers : List Transfer) (end : End) → left ≡ 0 → IsOpen is_open latest transfers → IsAfter last left end → IsWaiting stage.Message is_open latest transfers end
+waits_message : (last is_open : Bool) (left : ℕ) (latest : TransferScan) (transfers : List Transfer)
+    (end : End) → left ≡ 0 → IsOpen is_open latest transfers → IsAfter last left end
+    → IsWaiting stage.Message is_open latest transfers end
 waits_message last is_open left latest transfers Clean none goes after = (refl, goes)
 waits_message last is_open left latest transfers (Cut offset message content) none goes after = let some = after.0 in absurd (omega arith)
 waits_message last is_open left latest transfers (Fault offset fault) none goes after = absurd after
 
-pub after_lines : (last : Bool) (left : ℕ) (end : End) → IsAfter last left end → lasting_lines end ≡ []
+pub after_lines : (last : Bool) (left : ℕ) (end : End)
+    → IsAfter last left end → lasting_lines end ≡ []
 after_lines last left Clean after = refl
 after_lines last left (Cut offset message content) after = refl
 after_lines last left (Fault offset fault) after = absurd after
 
-module _ {R W E : Type 0} (in_look : R → Input) (out_look : W → Output) (report_look : E → Output) (start : Devices R W E) where
+module _ {R W E : Type 0} (in_look : R → Input) (out_look : W → Output) (report_look : E → Output)
+    (start : Devices R W E) where
   -- what stands, by the transfers that the heads make
-  pub stands : (now : Stage) (s : Session R) (w : Writers W E) (u : Unpacker) (history : List ℕ) (transfers : List Transfer)
+  pub stands : (now : Stage) (s : Session R) (w : Writers W E) (u : Unpacker) (history : List ℕ)
+      (transfers : List Transfer)
       → transfers_of (heads_of (reading_of history)) ≡ transfers
-      → IsSessionAt in_look s history → AreInOrder (heads_of (reading_of history)) → IsJoinerAt u.joiner (messages_of (heads_of (reading_of history)))
-      → HasWritten in_look out_look report_look start (place_of (source_of s) w) history (texts_of u.latest.wanted transfers)
+      → IsSessionAt in_look s history → AreInOrder (heads_of (reading_of history))
+      → IsJoinerAt u.joiner (messages_of (heads_of (reading_of history)))
+      → HasWritten in_look out_look report_look start (place_of (source_of s) w) history
+      (texts_of u.latest.wanted transfers)
       → NoneFailed in_look out_look report_look (devices_at (place_of (source_of s) w))
-      → u.latest.start + u.latest.written ≡ length (parts_of u.latest.wanted transfers) → u.latest.total ≤ length history → u.good ≡ are_good (settled transfers)
-      → IsWaiting now (is_some (open_of (messages_of (heads_of (reading_of history))))) u.latest transfers (reading_of history).end
+      → u.latest.start + u.latest.written ≡ length (parts_of u.latest.wanted transfers)
+      → u.latest.total ≤ length history → u.good ≡ are_good (settled transfers)
+      → IsWaiting now (is_some (open_of (messages_of (heads_of (reading_of history))))) u.latest
+      transfers (reading_of history).end
       → Unpacks in_look out_look report_look start now s w u history
   stands now s w u history transfers are session in_order joiner written sound sum total good waits = record {
     session = session;
@@ -60,8 +71,10 @@ module _ {R W E : Type 0} (in_look : R → Input) (out_look : W → Output) (rep
     waits = rw are waits;
   }
 
-  module _ (last : Bool) (s : Session R) (w : Writers W E) (u : Unpacker) (history : List ℕ) (at : IsJoining in_look out_look report_look start last s w u history) where
-    sum : u.latest.start + u.latest.written ≡ length (parts_of u.latest.wanted (at.transfer ∷ at.earlier))
+  module _ (last : Bool) (s : Session R) (w : Writers W E) (u : Unpacker) (history : List ℕ)
+      (at : IsJoining in_look out_look report_look start last s w u history) where
+    sum : u.latest.start + u.latest.written
+        ≡ length (parts_of u.latest.wanted (at.transfer ∷ at.earlier))
     sum = parts_sum u.latest.wanted at.transfer at.earlier u.latest.start u.latest.written at.follows.start at.follows.written
 
     -- the transfer goes on
@@ -69,18 +82,22 @@ module _ {R W E : Type 0} (in_look : R → Input) (out_look : W → Output) (rep
       going : GoesOn u.latest (at.transfer ∷ at.earlier)
       going = record { transfer = at.transfer; earlier = at.earlier; are = refl; is_open = unclosed; follows = at.follows }
 
-      still : IsWaiting now (is_some (open_of (messages_of (heads_of (reading_of history))))) u.latest (at.transfer ∷ at.earlier) (reading_of history).end → Unpacks in_look out_look report_look start now s w u history
+      still : IsWaiting now (is_some (open_of (messages_of (heads_of (reading_of history)))))
+          u.latest (at.transfer ∷ at.earlier) (reading_of history).end
+          → Unpacks in_look out_look report_look start now s w u history
       still waits =
           stands now s w u history (at.transfer ∷ at.earlier) at.are at.session at.in_order at.joiner
           (written_as in_look out_look report_look at.written refl (sym (texts_open u.latest.wanted at.transfer at.earlier unclosed))) at.sound sum at.total
           (at.good ∙ ap are_good (sym (settled_open at.transfer at.earlier unclosed))) waits
 
-    pub data_comes : 0 < left_of s → Unpacks in_look out_look report_look start (stage.Data last) s w u history
+    pub data_comes : 0 < left_of s
+        → Unpacks in_look out_look report_look start (stage.Data last) s w u history
     data_comes some =
         let unclosed = at.closed ∙ closes_some last (left_of s) some in
         still (stage.Data last) unclosed (waits_data last _ (left_of s) u.latest _ _ some at.opened (going (stage.Data last) unclosed) at.after)
 
-    pub goes_on : left_of s ≡ 0 → last ≡ false → Unpacks in_look out_look report_look start stage.Message s w u history
+    pub goes_on : left_of s ≡ 0 → last ≡ false
+        → Unpacks in_look out_look report_look start stage.Message s w u history
     goes_on none more =
         let unclosed = at.closed ∙ closes_none last (left_of s) none ∙ more in
         let opened = at.opened ∙ ap not more in
@@ -92,8 +109,11 @@ module _ {R W E : Type 0} (in_look : R → Input) (out_look : W → Output) (rep
       pub closed : at.transfer.closed ≡ true
       closed = at.closed ∙ closes_none last (left_of s) none ∙ is_last
 
-      pub over : (after : Writers W E) (v : Unpacker) → Writes out_look report_look w after (on_report (line_of u.latest.wanted at.transfer at.earlier))
-          → v.good ≡ (is_good (judgement_of at.transfer) && u.good) → v.latest ≡ u.latest → v.joiner ≡ u.joiner
+      pub over : (after : Writers W E) (v : Unpacker)
+          → Writes out_look report_look w after
+          (on_report (line_of u.latest.wanted at.transfer at.earlier))
+          → v.good ≡ (is_good (judgement_of at.transfer) && u.good)
+          → v.latest ≡ u.latest → v.joiner ≡ u.joiner
           → Unpacks in_look out_look report_look start stage.Message s after v history
       over after v writes good latest joiner =
           let opened = at.opened ∙ ap not is_last in
@@ -105,8 +125,11 @@ module _ {R W E : Type 0} (in_look : R → Input) (out_look : W → Output) (rep
           (good ∙ ap (λ g. is_good (judgement_of at.transfer) && g) at.good ∙ sym (good_more at.transfer at.earlier) ∙ ap are_good (sym (settled_closed at.transfer at.earlier closed)))
           (waits_message last _ (left_of s) v.latest _ _ none (subst P (sym opened) (settled_closed at.transfer at.earlier closed)) at.after)
 
-      pub line_lost : (after : Writers W E) (fault : IoFault) → WritesPart out_look report_look w after (on_report (line_of u.latest.wanted at.transfer at.earlier)) fault
-          → EndedRun in_look out_look report_look (unpack_tool u.latest.wanted) start (devices_at (place_of (source_of s) after)) history (Err fault)
+      pub line_lost : (after : Writers W E) (fault : IoFault)
+          → WritesPart out_look report_look w after
+          (on_report (line_of u.latest.wanted at.transfer at.earlier)) fault
+          → EndedRun in_look out_look report_look (unpack_tool u.latest.wanted) start
+          (devices_at (place_of (source_of s) after)) history (Err fault)
       line_lost after fault part =
           let due = texts_closed u.latest.wanted at.transfer at.earlier closed in
           let standing : lasting_lines (reading_of history).end ≡ [] = after_lines last (left_of s) (reading_of history).end at.after in

@@ -33,11 +33,13 @@ stuck_idle state.Ended stuck = refl
 stuck_idle (state.Failed fault place) stuck = refl
 
 -- more is not wanted after these bytes
-stuck_stops : (scan : BundleScan) (seen : List ℕ) → HasScanned scan seen → may_scan scan ≡ false → bundle_goes seen ≡ false
+stuck_stops : (scan : BundleScan) (seen : List ℕ) → HasScanned scan seen → may_scan scan ≡ false
+    → bundle_goes seen ≡ false
 stuck_stops scan seen come stuck =
     stuck_idle (state_of (verdict seen)) (sym (may_scan-seen scan seen come) ∙ stuck)
 
-idle_stuck : (now : State) → is_going now ≡ false → (now ≡ state.Ended → ⊥) → takes_bytes now ≡ false
+idle_stuck : (now : State) → is_going now ≡ false → (now ≡ state.Ended → ⊥)
+    → takes_bytes now ≡ false
 idle_stuck state.Going idle other = absurd (false≢true (sym idle))
 idle_stuck state.Ended idle other = absurd (other refl)
 idle_stuck (state.Failed fault place) idle other = refl
@@ -50,11 +52,13 @@ record HasFailed (told : Result BundleInfo (BundleFault × ℕ)) : Type 0 where
   is : told ≡ Err (fault, place)
 
 failed_lasts : (fault : BundleFault) (place : ℕ) (test : Bool) → lasts fault ≡ test
-    → takes_bytes (if test then state.Failed fault place else state.Going) ≡ false → HasFailed (Err (fault, place))
+    → takes_bytes (if test then state.Failed fault place else state.Going) ≡ false
+    → HasFailed (Err (fault, place))
 failed_lasts fault place true lasting stuck = record { fault = fault; place = place; lasting = lasting; is = refl }
 failed_lasts fault place false lasting stuck = absurd (false≢true (sym stuck))
 
-has_failed : (told : Result BundleInfo (BundleFault × ℕ)) → takes_bytes (state_of told) ≡ false → HasFailed told
+has_failed : (told : Result BundleInfo (BundleFault × ℕ)) → takes_bytes (state_of told) ≡ false
+    → HasFailed told
 has_failed (Ok info) stuck = absurd (false≢true (sym stuck))
 has_failed (Err (fault, place)) stuck = failed_lasts fault place (lasts fault) refl stuck
 
@@ -67,14 +71,16 @@ ended_fault : (fault : BundleFault) (place : ℕ) (test : Bool)
 ended_fault fault place true is = cc
 ended_fault fault place false is = cc
 
-has_ended : (told : Result BundleInfo (BundleFault × ℕ)) → state_of told ≡ state.Ended → HasEnded told
+has_ended : (told : Result BundleInfo (BundleFault × ℕ))
+    → state_of told ≡ state.Ended → HasEnded told
 has_ended (Ok info) is = record { info = info; is = refl }
 has_ended (Err (fault, place)) is = absurd (ended_fault fault place (lasts fault) is)
 
 -- ---- a piece more
 
 -- the data so far were judged, and a piece more was fed
-module _ (scan later : BundleScan) (content piece : List ℕ) (count : ℕ) (before : HasJudged scan content)
+module _ (scan later : BundleScan) (content piece : List ℕ) (count : ℕ)
+    (before : HasJudged scan content)
     (fed : (seen : List ℕ) → HasScanned scan seen → HasScanned later (seen ++ taken bundle_goes seen piece))
     (size : (seen : List ℕ) → HasScanned scan seen → count ≡ length (taken bundle_goes seen piece)) where
   -- nothing was taken, since no byte can change the verdict
@@ -135,7 +141,8 @@ module _ (scan later : BundleScan) (content piece : List ℕ) (count : ℕ) (bef
     front_stops short = ⊎_elim (λ stops. stops)
         (λ (all : front ≡ piece). absurd (omega (arith, ap length all, size before.seen before.scanned))) shortest.stops
 
-    judged_front : count < length piece → (state_of (verdict (before.seen ++ front)) ≡ state.Ended → ⊥)
+    judged_front : count < length piece
+        → (state_of (verdict (before.seen ++ front)) ≡ state.Ended → ⊥)
         → HasJudged later (content ++ piece)
     unfolding front
     judged_front short other =
@@ -156,7 +163,8 @@ module _ (scan later : BundleScan) (content piece : List ℕ) (count : ℕ) (bef
         let ended = has_ended (verdict (before.seen ++ front)) is in
         ap (λ told. takes_bytes (state_of told)) (TrailingLasts-holds (before.seen ++ front) [] byte ended.info ended.is)
 
-    judged_trailing : (last : BundleScan) (byte : ℕ) → count < length piece → byte ≡ get_or piece count 0
+    judged_trailing : (last : BundleScan) (byte : ℕ) → count < length piece
+        → byte ≡ get_or piece count 0
         → state_of (verdict (before.seen ++ front)) ≡ state.Ended
         → HasScanned last ((before.seen ++ front) ++ byte ∷ []) → HasJudged last (content ++ piece)
     judged_trailing last byte short is ended come = record {
@@ -171,7 +179,8 @@ module _ (scan later : BundleScan) (content piece : List ℕ) (count : ℕ) (bef
     }
 
   -- the scan was fed and does not stand at the bundle's end with bytes left
-  pub judged_fed : ((seen : List ℕ) → HasScanned later seen → count < length piece → state_of (verdict seen) ≡ state.Ended → ⊥)
+  pub judged_fed : ((seen : List ℕ) → HasScanned later seen → count < length piece
+      → state_of (verdict seen) ≡ state.Ended → ⊥)
       → HasJudged later (content ++ piece)
   unfolding front
   judged_fed other = ⊎_elim
@@ -184,7 +193,8 @@ module _ (scan later : BundleScan) (content piece : List ℕ) (count : ℕ) (bef
       before.enough
 
   -- it stood there, and was stepped over the next byte
-  pub judged_stepped : (last : BundleScan) (byte : ℕ) → count < length piece → byte ≡ get_or piece count 0
+  pub judged_stepped : (last : BundleScan) (byte : ℕ) → count < length piece
+      → byte ≡ get_or piece count 0
       → ((seen : List ℕ) → HasScanned later seen → state_of (verdict seen) ≡ state.Ended)
       → ((seen : List ℕ) → HasScanned later seen → HasScanned last (seen ++ byte ∷ []))
       → HasJudged last (content ++ piece)
@@ -200,7 +210,8 @@ module _ (scan later : BundleScan) (content piece : List ℕ) (count : ℕ) (bef
 -- ---- what is judged
 
 -- the verdict on what was seen is that on all of the data
-pub verdict-judged : (scan : BundleScan) (content : List ℕ) → (judged : HasJudged scan content) → verdict judged.seen ≡ verdict content
+pub verdict-judged : (scan : BundleScan) (content : List ℕ) → (judged : HasJudged scan content)
+    → verdict judged.seen ≡ verdict content
 verdict-judged scan content judged = ⊎_elim
     (λ (all : judged.rest ≡ []).
     ap verdict (sym (append-nil judged.seen) ∙ ap (λ xs. judged.seen ++ xs) (sym all) ∙ judged.parts))
@@ -211,7 +222,8 @@ verdict-judged scan content judged = ⊎_elim
     judged.enough
 
 -- and so is the payload
-payload-judged : (scan : BundleScan) (content : List ℕ) → (judged : HasJudged scan content) → payload_in judged.seen ≡ payload_in content
+payload-judged : (scan : BundleScan) (content : List ℕ) → (judged : HasJudged scan content)
+    → payload_in judged.seen ≡ payload_in content
 payload-judged scan content judged = ⊎_elim
     (λ (all : judged.rest ≡ []).
     ap payload_in (sym (append-nil judged.seen) ∙ ap (λ xs. judged.seen ++ xs) (sym all) ∙ judged.parts))
@@ -228,7 +240,8 @@ record IsKnown (known : Option (ℕ × ℕ)) (place count there : ℕ) : Type 0 
   is : known ≡ Some (place, size)
   all : count ≡ there
 
-span_known : (known : Option (ℕ × ℕ)) (place count there : ℕ) → Some (place, count) ≡ spanned known there
+span_known : (known : Option (ℕ × ℕ)) (place count there : ℕ)
+    → Some (place, count) ≡ spanned known there
     → IsKnown known place count there
 span_known None place count there is = cc
 span_known (Some (at, size)) place count there is =
@@ -248,11 +261,15 @@ payload_in-known : (bytes : List ℕ) (payload : Option (ℕ × ℕ)) → payloa
 unfolding payload_in
 payload_in-known bytes payload is = ap (λ (told : Option (ℕ × ℕ)). bytes_of told bytes) is
 
-module _ (scan : BundleScan) (content piece : List ℕ) (now : HasJudged scan (content ++ piece)) where
+module _ (scan : BundleScan) (content piece : List ℕ)
+    (now : HasJudged scan (content ++ piece)) where
   -- where the payload's place is known
-  pub part_some : (place count limit : ℕ) → ((seen : List ℕ) → HasScanned scan seen → Some (place, count) ≡ payload_span seen)
+  pub part_some : (place count limit : ℕ)
+      → ((seen : List ℕ) → HasScanned scan seen → Some (place, count) ≡ payload_span seen)
       → length (content ++ piece) < limit
-      → (0 < count → place + count < limit) × (payload_in (content ++ piece) ≡ payload_in content ++ part_in piece (length content) place count)
+      → (0 < count → place + count < limit)
+      × (payload_in (content ++ piece) ≡ payload_in content
+      ++ part_in piece (length content) place count)
   unfolding payload_span
   part_some place count limit span short =
       let whole = content ++ piece in
@@ -269,7 +286,8 @@ module _ (scan : BundleScan) (content piece : List ℕ) (now : HasJudged scan (c
       )
 
   -- where it is not: then nothing of it was there before
-  earlier_none : payload_in (content ++ piece) ≡ [] → (known : Option (ℕ × ℕ)) → payload_of (judged content) ≡ known → payload_in content ≡ []
+  earlier_none : payload_in (content ++ piece) ≡ [] → (known : Option (ℕ × ℕ))
+      → payload_of (judged content) ≡ known → payload_in content ≡ []
   earlier_none none None is = payload_in-known content None is
   earlier_none none (Some (place, size)) is =
       let later = PayloadLasts-holds content piece (place, size) is in

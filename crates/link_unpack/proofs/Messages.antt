@@ -36,19 +36,25 @@ use Rattle.link_unpack.proofs.Orders.{in_order_more, open_where_continued}
 use Rattle.link_unpack.proofs.Texts.{unlined, parts_more, texts_open, settled_open}
 
 -- between two messages
-pub between : (is_open : Bool) (latest : TransferScan) (transfers : List Transfer) (end : End) → IsWaiting stage.Message is_open latest transfers end → (end ≡ Clean) × IsOpen is_open latest transfers
+pub between : (is_open : Bool) (latest : TransferScan) (transfers : List Transfer) (end : End)
+    → IsWaiting stage.Message is_open latest transfers end
+    → (end ≡ Clean) × IsOpen is_open latest transfers
 between is_open latest transfers Clean waits = (refl, waits.1)
 between is_open latest transfers (Cut offset sent content) waits = let never = waits.1 in absurd (cc)
 between is_open latest transfers (Fault offset fault) waits = absurd waits
 
 -- how the reading ends after the head of a segment
-after_head_by : (test : Bool) (offset : ℕ) (sent : Message) (last : Bool) (left : ℕ) → nat_lt 0 (data_length sent) ≡ test → left ≡ data_length sent → IsInSegment last sent
-    → IsAfter last left (if test then ended (Cut offset sent []) else with_entry (entry offset sent []) (ended Clean)).end
+after_head_by : (test : Bool) (offset : ℕ) (sent : Message) (last : Bool) (left : ℕ)
+    → nat_lt 0 (data_length sent) ≡ test → left ≡ data_length sent → IsInSegment last sent
+    → IsAfter last left (if test then ended (Cut offset sent [])
+    else with_entry (entry offset sent []) (ended Clean)).end
 after_head_by true offset sent last left test is in_segment = (let some : 0 < data_length sent = ltb-true 0 (data_length sent) test in omega arith, in_segment)
 after_head_by false offset sent last left test is in_segment = let none : data_length sent ≤ 0 = ltb-false 0 (data_length sent) test in omega arith
 
 -- none of its data has come
-alone_by : (test : Bool) (offset : ℕ) (sent : Message) → HasNoContent (if test then ended (Cut offset sent []) else with_entry (entry offset sent []) (ended Clean)).end
+alone_by : (test : Bool) (offset : ℕ) (sent : Message)
+    → HasNoContent (if test then ended (Cut offset sent [])
+    else with_entry (entry offset sent []) (ended Clean)).end
 alone_by true offset sent = refl
 alone_by false offset sent = tt
 
@@ -58,10 +64,13 @@ opened_by true id = refl
 opened_by false id = refl
 
 -- more data of nothing
-same_part : (wanted : Wanted) (transfer : Transfer) (closed : Bool) → part_of wanted (grown transfer [] closed) ≡ part_of wanted transfer
+same_part : (wanted : Wanted) (transfer : Transfer) (closed : Bool)
+    → part_of wanted (grown transfer [] closed) ≡ part_of wanted transfer
 same_part wanted transfer closed = ap (λ (xs : List ℕ). if is_selected wanted.only transfer.first.id then (if wanted.payload then payload_in xs else xs) else []) (append-nil transfer.content)
 
-pub follows_same : (now : TransferScan) (transfer : Transfer) (closed : Bool) (earlier : List Transfer) → Follows now transfer earlier → Follows now (grown transfer [] closed) earlier
+pub follows_same : (now : TransferScan) (transfer : Transfer) (closed : Bool)
+    (earlier : List Transfer) → Follows now transfer earlier
+    → Follows now (grown transfer [] closed) earlier
 follows_same now transfer closed earlier follows = record {
   id = follows.id;
   announced = follows.announced;
@@ -71,12 +80,15 @@ follows_same now transfer closed earlier follows = record {
   judged = rw append-nil follows.judged;
 }
 
-same_unlined : (wanted : Wanted) (transfer : Transfer) (closed : Bool) (earlier : List Transfer) → unlined wanted transfer earlier ≡ unlined wanted (grown transfer [] closed) earlier
+same_unlined : (wanted : Wanted) (transfer : Transfer) (closed : Bool) (earlier : List Transfer)
+    → unlined wanted transfer earlier ≡ unlined wanted (grown transfer [] closed) earlier
 same_unlined wanted transfer closed earlier =
     texts_as (parts_more wanted transfer earlier ∙ ap (λ (xs : List ℕ). parts_of wanted earlier ++ xs) (sym (same_part wanted transfer closed)) ∙ sym (parts_more wanted (grown transfer [] closed) earlier)) refl
 
-module _ {R W E : Type 0} (in_look : R → Input) (out_look : W → Output) (report_look : E → Output) (start : Devices R W E) where
-  module _ (old new : Session R) (before : Writers W E) (u : Unpacker) (history : List ℕ) (at : Unpacks in_look out_look report_look start stage.Message old before u history)
+module _ {R W E : Type 0} (in_look : R → Input) (out_look : W → Output) (report_look : E → Output)
+    (start : Devices R W E) where
+  module _ (old new : Session R) (before : Writers W E) (u : Unpacker) (history : List ℕ)
+      (at : Unpacks in_look out_look report_look start stage.Message old before u history)
       (offset : ℕ) (sent : Message) (got : ReadMessage in_look old new history offset sent) where
     abbrev pub heads : List Entry
     heads = heads_of (reading_of history)
@@ -90,28 +102,35 @@ module _ {R W E : Type 0} (in_look : R → Input) (out_look : W → Output) (rep
     pub was_open : IsOpen (is_some (open_of (messages_of heads))) u.latest transfers
     was_open = (between _ u.latest transfers _ at.waits).1
 
-    pub new_heads : heads_of (reading_of (history ++ got.given)) ≡ heads ++ entry offset sent [] ∷ []
+    pub new_heads : heads_of (reading_of (history ++ got.given))
+        ≡ heads ++ entry offset sent [] ∷ []
     new_heads = ap heads_of got.reading ∙ heads_with_message (reading_of history) offset sent clean
 
-    new_messages : messages_of (heads_of (reading_of (history ++ got.given))) ≡ messages_of heads ++ sent ∷ []
+    new_messages : messages_of (heads_of (reading_of (history ++ got.given)))
+        ≡ messages_of heads ++ sent ∷ []
     new_messages = ap messages_of new_heads ∙ messages_push heads (entry offset sent [])
 
-    new_transfers : transfers_of (heads_of (reading_of (history ++ got.given))) ≡ after_message transfers sent []
+    new_transfers : transfers_of (heads_of (reading_of (history ++ got.given)))
+        ≡ after_message transfers sent []
     new_transfers = ap transfers_of new_heads ∙ transfers_push heads (entry offset sent [])
 
     pub alone : HasNoContent (reading_of (history ++ got.given)).end
     alone = let P : Reading → Type 0 = λ r. HasNoContent r.end in subst P (sym got.reading) (alone_by (nat_lt 0 (data_length sent)) offset sent)
 
-    new_in_order : refusal (messages_of heads) (event_of sent) ≡ None → AreInOrder (heads_of (reading_of (history ++ got.given)))
+    new_in_order : refusal (messages_of heads) (event_of sent) ≡ None
+        → AreInOrder (heads_of (reading_of (history ++ got.given)))
     new_in_order may = let P : List Entry → Type 0 = AreInOrder in subst P (sym new_heads) (in_order_more heads (entry offset sent []) at.in_order may)
 
-    new_joiner : (joiner : Joiner) → IsJoinerAt joiner (messages_of heads ++ sent ∷ []) → IsJoinerAt joiner (messages_of (heads_of (reading_of (history ++ got.given))))
+    new_joiner : (joiner : Joiner) → IsJoinerAt joiner (messages_of heads ++ sent ∷ [])
+        → IsJoinerAt joiner (messages_of (heads_of (reading_of (history ++ got.given))))
     new_joiner joiner is = rw new_messages is
 
-    new_written : HasWritten in_look out_look report_look start (place_of (source_of new) before) (history ++ got.given) (texts_of u.latest.wanted transfers)
+    new_written : HasWritten in_look out_look report_look start (place_of (source_of new) before)
+        (history ++ got.given) (texts_of u.latest.wanted transfers)
     new_written = written_given in_look out_look report_look start (source_of old) (source_of new) before history got.given _ at.written got.takes
 
-    new_sound : NoneFailed in_look out_look report_look (devices_at (place_of (source_of new) before))
+    new_sound : NoneFailed in_look out_look report_look
+        (devices_at (place_of (source_of new) before))
     new_sound = sound_given in_look out_look report_look (source_of old) (source_of new) before got.given at.sound got.takes
 
     new_total : u.latest.total ≤ length (history ++ got.given)
@@ -119,7 +138,8 @@ module _ {R W E : Type 0} (in_look : R → Input) (out_look : W → Output) (rep
 
     -- ---- a segment
 
-    module _ (head : SegmentHead) (is : sent ≡ message.Segment head) (last : Bool) (ends : last ≡ is_end head.flags) where
+    module _ (head : SegmentHead) (is : sent ≡ message.Segment head) (last : Bool)
+        (ends : last ≡ is_end head.flags) where
       left_is : left_of new ≡ head.length
       left_is = got.left ∙ ap data_length is
 
@@ -130,15 +150,21 @@ module _ {R W E : Type 0} (in_look : R → Input) (out_look : W → Output) (rep
       pub closed : closes head [] ≡ (last && (left_of new == 0))
       closed = ap (λ b. b && (0 == head.length)) (sym ends) ∙ ap (λ b. last && b) (is_whole 0 (left_of new) head.length (omega (arith, left_is)))
 
-      pub opened : is_some (open_of (messages_of (heads_of (reading_of (history ++ got.given))))) ≡ not last
+      pub opened : is_some (open_of (messages_of (heads_of (reading_of (history ++ got.given)))))
+          ≡ not last
       opened =
           ap (λ ms. is_some (open_of ms)) new_messages
           ∙ ap is_some (after-segment (messages_of heads) sent head.flags head.id (ap event_of is))
           ∙ opened_by (is_end head.flags) head.id ∙ ap not (sym ends)
 
-      pub beginning : (abandoned : Option ℕ) (buffer : MessageBuffer) (joiner : Joiner) → message_of buffer ≡ sent → is_start head.flags ≡ true → abandoned ≡ open_of (messages_of heads)
-          → refusal (messages_of heads) (event_of sent) ≡ None → IsJoinerAt joiner (messages_of heads ++ sent ∷ [])
-          → IsBeginning in_look out_look report_look start (is_some abandoned) last new before (record { joiner = joiner; latest = u.latest; good = u.good }) buffer (history ++ got.given)
+      pub beginning : (abandoned : Option ℕ) (buffer : MessageBuffer) (joiner : Joiner)
+          → message_of buffer ≡ sent → is_start head.flags ≡ true
+          → abandoned ≡ open_of (messages_of heads)
+          → refusal (messages_of heads) (event_of sent) ≡ None
+          → IsJoinerAt joiner (messages_of heads ++ sent ∷ [])
+          → IsBeginning in_look out_look report_look start (is_some abandoned) last new before
+          (record { joiner = joiner; latest = u.latest; good = u.good })
+          buffer (history ++ got.given)
       beginning abandoned buffer joiner holds starts was may joins = record {
         session = got.at;
         window = got.takes.window.less got.some;
@@ -159,14 +185,17 @@ module _ {R W E : Type 0} (in_look : R → Input) (out_look : W → Output) (rep
         after = after;
       }
 
-      module _ (joiner : Joiner) (starts : is_start head.flags ≡ false) (may : refusal (messages_of heads) (event_of sent) ≡ None) (joins : IsJoinerAt joiner (messages_of heads ++ sent ∷ [])) where
+      module _ (joiner : Joiner) (starts : is_start head.flags ≡ false)
+          (may : refusal (messages_of heads) (event_of sent) ≡ None)
+          (joins : IsJoinerAt joiner (messages_of heads ++ sent ∷ [])) where
         going : GoesOn u.latest transfers
         going =
             let is_open = open_where_continued (messages_of heads) head.flags head.id starts (ap (λ m. refusal (messages_of heads) (event_of m)) (sym is) ∙ may) in
             let P : Bool → Type 0 = λ b. IsOpen b u.latest transfers in
             subst P is_open was_open
 
-        pub continuing : IsJoining in_look out_look report_look start last new before (record { joiner = joiner; latest = u.latest; good = u.good }) (history ++ got.given)
+        pub continuing : IsJoining in_look out_look report_look start last new before
+            (record { joiner = joiner; latest = u.latest; good = u.good }) (history ++ got.given)
         continuing = record {
           session = got.at;
           window = got.takes.window.less got.some;
@@ -187,7 +216,9 @@ module _ {R W E : Type 0} (in_look : R → Input) (out_look : W → Output) (rep
 
     -- ---- another message
 
-    module _ (joiner : Joiner) (other : is_segment (event_of sent) ≡ false) (may : refusal (messages_of heads) (event_of sent) ≡ None) (joins : IsJoinerAt joiner (messages_of heads ++ sent ∷ [])) where
+    module _ (joiner : Joiner) (other : is_segment (event_of sent) ≡ false)
+        (may : refusal (messages_of heads) (event_of sent) ≡ None)
+        (joins : IsJoinerAt joiner (messages_of heads ++ sent ∷ [])) where
       no_data : data_length sent ≡ 0
       no_data = none sent other
         where
@@ -208,7 +239,8 @@ module _ {R W E : Type 0} (in_look : R → Input) (out_look : W → Output) (rep
           ap (λ (r : Reading). r.end) got.reading
           ∙ ap (λ n. (joined (reading_of history) (if nat_lt 0 n then ended (Cut offset sent []) else with_entry (entry offset sent []) (ended Clean))).end) no_data
 
-      pub passed : Unpacks in_look out_look report_look start stage.Message new before (record { joiner = joiner; latest = u.latest; good = u.good }) (history ++ got.given)
+      pub passed : Unpacks in_look out_look report_look start stage.Message new before
+          (record { joiner = joiner; latest = u.latest; good = u.good }) (history ++ got.given)
       passed =
           let is_open = ap (λ ms. is_some (open_of ms)) new_messages ∙ ap is_some (after-other (messages_of heads) sent other) in
           let P : Bool → Type 0 = λ b. IsOpen b u.latest transfers in

@@ -27,7 +27,8 @@ abbrev pub followed : List Entry → Ordered → Ordered
 followed heads rest = record { heads = heads ++ rest.heads; refused = rest.refused }
 
 -- a head that is followed by heads that are in order, or refused
-by_first : (refused : Option OrderFault) (head : Entry) (rest : Ordered) (more : List Entry) → ordered_by refused head rest ≡ all (head ∷ more) → (refused ≡ None) × (rest ≡ all more)
+by_first : (refused : Option OrderFault) (head : Entry) (rest : Ordered) (more : List Entry)
+    → ordered_by refused head rest ≡ all (head ∷ more) → (refused ≡ None) × (rest ≡ all more)
 by_first (Some fault) head rest more is =
     let refused = ap (λ (o : Ordered). o.refused) is in
     absurd (cc)
@@ -39,23 +40,33 @@ by_first None head rest more is =
     (refl, subst P refused refl ∙ ap all heads)
 
 module _ (before : List Message) (head : Entry) (more : List Entry) where
-  pub messages_then : (before ++ head.message ∷ []) ++ messages_of more ≡ before ++ messages_of (head ∷ more)
+  pub messages_then : (before ++ head.message ∷ []) ++ messages_of more
+      ≡ before ++ messages_of (head ∷ more)
   messages_then = append_assoc before (head.message ∷ []) (messages_of more)
 
-  first_may : ordered_after before (head ∷ more) ≡ all (head ∷ more) → (refusal before (event_of head.message) ≡ None) × (ordered_after (before ++ head.message ∷ []) more ≡ all more)
+  first_may : ordered_after before (head ∷ more) ≡ all (head ∷ more)
+      → (refusal before (event_of head.message) ≡ None)
+      × (ordered_after (before ++ head.message ∷ []) more ≡ all more)
   unfolding ordered_after
   first_may is = by_first (refusal before (event_of head.message)) head (ordered_after (before ++ head.message ∷ []) more) more is
 
-  first_then : (rest : Ordered) → refusal before (event_of head.message) ≡ None → ordered_after (before ++ head.message ∷ []) more ≡ rest → ordered_after before (head ∷ more) ≡ followed (head ∷ []) rest
+  first_then : (rest : Ordered) → refusal before (event_of head.message) ≡ None
+      → ordered_after (before ++ head.message ∷ []) more ≡ rest
+      → ordered_after before (head ∷ more) ≡ followed (head ∷ []) rest
   unfolding ordered_after
   first_then rest may is = rw (may, is) refl
 
-  pub first_refused : (fault : OrderFault) → refusal before (event_of head.message) ≡ Some fault → ordered_after before (head ∷ more) ≡ record { heads = []; refused = Some (head.offset, fault) }
+  pub first_refused : (fault : OrderFault) → refusal before (event_of head.message) ≡ Some fault
+      → ordered_after before (head ∷ more)
+      ≡ record { heads = []; refused = Some (head.offset, fault) }
   unfolding ordered_after
   first_refused fault is = rw is refl
 
 -- more heads after heads that are in order
-pub then_ordered : (before : List Message) (heads more : List Entry) → ordered_after before heads ≡ all heads → ordered_after before (heads ++ more) ≡ followed heads (ordered_after (before ++ messages_of heads) more)
+pub then_ordered : (before : List Message) (heads more : List Entry)
+    → ordered_after before heads ≡ all heads
+    → ordered_after before (heads ++ more)
+    ≡ followed heads (ordered_after (before ++ messages_of heads) more)
 then_ordered before [] more is = rw append-nil refl
 then_ordered before (head ∷ heads) more is =
     let first = first_may before head heads is in
@@ -68,8 +79,10 @@ unfolding ordered_after
 ordered_none before = refl
 
 -- of heads that are in order, the last may come after the others
-last_may : (before : List Message) (heads : List Entry) (last : Entry) → ordered_after before (heads ++ last ∷ []) ≡ all (heads ++ last ∷ [])
-    → (ordered_after before heads ≡ all heads) × (refusal (before ++ messages_of heads) (event_of last.message) ≡ None)
+last_may : (before : List Message) (heads : List Entry) (last : Entry)
+    → ordered_after before (heads ++ last ∷ []) ≡ all (heads ++ last ∷ [])
+    → (ordered_after before heads ≡ all heads)
+    × (refusal (before ++ messages_of heads) (event_of last.message) ≡ None)
 last_may before [] last is = (ordered_none before, rw append-nil ((first_may before last [] is).0))
 last_may before (head ∷ heads) last is =
     let first = first_may before head (heads ++ last ∷ []) is in
@@ -83,18 +96,21 @@ pub in_order_none : AreInOrder []
 unfolding ordered
 in_order_none = ordered_none []
 
-pub in_order_more : (heads : List Entry) (head : Entry) → AreInOrder heads → refusal (messages_of heads) (event_of head.message) ≡ None → AreInOrder (heads ++ head ∷ [])
+pub in_order_more : (heads : List Entry) (head : Entry) → AreInOrder heads
+    → refusal (messages_of heads) (event_of head.message) ≡ None → AreInOrder (heads ++ head ∷ [])
 unfolding ordered
 in_order_more heads head are may =
     then_ordered [] heads (head ∷ []) are
     ∙ ap (followed heads) (first_then (messages_of heads) head [] _ may (ordered_none (messages_of heads ++ head.message ∷ [])))
 
-pub in_order_parts : (heads : List Entry) (head : Entry) → AreInOrder (heads ++ head ∷ []) → AreInOrder heads × (refusal (messages_of heads) (event_of head.message) ≡ None)
+pub in_order_parts : (heads : List Entry) (head : Entry) → AreInOrder (heads ++ head ∷ [])
+    → AreInOrder heads × (refusal (messages_of heads) (event_of head.message) ≡ None)
 unfolding ordered
 in_order_parts heads head are = last_may [] heads head are
 
 -- a head that is refused, whatever follows it
-pub in_order_refused : (heads : List Entry) (head : Entry) (more : List Entry) (fault : OrderFault) → AreInOrder heads → refusal (messages_of heads) (event_of head.message) ≡ Some fault
+pub in_order_refused : (heads : List Entry) (head : Entry) (more : List Entry) (fault : OrderFault)
+    → AreInOrder heads → refusal (messages_of heads) (event_of head.message) ≡ Some fault
     → ordered (heads ++ head ∷ more) ≡ record { heads = heads; refused = Some (head.offset, fault) }
 unfolding ordered
 in_order_refused heads head more fault are refused =
@@ -104,25 +120,30 @@ in_order_refused heads head more fault are refused =
 
 -- ---- what an accepted message does
 
-pub accepted_by : (refused : Option OrderFault) (done turn : Turn) → judged_by refused done ≡ Ok turn → (refused ≡ None) × (done ≡ turn)
+pub accepted_by : (refused : Option OrderFault) (done turn : Turn)
+    → judged_by refused done ≡ Ok turn → (refused ≡ None) × (done ≡ turn)
 accepted_by (Some fault) done turn is = absurd (cc)
 accepted_by None done turn is = (refl, cc)
 
-pub refused_by : (refused : Option OrderFault) (done : Turn) (fault : OrderFault) → judged_by refused done ≡ Err fault → refused ≡ Some fault
+pub refused_by : (refused : Option OrderFault) (done : Turn) (fault : OrderFault)
+    → judged_by refused done ≡ Err fault → refused ≡ Some fault
 refused_by (Some fault) done other is = cc
 refused_by None done other is = absurd (cc)
 
 module _ (before : List Message) (happened : Event) where
-  pub accepted : (turn : Turn) → judged before happened ≡ Ok turn → (refusal before happened ≡ None) × (turn_by (open_of before) happened ≡ turn)
+  pub accepted : (turn : Turn) → judged before happened ≡ Ok turn → (refusal before happened ≡ None)
+      × (turn_by (open_of before) happened ≡ turn)
   unfolding judged turn_of
   accepted turn is = accepted_by (refusal before happened) (turn_of before happened) turn is
 
-  pub refused_for : (fault : OrderFault) → judged before happened ≡ Err fault → refusal before happened ≡ Some fault
+  pub refused_for : (fault : OrderFault) → judged before happened ≡ Err fault
+      → refusal before happened ≡ Some fault
   unfolding judged
   refused_for fault is = refused_by (refusal before happened) (turn_of before happened) fault is
 
 -- a segment whose head has START
-pub record Begins (transfer : Option ℕ) (happened : Event) (abandoned : Option ℕ) (last : Bool) : Type 0 where
+pub record Begins (transfer : Option ℕ) (happened : Event) (abandoned : Option ℕ)
+    (last : Bool) : Type 0 where
   pub flags : ℕ
   pub id : ℕ
   pub is : happened ≡ event.Segment flags id
@@ -138,51 +159,65 @@ pub record Continues (happened : Event) (last : Bool) : Type 0 where
   pub starts : is_start flags ≡ false
   pub ends : last ≡ is_end flags
 
-begins_by : (starts : Bool) (transfer : Option ℕ) (flags id : ℕ) (abandoned : Option ℕ) (last : Bool) → is_start flags ≡ starts
-    → (if starts then turn.Begin transfer (is_end flags) else turn.Continue (is_end flags)) ≡ turn.Begin abandoned last → Begins transfer (event.Segment flags id) abandoned last
+begins_by : (starts : Bool) (transfer : Option ℕ) (flags id : ℕ) (abandoned : Option ℕ)
+    (last : Bool) → is_start flags ≡ starts
+    → (if starts then turn.Begin transfer (is_end flags) else turn.Continue (is_end flags))
+    ≡ turn.Begin abandoned last → Begins transfer (event.Segment flags id) abandoned last
 begins_by true transfer flags id abandoned last starts is = record { flags = flags; id = id; is = refl; starts = starts; abandons = cc; ends = cc }
 begins_by false transfer flags id abandoned last starts is = absurd (cc)
 
-continues_by : (starts : Bool) (transfer : Option ℕ) (flags id : ℕ) (last : Bool) → is_start flags ≡ starts
-    → (if starts then turn.Begin transfer (is_end flags) else turn.Continue (is_end flags)) ≡ turn.Continue last → Continues (event.Segment flags id) last
+continues_by : (starts : Bool) (transfer : Option ℕ) (flags id : ℕ) (last : Bool)
+    → is_start flags ≡ starts
+    → (if starts then turn.Begin transfer (is_end flags) else turn.Continue (is_end flags))
+    ≡ turn.Continue last → Continues (event.Segment flags id) last
 continues_by true transfer flags id last starts is = absurd (cc)
 continues_by false transfer flags id last starts is = record { flags = flags; id = id; is = refl; starts = starts; ends = cc }
 
-pub begins : (transfer : Option ℕ) (happened : Event) (abandoned : Option ℕ) (last : Bool) → turn_by transfer happened ≡ turn.Begin abandoned last → Begins transfer happened abandoned last
+pub begins : (transfer : Option ℕ) (happened : Event) (abandoned : Option ℕ) (last : Bool)
+    → turn_by transfer happened ≡ turn.Begin abandoned last
+    → Begins transfer happened abandoned last
 begins transfer event.SessInit abandoned last is = absurd (cc)
 begins transfer event.SessTerm abandoned last is = absurd (cc)
 begins transfer (event.Segment flags id) abandoned last is = begins_by (is_start flags) transfer flags id abandoned last refl is
 begins transfer event.Other abandoned last is = absurd (cc)
 
-pub continues : (transfer : Option ℕ) (happened : Event) (last : Bool) → turn_by transfer happened ≡ turn.Continue last → Continues happened last
+pub continues : (transfer : Option ℕ) (happened : Event) (last : Bool)
+    → turn_by transfer happened ≡ turn.Continue last → Continues happened last
 continues transfer event.SessInit last is = absurd (cc)
 continues transfer event.SessTerm last is = absurd (cc)
 continues transfer (event.Segment flags id) last is = continues_by (is_start flags) transfer flags id last refl is
 continues transfer event.Other last is = absurd (cc)
 
-not_other_by : (starts : Bool) (transfer : Option ℕ) (flags : ℕ) → (if starts then turn.Begin transfer (is_end flags) else turn.Continue (is_end flags)) ≡ turn.Other → ⊥
+not_other_by : (starts : Bool) (transfer : Option ℕ) (flags : ℕ)
+    → (if starts then turn.Begin transfer (is_end flags) else turn.Continue (is_end flags))
+    ≡ turn.Other → ⊥
 not_other_by true transfer flags is = absurd (cc)
 not_other_by false transfer flags is = absurd (cc)
 
-pub no_segment : (transfer : Option ℕ) (happened : Event) → turn_by transfer happened ≡ turn.Other → is_segment happened ≡ false
+pub no_segment : (transfer : Option ℕ) (happened : Event) → turn_by transfer happened ≡ turn.Other
+    → is_segment happened ≡ false
 no_segment transfer event.SessInit is = refl
 no_segment transfer event.SessTerm is = refl
 no_segment transfer (event.Segment flags id) is = absurd (not_other_by (is_start flags) transfer flags is)
 no_segment transfer event.Other is = refl
 
 -- a transfer is open where a segment without START may come
-open_by : (transfer : Option ℕ) (id : ℕ) → option_eq ◌==◌ transfer (Some id) ≡ true → is_some transfer ≡ true
+open_by : (transfer : Option ℕ) (id : ℕ) → option_eq ◌==◌ transfer (Some id) ≡ true
+    → is_some transfer ≡ true
 open_by None id is = is
 open_by (Some other) id is = refl
 
-continues_open : (initiated terminated is_same starts : Bool) (transfer : Option ℕ) (flags id : ℕ) → is_start flags ≡ starts → starts ≡ false → option_eq ◌==◌ transfer (Some id) ≡ is_same
-    → refusal_by initiated terminated transfer (event.Segment flags id) ≡ None → is_some transfer ≡ true
+continues_open : (initiated terminated is_same starts : Bool) (transfer : Option ℕ) (flags id : ℕ)
+    → is_start flags ≡ starts → starts ≡ false → option_eq ◌==◌ transfer (Some id) ≡ is_same
+    → refusal_by initiated terminated transfer (event.Segment flags id) ≡ None
+    → is_some transfer ≡ true
 continues_open initiated terminated true starts transfer flags id start none same is = open_by transfer id same
 continues_open false terminated false starts transfer flags id start none same is = absurd (cc)
 continues_open true terminated false starts transfer flags id start none same is =
     let never : refusal_by true terminated transfer (event.Segment flags id) ≡ Some NoSuchOpenTransfer = rw (start, none, same) refl in absurd (cc)
 
-pub open_where_continued : (before : List Message) (flags id : ℕ) → is_start flags ≡ false → refusal before (event.Segment flags id) ≡ None → is_some (open_of before) ≡ true
+pub open_where_continued : (before : List Message) (flags id : ℕ) → is_start flags ≡ false
+    → refusal before (event.Segment flags id) ≡ None → is_some (open_of before) ≡ true
 unfolding refusal
 open_where_continued before flags id starts may = continues_open (has_sess_init before) (has_sess_term before) (option_eq ◌==◌ (open_of before) (Some id)) (is_start flags) (open_of before) flags id refl starts refl may
 
@@ -193,7 +228,8 @@ pub record IsSegment (sent : Message) (flags id : ℕ) : Type 0 where
   pub has_flags : head.flags ≡ flags
   pub has_id : head.id ≡ id
 
-pub segment_of : (sent : Message) (flags id : ℕ) → event_of sent ≡ event.Segment flags id → IsSegment sent flags id
+pub segment_of : (sent : Message) (flags id : ℕ) → event_of sent ≡ event.Segment flags id
+    → IsSegment sent flags id
 segment_of (message.SessInit keepalive segment_mru transfer_mru node items) flags id is = absurd (cc)
 segment_of (message.Segment head) flags id is = record { head = head; is = refl; has_flags = cc; has_id = cc }
 segment_of (message.Ack kind number size) flags id is = absurd (cc)

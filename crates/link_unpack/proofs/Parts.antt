@@ -40,7 +40,8 @@ drop-append count front back = ⊎_elim
 -- bytes of the piece alone
 piece_part : (piece : List ℕ) (before place size count : ℕ)
     → count ≡ min size (before + length piece - place)
-    → take (size - (before - place)) (drop (place - before) piece) ≡ part_in piece before place count
+    → take (size - (before - place)) (drop (place - before) piece)
+    ≡ part_in piece before place count
 piece_part piece before place size count all = ⊎_elim
     (λ (inside : place < before + length piece).
     let end = min (place + count - before) (length piece) in
@@ -71,7 +72,8 @@ part_more content piece place size count all =
     ∙ ap (λ rest. take size (drop place content) ++ rest) (piece_part piece (length content) place size count there)
 
 -- no part of the whole is none of a prefix
-pub no_part : (content piece : List ℕ) (place size : ℕ) → take size (drop place (content ++ piece)) ≡ []
+pub no_part : (content piece : List ℕ) (place size : ℕ)
+    → take size (drop place (content ++ piece)) ≡ []
     → take size (drop place content) ≡ []
 no_part content piece place size none =
     nil_from_length (take size (drop place content))
@@ -86,7 +88,8 @@ no_part content piece place size none =
     ))
 
 -- where some of them are there, the place is one of the bytes
-pub part_fits : (bytes : List ℕ) (place size count limit : ℕ) → count ≡ length (take size (drop place bytes))
+pub part_fits : (bytes : List ℕ) (place size count limit : ℕ)
+    → count ≡ length (take size (drop place bytes))
     → length bytes < limit → 0 < count → place + count < limit
 part_fits bytes place size count limit all short some =
     omega (arith, length-take size (drop place bytes), length-drop place bytes)

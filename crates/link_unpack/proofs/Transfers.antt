@@ -25,13 +25,15 @@ no_payload : payload_in [] ≡ []
 unfolding payload_in judged_bytes bundle_at opening_at
 no_payload = refl
 
-nothing_chosen : (selected payload : Bool) → (if selected then (if payload then payload_in [] else []) else []) ≡ []
+nothing_chosen : (selected payload : Bool)
+    → (if selected then (if payload then payload_in [] else []) else []) ≡ []
 nothing_chosen false payload = refl
 nothing_chosen true false = refl
 nothing_chosen true true = no_payload
 
 -- nothing of it is written
-pub part_of-begun : (wanted : Wanted) (head : SegmentHead) (closed : Bool) → part_of wanted (begun head closed) ≡ []
+pub part_of-begun : (wanted : Wanted) (head : SegmentHead) (closed : Bool)
+    → part_of wanted (begun head closed) ≡ []
 part_of-begun wanted head closed = nothing_chosen (is_selected wanted.only head.id) wanted.payload
 
 -- ---- a piece more
@@ -44,13 +46,16 @@ part_of-payload wanted transfer piece more closed selected payload is = rw (sele
 
 -- ---- its line
 
-same_entry : (id start written size : ℕ) (judgement : Judgement) (id' start' written' size' : ℕ) (judgement' : Judgement)
+same_entry : (id start written size : ℕ) (judgement : Judgement)
+    (id' start' written' size' : ℕ) (judgement' : Judgement)
     → id ≡ id' → start ≡ start' → written ≡ written' → size ≡ size' → judgement ≡ judgement'
-    → ◌≡◌ {A = TransferEntry} (record { id = id; start = start; written = written; length = size; judgement = judgement })
+    → ◌≡◌ {A = TransferEntry}
+    (record { id = id; start = start; written = written; length = size; judgement = judgement })
     (record { id = id'; start = start'; written = written'; length = size'; judgement = judgement' })
 same_entry id start written size judgement id' start' written' size' judgement' a b c d e = cc
 
-module _ (now : TransferScan) (transfer : Transfer) (earlier : List Transfer) (follows : Follows now transfer earlier)
+module _ (now : TransferScan) (transfer : Transfer) (earlier : List Transfer)
+    (follows : Follows now transfer earlier)
     (abandoned : Bool) (over : abandoned ≡ not transfer.closed)
     (told : Result BundleInfo (BundleFault × ℕ)) (seen : (seen : List ℕ) → HasScanned now.scan seen → told ≡ verdict seen)
     (shown : JudgementView) (judges : viewed_judgement shown ≡ judged abandoned now.announced now.size told) where
@@ -64,7 +69,14 @@ module _ (now : TransferScan) (transfer : Transfer) (earlier : List Transfer) (f
       ∙ ap (judged (not transfer.closed) (announced_of transfer.first.items.items) (length transfer.content))
       (seen bytes follows.judged.scanned ∙ verdict-judged now.scan transfer.content follows.judged)
 
-  pub line_is : transfer_text (record { id = now.id; start = now.start; written = now.written; length = now.size; judgement = viewed_judgement shown })
+  pub line_is : transfer_text
+      (record {
+        id = now.id;
+        start = now.start;
+        written = now.written;
+        length = now.size;
+        judgement = viewed_judgement shown;
+      })
       ≡ transfer_text (entry_of now.wanted transfer (length (parts_of now.wanted earlier)))
   line_is = ap transfer_text
       (same_entry _ _ _ _ _ _ _ _ _ _ follows.id follows.start follows.written follows.size judgement_is)

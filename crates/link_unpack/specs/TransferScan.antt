@@ -13,10 +13,12 @@ begun head closed = record { first = head; content = []; closed = closed }
 
 -- a transfer with more data
 abbrev pub grown : Transfer → List ℕ → Bool → Transfer
-grown transfer content closed = record { first = transfer.first; content = transfer.content ++ content; closed = closed }
+grown transfer content closed =
+    record { first = transfer.first; content = transfer.content ++ content; closed = closed }
 
 -- it is this transfer, which follows those
-pub record Follows (now : TransferScan) (transfer : Transfer) (earlier : List Transfer) : Type 0 where
+pub record Follows (now : TransferScan) (transfer : Transfer)
+    (earlier : List Transfer) : Type 0 where
   pub id : now.id ≡ transfer.first.id
   pub announced : now.announced ≡ announced_of transfer.first.items.items
   pub start : now.start ≡ length (parts_of now.wanted earlier)

@@ -15,7 +15,8 @@ use Rattle.link_transfer.specs.declared.fault.OrderFault.{OrderFault}
 -- the head of a segment whose data is cut, with the data that is there
 abbrev pub cut_heads : End → List Entry
 cut_heads Clean = []
-cut_heads (Cut offset message content) = record { offset = offset; message = message; content = content } ∷ []
+cut_heads (Cut offset message content) =
+    record { offset = offset; message = message; content = content } ∷ []
 cut_heads (Fault offset fault) = []
 
 -- all heads that are whole: those of whole messages, and that of a segment whose data is cut
@@ -37,7 +38,8 @@ ordered_by None head rest = record { heads = head ∷ rest.heads; refused = rest
 unfoldable pub ordered_after : List Message → List Entry → Ordered
 ordered_after before [] = record { heads = []; refused = None }
 ordered_after before (head ∷ more) =
-    ordered_by (refusal before (event_of head.message)) head (ordered_after (before ++ head.message ∷ []) more)
+    ordered_by (refusal before (event_of head.message)) head
+    (ordered_after (before ++ head.message ∷ []) more)
 
 unfoldable pub ordered : List Entry → Ordered
 ordered heads = ordered_after [] heads
@@ -81,7 +83,8 @@ after_message transfers (MsgReject reason header) content = transfers
 
 -- the transfers of heads that are in order, the latest first
 unfoldable pub transfers_of : List Entry → List Transfer
-transfers_of heads = fold (λ transfers head. after_message transfers head.message head.content) [] heads
+transfers_of heads =
+    fold (λ transfers head. after_message transfers head.message head.content) [] heads
 
 -- those that are over: all but a latest that is not closed
 abbrev pub settled : List Transfer → List Transfer

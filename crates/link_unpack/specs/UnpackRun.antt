@@ -65,7 +65,8 @@ AreInOrder heads = ordered heads ≡ record { heads = heads; refused = None }
 
 -- what is written of transfers of which the latest may go on
 abbrev pub texts_of : Wanted → List Transfer → Texts
-texts_of wanted transfers = record { output = parts_of wanted transfers; report = lines_of wanted (settled transfers) }
+texts_of wanted transfers =
+    record { output = parts_of wanted transfers; report = lines_of wanted (settled transfers) }
 
 -- the latest transfer is open, and known
 pub record GoesOn (latest : TransferScan) (transfers : List Transfer) : Type 0 where
@@ -88,9 +89,11 @@ pub record IsInSegment (last : Bool) (message : Message) : Type 0 where
 
 -- what waits, by how the reading of the bytes so far ends
 abbrev pub IsWaiting : Stage → Bool → TransferScan → List Transfer → End → Type 0
-IsWaiting now is_open latest transfers Clean = (now ≡ stage.Message) × IsOpen is_open latest transfers
+IsWaiting now is_open latest transfers Clean =
+    (now ≡ stage.Message) × IsOpen is_open latest transfers
 IsWaiting now is_open latest transfers (Cut offset message content) =
-    (last : Bool) × (now ≡ stage.Data last) × (is_open ≡ not last) × IsInSegment last message × GoesOn latest transfers
+    (last : Bool) × (now ≡ stage.Data last) × (is_open ≡ not last) × IsInSegment last message
+    × GoesOn latest transfers
 IsWaiting now is_open latest transfers (Fault offset fault) = ⊥
 
 -- how the reading ends once the head of a segment, or data of it, has come
@@ -117,12 +120,15 @@ abbrev pub last_lines : Wanted → List Transfer → List ℕ
 last_lines wanted [] = []
 last_lines wanted (latest ∷ earlier) = if latest.closed then [] else line_of wanted latest earlier
 
-module _ {R W E : Type 0} (in_look : R → Input) (out_look : W → Output) (report_look : E → Output) (start : Devices R W E) where
+module _ {R W E : Type 0} (in_look : R → Input) (out_look : W → Output) (report_look : E → Output)
+    (start : Devices R W E) where
   -- a run that begins: nothing was given and nothing written
-  pub record Begins (s : Session R) (w : Writers W E) (u : Unpacker) (history : List ℕ) : Type 0 where
+  pub record Begins (s : Session R) (w : Writers W E) (u : Unpacker)
+      (history : List ℕ) : Type 0 where
     pub nothing : history ≡ []
     pub opens : may_open s ≡ true
-    pub written : HasWritten in_look out_look report_look start (place_of (source_of s) w) [] (record { output = []; report = [] })
+    pub written : HasWritten in_look out_look report_look start (place_of (source_of s) w) []
+        (record { output = []; report = [] })
     pub sound : NoneFailed in_look out_look report_look (devices_at (place_of (source_of s) w))
     pub joiner : IsJoinerAt u.joiner []
     pub sum : u.latest.start + u.latest.written ≡ 0
@@ -130,39 +136,60 @@ module _ {R W E : Type 0} (in_look : R → Input) (out_look : W → Output) (rep
     pub good : u.good ≡ true
 
   -- a run that was given exactly these bytes, and has written exactly what they determine
-  pub record Unpacks (now : Stage) (s : Session R) (w : Writers W E) (u : Unpacker) (history : List ℕ) : Type 0 where
+  pub record Unpacks (now : Stage) (s : Session R) (w : Writers W E) (u : Unpacker)
+      (history : List ℕ) : Type 0 where
     pub session : IsSessionAt in_look s history
     pub in_order : AreInOrder (heads_of (reading_of history))
     pub joiner : IsJoinerAt u.joiner (messages_of (heads_of (reading_of history)))
-    pub written : HasWritten in_look out_look report_look start (place_of (source_of s) w) history (texts_of u.latest.wanted (transfers_of (heads_of (reading_of history))))
+    pub written : HasWritten in_look out_look report_look start (place_of (source_of s) w) history
+        (texts_of u.latest.wanted (transfers_of (heads_of (reading_of history))))
     pub sound : NoneFailed in_look out_look report_look (devices_at (place_of (source_of s) w))
-    pub sum : u.latest.start + u.latest.written ≡ length (parts_of u.latest.wanted (transfers_of (heads_of (reading_of history))))
+    pub sum : u.latest.start + u.latest.written
+        ≡ length (parts_of u.latest.wanted (transfers_of (heads_of (reading_of history))))
     pub total : u.latest.total ≤ length history
     pub good : u.good ≡ are_good (settled (transfers_of (heads_of (reading_of history))))
-    pub waits : IsWaiting now (is_some (open_of (messages_of (heads_of (reading_of history))))) u.latest (transfers_of (heads_of (reading_of history))) (reading_of history).end
+    pub waits : IsWaiting now (is_some (open_of (messages_of (heads_of (reading_of history)))))
+        u.latest (transfers_of (heads_of (reading_of history))) (reading_of history).end
 
   abbrev pub IsUnpacking : Stage → Session R → Writers W E → Unpacker → List ℕ → Type 0
-  IsUnpacking stage.Contact session writers unpacker history = Begins session writers unpacker history
-  IsUnpacking stage.Message session writers unpacker history = Unpacks stage.Message session writers unpacker history
-  IsUnpacking (stage.Data last) session writers unpacker history = Unpacks (stage.Data last) session writers unpacker history
+  IsUnpacking stage.Contact session writers unpacker history =
+      Begins session writers unpacker history
+  IsUnpacking stage.Message session writers unpacker history =
+      Unpacks stage.Message session writers unpacker history
+  IsUnpacking (stage.Data last) session writers unpacker history =
+      Unpacks (stage.Data last) session writers unpacker history
   IsUnpacking (stage.Ended answer) session writers unpacker history = ⊥
 
   -- what a step at the stage `now` gives that leads to the stage `next`
-  abbrev pub GivesStage : Wanted → (now : Stage) → (old new : Session R) → (after : Writers W E) → Unpacker → (history : List ℕ) → (next : Stage) → Type 0
-  GivesStage wanted now old new after unpacker history (stage.Ended answer) = LastStep in_look out_look report_look (unpack_tool wanted) start (devices_at (place_of (source_of new) after)) (most_given now) history answer
+  abbrev pub GivesStage : Wanted → (now : Stage) → (old new : Session R) → (after : Writers W E)
+      → Unpacker → (history : List ℕ) → (next : Stage) → Type 0
+  GivesStage wanted now old new after unpacker history (stage.Ended answer) =
+      LastStep in_look out_look report_look (unpack_tool wanted) start
+      (devices_at (place_of (source_of new) after)) (most_given now) history answer
   GivesStage wanted now old new after unpacker history stage.Contact = ⊥
-  GivesStage wanted now old new after unpacker history stage.Message = WentOn (source_of old) (source_of new) (Unpacks stage.Message new after unpacker) (most_given now) history
-  GivesStage wanted now old new after unpacker history (stage.Data last) = WentOn (source_of old) (source_of new) (λ bytes. Unpacks (stage.Data last) new after unpacker bytes × IsWaitingAfter now (reading_of bytes).end) (most_given now) history
+  GivesStage wanted now old new after unpacker history stage.Message =
+      WentOn (source_of old) (source_of new) (Unpacks stage.Message new after unpacker)
+      (most_given now) history
+  GivesStage wanted now old new after unpacker history (stage.Data last) =
+      WentOn (source_of old) (source_of new)
+      (λ bytes. Unpacks (stage.Data last) new after unpacker bytes
+      × IsWaitingAfter now (reading_of bytes).end) (most_given now) history
 
   -- what stands once these bytes were given, at the stage `next`
-  abbrev pub StandsAfter : Wanted → (next : Stage) → Session R → Writers W E → Unpacker → (history : List ℕ) → Type 0
+  abbrev pub StandsAfter : Wanted → (next : Stage) → Session R → Writers W E → Unpacker
+      → (history : List ℕ) → Type 0
   StandsAfter wanted stage.Contact session writers unpacker history = ⊥
-  StandsAfter wanted stage.Message session writers unpacker history = Unpacks stage.Message session writers unpacker history
-  StandsAfter wanted (stage.Data last) session writers unpacker history = Unpacks (stage.Data last) session writers unpacker history
-  StandsAfter wanted (stage.Ended answer) session writers unpacker history = EndedRun in_look out_look report_look (unpack_tool wanted) start (devices_at (place_of (source_of session) writers)) history answer
+  StandsAfter wanted stage.Message session writers unpacker history =
+      Unpacks stage.Message session writers unpacker history
+  StandsAfter wanted (stage.Data last) session writers unpacker history =
+      Unpacks (stage.Data last) session writers unpacker history
+  StandsAfter wanted (stage.Ended answer) session writers unpacker history =
+      EndedRun in_look out_look report_look (unpack_tool wanted) start
+      (devices_at (place_of (source_of session) writers)) history answer
 
   -- The head of a segment, or data of it, has come. All that is due of its transfer is written but for its line.
-  pub record IsJoining (last : Bool) (s : Session R) (w : Writers W E) (u : Unpacker) (history : List ℕ) : Type 0 where
+  pub record IsJoining (last : Bool) (s : Session R) (w : Writers W E) (u : Unpacker)
+      (history : List ℕ) : Type 0 where
     pub session : IsSessionAt in_look s history
     pub window : length (window_of (source_of s)) < window_size
     pub in_order : AreInOrder (heads_of (reading_of history))
@@ -172,7 +199,11 @@ module _ {R W E : Type 0} (in_look : R → Input) (out_look : W → Output) (rep
     pub are : transfers_of (heads_of (reading_of history)) ≡ transfer ∷ earlier
     pub closed : transfer.closed ≡ (last && (left_of s == 0))
     pub follows : Follows u.latest transfer earlier
-    pub written : HasWritten in_look out_look report_look start (place_of (source_of s) w) history (record { output = parts_of u.latest.wanted (transfer ∷ earlier); report = lines_of u.latest.wanted earlier })
+    pub written : HasWritten in_look out_look report_look start (place_of (source_of s) w) history
+        (record {
+          output = parts_of u.latest.wanted (transfer ∷ earlier);
+          report = lines_of u.latest.wanted earlier;
+        })
     pub sound : NoneFailed in_look out_look report_look (devices_at (place_of (source_of s) w))
     pub total : u.latest.total ≤ length history
     pub good : u.good ≡ are_good earlier
@@ -180,7 +211,8 @@ module _ {R W E : Type 0} (in_look : R → Input) (out_look : W → Output) (rep
     pub after : IsAfter last (left_of s) (reading_of history).end
 
   -- The head of a transfer's first segment has come. `transfers` are those before it, of which the latest is abandoned or none is open.
-  pub record IsBeginning (abandoned last : Bool) (s : Session R) (w : Writers W E) (u : Unpacker) (message : MessageBuffer) (history : List ℕ) : Type 0 where
+  pub record IsBeginning (abandoned last : Bool) (s : Session R) (w : Writers W E) (u : Unpacker)
+      (message : MessageBuffer) (history : List ℕ) : Type 0 where
     pub session : IsSessionAt in_look s history
     pub window : length (window_of (source_of s)) < window_size
     pub in_order : AreInOrder (heads_of (reading_of history))
@@ -189,9 +221,11 @@ module _ {R W E : Type 0} (in_look : R → Input) (out_look : W → Output) (rep
     pub is : message_of message ≡ Segment head
     pub begins : is_start head.flags ≡ true
     pub transfers : List Transfer
-    pub are : transfers_of (heads_of (reading_of history)) ≡ record { first = head; content = []; closed = last && (left_of s == 0) } ∷ transfers
+    pub are : transfers_of (heads_of (reading_of history))
+        ≡ record { first = head; content = []; closed = last && (left_of s == 0) } ∷ transfers
     pub before : IsOpen abandoned u.latest transfers
-    pub written : HasWritten in_look out_look report_look start (place_of (source_of s) w) history (texts_of u.latest.wanted transfers)
+    pub written : HasWritten in_look out_look report_look start (place_of (source_of s) w) history
+        (texts_of u.latest.wanted transfers)
     pub sound : NoneFailed in_look out_look report_look (devices_at (place_of (source_of s) w))
     pub sum : u.latest.start + u.latest.written ≡ length (parts_of u.latest.wanted transfers)
     pub total : u.latest.total ≤ length history
@@ -209,19 +243,24 @@ IsEnded (stage.Data last) = ⊥
 IsEnded (stage.Ended answer) = Unit {0}
 
 module _ {W E : Type 0} (out_look : W → Output) (report_look : E → Output) where
-  abbrev pub GivesFinish : Unpacker → List Transfer → (old new : Writers W E) → (next : Stage) → Type 0
+  abbrev pub GivesFinish : Unpacker → List Transfer → (old new : Writers W E)
+      → (next : Stage) → Type 0
   GivesFinish unpacker transfers old new stage.Contact = ⊥
   GivesFinish unpacker transfers old new stage.Message = ⊥
   GivesFinish unpacker transfers old new (stage.Data last) = ⊥
   GivesFinish unpacker transfers old new (stage.Ended (Ok status)) =
       Writes out_look report_look old new (on_report (last_lines unpacker.latest.wanted transfers))
-      × (unpacker.good ≡ are_good (settled transfers) → status.0 ≡ (if are_good transfers then 0 else 1))
-  GivesFinish unpacker transfers old new (stage.Ended (Err fault)) = WritesPart out_look report_look old new (on_report (last_lines unpacker.latest.wanted transfers)) fault
+      × (unpacker.good ≡ are_good (settled transfers)
+      → status.0 ≡ (if are_good transfers then 0 else 1))
+  GivesFinish unpacker transfers old new (stage.Ended (Err fault)) =
+      WritesPart out_look report_look old new
+      (on_report (last_lines unpacker.latest.wanted transfers)) fault
 
   -- a fault of the wire was reported, or a failure of the reader ends the run
   abbrev pub GivesEnd : Stop → (old new : Writers W E) → (next : Stage) → Type 0
   GivesEnd why old new stage.Contact = ⊥
   GivesEnd why old new stage.Message = ⊥
   GivesEnd why old new (stage.Data last) = ⊥
-  GivesEnd (stop.Wire offset fault) old new (stage.Ended answer) = GivesReport out_look report_look old new (fault_text (Wire offset fault)) answer
+  GivesEnd (stop.Wire offset fault) old new (stage.Ended answer) =
+      GivesReport out_look report_look old new (fault_text (Wire offset fault)) answer
   GivesEnd (stop.Io fault) old new (stage.Ended answer) = (answer ≡ Err fault) × (new ≡ old)

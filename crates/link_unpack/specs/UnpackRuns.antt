@@ -24,7 +24,12 @@ module _ {R W E : Type 0} where
 
   -- the run has ended, and its steps return this
   abbrev pub unpack_has_ended : UnpackRun R W E → Result Progress IoFault → Type 0
-  unpack_has_ended run answer = (given : Result Status IoFault) × (run.stage ≡ stage.Ended given) × (answer ≡ progress_of (stage.Ended given))
+  unpack_has_ended run answer =
+      (given : Result Status IoFault) × (run.stage ≡ stage.Ended given)
+      × (answer ≡ progress_of (stage.Ended given))
 
-  abbrev pub unpack_stands : (R → Input) → (W → Output) → (E → Output) → UnpackRun R W E → Devices R W E → List ℕ → Type 0
-  unpack_stands in_look out_look report_look run start history = IsUnpacking in_look out_look report_look start run.stage run.session run.writers run.unpacker history
+  abbrev pub unpack_stands : (R → Input) → (W → Output) → (E → Output) → UnpackRun R W E
+      → Devices R W E → List ℕ → Type 0
+  unpack_stands in_look out_look report_look run start history =
+      IsUnpacking in_look out_look report_look start run.stage run.session
+      run.writers run.unpacker history

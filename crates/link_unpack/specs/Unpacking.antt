@@ -41,7 +41,8 @@ parts_of wanted (latest ∷ earlier) = parts_of wanted earlier ++ part_of wanted
 -- a transfer that has a line and is not closed was abandoned
 abbrev pub judgement_of : Transfer → Judgement
 judgement_of transfer =
-    judged (not transfer.closed) (announced_of transfer.first.items.items) (length transfer.content) (verdict transfer.content)
+    judged (not transfer.closed) (announced_of transfer.first.items.items) (length transfer.content)
+    (verdict transfer.content)
 
 -- what the line of a transfer says whose bytes begin at `start` in the output
 abbrev pub entry_of : Wanted → Transfer → (start : ℕ) → TransferEntry
@@ -55,7 +56,8 @@ entry_of wanted transfer start = record {
 
 -- the line of a transfer after those
 abbrev pub line_of : Wanted → Transfer → List Transfer → List ℕ
-line_of wanted transfer earlier = transfer_text (entry_of wanted transfer (length (parts_of wanted earlier)))
+line_of wanted transfer earlier =
+    transfer_text (entry_of wanted transfer (length (parts_of wanted earlier)))
 
 -- a line for each transfer
 unfoldable pub lines_of : Wanted → List Transfer → List ℕ
@@ -107,7 +109,8 @@ unpacking_by wanted end order =
 
 -- what comes of a stream
 unfoldable pub unpacking : Wanted → List ℕ → Outcome
-unpacking wanted bytes = let reading = reading_of bytes in unpacking_by wanted reading.end (ordered (heads_of reading))
+unpacking wanted bytes =
+    let reading = reading_of bytes in unpacking_by wanted reading.end (ordered (heads_of reading))
 
 -- the line of a stop that more bytes do not mend
 abbrev pub lasting_stop : Option (ℕ × OrderFault) → End → List ℕ
@@ -124,7 +127,9 @@ unpacking_sofar_by wanted end order =
 
 -- what of it these bytes determine, however they go on
 unfoldable pub unpacking_sofar : Wanted → List ℕ → Texts
-unpacking_sofar wanted bytes = let reading = reading_of bytes in unpacking_sofar_by wanted reading.end (ordered (heads_of reading))
+unpacking_sofar wanted bytes =
+    let reading = reading_of bytes in
+    unpacking_sofar_by wanted reading.end (ordered (heads_of reading))
 
 -- whether a head is refused, or the end is a fault
 abbrev pub is_stopped : Option (ℕ × OrderFault) → End → Bool
@@ -136,7 +141,9 @@ unpacking_shows_by end order = is_stopped order.refused end
 
 -- whether these bytes show a fault, of the stream or of the order of its messages
 unfoldable pub unpacking_shows : List ℕ → Bool
-unpacking_shows bytes = let reading = reading_of bytes in unpacking_shows_by reading.end (ordered (heads_of reading))
+unpacking_shows bytes =
+    let reading = reading_of bytes in unpacking_shows_by reading.end (ordered (heads_of reading))
 
 abbrev pub unpack_tool : Wanted → Tool
-unpack_tool wanted = record { whole = unpacking wanted; sofar = unpacking_sofar wanted; shows = unpacking_shows }
+unpack_tool wanted =
+    record { whole = unpacking wanted; sofar = unpacking_sofar wanted; shows = unpacking_shows }

@@ -123,12 +123,12 @@ impl TransferScan {
     /// Takes the next piece of its data, and returns what of it is written.
     #[inline(always)]
     pub fn take<'a>(&mut self, piece: &'a [u8]) -> &'a [u8]
-        ensures follows { (transfer : Transfer) (closed : _) (earlier : List Transfer) →
-            self.old.total + length piece.now < 2 ^ 63
+        ensures follows { (transfer : Transfer) (closed : _) (earlier : List Transfer)
+            → self.old.total + length piece.now < 2 ^ 63
             → Follows self.old transfer earlier → Follows self.new (grown transfer piece.now
             closed) earlier }
-        ensures part { (transfer : Transfer) (closed : _) (earlier : List Transfer) →
-            self.old.total + length piece.now < 2 ^ 63
+        ensures part { (transfer : Transfer) (closed : _) (earlier : List Transfer)
+            → self.old.total + length piece.now < 2 ^ 63
             → Follows self.old transfer earlier
             → part_of self.old.wanted (grown transfer piece.now closed) ≡ part_of self.old.wanted
             transfer ++ result.now }

@@ -74,8 +74,8 @@ fn take<R: InDevice, W: OutDevice, E: OutDevice>(
     requires { IsTrue (may_go_on stage session.old) }
     ensures fits { IsTrue (may_go_on result session.new) }
     ensures gives { (start : Devices R W E) (history : List ℕ) → IsUnpacking R.state W.state
-        E.state start stage session.old writers.old unpacker.old history →
-        GivesStage R.state W.state E.state start unpacker.old.latest.wanted stage session.old
+        E.state start stage session.old writers.old unpacker.old history
+        → GivesStage R.state W.state E.state start unpacker.old.latest.wanted stage session.old
         session.new writers.new unpacker.new history result }
     ensures wanted { unpacker.new.latest.wanted ≡ unpacker.old.latest.wanted }
     ensures ended { (answer : _) → stage ≡ Stage.Ended answer → (session.new ≡ session.old) ×
@@ -99,8 +99,8 @@ fn take_contact<R: InDevice, W: OutDevice, E: OutDevice>(
     requires { IsTrue (may_open session.old) }
     ensures fits { IsTrue (may_go_on result session.new) }
     ensures gives { (start : Devices R W E) (history : List ℕ) → IsUnpacking R.state W.state
-        E.state start Stage.Contact session.old writers.old unpacker.now history →
-        GivesStage R.state W.state E.state start unpacker.now.latest.wanted Stage.Contact
+        E.state start Stage.Contact session.old writers.old unpacker.now history
+        → GivesStage R.state W.state E.state start unpacker.now.latest.wanted Stage.Contact
         session.old session.new writers.new unpacker.now history result }
 {
     match session.open() {
@@ -119,8 +119,8 @@ fn take_message<R: InDevice, W: OutDevice, E: OutDevice>(
     requires { IsTrue (may_read session.old) }
     ensures fits { IsTrue (may_go_on result session.new) }
     ensures gives { (start : Devices R W E) (history : List ℕ) → IsUnpacking R.state W.state
-        E.state start Stage.Message session.old writers.old unpacker.old history →
-        GivesStage R.state W.state E.state start unpacker.old.latest.wanted Stage.Message
+        E.state start Stage.Message session.old writers.old unpacker.old history
+        → GivesStage R.state W.state E.state start unpacker.old.latest.wanted Stage.Message
         session.old session.new writers.new unpacker.new history result }
     ensures wanted { unpacker.new.latest.wanted ≡ unpacker.old.latest.wanted }
 {
@@ -159,8 +159,8 @@ fn begin<R: InDevice, W: OutDevice, E: OutDevice>(
     requires totals { SegmentHasTotals message.now }
     ensures fits { IsTrue (may_go_on result session.now) }
     ensures gives { (start : Devices R W E) (history : List ℕ) → IsBeginning R.state W.state
-        E.state start abandoned last session.now writers.old unpacker.old message.now history →
-        StandsAfter R.state W.state E.state start unpacker.old.latest.wanted result session.now
+        E.state start abandoned last session.now writers.old unpacker.old message.now history
+        → StandsAfter R.state W.state E.state start unpacker.old.latest.wanted result session.now
         writers.new unpacker.new history }
     ensures wanted { unpacker.new.latest.wanted ≡ unpacker.old.latest.wanted }
 {
@@ -196,8 +196,8 @@ fn take_data<R: InDevice, W: OutDevice, E: OutDevice>(
     requires { IsTrue (is_opened session.old) }
     ensures fits { IsTrue (may_go_on result session.new) }
     ensures gives { (start : Devices R W E) (history : List ℕ) → IsUnpacking R.state W.state
-        E.state start (Stage.Data last) session.old writers.old unpacker.old history →
-        GivesStage R.state W.state E.state start unpacker.old.latest.wanted (Stage.Data last)
+        E.state start (Stage.Data last) session.old writers.old unpacker.old history
+        → GivesStage R.state W.state E.state start unpacker.old.latest.wanted (Stage.Data last)
         session.old session.new writers.new unpacker.new history result }
     ensures wanted { unpacker.new.latest.wanted ≡ unpacker.old.latest.wanted }
 {
@@ -225,11 +225,11 @@ fn go_on<R: InDevice, W: OutDevice, E: OutDevice>(
     requires { IsTrue (is_opened session.now) }
     ensures fits { IsTrue (may_go_on result session.now) }
     ensures gives { (start : Devices R W E) (history : List ℕ) → IsJoining R.state W.state E.state
-        start last session.now writers.old unpacker.old history →
-        StandsAfter R.state W.state E.state start unpacker.old.latest.wanted result session.now
+        start last session.now writers.old unpacker.old history
+        → StandsAfter R.state W.state E.state start unpacker.old.latest.wanted result session.now
         writers.new unpacker.new history }
-    ensures other { last ≡ false → left_of session.now ≡ 0 →
-        (result ≡ Stage.Message) × (writers.new ≡ writers.old) × (unpacker.new ≡ unpacker.old) }
+    ensures other { last ≡ false → left_of session.now ≡ 0
+        → (result ≡ Stage.Message) × (writers.new ≡ writers.old) × (unpacker.new ≡ unpacker.old) }
     ensures wanted { unpacker.new.latest.wanted ≡ unpacker.old.latest.wanted }
 {
     if session.left() > 0 {
@@ -250,12 +250,12 @@ fn report<W: OutDevice, E: OutDevice>(
     abandoned: bool,
 ) -> Result<(), IoFault>
     ensures gives { (transfer : Transfer) (earlier : List Transfer) → Follows unpacker.old.latest
-        transfer earlier → abandoned ≡ not transfer.closed →
-        GivesTexts W.state E.state writers.old writers.new (on_report (line_of
+        transfer earlier → abandoned ≡ not transfer.closed
+        → GivesTexts W.state E.state writers.old writers.new (on_report (line_of
         unpacker.old.latest.wanted transfer earlier)) result }
     ensures good { (transfer : Transfer) (earlier : List Transfer) → Follows unpacker.old.latest
-        transfer earlier → abandoned ≡ not transfer.closed →
-        unpacker.new.good ≡ (is_good (judgement_of transfer) && unpacker.old.good) }
+        transfer earlier → abandoned ≡ not transfer.closed
+        → unpacker.new.good ≡ (is_good (judgement_of transfer) && unpacker.old.good) }
     ensures latest { unpacker.new.latest ≡ unpacker.old.latest }
     ensures joiner { unpacker.new.joiner ≡ unpacker.old.joiner }
 {
@@ -271,12 +271,12 @@ fn abandon<W: OutDevice, E: OutDevice>(
     writers: &mut Writers<W, E>,
     unpacker: &mut Unpacker,
 ) -> Result<(), IoFault>
-    ensures gives { (transfers : List Transfer) → IsOpen abandoned unpacker.old.latest transfers →
-        GivesTexts W.state E.state writers.old writers.new (on_report (last_lines
+    ensures gives { (transfers : List Transfer) → IsOpen abandoned unpacker.old.latest transfers
+        → GivesTexts W.state E.state writers.old writers.new (on_report (last_lines
         unpacker.old.latest.wanted transfers)) result }
-    ensures good { (transfers : List Transfer) → IsOpen abandoned unpacker.old.latest transfers →
-        unpacker.old.good ≡ are_good (settled transfers) →
-        unpacker.new.good ≡ are_good transfers }
+    ensures good { (transfers : List Transfer) → IsOpen abandoned unpacker.old.latest transfers
+        → unpacker.old.good ≡ are_good (settled transfers)
+        → unpacker.new.good ≡ are_good transfers }
     ensures latest { unpacker.new.latest ≡ unpacker.old.latest }
     ensures joiner { unpacker.new.joiner ≡ unpacker.old.joiner }
 {
@@ -293,8 +293,8 @@ fn finish<W: OutDevice, E: OutDevice>(writers: &mut Writers<W, E>, unpacker: &mu
     ensures latest { unpacker.new.latest ≡ unpacker.old.latest }
     ensures gives { (transfers : List Transfer) (messages : List Message) → IsJoinerAt
         unpacker.old.joiner messages → IsOpen (is_some (open_of messages)) unpacker.old.latest
-        transfers →
-        GivesFinish W.state E.state unpacker.old transfers writers.old writers.new result }
+        transfers
+        → GivesFinish W.state E.state unpacker.old transfers writers.old writers.new result }
 {
     let is_open = unpacker.joiner.open().is_some();
     match abandon(is_open, writers, unpacker) {

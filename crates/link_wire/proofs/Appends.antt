@@ -1,5 +1,6 @@
 -- What is appended in turn is appended in one.
 use Rattle.std.proofs.Common.{◌≡◌, ℕ, List, ◌++◌, ap, ◌∙◌, append_assoc}
 
-pub then_append : (old mid new first second : List ℕ) → mid ≡ old ++ first → new ≡ mid ++ second → new ≡ old ++ (first ++ second)
+pub then_append : (old mid new first second : List ℕ) → mid ≡ old ++ first → new ≡ mid ++ second
+    → new ≡ old ++ (first ++ second)
 then_append old mid new first second p q = q ∙ ap (λ bytes. bytes ++ second) p ∙ append_assoc old first second

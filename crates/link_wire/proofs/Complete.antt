@@ -42,7 +42,8 @@ byte_at-pow zero top low fits = let none : top * 1 + low ≡ top = omega arith i
 byte_at-pow (suc k) top low fits = ap (λ (n : ℕ). n % 256) (div-mul-add top (256 ^ suc k) low fits)
 
 -- the bytes of a number are those that it was read from, whatever stands above them
-bytes_of_number : (xs : List ℕ) (top : ℕ) → AreBytes xs → bytes_high_first (length xs) (top * 256 ^ length xs + big_from 0 (length xs) xs) ≡ xs
+bytes_of_number : (xs : List ℕ) (top : ℕ) → AreBytes xs
+    → bytes_high_first (length xs) (top * 256 ^ length xs + big_from 0 (length xs) xs) ≡ xs
 bytes_of_number [] top are = refl
 bytes_of_number (x ∷ xs) top are =
     let k = length xs in
@@ -62,9 +63,11 @@ be-number k xs are size =
 
 -- what was read stands spelled in before of what is after it
 pub record Found {A : Type 0} (part : List ℕ → Part A) (spelled : A → Spelling) : Type 0 where
-  pub by : (bytes : List ℕ) (value : A) (rest : List ℕ) → AreBytes bytes → part bytes ≡ Ok (value, rest) → FollowedBy (spelled value) (λ after. after ≡ rest) bytes
+  pub by : (bytes : List ℕ) (value : A) (rest : List ℕ) → AreBytes bytes
+      → part bytes ≡ Ok (value, rest) → FollowedBy (spelled value) (λ after. after ≡ rest) bytes
 
-pub found_pure : {A : Type 0} (value : A) {spelled : A → Spelling} → spelled value [] → Found (λ bytes. Ok (value, bytes)) spelled
+pub found_pure : {A : Type 0} (value : A) {spelled : A → Spelling} → spelled value []
+    → Found (λ bytes. Ok (value, bytes)) spelled
 found_pure {A} value {spelled} is = record {
   by = λ bytes other rest are read.
       let same = same_part read in
@@ -72,11 +75,14 @@ found_pure {A} value {spelled} is = record {
       record { before = []; after = bytes; is_first = subst P same.0 is; is_second = same.1; parts = refl };
 }
 
-pub found_err : {A : Type 0} (fault : WireFault) {spelled : A → Spelling} → Found (λ bytes. let part : Part A = Err fault in part) spelled
+pub found_err : {A : Type 0} (fault : WireFault) {spelled : A → Spelling}
+    → Found (λ bytes. let part : Part A = Err fault in part) spelled
 found_err fault = record { by = λ bytes other rest are read. absurd (cc) }
 
 -- what is found after a before
-after_prefix : (spelled : Spelling) (rest bytes before after : List ℕ) → bytes ≡ before ++ after → FollowedBy (λ more. spelled (before ++ more)) (λ more. more ≡ rest) after → FollowedBy spelled (λ more. more ≡ rest) bytes
+after_prefix : (spelled : Spelling) (rest bytes before after : List ℕ) → bytes ≡ before ++ after
+    → FollowedBy (λ more. spelled (before ++ more)) (λ more. more ≡ rest) after
+    → FollowedBy spelled (λ more. more ≡ rest) bytes
 after_prefix spelled rest bytes before after whole is = record {
   before = before ++ is.before;
   after = is.after;
@@ -85,8 +91,12 @@ after_prefix spelled rest bytes before after whole is = record {
   parts = whole ∙ ap (λ all. before ++ all) is.parts ∙ sym (append_assoc before is.before is.after);
 }
 
-module _ {A B : Type 0} (part : List ℕ → Part A) (next : A × List ℕ → Part B) {first : A → Spelling} {spelled : B → Spelling} where
-  pub found_then : Found part first → ((value : A) (before : List ℕ) → first value before → Found (λ bytes. next (value, bytes)) (λ given after. spelled given (before ++ after))) → Found (λ bytes. part bytes >>= next) spelled
+module _ {A B : Type 0} (part : List ℕ → Part A) (next : A × List ℕ → Part B) {first : A → Spelling}
+    {spelled : B → Spelling} where
+  pub found_then : Found part first
+      → ((value : A) (before : List ℕ) → first value before
+      → Found (λ bytes. next (value, bytes)) (λ given after. spelled given (before ++ after)))
+      → Found (λ bytes. part bytes >>= next) spelled
   found_then found more = record {
     by = λ bytes given rest are is.
         let read = both_read (part bytes) next (given, rest) is in
@@ -97,7 +107,9 @@ module _ {A B : Type 0} (part : List ℕ → Part A) (next : A × List ℕ → P
   }
 
 module _ {A : Type 0} (part other : List ℕ → Part A) {spelled : A → Spelling} where
-  pub found_if : (test : Bool) → (test ≡ true → Found part spelled) → (test ≡ false → Found other spelled) → Found (λ bytes. if test then part bytes else other bytes) spelled
+  pub found_if : (test : Bool) → (test ≡ true → Found part spelled)
+      → (test ≡ false → Found other spelled)
+      → Found (λ bytes. if test then part bytes else other bytes) spelled
   found_if true first second = first refl
   found_if false first second = second refl
 
@@ -140,7 +152,8 @@ found_u32 = found_number 4
 pub found_u64 : Found (number_at 8) U64
 found_u64 = found_number 8
 
-found_node_bytes : (size : ℕ) → Found (node_bytes_at size) (λ node bytes. (length node.items ≡ size) × These node.items bytes)
+found_node_bytes : (size : ℕ)
+    → Found (node_bytes_at size) (λ node bytes. (length node.items ≡ size) × These node.items bytes)
 unfolding node_bytes_at
 found_node_bytes size =
     found_then _ _ (found_bytes size) (λ content before is.
@@ -179,7 +192,8 @@ found_item_head left =
     found_pure (record { flags = flags; kind = kind; length = size })
     (both first _ one (both second _ two (last (U16 size) third three)), omega (arith, ltb-false left 5 room, ltb-false (left - 5) size fits)))))))
 
-found_skipped : (n : ℕ) → Found (skipped_at n) (λ nothing bytes. AreBytes bytes × (length bytes ≡ n))
+found_skipped : (n : ℕ)
+    → Found (skipped_at n) (λ nothing bytes. AreBytes bytes × (length bytes ≡ n))
 unfolding skipped_at
 found_skipped n =
     found_then _ _ (found_bytes n) (λ content before is.
@@ -198,7 +212,8 @@ found_number_of n =
     found_pure (big_number n content) (subst AreBytes (sym same) is.0, ap length same ∙ is.2, ap (big_number n) (sym same)))
 
 module _ (of : ListOf) (kind size : ℕ) where
-  known_by : (test : Bool) (value : List ℕ) → gives_total of kind size ≡ test → (if test then Some (big_number 8 value) else None) ≡ total_of of kind size value
+  known_by : (test : Bool) (value : List ℕ) → gives_total of kind size ≡ test
+      → (if test then Some (big_number 8 value) else None) ≡ total_of of kind size value
   known_by test value known = ap (λ test. if test then Some (big_number 8 value) else None) (sym known)
 
   found_value : Found (total_at of kind size) (ValueSpelled of kind size)
@@ -216,7 +231,8 @@ abbrev ItemsWithin : ListOf → ℕ → ℕ → List Item → Spelling
 ItemsWithin of room left items bytes = ItemsFilling of items left bytes × (length items ≤ room)
 
 module _ (of : ListOf) where
-  found_none : (room left : ℕ) → eqb left 0 ≡ true → Found (λ bytes. Ok ([], bytes)) (ItemsWithin of room left)
+  found_none : (room left : ℕ) → eqb left 0 ≡ true
+      → Found (λ bytes. Ok ([], bytes)) (ItemsWithin of room left)
   found_none room left none = found_pure [] ((refl, sym (eqb-true left 0 none)), omega arith)
 
   found_items : (room left : ℕ) → Found (items_at of room left) (ItemsWithin of room left)
@@ -237,7 +253,8 @@ module _ (of : ListOf) where
       let size : length ((first ++ second) ++ third) ≡ left = omega (arith, one.1, two.1, three.0.1, length-append (first ++ second) third, length-append first second) in
       found_pure (item ∷ items) (subst (ItemsFilling of (item ∷ items) left) (sym all) (all_is, size), omega (arith, three.1))))))
 
-  found_items_of : (size : ℕ) → Found (items_of of size) (λ items. ItemsWithin of most_items size items.items)
+  found_items_of : (size : ℕ)
+      → Found (items_of of size) (λ items. ItemsWithin of most_items size items.items)
   unfolding items_of
   found_items_of size =
       found_then _ _ (found_items most_items size) (λ items before is.
@@ -266,7 +283,8 @@ module _ (of : ListOf) where
             };
       }))
 
-found_segment_items : (flags : ℕ) → Found (segment_items_at flags) (SegmentItemsSpelled (is_start flags))
+found_segment_items : (flags : ℕ)
+    → Found (segment_items_at flags) (SegmentItemsSpelled (is_start flags))
 unfolding segment_items_at
 found_segment_items flags =
     found_if _ _ (is_start flags)
@@ -275,7 +293,8 @@ found_segment_items flags =
 
 -- what follows the type byte of a message, in before of which that byte stands
 module _ (before : List ℕ) where
-  found_segment : U8 1 before → Found segment_at (λ message after. HeadSpelled message (before ++ after))
+  found_segment : U8 1 before
+      → Found segment_at (λ message after. HeadSpelled message (before ++ after))
   unfolding segment_at
   found_segment kind =
       found_then _ _ found_u8 (λ flags first one.
@@ -293,28 +312,32 @@ module _ (before : List ℕ) where
       found_then _ _ found_u64 (λ size third three.
       found_pure (Ack flags id size) (both before _ kind (both first _ one (both second _ two (last (U64 size) third three)))))))
 
-  found_refuse : U8 3 before → Found refuse_at (λ message after. HeadSpelled message (before ++ after))
+  found_refuse : U8 3 before
+      → Found refuse_at (λ message after. HeadSpelled message (before ++ after))
   unfolding refuse_at
   found_refuse kind =
       found_then _ _ found_u8 (λ reason first one.
       found_then _ _ found_u64 (λ id second two.
       found_pure (Refuse reason id) (both before _ kind (both first _ one (last (U64 id) second two)))))
 
-  found_sess_term : U8 5 before → Found sess_term_at (λ message after. HeadSpelled message (before ++ after))
+  found_sess_term : U8 5 before
+      → Found sess_term_at (λ message after. HeadSpelled message (before ++ after))
   unfolding sess_term_at
   found_sess_term kind =
       found_then _ _ found_u8 (λ flags first one.
       found_then _ _ found_u8 (λ reason second two.
       found_pure (SessTerm flags reason) (both before _ kind (both first _ one (last (U8 reason) second two)))))
 
-  found_msg_reject : U8 6 before → Found msg_reject_at (λ message after. HeadSpelled message (before ++ after))
+  found_msg_reject : U8 6 before
+      → Found msg_reject_at (λ message after. HeadSpelled message (before ++ after))
   unfolding msg_reject_at
   found_msg_reject kind =
       found_then _ _ found_u8 (λ reason first one.
       found_then _ _ found_u8 (λ header second two.
       found_pure (MsgReject reason header) (both before _ kind (both first _ one (last (U8 header) second two)))))
 
-  found_sess_init : U8 7 before → Found sess_init_at (λ message after. HeadSpelled message (before ++ after))
+  found_sess_init : U8 7 before
+      → Found sess_init_at (λ message after. HeadSpelled message (before ++ after))
   unfolding sess_init_at
   found_sess_init kind =
       found_then _ _ found_u16 (λ keepalive first one.
@@ -329,7 +352,8 @@ module _ (before : List ℕ) where
   is_kind : (kind n : ℕ) → eqb kind n ≡ true → U8 kind before → U8 n before
   is_kind kind n known is = let same : kind ≡ n = eqb-true kind n known in let P : ℕ → Type 0 = λ k. U8 k before in subst P same is
 
-  found_fields : (kind : ℕ) → U8 kind before → Found (fields_at kind) (λ message after. HeadSpelled message (before ++ after))
+  found_fields : (kind : ℕ) → U8 kind before
+      → Found (fields_at kind) (λ message after. HeadSpelled message (before ++ after))
   unfolding fields_at
   found_fields kind is =
       found_if _ _ (eqb kind 1) (λ known. found_segment (is_kind kind 1 known is)) (λ _.
@@ -347,8 +371,10 @@ unfolding message_at
 found_message = found_then _ _ found_u8 (λ kind before is. found_fields before kind is)
 
 -- the six bytes of a contact header
-six_bytes : (header : List ℕ) → AreBytes header → length header ≡ 6 → big_number 4 header ≡ 0x64746e21 → slice_index header 4 ≡ 4
-    → (slice_index header 5 < 256) × (header ≡ 0x64 ∷ 0x74 ∷ 0x6e ∷ 0x21 ∷ 4 ∷ slice_index header 5 ∷ [])
+six_bytes : (header : List ℕ) → AreBytes header → length header ≡ 6
+    → big_number 4 header ≡ 0x64746e21 → slice_index header 4 ≡ 4
+    → (slice_index header 5 < 256)
+    × (header ≡ 0x64 ∷ 0x74 ∷ 0x6e ∷ 0x21 ∷ 4 ∷ slice_index header 5 ∷ [])
 six_bytes [] are size magic version = absurd (omega arith)
 six_bytes (a ∷ []) are size magic version = absurd (omega arith)
 six_bytes (a ∷ b ∷ []) are size magic version = absurd (omega arith)

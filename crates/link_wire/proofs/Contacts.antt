@@ -12,12 +12,14 @@ use Rattle.link_wire.specs.declared.fault.WireFault.TheVariants.{Truncated}
 use Rattle.link_wire.specs.declared.message.Contact.{Contact}
 
 -- both tests were passed
-passed : {A : Type 0} (first second : Bool) (x y : A) (e f : WireFault) → (if first then (if second then Ok x else Err e) else Err f) ≡ Ok y → x ≡ y
+passed : {A : Type 0} (first second : Bool) (x y : A) (e f : WireFault)
+    → (if first then (if second then Ok x else Err e) else Err f) ≡ Ok y → x ≡ y
 passed true true x y e f is = cc
 passed true false x y e f is = absurd (cc)
 passed false second x y e f is = absurd (cc)
 
-pub contact_size : (bytes : List ℕ) (contact : Contact) (rest : List ℕ) → contact_at bytes ≡ Ok (contact, rest) → length bytes ≡ 6 + length rest
+pub contact_size : (bytes : List ℕ) (contact : Contact) (rest : List ℕ)
+    → contact_at bytes ≡ Ok (contact, rest) → length bytes ≡ 6 + length rest
 unfolding contact_at
 contact_size bytes contact rest is =
     let read = both_read (bytes_at 6 bytes) _ (contact, rest) is in
@@ -31,16 +33,24 @@ contact_size bytes contact rest is =
     omega (arith, ap length later, ap length (same_part found).1, length-drop 6 bytes))
     (cases_lt (length bytes) 6)
 
-module _ (taken : List ℕ) (contact : Contact) (is : (more : List ℕ) → contact_at (taken ++ more) ≡ Ok (contact, more)) where
+module _ (taken : List ℕ) (contact : Contact)
+    (is : (more : List ℕ) → contact_at (taken ++ more) ≡ Ok (contact, more)) where
   pub contact_taken : length taken ≡ 6
   contact_taken = omega (arith, contact_size (taken ++ []) contact [] (is []), length-append taken [])
 
   -- what follows the contact header is read from offset 6 on
-  pub reading-contact : (more : List ℕ) → reading_of (taken ++ more) ≡ record { contact = Some contact; entries = (stream_at 6 more).entries; end = (stream_at 6 more).end }
+  pub reading-contact : (more : List ℕ)
+      → reading_of (taken ++ more)
+      ≡ record {
+        contact = Some contact;
+        entries = (stream_at 6 more).entries;
+        end = (stream_at 6 more).end;
+      }
   unfolding reading_of
   reading-contact more = ap reading_by (is more)
 
-pub reading-refused : (bytes : List ℕ) (fault : WireFault) → contact_at bytes ≡ Err fault → reading_of bytes ≡ record { contact = None; entries = []; end = Fault 0 fault }
+pub reading-refused : (bytes : List ℕ) (fault : WireFault) → contact_at bytes ≡ Err fault
+    → reading_of bytes ≡ record { contact = None; entries = []; end = Fault 0 fault }
 unfolding reading_of
 reading-refused bytes fault is = ap reading_by is
 

@@ -12,18 +12,21 @@ pub bytes_at-short : (n : ℕ) (bytes : List ℕ) → length bytes < n → bytes
 unfolding bytes_at
 bytes_at-short n bytes short = rw (lt-ltb (length bytes) n short) refl
 
-pub bytes_at-enough : (n : ℕ) (bytes : List ℕ) → n ≤ length bytes → bytes_at n bytes ≡ Ok (take n bytes, drop n bytes)
+pub bytes_at-enough : (n : ℕ) (bytes : List ℕ) → n ≤ length bytes
+    → bytes_at n bytes ≡ Ok (take n bytes, drop n bytes)
 unfolding bytes_at
 bytes_at-enough n bytes enough = rw (le-ltb (length bytes) n enough) refl
 
-pub bytes_at-there : (field more : List ℕ) → bytes_at (length field) (field ++ more) ≡ Ok (field, more)
+pub bytes_at-there : (field more : List ℕ)
+    → bytes_at (length field) (field ++ more) ≡ Ok (field, more)
 unfolding bytes_at
 bytes_at-there field more =
     let there : length field ≤ length (field ++ more) = omega (arith, length-append field more) in
     rw (le-ltb (length (field ++ more)) (length field) there, take-append_seam, drop-append_seam) refl
 
 -- a vector is the list of its elements
-pub array_vec_of : {T : Type 0} (v : ArrayVec T) (xs : List T) → v.items ≡ xs → v ≡ record { items = xs }
+pub array_vec_of : {T : Type 0} (v : ArrayVec T) (xs : List T) → v.items ≡ xs
+    → v ≡ record { items = xs }
 array_vec_of {T} v xs same =
     let from : List T → ArrayVec T = λ ys. record { items = ys } in
     ap from same
@@ -36,7 +39,9 @@ number_at-byte b rest =
     ap (λ read. read >>= λ field. Ok (big_number 1 field.0, field.1)) (bytes_at-there (b ∷ []) rest) ∙ ap (λ n. Ok (n, rest)) one
 
 -- what was read is one
-pub same_part : {A : Type 0} {value other : A} {bytes more : List ℕ} → (let read : Part A = Ok (value, bytes) in read) ≡ Ok (other, more) → (value ≡ other) × (bytes ≡ more)
+pub same_part : {A : Type 0} {value other : A} {bytes more : List ℕ}
+    → (let read : Part A = Ok (value, bytes) in read) ≡ Ok (other, more)
+    → (value ≡ other) × (bytes ≡ more)
 same_part {A} {value} {other} {bytes} {more} is =
     let both : (value, bytes) ≡ (other, more) = cc in
     (ap (λ (p : A × List ℕ). p.0) both, ap (λ (p : A × List ℕ). p.1) both)

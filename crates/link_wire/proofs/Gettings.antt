@@ -27,7 +27,8 @@ module _ {A B : Type 0} (part : List ℕ → Part A) (next : A × List ℕ → P
   needs_exit bytes needs count fewer = ap (λ r. r >>= next) (needs count fewer)
 
   -- what shows a fault of a part shows it of what goes on from it
-  pub IsFault-exit : (bytes : List ℕ) (fault : WireFault) → IsFault part bytes fault → IsFault (λ bytes. part bytes >>= next) bytes fault
+  pub IsFault-exit : (bytes : List ℕ) (fault : WireFault) → IsFault part bytes fault
+      → IsFault (λ bytes. part bytes >>= next) bytes fault
   IsFault-exit bytes fault is = record {
     is_fault = λ more may. ap (λ r. r >>= next) (is.is_fault more may);
     needs = needs_exit bytes is.needs;
@@ -37,10 +38,12 @@ module _ {A B : Type 0} (part : List ℕ → Part A) (next : A × List ℕ → P
     part_then : part (first ++ second) >>= next ≡ next (value, second)
     part_then = ap (λ r. r >>= next) (is.is_part second)
 
-    part_then_more : (more : List ℕ) → part ((first ++ second) ++ more) >>= next ≡ next (value, second ++ more)
+    part_then_more : (more : List ℕ)
+        → part ((first ++ second) ++ more) >>= next ≡ next (value, second ++ more)
     part_then_more more = rw append_assoc (ap (λ r. r >>= next) (is.is_part (second ++ more)))
 
-    needs_then : Needs (λ bytes. next (value, bytes)) second → Needs (λ bytes. part bytes >>= next) (first ++ second)
+    needs_then : Needs (λ bytes. next (value, bytes)) second
+        → Needs (λ bytes. part bytes >>= next) (first ++ second)
     needs_then needs count fewer =
         ⊎_elim
         (λ less.
@@ -53,26 +56,31 @@ module _ {A B : Type 0} (part : List ℕ → Part A) (next : A × List ℕ → P
         ap (λ bytes. part bytes >>= next) begun ∙ ap (λ r. r >>= next) (is.is_part (take rest second)) ∙ needs rest (omega (arith, length-append first second)))
         (cases_lt count (length first))
 
-    pub IsPart-then : (other : B) → IsPart (λ bytes. next (value, bytes)) second other → IsPart (λ bytes. part bytes >>= next) (first ++ second) other
+    pub IsPart-then : (other : B) → IsPart (λ bytes. next (value, bytes)) second other
+        → IsPart (λ bytes. part bytes >>= next) (first ++ second) other
     IsPart-then other more = record {
       is_part = λ rest. part_then_more rest ∙ more.is_part rest;
       needs = needs_then more.needs;
     }
 
-    pub IsFault-then : (fault : WireFault) → IsFault (λ bytes. next (value, bytes)) second fault → IsFault (λ bytes. part bytes >>= next) (first ++ second) fault
+    pub IsFault-then : (fault : WireFault) → IsFault (λ bytes. next (value, bytes)) second fault
+        → IsFault (λ bytes. part bytes >>= next) (first ++ second) fault
     IsFault-then fault more = record {
       is_fault = λ rest may. part_then_more rest ∙ more.is_fault rest may;
       needs = needs_then more.needs;
     }
 
-    pub cut_then : next (value, second) ≡ Err Truncated → part (first ++ second) >>= next ≡ Err Truncated
+    pub cut_then : next (value, second) ≡ Err Truncated
+        → part (first ++ second) >>= next ≡ Err Truncated
     cut_then is_cut = part_then ∙ is_cut
 
 -- ---- over sources
 
-module _ {R A B : Type 0} {look : R → Input} {part : List ℕ → Part A} (next : A × List ℕ → Part B) where
+module _ {R A B : Type 0} {look : R → Input} {part : List ℕ → Part A}
+    (next : A × List ℕ → Part B) where
   -- a part that was not read: nothing that goes on from it was
-  pub exit : {old new : Source R} {stop : Halt} → Gets look part old new (Err stop) → Gets look (λ bytes. part bytes >>= next) old new (Err stop)
+  pub exit : {old new : Source R} {stop : Halt} → Gets look part old new (Err stop)
+      → Gets look (λ bytes. part bytes >>= next) old new (Err stop)
   exit {stop = halt.Wire fault} met = record {
     by = record {
       given = met.by.given;
@@ -90,7 +98,9 @@ module _ {R A B : Type 0} {look : R → Input} {part : List ℕ → Part A} (nex
   }
 
   -- a part that was read, and what goes on from it
-  pub after : {old mid new : Source R} {value : A} {outcome : Result B Halt} → Gets look part old mid (Ok value) → Gets look (λ bytes. next (value, bytes)) mid new outcome → Gets look (λ bytes. part bytes >>= next) old new outcome
+  pub after : {old mid new : Source R} {value : A} {outcome : Result B Halt}
+      → Gets look part old mid (Ok value) → Gets look (λ bytes. next (value, bytes)) mid new outcome
+      → Gets look (λ bytes. part bytes >>= next) old new outcome
   after {old} {mid} {new} {value} {outcome = Ok result} got more = record {
     by = record {
       given = got.by.given ++ more.by.given;
@@ -117,33 +127,43 @@ module _ {R A B : Type 0} {look : R → Input} {part : List ℕ → Part A} (nex
 
 module _ {R A : Type 0} {look : R → Input} where
   -- a part that was read leaves the source as it was before
-  pub is_live : {part : List ℕ → Part A} {old new : Source R} {value : A} → Gets look part old new (Ok value) → IsLive look new
+  pub is_live : {part : List ℕ → Part A} {old new : Source R} {value : A}
+      → Gets look part old new (Ok value) → IsLive look new
   is_live got = got.by.live
 
   -- the same part, in other words
-  pub same_part : {part other : List ℕ → Part A} {old new : Source R} {outcome : Result A Halt} → ((bytes : List ℕ) → part bytes ≡ other bytes) → Gets look part old new outcome → Gets look other old new outcome
+  pub same_part : {part other : List ℕ → Part A} {old new : Source R} {outcome : Result A Halt}
+      → ((bytes : List ℕ) → part bytes ≡ other bytes) → Gets look part old new outcome
+      → Gets look other old new outcome
   same_part {old} {new} {outcome} same got =
       let P : (List ℕ → Part A) → Type 0 = λ p. Gets look p old new outcome in
       subst P (fun_ext same) got
 
   -- the exit of a `?`
-  pub exiting : {part : List ℕ → Part A} {old new : Source R} {stop : Halt} (outcome : Result A Halt) → IsErrAnd outcome (λ e. e ≡ stop) → Gets look part old new (Err stop) → Gets look part old new outcome
+  pub exiting : {part : List ℕ → Part A} {old new : Source R} {stop : Halt}
+      (outcome : Result A Halt) → IsErrAnd outcome (λ e. e ≡ stop)
+      → Gets look part old new (Err stop) → Gets look part old new outcome
   exiting (Ok value) is met = absurd is
   exiting (Err e) is met = rw is met
 
   -- the same in a function that leaves what it reads with its caller
-  pub leaving : {part : List ℕ → Part A} {old new : Source R} {stop : Halt} (value : A) (outcome : Result (Unit {0}) Halt) → IsErrAnd outcome (λ e. e ≡ stop) → Gets look part old new (Err stop) → Gets look part old new (with_value value outcome)
+  pub leaving : {part : List ℕ → Part A} {old new : Source R} {stop : Halt} (value : A)
+      (outcome : Result (Unit {0}) Halt) → IsErrAnd outcome (λ e. e ≡ stop)
+      → Gets look part old new (Err stop) → Gets look part old new (with_value value outcome)
   leaving value (Ok done) is met = absurd is
   leaving value (Err e) is met = rw is met
 
   -- no byte is needed
-  pub pure : {source : Source R} {value : A} → IsLive look source → Gets look (λ bytes. Ok (value, bytes)) source source (Ok value)
+  pub pure : {source : Source R} {value : A} → IsLive look source
+      → Gets look (λ bytes. Ok (value, bytes)) source source (Ok value)
   pure {source} live = record {
     by = record { given = []; takes = Takes-none look source; live = live; is = record { is_part = λ more. refl; needs = λ count fewer. absurd (omega arith) } };
   }
 
   -- a value that what was read before refuses
-  pub refuse : {source : Source R} {fault : WireFault} → fault ≢ Truncated → Gets look (λ bytes. let outcome : Part A = Err fault in outcome) source source (Err (halt.Wire fault))
+  pub refuse : {source : Source R} {fault : WireFault} → fault ≢ Truncated
+      → Gets look (λ bytes. let outcome : Part A = Err fault in
+      outcome) source source (Err (halt.Wire fault))
   refuse {source} not = record {
     by = record {
       given = [];
@@ -154,35 +174,42 @@ module _ {R A : Type 0} {look : R → Input} where
   }
 
   -- the part is chosen by what was read before
-  module _ (part other : List ℕ → Part A) {old new : Source R} {test : Bool} {outcome : Result A Halt} where
-    pub if_true : test ≡ true → Gets look part old new outcome → Gets look (λ bytes. if test then part bytes else other bytes) old new outcome
+  module _ (part other : List ℕ → Part A) {old new : Source R} {test : Bool}
+      {outcome : Result A Halt} where
+    pub if_true : test ≡ true → Gets look part old new outcome
+        → Gets look (λ bytes. if test then part bytes else other bytes) old new outcome
     if_true is h =
         let P : Bool → Type 0 = λ b. Gets look (λ bytes. if b then part bytes else other bytes) old new outcome in
         subst P (sym is) h
 
-    pub if_false : test ≡ false → Gets look other old new outcome → Gets look (λ bytes. if test then part bytes else other bytes) old new outcome
+    pub if_false : test ≡ false → Gets look other old new outcome
+        → Gets look (λ bytes. if test then part bytes else other bytes) old new outcome
     if_false is h =
         let P : Bool → Type 0 = λ b. Gets look (λ bytes. if b then part bytes else other bytes) old new outcome in
         subst P (sym is) h
 
 module _ {R : Type 0} {look : R → Input} {old new : Source R} where
   -- a number is its field's bytes
-  pub number_read : (n : ℕ) (field : List ℕ) → Gets look (bytes_at n) old new (Ok field) → Gets look (number_at n) old new (Ok (big_number n field))
+  pub number_read : (n : ℕ) (field : List ℕ) → Gets look (bytes_at n) old new (Ok field)
+      → Gets look (number_at n) old new (Ok (big_number n field))
   unfolding number_at
   number_read n field got = after _ got (pure (is_live got))
 
-  pub byte_read : (field : List ℕ) → Gets look (bytes_at 1) old new (Ok field) → Gets look (number_at 1) old new (Ok (slice_index field 0))
+  pub byte_read : (field : List ℕ) → Gets look (bytes_at 1) old new (Ok field)
+      → Gets look (number_at 1) old new (Ok (slice_index field 0))
   byte_read field got =
       let same : big_number 1 field ≡ slice_index field 0 = omega arith in
       rw (← same) (number_read 1 field got)
 
-  pub number_exit : (n : ℕ) {stop : Halt} → Gets look (bytes_at n) old new (Err stop) → Gets look (number_at n) old new (Err stop)
+  pub number_exit : (n : ℕ) {stop : Halt} → Gets look (bytes_at n) old new (Err stop)
+      → Gets look (number_at n) old new (Err stop)
   unfolding number_at
   number_exit n got = exit _ got
 
 module _ {R : Type 0} {look : R → Input} where
   -- bytes that were passed over
-  pub skip_none : {source : Source R} → IsLive look source → Gets look (skipped_at 0) source source (Ok tt)
+  pub skip_none : {source : Source R} → IsLive look source
+      → Gets look (skipped_at 0) source source (Ok tt)
   skip_none {source} live = record {
     by = record {
       given = [];
@@ -193,11 +220,13 @@ module _ {R : Type 0} {look : R → Input} where
   }
 
   module _ {old mid new : Source R} (a b : ℕ) where
-    pub skip_more : (n : ℕ) {piece : List ℕ} → a + b ≡ n → Gets look (skipped_at a) old mid (Ok tt) → Gets look (bytes_at b) mid new (Ok piece) → Gets look (skipped_at n) old new (Ok tt)
+    pub skip_more : (n : ℕ) {piece : List ℕ} → a + b ≡ n → Gets look (skipped_at a) old mid (Ok tt)
+        → Gets look (bytes_at b) mid new (Ok piece) → Gets look (skipped_at n) old new (Ok tt)
     unfolding skipped_at
     skip_more n is passed piece = rw (← is) (same_part (skipped_at-add a b) (after _ passed (after _ piece (pure (is_live piece)))))
 
-    pub skip_exit : (n : ℕ) {stop : Halt} → a + b ≤ n → Gets look (skipped_at a) old mid (Ok tt) → Gets look (bytes_at b) mid new (Err stop) → Gets look (skipped_at n) old new (Err stop)
+    pub skip_exit : (n : ℕ) {stop : Halt} → a + b ≤ n → Gets look (skipped_at a) old mid (Ok tt)
+        → Gets look (bytes_at b) mid new (Err stop) → Gets look (skipped_at n) old new (Err stop)
     unfolding skipped_at
     skip_exit n within passed met =
         let parts : a + (b + (n - (a + b))) ≡ n = omega arith in

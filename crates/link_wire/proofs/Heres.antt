@@ -21,17 +21,20 @@ use Rattle.link_wire.specs.declared.message.ListOf.{ListOf}
 use Rattle.link_wire.specs.declared.message.ListOf.TheVariants.{Session, Transfer}
 use Rattle.link_wire.specs.declared.message.Message.{Message}
 
-here_pure : {A : Type 0} (after : ℕ) (value : A) (bytes : List ℕ) → after ≤ length bytes → IsHere after (let read : Part A = Ok (value, bytes) in read)
+here_pure : {A : Type 0} (after : ℕ) (value : A) (bytes : List ℕ) → after ≤ length bytes
+    → IsHere after (let read : Part A = Ok (value, bytes) in read)
 here_pure after value bytes enough = record {
   whole = λ is. absurd (cc);
   follow = λ other rest is. let same : bytes ≡ rest = (same_part is).1 in omega (arith, enough, ap length same);
 }
 
-pub here_err : {A : Type 0} (after : ℕ) (fault : WireFault) → (fault ≡ Truncated → ⊥) → IsHere after (let read : Part A = Err fault in read)
+pub here_err : {A : Type 0} (after : ℕ) (fault : WireFault) → (fault ≡ Truncated → ⊥)
+    → IsHere after (let read : Part A = Err fault in read)
 here_err after fault other = record { whole = λ is. absurd (other (cc)); follow = λ value rest is. absurd (cc) }
 
 -- a part that `most` bytes decide
-here_within : {A : Type 0} (most after : ℕ) (part : List ℕ → Part A) (bytes : List ℕ) → Within most part → most + after ≤ length bytes → IsHere after (part bytes)
+here_within : {A : Type 0} (most after : ℕ) (part : List ℕ → Part A) (bytes : List ℕ)
+    → Within most part → most + after ≤ length bytes → IsHere after (part bytes)
 here_within most after part bytes within enough = record {
   whole = λ is. let short = within.cut bytes is in absurd (omega arith);
   follow = λ value rest is. let fewer = within.read bytes value rest is in omega arith;
@@ -40,7 +43,8 @@ here_within most after part bytes within enough = record {
 module _ {A B : Type 0} where
   -- a part, and what goes on from it
   here_then : (before after : ℕ) (read : Part A) (next : A × List ℕ → Part B) → IsHere before read
-      → ((value : A) (rest : List ℕ) → before ≤ length rest → IsHere after (next (value, rest))) → IsHere after (read >>= next)
+      → ((value : A) (rest : List ℕ) → before ≤ length rest → IsHere after (next (value, rest)))
+      → IsHere after (read >>= next)
   here_then before after read next is more = record {
     whole = λ cut. ⊎_elim is.whole (λ late. (more late.0.0 late.0.1 (is.follow late.0.0 late.0.1 late.1)).whole late.2) (both_cut read next Truncated cut);
     follow = λ value rest whole.
@@ -48,25 +52,29 @@ module _ {A B : Type 0} where
         (more both.0.0 both.0.1 (is.follow both.0.0 both.0.1 both.1)).follow value rest both.2;
   }
 
-number_enough : (k : ℕ) (bytes : List ℕ) → k ≤ length bytes → number_at k bytes ≡ Ok (big_number k (take k bytes), drop k bytes)
+number_enough : (k : ℕ) (bytes : List ℕ) → k ≤ length bytes
+    → number_at k bytes ≡ Ok (big_number k (take k bytes), drop k bytes)
 unfolding number_at
 number_enough k bytes enough = rw (bytes_at-enough k bytes enough) refl
 
 module _ {B : Type 0} where
   -- a number that is there, and what goes on from it
   here_number : (k after : ℕ) (bytes : List ℕ) (next : ℕ × List ℕ → Part B) → k ≤ length bytes
-      → IsHere after (next (big_number k (take k bytes), drop k bytes)) → IsHere after (number_at k bytes >>= next)
+      → IsHere after (next (big_number k (take k bytes), drop k bytes))
+      → IsHere after (number_at k bytes >>= next)
   here_number k after bytes next enough is =
       let P : Part ℕ → Type 0 = λ read. IsHere after (read >>= next) in
       subst P (sym (number_enough k bytes enough)) is
 
 module _ {A : Type 0} where
-  here_if : (after : ℕ) (test : Bool) (fault : WireFault) (read : Part A) → (fault ≡ Truncated → ⊥) → IsHere after read → IsHere after (if test then Err fault else read)
+  here_if : (after : ℕ) (test : Bool) (fault : WireFault) (read : Part A) → (fault ≡ Truncated → ⊥)
+      → IsHere after read → IsHere after (if test then Err fault else read)
   here_if after true fault read other is = here_err after fault other
   here_if after false fault read other is = is
 
 -- a list whose length and items are there
-pub here_list : (of : ListOf) (after : ℕ) (bytes : List ℕ) → 4 ≤ length bytes → 4 + big_number 4 (take 4 bytes) + after ≤ length bytes → IsHere after (list_at of bytes)
+pub here_list : (of : ListOf) (after : ℕ) (bytes : List ℕ) → 4 ≤ length bytes
+    → 4 + big_number 4 (take 4 bytes) + after ≤ length bytes → IsHere after (list_at of bytes)
 unfolding list_at
 here_list of after bytes enough room =
     let size = big_number 4 (take 4 bytes) in
@@ -80,7 +88,8 @@ to_end at bytes = take_all (length bytes - at) (drop at bytes) (omega (arith, le
 
 -- a message whose type byte is there
 module _ (bytes : List ℕ) (kind : ℕ) where
-  here_message : 0 < length bytes → slice_index bytes 0 ≡ kind → IsHere 0 (fields_at kind (drop 1 bytes)) → IsHere 0 (message_at bytes)
+  here_message : 0 < length bytes → slice_index bytes 0 ≡ kind
+      → IsHere 0 (fields_at kind (drop 1 bytes)) → IsHere 0 (message_at bytes)
   unfolding message_at
   here_message some is fields =
       let P : ℕ → Type 0 = λ n. IsHere 0 (fields_at n (drop 1 bytes)) in
@@ -88,7 +97,8 @@ module _ (bytes : List ℕ) (kind : ℕ) where
 
 module _ (bytes : List ℕ) (enough : 18 ≤ length bytes) (is : slice_index bytes 0 ≡ 1) where
   -- the items and the data's length, after type, flags and ID
-  after_id : IsHere 8 (segment_items_at (slice_index bytes 1) (drop 10 bytes)) → IsHere 0 (message_at bytes)
+  after_id : IsHere 8 (segment_items_at (slice_index bytes 1) (drop 10 bytes))
+      → IsHere 0 (message_at bytes)
   unfolding fields_at segment_at
   after_id items =
       let P : ℕ → Type 0 = λ flags. IsHere 8 (segment_items_at flags (drop 10 bytes)) in
@@ -104,7 +114,9 @@ module _ (bytes : List ℕ) (enough : 18 ≤ length bytes) (is : slice_index byt
   unfolding segment_items_at
   later_here later = after_id (rw later (here_pure 8 _ _ (omega (arith, length-drop 10 bytes))))
 
-  pub first_here : is_start (slice_index bytes 1) ≡ true → IsHere 8 (list_at Transfer (slice_range bytes 10 (length bytes))) → IsHere 0 (message_at bytes)
+  pub first_here : is_start (slice_index bytes 1) ≡ true
+      → IsHere 8 (list_at Transfer (slice_range bytes 10 (length bytes)))
+      → IsHere 0 (message_at bytes)
   unfolding segment_items_at
   first_here first list =
       let P : List ℕ → Type 0 = λ xs. IsHere 8 (list_at Transfer xs) in
@@ -113,18 +125,21 @@ module _ (bytes : List ℕ) (enough : 18 ≤ length bytes) (is : slice_index byt
 -- a node ID that is there, and what goes on from it
 module _ {B : Type 0} (bytes : List ℕ) (next : ArrayVec ℕ × List ℕ → Part B) where
   node_there : (size : ℕ) → big_number 2 (take 2 bytes) ≡ size → 2 + size ≤ length bytes
-      → node_at bytes ≡ (if nat_lt longest_node size then Err (NodeIdTooLong size) else Ok (record { items = take size (drop 2 bytes) }, drop size (drop 2 bytes)))
+      → node_at bytes ≡ (if nat_lt longest_node size then Err (NodeIdTooLong size)
+      else Ok (record { items = take size (drop 2 bytes) }, drop size (drop 2 bytes)))
   unfolding node_at node_bytes_at
   node_there size is enough =
       rw (number_enough 2 bytes (omega arith), is, bytes_at-enough size (drop 2 bytes) (omega (arith, enough, length-drop 2 bytes))) refl
 
-  here_node_by : (after size : ℕ) (long : Bool) (node : ArrayVec ℕ) (rest : List ℕ) → IsHere after (next (node, rest))
+  here_node_by : (after size : ℕ) (long : Bool) (node : ArrayVec ℕ) (rest : List ℕ)
+      → IsHere after (next (node, rest))
       → IsHere after ((if long then Err (NodeIdTooLong size) else Ok (node, rest)) >>= next)
   here_node_by after size true node rest is = here_err after (NodeIdTooLong size) (λ e. cc)
   here_node_by after size false node rest is = is
 
   here_node : (after size : ℕ) → big_number 2 (take 2 bytes) ≡ size → 2 + size ≤ length bytes
-      → ((node : ArrayVec ℕ) → IsHere after (next (node, drop size (drop 2 bytes)))) → IsHere after (node_at bytes >>= next)
+      → ((node : ArrayVec ℕ) → IsHere after (next (node, drop size (drop 2 bytes))))
+      → IsHere after (node_at bytes >>= next)
   here_node after size is enough more =
       let P : Part (ArrayVec ℕ) → Type 0 = λ read. IsHere after (read >>= next) in
       let node : ArrayVec ℕ = record { items = take size (drop 2 bytes) } in
@@ -132,8 +147,10 @@ module _ {B : Type 0} (bytes : List ℕ) (next : ArrayVec ℕ × List ℕ → Pa
 
 module _ (bytes : List ℕ) (enough : 21 ≤ length bytes) (is : slice_index bytes 0 ≡ 7) where
   -- the list, after a node ID that is there
-  pub sess_init_here : (size : ℕ) → big_number 2 (slice_range bytes 19 21) ≡ size → 21 + size ≤ length bytes
-      → IsHere 0 (list_at Session (slice_range bytes (21 + size) (length bytes))) → IsHere 0 (message_at bytes)
+  pub sess_init_here : (size : ℕ) → big_number 2 (slice_range bytes 19 21) ≡ size
+      → 21 + size ≤ length bytes
+      → IsHere 0 (list_at Session (slice_range bytes (21 + size) (length bytes)))
+      → IsHere 0 (message_at bytes)
   unfolding fields_at sess_init_at
   sess_init_here size size_is within list =
       let mrus = drop 2 (drop 1 bytes) in
@@ -150,7 +167,9 @@ module _ (bytes : List ℕ) (enough : 21 ≤ length bytes) (is : slice_index byt
       (λ node. here_then 0 0 _ _ (subst P (sym end) list) (λ items more any. here_pure 0 _ _ (omega arith)))))))
 
 -- a head that lies whole in a window
-pub plain_here : (window : List ℕ) (found : Option (Fields × ℕ)) → IfSome found (λ head. IsHead window head.0 head.1) → is_some found ≡ true → IsHere 0 (message_at window)
+pub plain_here : (window : List ℕ) (found : Option (Fields × ℕ))
+    → IfSome found (λ head. IsHead window head.0 head.1) → is_some found ≡ true
+    → IsHere 0 (message_at window)
 plain_here window None is some = absurd (cc)
 plain_here window (Some (fields, size)) is some =
     let P : List ℕ → Type 0 = λ bytes. IsHere 0 (message_at bytes) in
@@ -159,13 +178,15 @@ plain_here window (Some (fields, size)) is some =
     subst P (take-append-drop size window) (subst Q (sym whole) (here_pure 0 _ _ (omega arith)))
 
 -- a type byte that is none of a message is enough to tell
-unknown : (kind : ℕ) (rest : List ℕ) → (kind ≡ 0) ⊎ (7 < kind) → fields_at kind rest ≡ Err (UnknownType kind)
+unknown : (kind : ℕ) (rest : List ℕ) → (kind ≡ 0) ⊎ (7 < kind)
+    → fields_at kind rest ≡ Err (UnknownType kind)
 unfolding fields_at
 unknown kind rest other =
     let is_not : (n : ℕ) → 0 < n → n ≤ 7 → kind ≡ n → ⊥ = λ n some most e. ⊎_elim (λ none. omega (arith, none, e)) (λ more. omega (arith, more, e)) other in
     rw (ne_eqb kind 1 (is_not 1 (omega arith) (omega arith)), ne_eqb kind 2 (is_not 2 (omega arith) (omega arith)), ne_eqb kind 3 (is_not 3 (omega arith) (omega arith)), ne_eqb kind 4 (is_not 4 (omega arith) (omega arith)), ne_eqb kind 5 (is_not 5 (omega arith) (omega arith)), ne_eqb kind 6 (is_not 6 (omega arith) (omega arith)), ne_eqb kind 7 (is_not 7 (omega arith) (omega arith))) refl
 
-pub unknown_here : (bytes : List ℕ) → 0 < length bytes → (slice_index bytes 0 ≡ 0) ⊎ (7 < slice_index bytes 0) → IsHere 0 (message_at bytes)
+pub unknown_here : (bytes : List ℕ) → 0 < length bytes
+    → (slice_index bytes 0 ≡ 0) ⊎ (7 < slice_index bytes 0) → IsHere 0 (message_at bytes)
 unknown_here bytes some other =
     let Q : Part Message → Type 0 = λ read. IsHere 0 read in
     here_message bytes (slice_index bytes 0) some refl (subst Q (sym (unknown (slice_index bytes 0) (drop 1 bytes) other)) (here_err 0 _ (λ e. cc)))

@@ -19,14 +19,18 @@ use Rattle.link_wire.specs.declared.message.Contact.{Contact}
 use Rattle.link_wire.specs.declared.message.Message.{Message}
 
 -- whole data after a head
-with_data-whole : (offset : ℕ) (message : Message) (content more : List ℕ) (rest : ℕ → List ℕ → Stream) → length content ≡ data_length message
-    → with_data_of offset message (content ++ more) (rest (data_length message) (drop (data_length message) (content ++ more)))
+with_data-whole : (offset : ℕ) (message : Message) (content more : List ℕ)
+    (rest : ℕ → List ℕ → Stream) → length content ≡ data_length message
+    → with_data_of offset message (content ++ more)
+    (rest (data_length message) (drop (data_length message) (content ++ more)))
     ≡ with_entry (record { offset = offset; message = message; content = content }) (rest (data_length message) more)
 with_data-whole offset message content more rest size =
     let whole : nat_lt (length (content ++ more)) (length content) ≡ false = le-ltb (length (content ++ more)) (length content) (omega (arith, length-append content more)) in
     rw (← size, whole, take-append_seam, drop-append_seam) refl
 
-only_stream : (entries : List Entry) (end : End) (offset : ℕ) (bytes : List ℕ) → IsStream entries end offset bytes → stream_at offset bytes ≡ record { entries = entries; end = end }
+only_stream : (entries : List Entry) (end : End) (offset : ℕ) (bytes : List ℕ)
+    → IsStream entries end offset bytes
+    → stream_at offset bytes ≡ record { entries = entries; end = end }
 only_stream [] Clean offset bytes is = ap (stream_at offset) is ∙ stream_at-nil offset
 only_stream [] (Cut at message content) offset bytes is =
     let head = is.2.before in
@@ -49,7 +53,9 @@ only_stream (entry ∷ entries) end offset bytes is =
     ∙ ap (with_entry (record { offset = offset; message = entry.message; content = entry.content })) (only_stream entries end (offset + length is.before) is.after is.is_rest)
     ∙ ap (λ at. record { entries = record { offset = at; message = entry.message; content = entry.content } ∷ entries; end = end }) (sym is.place)
 
-only_by : (contact : Option Contact) (entries : List Entry) (end : End) (bytes : List ℕ) → IsReadingBy contact entries end bytes → reading_of bytes ≡ record { contact = contact; entries = entries; end = end }
+only_by : (contact : Option Contact) (entries : List Entry) (end : End) (bytes : List ℕ)
+    → IsReadingBy contact entries end bytes
+    → reading_of bytes ≡ record { contact = contact; entries = entries; end = end }
 unfolding reading_of
 only_by (Some contact) entries end bytes is =
     let known = (only_contact contact).by is.before is.is_first is.after in
@@ -60,11 +66,14 @@ only_by None entries end bytes is =
     ap reading_by is.2.2 ∙ rw (is.0, is.2.1) refl
 
 -- a reading of these bytes is the reading of them
-pub only_reading : (bytes : List ℕ) (reading : Reading) → IsReading bytes reading → reading ≡ reading_of bytes
+pub only_reading : (bytes : List ℕ) (reading : Reading) → IsReading bytes reading
+    → reading ≡ reading_of bytes
 only_reading bytes reading is = sym (only_by reading.contact reading.entries reading.end bytes is)
 
 -- where the head of a part is read as a fault, no spelling of the part begins the bytes
-none_begins : {A : Type 0} (part : List ℕ → Part A) (value : A) (spelled : Spelling) (bytes : List ℕ) (fault : WireFault) → Only part value spelled → part bytes ≡ Err fault → NoneBegins spelled bytes
+none_begins : {A : Type 0} (part : List ℕ → Part A) (value : A) (spelled : Spelling)
+    (bytes : List ℕ) (fault : WireFault) → Only part value spelled → part bytes ≡ Err fault
+    → NoneBegins spelled bytes
 none_begins part value spelled bytes fault only is = λ before more spells same.
     let never = sym is ∙ ap part same ∙ only.by before spells more in absurd (cc)
 
@@ -73,10 +82,14 @@ abbrev StandsIn : ℕ → List ℕ → Stream → Type 0
 StandsIn offset bytes stream = IsStream stream.entries stream.end offset bytes
 
 -- a message whose head was read, with the data after it
-module _ (offset : ℕ) (message : Message) (head rest : List ℕ) (spells : HeadSpelled message head) (are : AreBytes rest) where
+module _ (offset : ℕ) (message : Message) (head rest : List ℕ) (spells : HeadSpelled message head)
+    (are : AreBytes rest) where
   with_data-stands : (later : ℕ → List ℕ → Stream)
-      → (let after = drop (data_length message) rest in (at : ℕ) → StandsIn at after (later at after))
-      → StandsIn offset (head ++ rest) (with_data_of offset message rest (later (offset + length head + data_length message) (drop (data_length message) rest)))
+      → (let after = drop (data_length message) rest in (at : ℕ)
+      → StandsIn at after (later at after))
+      → StandsIn offset (head ++ rest)
+      (with_data_of offset message rest
+      (later (offset + length head + data_length message) (drop (data_length message) rest)))
   with_data-stands later stands = ⊎_elim
       (λ less.
       let short : nat_lt (length rest) (data_length message) ≡ true = lt-ltb (length rest) (data_length message) less in
@@ -99,16 +112,21 @@ module _ (offset : ℕ) (message : Message) (head rest : List ℕ) (spells : Hea
       }))
       (cases_lt (length rest) (data_length message))
 
-stream_at-bad : (offset : ℕ) (bytes : List ℕ) (fault : WireFault) → 0 < length bytes → message_at bytes ≡ Err fault → stream_at offset bytes ≡ ended (Fault offset fault)
+stream_at-bad : (offset : ℕ) (bytes : List ℕ) (fault : WireFault) → 0 < length bytes
+    → message_at bytes ≡ Err fault → stream_at offset bytes ≡ ended (Fault offset fault)
 stream_at-bad offset [] fault some is = absurd (omega arith)
 stream_at-bad offset (b ∷ bytes) fault some is = stream_at-fault offset b bytes fault is
 
 module _ (offset : ℕ) (bytes : List ℕ) where
-  stands_by : {other : Stream} → stream_at offset bytes ≡ other → StandsIn offset bytes other → StandsIn offset bytes (stream_at offset bytes)
+  stands_by : {other : Stream} → stream_at offset bytes ≡ other → StandsIn offset bytes other
+      → StandsIn offset bytes (stream_at offset bytes)
   stands_by {other} same stands = let P : Stream → Type 0 = λ stream. StandsIn offset bytes stream in subst P (sym same) stands
 
-  head_stands : 0 < length bytes → AreBytes bytes → ((at : ℕ) (after : List ℕ) → length after < length bytes → AreBytes after → StandsIn at after (stream_at at after))
-      → (read : Result (Message × List ℕ) WireFault) → message_at bytes ≡ read → StandsIn offset bytes (stream_at offset bytes)
+  head_stands : 0 < length bytes → AreBytes bytes
+      → ((at : ℕ) (after : List ℕ) → length after < length bytes → AreBytes after
+      → StandsIn at after (stream_at at after))
+      → (read : Result (Message × List ℕ) WireFault) → message_at bytes ≡ read
+      → StandsIn offset bytes (stream_at offset bytes)
   head_stands some are next (Err fault) is =
       stands_by (stream_at-bad offset bytes fault some is)
       (refl, (λ none. let never : length bytes ≡ 0 = ap length none in absurd (omega arith)), (λ message. none_begins message_at message (HeadSpelled message) bytes fault (only_message message) is), is)
@@ -126,13 +144,15 @@ module _ (offset : ℕ) (bytes : List ℕ) where
       (with_data-stands offset message found.before rest found.is_first after stream_at (λ at. next at (drop size rest) (omega (arith, length-drop size rest)) last)))
 
 -- the reading of bytes, of which there are `count` at most, stands in them
-stream_stands : (count offset : ℕ) (bytes : List ℕ) → length bytes ≤ count → AreBytes bytes → StandsIn offset bytes (stream_at offset bytes)
+stream_stands : (count offset : ℕ) (bytes : List ℕ) → length bytes ≤ count → AreBytes bytes
+    → StandsIn offset bytes (stream_at offset bytes)
 stream_stands count offset [] few are = stands_by offset [] (stream_at-nil offset) refl
 stream_stands zero offset (b ∷ bytes) few are = absurd (omega arith)
 stream_stands (suc count) offset (b ∷ bytes) few are =
     head_stands offset (b ∷ bytes) (omega arith) are (λ at after fewer. stream_stands count at after (omega arith)) (message_at (b ∷ bytes)) refl
 
-reading_by-stands : (bytes : List ℕ) → AreBytes bytes → (read : Result (Contact × List ℕ) WireFault) → contact_at bytes ≡ read → IsReading bytes (reading_by read)
+reading_by-stands : (bytes : List ℕ) → AreBytes bytes → (read : Result (Contact × List ℕ) WireFault)
+    → contact_at bytes ≡ read → IsReading bytes (reading_by read)
 reading_by-stands bytes are (Err fault) is =
     (refl, (λ contact. none_begins contact_at contact (ContactSpelled contact) bytes fault (only_contact contact) is), (fault, refl, is))
 reading_by-stands bytes are (Ok (contact, rest)) is =

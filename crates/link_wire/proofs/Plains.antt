@@ -54,7 +54,8 @@ module _ {A B : Type 0} (window : List ℕ) (at k m : ℕ) where
 module _ {B : Type 0} (window : List ℕ) (at k m : ℕ) where
   -- the same of a number
   field_then : (next : ℕ × List ℕ → Part B) (other : B) → at + k ≤ length window
-      → IsPart (λ bytes. next (big_number k (take k (drop at window)), bytes)) (take m (drop (at + k) window)) other
+      → IsPart (λ bytes. next (big_number k (take k (drop at window)), bytes))
+      (take m (drop (at + k) window)) other
       → IsPart (λ bytes. number_at k bytes >>= next) (take (k + m) (drop at window)) other
   field_then next other within more =
       let field = take k (drop at window) in
@@ -81,7 +82,8 @@ module _ (window : List ℕ) (some : 0 < length window) where
 module _ (window : List ℕ) (enough : 3 ≤ length window) where
   -- a message of two bytes, as they stand in the window
   of_two_bytes : (message : ℕ → ℕ → Message)
-      → IsPart message_at (take 3 window) (message (big_number 1 (take 1 (drop 1 window))) (big_number 1 (take 1 (drop 2 window))))
+      → IsPart message_at (take 3 window)
+      (message (big_number 1 (take 1 (drop 1 window))) (big_number 1 (take 1 (drop 2 window))))
       → IsPart message_at (take 3 window) (message (slice_index window 1) (slice_index window 2))
   of_two_bytes message whole =
       let P : ℕ → Type 0 = λ n. IsPart message_at (take 3 window) (message n (big_number 1 (take 1 (drop 2 window)))) in
@@ -103,7 +105,8 @@ module _ (window : List ℕ) (enough : 3 ≤ length window) where
       (field_then window 1 1 1 _ _ (omega arith) (field_then window 2 1 0 _ _ (omega arith) (pure_is _))))
 
 pub refuse_head : (window : List ℕ) → 10 ≤ length window → slice_index window 0 ≡ 3
-    → IsPart message_at (take 10 window) (Refuse (slice_index window 1) (big_number 8 (slice_range window 2 10)))
+    → IsPart message_at (take 10 window)
+    (Refuse (slice_index window 1) (big_number 8 (slice_range window 2 10)))
 unfolding fields_at refuse_at
 refuse_head window enough is =
     let first = byte_of window 1 (omega arith) in
@@ -114,7 +117,9 @@ refuse_head window enough is =
     subst P first whole
 
 pub ack_head : (window : List ℕ) → 18 ≤ length window → slice_index window 0 ≡ 2
-    → IsPart message_at (take 18 window) (Ack (slice_index window 1) (big_number 8 (slice_range window 2 10)) (big_number 8 (slice_range window 10 18)))
+    → IsPart message_at (take 18 window)
+    (Ack (slice_index window 1) (big_number 8 (slice_range window 2 10))
+    (big_number 8 (slice_range window 10 18)))
 unfolding fields_at ack_at
 ack_head window enough is =
     let first = byte_of window 1 (omega arith) in
@@ -164,7 +169,8 @@ with_empty_list flags field start size is =
     let P : Bool → Type 0 = λ start. IsPart (λ bytes. if start then list_at Transfer bytes else Ok (none, bytes)) field none in
     subst P (sym start) (empty_list field size is)
 
-module _ (window : List ℕ) (k at : ℕ) (enough : at + 8 ≤ length window) (parts : 10 + k ≡ at) (is : slice_index window 0 ≡ 1) where
+module _ (window : List ℕ) (k at : ℕ) (enough : at + 8 ≤ length window) (parts : 10 + k ≡ at)
+    (is : slice_index window 0 ≡ 1) where
   -- a segment whose list has k bytes and no items
   segment_head : IsPart (segment_items_at (slice_index window 1)) (take k (drop 10 window)) none
       → IsPart message_at (take (1 + (1 + (8 + (k + 8)))) window)

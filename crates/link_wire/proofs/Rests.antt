@@ -12,15 +12,18 @@ use Rattle.link_wire.specs.declared.message.Message.{Message}
 abbrev pub appended : Stream → Stream → Stream
 appended first second = record { entries = first.entries ++ second.entries; end = second.end }
 
-pub joined-joined : (reading : Reading) (first second : Stream) → joined (joined reading first) second ≡ joined reading (appended first second)
+pub joined-joined : (reading : Reading) (first second : Stream)
+    → joined (joined reading first) second ≡ joined reading (appended first second)
 joined-joined reading first second = ap (λ entries. joined (record { contact = reading.contact; entries = []; end = Clean }) (record { entries = entries; end = second.end })) (append_assoc reading.entries first.entries second.entries)
 
 -- what the head of a message begins
 abbrev pub begun : ℕ → Message → Stream
 begun offset message = if nat_lt 0 (data_length message) then ended (Cut offset message []) else with_entry (record { offset = offset; message = message; content = [] }) (ended Clean)
 
-pub begun_by : (size offset place : ℕ) (message : Message) (more : List ℕ) → data_length message ≡ size
-    → with_data_of offset message more (stream_at (place + size) (drop size more)) ≡ appended (begun offset message) (rest_after place size (begun offset message).end more)
+pub begun_by : (size offset place : ℕ) (message : Message) (more : List ℕ)
+    → data_length message ≡ size
+    → with_data_of offset message more (stream_at (place + size) (drop size more))
+    ≡ appended (begun offset message) (rest_after place size (begun offset message).end more)
 begun_by zero offset place message more is =
     let all : nat_lt (length more) 0 ≡ false = le-ltb (length more) 0 (omega arith) in
     rw (is, all, add-zero) refl
@@ -54,7 +57,8 @@ module _ (place n offset : ℕ) (message : Message) (content bytes more : List �
       (cases_lt (length more) (suc left))
 
 -- nothing more to read
-rest_none : (place offset left : ℕ) (end : End) → IsLeft offset left end → rest_after place left end [] ≡ ended end
+rest_none : (place offset left : ℕ) (end : End) → IsLeft offset left end
+    → rest_after place left end [] ≡ ended end
 rest_none place offset left Clean is = stream_at-nil place
 rest_none place offset left (Cut from message content) is =
     let some : nat_lt 0 left ≡ true = lt-ltb 0 left is.0 in
@@ -62,7 +66,8 @@ rest_none place offset left (Cut from message content) is =
 rest_none place offset left (Fault from fault) is = absurd is
 
 -- what is read after a history that has gone on by a part of what is left
-module _ (reading : Reading) (history : List ℕ) (part : Stream) (offset left place : ℕ) (is : IsLeft offset left part.end)
+module _ (reading : Reading) (history : List ℕ) (part : Stream) (offset left place : ℕ)
+    (is : IsLeft offset left part.end)
     (reads : (more : List ℕ) → reading_of (history ++ more) ≡ joined reading (appended part (rest_after place left part.end more))) where
   pub settled : reading_of history ≡ joined reading part
   settled =
@@ -70,7 +75,9 @@ module _ (reading : Reading) (history : List ℕ) (part : Stream) (offset left p
       ∙ ap (λ rest. joined reading (appended part rest)) (rest_none place offset left part.end is)
       ∙ ap (λ entries. joined reading (record { entries = entries; end = part.end })) (append-nil part.entries)
 
-  pub goes_on_from : (more : List ℕ) → reading_of (history ++ more) ≡ joined (reading_of history) (rest_after place left (reading_of history).end more)
+  pub goes_on_from : (more : List ℕ)
+      → reading_of (history ++ more)
+      ≡ joined (reading_of history) (rest_after place left (reading_of history).end more)
   goes_on_from more =
       reads more ∙ sym (joined-joined reading part (rest_after place left part.end more))
       ∙ ap (λ r. joined r (rest_after place left r.end more)) (sym settled)
@@ -81,13 +88,16 @@ clean_end offset left Clean is none = refl
 clean_end offset left (Cut from message content) is none = let some = is.0 in absurd (omega arith)
 clean_end offset left (Fault from fault) is none = absurd is
 
-pub begun_left : (size offset : ℕ) (message : Message) → data_length message ≡ size → IsLeft offset size (begun offset message).end
+pub begun_left : (size offset : ℕ) (message : Message) → data_length message ≡ size
+    → IsLeft offset size (begun offset message).end
 begun_left zero offset message is = rw is refl
 begun_left (suc size) offset message is =
     let some : nat_lt 0 (suc size) ≡ true = lt-ltb 0 (suc size) (omega arith) in
     rw (is, some) (omega arith, refl, omega arith)
 
-pub data_left : (offset from : ℕ) (message : Message) (content bytes : List ℕ) (left n : ℕ) → from ≡ offset → data_length message ≡ length content + n → n ≡ length bytes + left → IsLeft offset left (data_after left bytes (Cut from message content)).end
+pub data_left : (offset from : ℕ) (message : Message) (content bytes : List ℕ) (left n : ℕ)
+    → from ≡ offset → data_length message ≡ length content + n → n ≡ length bytes + left
+    → IsLeft offset left (data_after left bytes (Cut from message content)).end
 data_left offset from message content bytes zero n is whole parts = refl
 data_left offset from message content bytes (suc left) n is whole parts =
     let some : nat_lt 0 (suc left) ≡ true = lt-ltb 0 (suc left) (omega arith) in

@@ -48,7 +48,8 @@ module _ {R : Type 0} (look : R → Input) (s : Session R) (fresh : may_open s �
   opens_left = parts.1
 
 -- where the next message may be read and the session has not stopped, no data is to come
-pub none_left : {R : Type 0} (s : Session R) → s.phase ≡ phase.Reading → may_read s ≡ true → left_of s ≡ 0
+pub none_left : {R : Type 0} (s : Session R) → s.phase ≡ phase.Reading
+    → may_read s ≡ true → left_of s ≡ 0
 none_left s reading may = eqb-true s.left 0 (ap (λ p. reads_next p s.left) (sym reading) ∙ may)
 
 -- ---- the contact header
@@ -62,10 +63,14 @@ contact_shown given needs = λ count fewer.
 
 module _ {R : Type 0} {look : R → Input} where
   -- a session stands where a part of what was left has been read
-  stands : (s : Session R) (history : List ℕ) (reading : Reading) (part : Stream) (contact : Contact)
-      → IsSourceAt s.source history → IsLive look s.source → s.phase ≡ phase.Reading → reading.contact ≡ Some contact
+  stands : (s : Session R) (history : List ℕ) (reading : Reading)
+      (part : Stream) (contact : Contact)
+      → IsSourceAt s.source history → IsLive look s.source → s.phase ≡ phase.Reading
+      → reading.contact ≡ Some contact
       → (is : IsLeft s.offset s.left part.end)
-      → (reads : (more : List ℕ) → reading_of (history ++ more) ≡ joined reading (appended part (rest_after (length history) s.left part.end more)))
+      → (reads : (more : List ℕ)
+      → reading_of (history ++ more)
+      ≡ joined reading (appended part (rest_after (length history) s.left part.end more)))
       → IsSessionAt look s history
   stands s history reading part contact at live going has is reads =
       let read = settled reading history part s.offset s.left (length history) is reads in
@@ -80,7 +85,9 @@ module _ {R : Type 0} {look : R → Input} where
       }
 
   -- the contact header was read
-  pub contact_came : (old new : Session R) (contact : Contact) → may_open old ≡ true → Gets look contact_at old.source new.source (Ok contact) → new.left ≡ old.left → new.phase ≡ phase.Reading → ReadContact look old new contact
+  pub contact_came : (old new : Session R) (contact : Contact) → may_open old ≡ true
+      → Gets look contact_at old.source new.source (Ok contact) → new.left ≡ old.left
+      → new.phase ≡ phase.Reading → ReadContact look old new contact
   contact_came old new contact fresh got left going =
       let given = got.by.given in
       let begins : Reading = record { contact = Some contact; entries = []; end = Clean } in
@@ -97,7 +104,9 @@ module _ {R : Type 0} {look : R → Input} where
         between = none;
       }
 
-  refused : (old new : Session R) (why : Halt) → Gets look contact_at old.source new.source (Err why) → HasStopped new (stop_at 0 why) → GivesContact look old new (Err (stop_at 0 why))
+  refused : (old new : Session R) (why : Halt)
+      → Gets look contact_at old.source new.source (Err why) → HasStopped new (stop_at 0 why)
+      → GivesContact look old new (Err (stop_at 0 why))
   refused old new (halt.Wire fault) met stopped = record {
     given = met.by.given;
     takes = met.by.takes;
@@ -115,21 +124,29 @@ module _ {R : Type 0} {look : R → Input} where
     stopped = stopped;
   }
 
-  pub contact_refused : (old new : Session R) (source : Source R) (why : Halt) (result : Stop) → Gets look contact_at old.source source (Err why) → new.source ≡ source → HasStopped new result → result ≡ stop_at 0 why → GivesContact look old new (Err result)
+  pub contact_refused : (old new : Session R) (source : Source R) (why : Halt) (result : Stop)
+      → Gets look contact_at old.source source (Err why) → new.source ≡ source
+      → HasStopped new result → result ≡ stop_at 0 why → GivesContact look old new (Err result)
   contact_refused old new source why result met same stopped is =
       let P : Source R → Type 0 = λ s. Gets look contact_at old.source s (Err why) in
       rw is (refused old new why (subst P (sym same) met) (stopped ∙ ap phase.Stopped is))
 
   -- ---- messages: between two of them, what follows is read from there
-  module _ (old : Session R) (history : List ℕ) (at : IsSessionAt look old history) (between : old.left ≡ 0) where
+  module _ (old : Session R) (history : List ℕ) (at : IsSessionAt look old history)
+      (between : old.left ≡ 0) where
     clean : (reading_of history).end ≡ Clean
     clean = clean_end old.offset old.left (reading_of history).end at.left between
 
-    from_here : (bytes : List ℕ) → reading_of (history ++ bytes) ≡ joined (reading_of history) (stream_at (length history) bytes)
+    from_here : (bytes : List ℕ)
+        → reading_of (history ++ bytes)
+        ≡ joined (reading_of history) (stream_at (length history) bytes)
     from_here bytes = at.goes_on bytes ∙ ap (λ end. joined (reading_of history) (rest_after (length history) old.left end bytes)) clean
 
     -- the head of a message was read
-    pub came : (new : Session R) (message : Message) → WholePart look message_at old.source new.source message → new.offset ≡ length history → new.left ≡ data_length message → new.phase ≡ phase.Reading → ReadMessage look old new history (length history) message
+    pub came : (new : Session R) (message : Message)
+        → WholePart look message_at old.source new.source message → new.offset ≡ length history
+        → new.left ≡ data_length message → new.phase ≡ phase.Reading
+        → ReadMessage look old new history (length history) message
     came new message got offset left going =
         let given = got.given in
         let here = length history in
@@ -154,7 +171,9 @@ module _ {R : Type 0} {look : R → Input} where
         }
 
     -- bytes that make no message leave the messages as they were, and more bytes may mend them
-    cut_here : (given : List ℕ) → message_at given ≡ Err wire.Truncated → SameMessages (reading_of history) (reading_of (history ++ given)) × IsUndecided (reading_of (history ++ given)).end
+    cut_here : (given : List ℕ) → message_at given ≡ Err wire.Truncated
+        → SameMessages (reading_of history) (reading_of (history ++ given))
+        × IsUndecided (reading_of (history ++ given)).end
     cut_here [] is = rw append-nil (record { contact = refl; entries = refl }, rw clean tt)
     cut_here (kind ∷ given) is =
         let read = from_here (kind ∷ given) ∙ ap (joined (reading_of history)) (stream_at-fault (length history) kind given wire.Truncated is) in
@@ -167,7 +186,10 @@ module _ {R : Type 0} {look : R → Input} where
         )
 
     -- a fault in the message that begins here
-    fault_here : (kind : ℕ) (given more : List ℕ) (fault : WireFault) → message_at ((kind ∷ given) ++ more) ≡ Err fault → reading_of ((history ++ (kind ∷ given)) ++ more) ≡ joined (reading_of history) (ended (Fault (length history) fault))
+    fault_here : (kind : ℕ) (given more : List ℕ) (fault : WireFault)
+        → message_at ((kind ∷ given) ++ more) ≡ Err fault
+        → reading_of ((history ++ (kind ∷ given)) ++ more)
+        ≡ joined (reading_of history) (ended (Fault (length history) fault))
     fault_here kind given more fault is =
         ap reading_of (append_assoc history (kind ∷ given) more)
         ∙ from_here (kind ∷ (given ++ more))
@@ -178,13 +200,19 @@ module _ {R : Type 0} {look : R → Input} where
       typed : Gets look (number_at 1) old.source mid (Ok kind)
       typed = record { by = record { given = kind ∷ []; takes = first.takes; live = first.live; is = IsPart-byte kind } }
 
-      pub message_came : (new : Session R) (message : Message) → Gets look (fields_at kind) mid new.source (Ok message) → new.offset ≡ length history → new.left ≡ data_length message → new.phase ≡ phase.Reading → ReadMessage look old new history (length history) message
+      pub message_came : (new : Session R) (message : Message)
+          → Gets look (fields_at kind) mid new.source (Ok message) → new.offset ≡ length history
+          → new.left ≡ data_length message → new.phase ≡ phase.Reading
+          → ReadMessage look old new history (length history) message
       unfolding message_at
       message_came new message fields offset left going =
           let whole : Gets look message_at old.source new.source (Ok message) = after _ typed fields in
           came new message whole.by offset left going
 
-      next_refused : (new : Session R) (why : Halt) → Gets look (fields_at kind) mid new.source (Err why) → HasStopped new (stop_at (length history) why) → GivesNext look old new history (Err (stop_at (length history) why))
+      next_refused : (new : Session R) (why : Halt)
+          → Gets look (fields_at kind) mid new.source (Err why)
+          → HasStopped new (stop_at (length history) why)
+          → GivesNext look old new history (Err (stop_at (length history) why))
       unfolding message_at
       next_refused new (halt.Wire fault) met stopped =
           let given = met.by.given in
@@ -211,14 +239,18 @@ module _ {R : Type 0} {look : R → Input} where
             stopped = stopped;
           }
 
-      pub message_refused : (new : Session R) (source : Source R) (why : Halt) (offset : ℕ) (result : Stop) → Gets look (fields_at kind) mid source (Err why) → new.source ≡ source → HasStopped new result → result ≡ stop_at offset why → offset ≡ length history → GivesNext look old new history (Err result)
+      pub message_refused : (new : Session R) (source : Source R) (why : Halt) (offset : ℕ)
+          (result : Stop) → Gets look (fields_at kind) mid source (Err why) → new.source ≡ source
+          → HasStopped new result → result ≡ stop_at offset why → offset ≡ length history
+          → GivesNext look old new history (Err result)
       message_refused new source why offset result met same stopped is here =
           let P : Source R → Type 0 = λ s. Gets look (fields_at kind) mid s (Err why) in
           let named : result ≡ stop_at (length history) why = is ∙ ap (λ n. stop_at n why) here in
           rw named (next_refused new why (subst P (sym same) met) (stopped ∙ ap phase.Stopped named))
 
   -- data of the open segment came
-  module _ (old new : Session R) (history bytes : List ℕ) (at : IsSessionAt look old history) (takes : Takes look old.source new.source bytes)
+  module _ (old new : Session R) (history bytes : List ℕ) (at : IsSessionAt look old history)
+      (takes : Takes look old.source new.source bytes)
       (live : IsLive look new.source) (going : new.phase ≡ phase.Reading) (offset : new.offset ≡ old.offset) (left : old.left ≡ length bytes + new.left) where
     IsReadBy : End → Type 0
     IsReadBy end =
@@ -240,7 +272,9 @@ module _ {R : Type 0} {look : R → Input} where
     read_by (Fault from fault) is = absurd is
 
     -- the session stands after it
-    pub data_stands : (reading_of (history ++ bytes) ≡ with_data new.left bytes (reading_of history)) × IsSessionAt look new (history ++ bytes)
+    pub data_stands : (reading_of (history ++ bytes)
+        ≡ with_data new.left bytes (reading_of history))
+        × IsSessionAt look new (history ++ bytes)
     unfolding IsReadBy
     data_stands =
         let end = (reading_of history).end in
@@ -258,8 +292,10 @@ module _ {R : Type 0} {look : R → Input} where
 
 module _ {R : Type 0} {look : R → Input} where
   -- data was made ready: the session stands where it stood
-  pub loaded_stands : (old new : Session R) (history : List ℕ) → IsSessionAt look old history → Readies look old.source new.source → IsLive look new.source
-      → new.phase ≡ old.phase → new.offset ≡ old.offset → new.left ≡ old.left → IsSessionAt look new history
+  pub loaded_stands : (old new : Session R) (history : List ℕ) → IsSessionAt look old history
+      → Readies look old.source new.source → IsLive look new.source
+      → new.phase ≡ old.phase → new.offset ≡ old.offset → new.left ≡ old.left
+      → IsSessionAt look new history
   loaded_stands old new history at ready live phase offset left = record {
     at = record { bytes = at.at.bytes; given = ready.count ∙ at.at.given };
     live = live;
@@ -271,16 +307,21 @@ module _ {R : Type 0} {look : R → Input} where
   }
 
   -- data was ready, and some of it was given
-  pub gave_then : (old mid new : Session R) (history bytes : List ℕ) (n : ℕ) → LoadedData look old mid history n → PassedBytes look mid new history bytes → 0 < length bytes → PassedBytes look old new history bytes
+  pub gave_then : (old mid new : Session R) (history bytes : List ℕ) (n : ℕ)
+      → LoadedData look old mid history n → PassedBytes look mid new history bytes
+      → 0 < length bytes → PassedBytes look old new history bytes
   gave_then old mid new history bytes n ready gave some =
       record { takes = Readies-takes look old.source mid.source new.source bytes ready.readies gave.takes some; left = sym ready.left ∙ gave.left; reading = gave.reading; at = gave.at }
 
 module _ {R : Type 0} (look : R → Input) where
-  stopped_load : (old new : Session R) (history buffer : List ℕ) (why : Stop) → GivesLoad look old new history (Err why) → GivesData look old new history buffer (Err why)
+  stopped_load : (old new : Session R) (history buffer : List ℕ) (why : Stop)
+      → GivesLoad look old new history (Err why) → GivesData look old new history buffer (Err why)
   stopped_load old new history buffer (stop.Wire offset fault) gives = gives
   stopped_load old new history buffer (stop.Io fault) gives = gives
 
   -- what stops data from being ready stops it from being copied
-  pub data_stopped : (old new : Session R) (history buffer : List ℕ) (result : Result ℕ Stop) (why : Stop) → IsErrAnd result (λ e. e ≡ why) → GivesLoad look old new history (Err why) → GivesData look old new history buffer result
+  pub data_stopped : (old new : Session R) (history buffer : List ℕ) (result : Result ℕ Stop)
+      (why : Stop) → IsErrAnd result (λ e. e ≡ why) → GivesLoad look old new history (Err why)
+      → GivesData look old new history buffer result
   data_stopped old new history buffer (Ok n) why is gives = absurd is
   data_stopped old new history buffer (Err e) why is gives = rw is (stopped_load old new history buffer why gives)

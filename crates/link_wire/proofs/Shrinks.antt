@@ -11,22 +11,28 @@ use Rattle.link_wire.specs.Message.{skipped_at, total_at, item_head_at, items_at
 use Rattle.link_wire.specs.declared.fault.WireFault.{WireFault}
 
 -- a part that was read in two steps
-pub both_read : {A B : Type 0} (read : Result A WireFault) (next : A → Result B WireFault) (value : B) → read >>= next ≡ Ok value → (first : A) × (read ≡ Ok first) × (next first ≡ Ok value)
+pub both_read : {A B : Type 0} (read : Result A WireFault) (next : A → Result B WireFault)
+    (value : B) → read >>= next ≡ Ok value
+    → (first : A) × (read ≡ Ok first) × (next first ≡ Ok value)
 both_read (Ok first) next value is = (first, refl, is)
 both_read (Err fault) next value is = absurd (cc)
 
 -- what follows the part has at least `less` bytes fewer
 pub record Shrinks {A : Type 0} (less : ℕ) (part : List ℕ → Part A) : Type 0 where
-  pub by : (bytes : List ℕ) (value : A) (rest : List ℕ) → part bytes ≡ Ok (value, rest) → length rest + less ≤ length bytes
+  pub by : (bytes : List ℕ) (value : A) (rest : List ℕ) → part bytes ≡ Ok (value, rest)
+      → length rest + less ≤ length bytes
 
 pub shrinks_pure : {A : Type 0} (value : A) → Shrinks 0 (λ bytes. Ok (value, bytes))
 shrinks_pure value = record { by = λ bytes other rest is. let same : bytes ≡ rest = (same_part is).1 in omega (arith, ap length same) }
 
-pub shrinks_err : {A : Type 0} (fault : WireFault) → Shrinks 0 (λ bytes. let part : Part A = Err fault in part)
+pub shrinks_err : {A : Type 0} (fault : WireFault)
+    → Shrinks 0 (λ bytes. let part : Part A = Err fault in part)
 shrinks_err fault = record { by = λ bytes other rest is. absurd (cc) }
 
 module _ {A B : Type 0} where
-  pub shrinks_then : (less : ℕ) (part : List ℕ → Part A) (next : A × List ℕ → Part B) → Shrinks less part → ((value : A) → Shrinks 0 (λ bytes. next (value, bytes))) → Shrinks less (λ bytes. part bytes >>= next)
+  pub shrinks_then : (less : ℕ) (part : List ℕ → Part A) (next : A × List ℕ → Part B)
+      → Shrinks less part → ((value : A) → Shrinks 0 (λ bytes. next (value, bytes)))
+      → Shrinks less (λ bytes. part bytes >>= next)
   shrinks_then less part next first second = record {
     by = λ bytes value rest is.
         let read = both_read (part bytes) next (value, rest) is in
@@ -36,7 +42,8 @@ module _ {A B : Type 0} where
   }
 
 module _ {A : Type 0} where
-  pub shrinks_if : (test : Bool) (part other : List ℕ → Part A) → Shrinks 0 part → Shrinks 0 other → Shrinks 0 (λ bytes. if test then part bytes else other bytes)
+  pub shrinks_if : (test : Bool) (part other : List ℕ → Part A) → Shrinks 0 part → Shrinks 0 other
+      → Shrinks 0 (λ bytes. if test then part bytes else other bytes)
   shrinks_if true part other p q = p
   shrinks_if false part other p q = q
 

@@ -7,19 +7,23 @@ use Rattle.link_wire.proofs.FieldReads.{bytes_at-short}
 use Rattle.link_wire.specs.Message.{skipped_at}
 use Rattle.link_wire.specs.declared.fault.WireFault.TheVariants.{Truncated}
 
-pub skipped_at-short : (n : ℕ) (bytes : List ℕ) → length bytes < n → skipped_at n bytes ≡ Err Truncated
+pub skipped_at-short : (n : ℕ) (bytes : List ℕ) → length bytes < n
+    → skipped_at n bytes ≡ Err Truncated
 unfolding skipped_at
 skipped_at-short n bytes short = rw (bytes_at-short n bytes short) refl
 
-pub skipped_at-there : (n : ℕ) (bytes : List ℕ) → n ≤ length bytes → skipped_at n bytes ≡ Ok (tt, drop n bytes)
+pub skipped_at-there : (n : ℕ) (bytes : List ℕ) → n ≤ length bytes
+    → skipped_at n bytes ≡ Ok (tt, drop n bytes)
 unfolding skipped_at bytes_at
 skipped_at-there n bytes there = rw (le-ltb (length bytes) n there) refl
 
 -- passing over bytes in two pieces
-skipped_at-first : (a b : ℕ) (bytes : List ℕ) → a ≤ length bytes → (skipped_at a bytes >>= λ v. skipped_at b v.1) ≡ skipped_at b (drop a bytes)
+skipped_at-first : (a b : ℕ) (bytes : List ℕ) → a ≤ length bytes
+    → (skipped_at a bytes >>= λ v. skipped_at b v.1) ≡ skipped_at b (drop a bytes)
 skipped_at-first a b bytes there = ap (λ r. r >>= λ v. skipped_at b v.1) (skipped_at-there a bytes there)
 
-pub skipped_at-add : (a b : ℕ) (bytes : List ℕ) → (skipped_at a bytes >>= λ v. skipped_at b v.1) ≡ skipped_at (a + b) bytes
+pub skipped_at-add : (a b : ℕ) (bytes : List ℕ)
+    → (skipped_at a bytes >>= λ v. skipped_at b v.1) ≡ skipped_at (a + b) bytes
 skipped_at-add a b bytes =
     ⊎_elim
     (λ short. ap (λ r. r >>= λ v. skipped_at b v.1) (skipped_at-short a bytes short) ∙ sym (skipped_at-short (a + b) bytes (omega arith)))

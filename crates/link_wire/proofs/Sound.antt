@@ -21,12 +21,14 @@ use Rattle.link_wire.specs.declared.message.Message.{Message}
 use Rattle.link_wire.specs.declared.message.Message.TheVariants.{SessInit, Segment, Ack, Refuse, Keepalive, SessTerm, MsgReject}
 
 -- how long a spelling is
-pub length_parts : {first second : Spelling} (bytes : List ℕ) (is : (first ⨾ second) bytes) → length bytes ≡ length is.before + length is.after
+pub length_parts : {first second : Spelling} (bytes : List ℕ) (is : (first ⨾ second) bytes)
+    → length bytes ≡ length is.before + length is.after
 length_parts bytes is = ap length is.parts ∙ length-append is.before is.after
 
 module _ {first second : Spelling} where
   -- two spellings, one after the other
-  pub both : (before after : List ℕ) → first before → second after → (first ⨾ second) (before ++ after)
+  pub both : (before after : List ℕ) → first before → second after
+      → (first ⨾ second) (before ++ after)
   both before after one two = record { before = before; after = after; is_first = one; is_second = two; parts = refl }
 
 -- the last spelling of a part
@@ -34,7 +36,8 @@ pub last : (spelled : Spelling) (before : List ℕ) → spelled before → spell
 last spelled before is = subst spelled (sym (append-nil before)) is
 
 -- three spellings one after the other
-pub then_assoc : {first second third : Spelling} (bytes : List ℕ) → ((first ⨾ second) ⨾ third) bytes → (first ⨾ (second ⨾ third)) bytes
+pub then_assoc : {first second third : Spelling} (bytes : List ℕ) → ((first ⨾ second) ⨾ third) bytes
+    → (first ⨾ (second ⨾ third)) bytes
 then_assoc bytes is = record {
   before = is.is_first.before;
   after = is.is_first.after ++ is.after;
@@ -44,11 +47,16 @@ then_assoc bytes is = record {
 }
 
 -- a spelling is read as this value, whatever follows
-pub record Only {A : Type 0} (part : List ℕ → Part A) (value : A) (spelled : Spelling) : Type 0 where
-  pub by : (bytes : List ℕ) → spelled bytes → (more : List ℕ) → part (bytes ++ more) ≡ Ok (value, more)
+pub record Only {A : Type 0} (part : List ℕ → Part A) (value : A)
+    (spelled : Spelling) : Type 0 where
+  pub by : (bytes : List ℕ) → spelled bytes → (more : List ℕ)
+      → part (bytes ++ more) ≡ Ok (value, more)
 
-module _ {A B : Type 0} (part : List ℕ → Part A) (next : A × List ℕ → Part B) {value : A} {given : B} where
-  pub only_then : {first second : Spelling} → Only part value first → Only (λ bytes. next (value, bytes)) given second → Only (λ bytes. part bytes >>= next) given (first ⨾ second)
+module _ {A B : Type 0} (part : List ℕ → Part A) (next : A × List ℕ → Part B)
+    {value : A} {given : B} where
+  pub only_then : {first second : Spelling} → Only part value first
+      → Only (λ bytes. next (value, bytes)) given second
+      → Only (λ bytes. part bytes >>= next) given (first ⨾ second)
   only_then head rest = record {
     by = λ bytes is more.
         ap (λ all. part (all ++ more) >>= next) is.parts
@@ -57,22 +65,29 @@ module _ {A B : Type 0} (part : List ℕ → Part A) (next : A × List ℕ → P
         ∙ rest.by is.after is.is_second more;
   }
 
-  pub only_last : {spelled : Spelling} → Only part value spelled → ((more : List ℕ) → next (value, more) ≡ Ok (given, more)) → Only (λ bytes. part bytes >>= next) given spelled
+  pub only_last : {spelled : Spelling} → Only part value spelled
+      → ((more : List ℕ) → next (value, more) ≡ Ok (given, more))
+      → Only (λ bytes. part bytes >>= next) given spelled
   only_last field rest = record { by = λ bytes is more. ap (λ read. read >>= next) (field.by bytes is more) ∙ rest more }
 
 module _ {A : Type 0} (part other : List ℕ → Part A) {value : A} {spelled : Spelling} where
-  pub only_if : (test : Bool) → test ≡ true → Only part value spelled → Only (λ bytes. if test then part bytes else other bytes) value spelled
+  pub only_if : (test : Bool) → test ≡ true → Only part value spelled
+      → Only (λ bytes. if test then part bytes else other bytes) value spelled
   only_if true is only = only
   only_if false is only = absurd (cc)
 
-  pub only_else : (test : Bool) → test ≡ false → Only other value spelled → Only (λ bytes. if test then part bytes else other bytes) value spelled
+  pub only_else : (test : Bool) → test ≡ false → Only other value spelled
+      → Only (λ bytes. if test then part bytes else other bytes) value spelled
   only_else true is only = absurd (cc)
   only_else false is only = only
 
-pub only_such : {A : Type 0} {part : List ℕ → Part A} {value : A} {spelled : Spelling} → ((bytes : List ℕ) → spelled bytes → Only part value (λ all. all ≡ bytes)) → Only part value spelled
+pub only_such : {A : Type 0} {part : List ℕ → Part A} {value : A} {spelled : Spelling}
+    → ((bytes : List ℕ) → spelled bytes → Only part value (λ all. all ≡ bytes))
+    → Only part value spelled
 only_such only = record { by = λ bytes is more. (only bytes is).by bytes refl more }
 
-pub only_bytes : (content : List ℕ) (n : ℕ) → length content ≡ n → Only (bytes_at n) content (λ bytes. bytes ≡ content)
+pub only_bytes : (content : List ℕ) (n : ℕ) → length content ≡ n
+    → Only (bytes_at n) content (λ bytes. bytes ≡ content)
 only_bytes content n size = record {
   by = λ bytes is more.
       ap (λ all. bytes_at n (all ++ more)) is ∙ ap (λ k. bytes_at k (content ++ more)) (sym size) ∙ bytes_at-there content more;
@@ -106,7 +121,8 @@ only_contact contact = record {
       (only_last _ _ (only_bytes header 6 refl) (λ rest. refl)).by bytes is.1 more;
 }
 
-pub only_node_bytes : (node : ArrayVec ℕ) → Only (node_bytes_at (length node.items)) node (These node.items)
+pub only_node_bytes : (node : ArrayVec ℕ)
+    → Only (node_bytes_at (length node.items)) node (These node.items)
 unfolding node_bytes_at
 only_node_bytes node = record {
   by = λ bytes is more.
@@ -121,7 +137,9 @@ only_node node = record {
 }
 
 -- an item's head that ends within its list
-pub only_item_head : (left flags kind size : ℕ) → 5 + size ≤ left → Only (item_head_at left) (record { flags = flags; kind = kind; length = size }) (ItemHeadSpelled flags kind size)
+pub only_item_head : (left flags kind size : ℕ) → 5 + size ≤ left
+    → Only (item_head_at left) (record { flags = flags; kind = kind; length = size })
+    (ItemHeadSpelled flags kind size)
 unfolding item_head_at
 only_item_head left flags kind size fits =
     only_else _ _ (nat_lt left 5) (le-ltb left 5 (omega arith))
@@ -130,7 +148,8 @@ only_item_head left flags kind size fits =
     (only_last _ _ (only_u16 size) (λ more.
     let within : nat_lt (left - 5) size ≡ false = le-ltb (left - 5) size (omega arith) in rw within refl))))
 
-pub only_skipped : (value : List ℕ) (n : ℕ) → length value ≡ n → Only (skipped_at n) tt (λ bytes. bytes ≡ value)
+pub only_skipped : (value : List ℕ) (n : ℕ) → length value ≡ n
+    → Only (skipped_at n) tt (λ bytes. bytes ≡ value)
 unfolding skipped_at
 only_skipped value n size = only_last _ _ (only_bytes value n size) (λ rest. refl)
 
@@ -139,12 +158,14 @@ has_total_size Session kind size is = absurd (cc)
 has_total_size Transfer kind size is = grind (arith, nat_tests)
 
 -- the number in a field, whatever number it is
-pub only_field_of : (value : List ℕ) (n : ℕ) → length value ≡ n → Only (number_at n) (big_number n value) (λ bytes. bytes ≡ value)
+pub only_field_of : (value : List ℕ) (n : ℕ) → length value ≡ n
+    → Only (number_at n) (big_number n value) (λ bytes. bytes ≡ value)
 unfolding number_at
 only_field_of value n size = only_last _ _ (only_bytes value n size) (λ more. refl)
 
 module _ (of : ListOf) (kind size : ℕ) (total : Option ℕ) where
-  value_by : (test : Bool) → gives_total of kind size ≡ test → Only (total_at of kind size) total (ValueSpelled of kind size total)
+  value_by : (test : Bool) → gives_total of kind size ≡ test
+      → Only (total_at of kind size) total (ValueSpelled of kind size total)
   unfolding total_at
   value_by true known = only_such (λ value is.
       let number : total ≡ Some (big_number 8 value) = is.2 ∙ ap (λ test. if test then Some (big_number 8 value) else None) known in
@@ -159,7 +180,8 @@ module _ (of : ListOf) (kind size : ℕ) (total : Option ℕ) where
   only_value = value_by (gives_total of kind size) refl
 
 -- an item is five bytes and its value
-pub length_item_head : (flags kind size : ℕ) (bytes : List ℕ) → ItemHeadSpelled flags kind size bytes → length bytes ≡ 5
+pub length_item_head : (flags kind size : ℕ) (bytes : List ℕ)
+    → ItemHeadSpelled flags kind size bytes → length bytes ≡ 5
 length_item_head flags kind size bytes is =
     let whole = length_parts bytes is in
     let after = length_parts is.after is.is_second in
@@ -173,7 +195,8 @@ abbrev pub ItemsFilling : ListOf → List Item → ℕ → Spelling
 ItemsFilling of items left bytes = ItemsSpelled of items bytes × (length bytes ≡ left)
 
 module _ (of : ListOf) where
-  pub only_items : (items : List Item) (room left : ℕ) → length items ≤ room → Only (items_at of room left) items (ItemsFilling of items left)
+  pub only_items : (items : List Item) (room left : ℕ) → length items ≤ room
+      → Only (items_at of room left) items (ItemsFilling of items left)
   unfolding items_at
   only_items [] zero left few = record { by = λ bytes is more. let none : left ≡ 0 = sym is.1 ∙ ap length is.0 in rw (none, is.0) refl }
   only_items [] (suc room) left few = record { by = λ bytes is more. let none : left ≡ 0 = sym is.1 ∙ ap length is.0 in rw (none, is.0) refl }
@@ -195,7 +218,8 @@ module _ (of : ListOf) where
         only.by bytes (then_assoc bytes (record { before = is.0.before; after = is.0.after; is_first = is.0.is_first; is_second = (is.0.is_second, size); parts = is.0.parts })) more;
   }
 
-  only_items_of : (items : ArrayVec Item) (left : ℕ) → length items.items ≤ most_items → Only (items_of of left) items (ItemsFilling of items.items left)
+  only_items_of : (items : ArrayVec Item) (left : ℕ) → length items.items ≤ most_items
+      → Only (items_of of left) items (ItemsFilling of items.items left)
   unfolding items_of
   only_items_of items left few = only_last _ _ (only_items items.items most_items left few) (λ rest. refl)
 
@@ -210,7 +234,8 @@ module _ (of : ListOf) where
         only.by bytes (record { before = is.is_list.before; after = is.is_list.after; is_first = is.is_list.is_first; is_second = body; parts = is.is_list.parts }) more;
   }
 
-only_segment_items : (flags : ℕ) (items : ArrayVec Item) (start : Bool) → is_start flags ≡ start → Only (segment_items_at flags) items (SegmentItemsSpelled start items)
+only_segment_items : (flags : ℕ) (items : ArrayVec Item) (start : Bool) → is_start flags ≡ start
+    → Only (segment_items_at flags) items (SegmentItemsSpelled start items)
 unfolding segment_items_at
 only_segment_items flags items true known = only_if _ _ (is_start flags) known (only_list Transfer items)
 only_segment_items flags items false known = only_else _ _ (is_start flags) known (record {
@@ -218,7 +243,10 @@ only_segment_items flags items false known = only_else _ _ (is_start flags) know
       let none : items ≡ record { items = [] } = array_vec_of items [] is.0 in rw (is.1, none) refl;
 })
 
-only_segment : (head : SegmentHead) → Only segment_at (Segment head) (U8 head.flags ⨾ U64 head.id ⨾ SegmentItemsSpelled (is_start head.flags) head.items ⨾ U64 head.length)
+only_segment : (head : SegmentHead)
+    → Only segment_at (Segment head)
+    (U8 head.flags ⨾ U64 head.id ⨾ SegmentItemsSpelled (is_start head.flags)
+    head.items ⨾ U64 head.length)
 unfolding segment_at
 only_segment head =
     only_then _ _ (only_u8 head.flags)
@@ -234,16 +262,21 @@ only_refuse : (reason id : ℕ) → Only refuse_at (Refuse reason id) (U8 reason
 unfolding refuse_at
 only_refuse reason id = only_then _ _ (only_u8 reason) (only_last _ _ (only_u64 id) (λ more. refl))
 
-only_sess_term : (flags reason : ℕ) → Only sess_term_at (SessTerm flags reason) (U8 flags ⨾ U8 reason)
+only_sess_term : (flags reason : ℕ)
+    → Only sess_term_at (SessTerm flags reason) (U8 flags ⨾ U8 reason)
 unfolding sess_term_at
 only_sess_term flags reason = only_then _ _ (only_u8 flags) (only_last _ _ (only_u8 reason) (λ more. refl))
 
-only_msg_reject : (reason header : ℕ) → Only msg_reject_at (MsgReject reason header) (U8 reason ⨾ U8 header)
+only_msg_reject : (reason header : ℕ)
+    → Only msg_reject_at (MsgReject reason header) (U8 reason ⨾ U8 header)
 unfolding msg_reject_at
 only_msg_reject reason header = only_then _ _ (only_u8 reason) (only_last _ _ (only_u8 header) (λ more. refl))
 
-only_sess_init : (keepalive segment_mru transfer_mru : ℕ) (node : ArrayVec ℕ) (items : ArrayVec Item)
-    → Only sess_init_at (SessInit keepalive segment_mru transfer_mru node items) (U16 keepalive ⨾ U64 segment_mru ⨾ U64 transfer_mru ⨾ NodeSpelled node ⨾ ListSpelled Session items)
+only_sess_init : (keepalive segment_mru transfer_mru : ℕ)
+    (node : ArrayVec ℕ) (items : ArrayVec Item)
+    → Only sess_init_at (SessInit keepalive segment_mru transfer_mru node items)
+    (U16 keepalive ⨾ U64 segment_mru ⨾ U64 transfer_mru ⨾ NodeSpelled node ⨾
+    ListSpelled Session items)
 unfolding sess_init_at
 only_sess_init keepalive segment_mru transfer_mru node items =
     only_then _ _ (only_u16 keepalive)
@@ -264,7 +297,8 @@ only_message (MsgReject reason header) = only_then _ _ (only_u8 6) (only_msg_rej
 only_message (SessInit keepalive segment_mru transfer_mru node items) = only_then _ _ (only_u8 7) (only_sess_init keepalive segment_mru transfer_mru node items)
 
 -- a message and its data, in before of anything
-pub only_spelled : (message : Message) (content bytes : List ℕ) → Spelled message content bytes → (more : List ℕ) → message_at (bytes ++ more) ≡ Ok (message, content ++ more)
+pub only_spelled : (message : Message) (content bytes : List ℕ) → Spelled message content bytes
+    → (more : List ℕ) → message_at (bytes ++ more) ≡ Ok (message, content ++ more)
 only_spelled message content bytes is more =
     ap (λ all. message_at (all ++ more)) is.1.parts
     ∙ ap message_at (append_assoc is.1.before is.1.after more)
@@ -272,7 +306,8 @@ only_spelled message content bytes is more =
     ∙ ap (λ all. Ok (message, all ++ more)) is.1.is_second.1
 
 -- No bytes spell two messages, and no spelling of a message begins another.
-pub one_spelling : (a x : List ℕ) (m : Message) (d : List ℕ) (n : Message) (e : List ℕ) → Spelled m d a → Spelled n e (a ++ x) → (x ≡ []) × (m ≡ n) × (d ≡ e)
+pub one_spelling : (a x : List ℕ) (m : Message) (d : List ℕ) (n : Message) (e : List ℕ)
+    → Spelled m d a → Spelled n e (a ++ x) → (x ≡ []) × (m ≡ n) × (d ≡ e)
 one_spelling a x m d n e first second =
     let one : message_at (a ++ x) ≡ Ok (m, d ++ x) = only_spelled m d a first x in
     let other : message_at (a ++ x) ≡ Ok (n, e ++ []) = ap message_at (sym (append-nil (a ++ x))) ∙ only_spelled n e (a ++ x) second [] in

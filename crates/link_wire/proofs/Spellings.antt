@@ -42,8 +42,10 @@ none_spelled of = record {
 
 -- a SESS_INIT
 pub sess_init_spelled : (interval segment_mru transfer_mru : ℕ) (node : List ℕ)
-    → interval < 2 ^ 16 → segment_mru < 2 ^ 64 → transfer_mru < 2 ^ 64 → AreBytes node → length node ≤ longest_node
-    → HeadSpelled (sess_init_with interval segment_mru transfer_mru node) (sess_init_bytes interval segment_mru transfer_mru node)
+    → interval < 2 ^ 16 → segment_mru < 2 ^ 64 → transfer_mru < 2 ^ 64 → AreBytes node
+    → length node ≤ longest_node
+    → HeadSpelled (sess_init_with interval segment_mru transfer_mru node)
+    (sess_init_bytes interval segment_mru transfer_mru node)
 unfolding sess_init_bytes
 sess_init_spelled interval segment_mru transfer_mru node fits segment_fits transfer_fits are short =
     let size = be 2 (length node) in
@@ -56,7 +58,8 @@ sess_init_spelled interval segment_mru transfer_mru node fits segment_fits trans
 
 -- a Transfer Length item
 total_spelled : (total : ℕ) → total < 2 ^ 64
-    → ItemSpelled Transfer (record { flags = 0; kind = 1; length = 8; total = Some total }) (total_bytes total)
+    → ItemSpelled Transfer (record { flags = 0; kind = 1; length = 8; total = Some total })
+    (total_bytes total)
 unfolding total_bytes
 total_spelled total fits =
     let read = big_number-reads_back 8 total [] fits in
@@ -77,7 +80,8 @@ length-total total = refl
 
 -- the one item of a list that announces
 one_item : (total : ℕ) → total < 2 ^ 64
-    → ItemsSpelled Transfer (record { flags = 0; kind = 1; length = 8; total = Some total } ∷ []) (total_bytes total)
+    → ItemsSpelled Transfer (record { flags = 0; kind = 1; length = 8; total = Some total } ∷ [])
+    (total_bytes total)
 one_item total fits =
     let P : List ℕ → Type 0 = ItemsSpelled Transfer (record { flags = 0; kind = 1; length = 8; total = Some total } ∷ []) in
     subst P (append-nil (total_bytes total)) (both (total_bytes total) [] (total_spelled total fits) refl)
@@ -115,7 +119,8 @@ items_spelled false (Some total) fits may = let not = may refl in absurd (cc)
 
 -- an XFER_SEGMENT
 pub segment_spelled : (flags id size : ℕ) (announce : Option ℕ)
-    → flags < 2 ^ 8 → id < 2 ^ 64 → size < 2 ^ 64 → IfSome announce (λ total. total < 2 ^ 64) → (IsSome announce → IsTrue (is_start flags))
+    → flags < 2 ^ 8 → id < 2 ^ 64 → size < 2 ^ 64 → IfSome announce (λ total. total < 2 ^ 64)
+    → (IsSome announce → IsTrue (is_start flags))
     → HeadSpelled (segment_with flags id size announce) (segment_head_bytes flags id size announce)
 unfolding segment_head_bytes
 segment_spelled flags id size announce fits id_fits size_fits total_fits may =

@@ -21,8 +21,10 @@ use Rattle.link_wire.proofs.Shrinks.{both_read}
 use Rattle.link_wire.proofs.Within.{both_cut}
 
 record Steady {A : Type 0} (part : List ℕ → Part A) : Type 0 where
-  pub read : (bytes more : List ℕ) (value : A) (rest : List ℕ) → part bytes ≡ Ok (value, rest) → part (bytes ++ more) ≡ Ok (value, rest ++ more)
-  pub faulty : (bytes more : List ℕ) (fault : WireFault) → (fault ≡ Truncated → ⊥) → part bytes ≡ Err fault → part (bytes ++ more) ≡ Err fault
+  pub read : (bytes more : List ℕ) (value : A) (rest : List ℕ) → part bytes ≡ Ok (value, rest)
+      → part (bytes ++ more) ≡ Ok (value, rest ++ more)
+  pub faulty : (bytes more : List ℕ) (fault : WireFault) → (fault ≡ Truncated → ⊥)
+      → part bytes ≡ Err fault → part (bytes ++ more) ≡ Err fault
 
 steady_pure : {A : Type 0} (value : A) → Steady (λ bytes. Ok (value, bytes))
 steady_pure {A} value = record {
@@ -33,11 +35,14 @@ steady_pure {A} value = record {
   faulty = λ bytes more fault lasting is. absurd (cc);
 }
 
-steady_err : {A : Type 0} (fault : WireFault) → Steady (λ bytes. let part : Part A = Err fault in part)
+steady_err : {A : Type 0} (fault : WireFault)
+    → Steady (λ bytes. let part : Part A = Err fault in part)
 steady_err fault = record { read = λ bytes more value rest is. absurd (cc); faulty = λ bytes more other lasting is. is }
 
 module _ {A B : Type 0} where
-  steady_then : (part : List ℕ → Part A) (next : A × List ℕ → Part B) → Steady part → ((value : A) → Steady (λ bytes. next (value, bytes))) → Steady (λ bytes. part bytes >>= next)
+  steady_then : (part : List ℕ → Part A) (next : A × List ℕ → Part B) → Steady part
+      → ((value : A) → Steady (λ bytes. next (value, bytes)))
+      → Steady (λ bytes. part bytes >>= next)
   steady_then part next first second = record {
     read = λ bytes more value rest is.
         let both = both_read (part bytes) next (value, rest) is in
@@ -50,7 +55,8 @@ module _ {A B : Type 0} where
   }
 
 module _ {A : Type 0} where
-  steady_if : (test : Bool) (part other : List ℕ → Part A) → Steady part → Steady other → Steady (λ bytes. if test then part bytes else other bytes)
+  steady_if : (test : Bool) (part other : List ℕ → Part A) → Steady part → Steady other
+      → Steady (λ bytes. if test then part bytes else other bytes)
   steady_if true part other p q = p
   steady_if false part other p q = q
 
@@ -189,7 +195,8 @@ steady_message = steady_then _ _ (steady_number 1) (λ kind. steady_fields kind)
 
 -- where no field is missing in some bytes, none is in them and more
 module _ {A : Type 0} (part : List ℕ → Part A) (steady : Steady part) (bytes more : List ℕ) where
-  stays_whole : (read : Part A) → part bytes ≡ read → (read ≡ Err Truncated → ⊥) → part (bytes ++ more) ≡ Err Truncated → ⊥
+  stays_whole : (read : Part A) → part bytes ≡ read → (read ≡ Err Truncated → ⊥)
+      → part (bytes ++ more) ≡ Err Truncated → ⊥
   stays_whole (Ok (value, rest)) is whole cut =
       let never = sym (steady.read bytes more value rest is) ∙ cut in absurd (cc)
   stays_whole (Err fault) is whole cut =
@@ -197,17 +204,20 @@ module _ {A : Type 0} (part : List ℕ → Part A) (steady : Steady part) (bytes
       whole (sym (steady.faulty bytes more fault lasting is) ∙ cut)
 
 -- bytes with a whole head come next: so the input has enough for it
-enough_here : (left : Option (List ℕ)) (bytes : List ℕ) → BeginsWith left bytes → IsHere 0 (message_at bytes) → IsEnough 0 left
+enough_here : (left : Option (List ℕ)) (bytes : List ℕ) → BeginsWith left bytes
+    → IsHere 0 (message_at bytes) → IsEnough 0 left
 enough_here None bytes next here = tt
 enough_here (Some all) bytes next here = λ cut.
     stays_whole message_at steady_message bytes next.0 (message_at bytes) refl here.whole (ap message_at (sym next.1) ∙ cut)
 
-begins_window : (left : Option (List ℕ)) (window : List ℕ) → BeginsWith (prepend_known window left) window
+begins_window : (left : Option (List ℕ)) (window : List ℕ)
+    → BeginsWith (prepend_known window left) window
 begins_window None window = tt
 begins_window (Some all) window = (all, refl)
 
 module _ {R : Type 0} (look : R → Input) (s : Session R) (between : s.left ≡ 0) where
-  pub head_next : (bytes : List ℕ) → BeginsWith (ahead look s.source) bytes → IsHere 0 (message_at bytes) → HasNext look s
+  pub head_next : (bytes : List ℕ) → BeginsWith (ahead look s.source) bytes
+      → IsHere 0 (message_at bytes) → HasNext look s
   head_next bytes next here =
       let P : ℕ → Type 0 = λ left. IsEnough left (ahead look s.source) in
       subst P (sym between) (enough_here (ahead look s.source) bytes next here)
@@ -215,12 +225,14 @@ module _ {R : Type 0} (look : R → Input) (s : Session R) (between : s.left ≡
   pub window_has_head : IsHere 0 (message_at (window_of s.source)) → HasNext look s
   window_has_head here = head_next (window_of s.source) (begins_window (look s.source.reader).left (window_of s.source)) here
 
-enough_data : (left : ℕ) (rest : Option (List ℕ)) (window : List ℕ) → 0 < length (take left window) → IsEnough left (prepend_known window rest)
+enough_data : (left : ℕ) (rest : Option (List ℕ)) (window : List ℕ) → 0 < length (take left window)
+    → IsEnough left (prepend_known window rest)
 enough_data zero None window some = tt
 enough_data (suc left) None window some = tt
 enough_data zero (Some all) window some = absurd (omega arith)
 enough_data (suc left) (Some all) window some = omega (arith, length-take (suc left) window, length-append window all)
 
 -- data that lies in the window comes next
-pub data_next : {R : Type 0} (look : R → Input) (s : Session R) → 0 < length (data_in s) → HasNext look s
+pub data_next : {R : Type 0} (look : R → Input) (s : Session R)
+    → 0 < length (data_in s) → HasNext look s
 data_next look s some = enough_data s.left (look s.source.reader).left (window_of s.source) some

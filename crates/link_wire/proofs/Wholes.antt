@@ -18,13 +18,15 @@ none_left None rest empty is = absurd (cc)
 none_left (Some xs) rest empty is = let same : xs ≡ rest = cc in sym same ∙ empty
 
 module _ {R : Type 0} (look : R → Input) (source : Source R) where
-  pub whole_over : (history : List ℕ) (reading : Reading) → IsOver look source → reading_of history ≡ reading → IsWhole (look source.reader).left history reading
+  pub whole_over : (history : List ℕ) (reading : Reading) → IsOver look source
+      → reading_of history ≡ reading → IsWhole (look source.reader).left history reading
   whole_over history reading over is = record {
     is = is;
     all = λ rest left. ap (λ xs. reading_of (history ++ xs)) (none_left (look source.reader).left rest over.empty left) ∙ ap reading_of (append-nil history);
   }
 
-  pub whole_read : (history : List ℕ) (fault : WireFault) (reading : Reading) → IsRead look source history fault reading → IsWhole (look source.reader).left history reading
+  pub whole_read : (history : List ℕ) (fault : WireFault) (reading : Reading)
+      → IsRead look source history fault reading → IsWhole (look source.reader).left history reading
   whole_read history fault reading read =
       let here : reading_of history ≡ reading = ap reading_of (sym (append-nil history)) ∙ read.all [] (λ is. refl) in
       record {

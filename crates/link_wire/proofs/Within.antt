@@ -18,11 +18,14 @@ use Rattle.link_wire.specs.declared.message.ListOf.{ListOf}
 use Rattle.link_wire.specs.declared.message.ListOf.TheVariants.{Session, Transfer}
 
 pub record Within {A : Type 0} (most : ℕ) (part : List ℕ → Part A) : Type 0 where
-  pub read : (bytes : List ℕ) (value : A) (rest : List ℕ) → part bytes ≡ Ok (value, rest) → length bytes ≤ length rest + most
+  pub read : (bytes : List ℕ) (value : A) (rest : List ℕ) → part bytes ≡ Ok (value, rest)
+      → length bytes ≤ length rest + most
   pub cut : (bytes : List ℕ) → part bytes ≡ Err Truncated → length bytes < most
 
 -- what was cut was cut in its first step, or in what goes on from it
-pub both_cut : {A B : Type 0} (read : Result A WireFault) (next : A → Result B WireFault) (fault : WireFault) → read >>= next ≡ Err fault → (read ≡ Err fault) ⊎ ((first : A) × (read ≡ Ok first) × (next first ≡ Err fault))
+pub both_cut : {A B : Type 0} (read : Result A WireFault) (next : A → Result B WireFault)
+    (fault : WireFault) → read >>= next ≡ Err fault
+    → (read ≡ Err fault) ⊎ ((first : A) × (read ≡ Ok first) × (next first ≡ Err fault))
 both_cut (Ok first) next fault is = inr (first, refl, is)
 both_cut {A} (Err other) next fault is = inl (let same : other ≡ fault = cc in ap (λ f. let r : Result A WireFault = Err f in r) same)
 
@@ -32,18 +35,22 @@ within_pure value = record {
   cut = λ bytes is. absurd (cc);
 }
 
-within_err : {A : Type 0} (fault : WireFault) → (fault ≡ Truncated → ⊥) → Within 0 (λ bytes. let part : Part A = Err fault in part)
+within_err : {A : Type 0} (fault : WireFault) → (fault ≡ Truncated → ⊥)
+    → Within 0 (λ bytes. let part : Part A = Err fault in part)
 within_err fault other = record { read = λ bytes value rest is. absurd (cc); cut = λ bytes is. absurd (other (cc)) }
 
-loosely : {A : Type 0} (less most : ℕ) (part : List ℕ → Part A) → less ≤ most → Within less part → Within most part
+loosely : {A : Type 0} (less most : ℕ) (part : List ℕ → Part A) → less ≤ most
+    → Within less part → Within most part
 loosely less most part fewer within = record {
   read = λ bytes value rest is. let h = within.read bytes value rest is in omega arith;
   cut = λ bytes is. let h = within.cut bytes is in omega arith;
 }
 
 module _ {A B : Type 0} where
-  within_such : (first second : ℕ) (part : List ℕ → Part A) (next : A × List ℕ → Part B) → Within first part
-      → ((value : A) (bytes rest : List ℕ) → part bytes ≡ Ok (value, rest) → Within second (λ bytes. next (value, bytes)))
+  within_such : (first second : ℕ) (part : List ℕ → Part A) (next : A × List ℕ → Part B)
+      → Within first part
+      → ((value : A) (bytes rest : List ℕ) → part bytes ≡ Ok (value, rest)
+      → Within second (λ bytes. next (value, bytes)))
       → Within (first + second) (λ bytes. part bytes >>= next)
   within_such first second part next one two = record {
     read = λ bytes value rest is.
@@ -61,11 +68,15 @@ module _ {A B : Type 0} where
         (both_cut (part bytes) next Truncated is);
   }
 
-  within_then : (first second : ℕ) (part : List ℕ → Part A) (next : A × List ℕ → Part B) → Within first part → ((value : A) → Within second (λ bytes. next (value, bytes))) → Within (first + second) (λ bytes. part bytes >>= next)
+  within_then : (first second : ℕ) (part : List ℕ → Part A) (next : A × List ℕ → Part B)
+      → Within first part → ((value : A) → Within second (λ bytes. next (value, bytes)))
+      → Within (first + second) (λ bytes. part bytes >>= next)
   within_then first second part next one two = within_such first second part next one (λ value bytes rest is. two value)
 
 module _ {A : Type 0} where
-  within_if : (most : ℕ) (test : Bool) (part other : List ℕ → Part A) → (test ≡ true → Within most part) → (test ≡ false → Within most other) → Within most (λ bytes. if test then part bytes else other bytes)
+  within_if : (most : ℕ) (test : Bool) (part other : List ℕ → Part A)
+      → (test ≡ true → Within most part) → (test ≡ false → Within most other)
+      → Within most (λ bytes. if test then part bytes else other bytes)
   within_if most true part other p q = p refl
   within_if most false part other p q = q refl
 
@@ -121,12 +132,14 @@ within_item_head left enough =
     within_if 0 (nat_lt (left - 5) size) _ _ (λ is. within_err _ (λ e. cc)) (λ is. within_pure _))))))
 
 -- a test that was passed on the way to a value
-taken_else : {A : Type 0} (test : Bool) (read : Result A WireFault) (value : A) (fault : WireFault) → (if test then Err fault else read) ≡ Ok value → (test ≡ false) × (read ≡ Ok value)
+taken_else : {A : Type 0} (test : Bool) (read : Result A WireFault) (value : A) (fault : WireFault)
+    → (if test then Err fault else read) ≡ Ok value → (test ≡ false) × (read ≡ Ok value)
 taken_else true read value fault is = absurd (cc)
 taken_else false read value fault is = (refl, is)
 
 -- an item that was read ends within its list
-item_fits : (left : ℕ) (bytes : List ℕ) (head : ItemHead) (rest : List ℕ) → item_head_at left bytes ≡ Ok (head, rest) → 5 + head.length ≤ left
+item_fits : (left : ℕ) (bytes : List ℕ) (head : ItemHead) (rest : List ℕ)
+    → item_head_at left bytes ≡ Ok (head, rest) → 5 + head.length ≤ left
 unfolding item_head_at
 item_fits left bytes head rest is =
     let some = taken_else (nat_lt left 5) _ (head, rest) ItemsOverrun is in
@@ -145,7 +158,9 @@ within_no_head left short =
 
 -- the head of an item, and what goes on from it within its list
 module _ {B : Type 0} (left : ℕ) (next : ItemHead × List ℕ → Part B) where
-  within_headed : ((head : ItemHead) → 5 + head.length ≤ left → Within (left - 5) (λ bytes. next (head, bytes))) → Within left (λ bytes. item_head_at left bytes >>= next)
+  within_headed : ((head : ItemHead) → 5 + head.length ≤ left
+      → Within (left - 5) (λ bytes. next (head, bytes)))
+      → Within left (λ bytes. item_head_at left bytes >>= next)
   within_headed two =
       ⊎_elim
       (λ short. loosely (0 + left) left _ (omega arith) (within_such 0 left _ next (within_no_head left short) (λ head bytes rest is. absurd (omega (arith, item_fits left bytes head rest is)))))
@@ -258,7 +273,8 @@ unfolding message_at
 within_message = within_then 1 66584 _ _ (within_number 1) (λ kind. within_fields kind)
 
 -- what was read, and what shows a fault, has no more bytes than that; what is cut has fewer
-module _ {A : Type 0} {most : ℕ} {part : List ℕ → Part A} (within : Within most part) (bytes : List ℕ) where
+module _ {A : Type 0} {most : ℕ} {part : List ℕ → Part A}
+    (within : Within most part) (bytes : List ℕ) where
   pub part_size : (value : A) → IsPart part bytes value → length bytes ≤ most
   part_size value is = omega (arith, within.read (bytes ++ []) value [] (is.is_part []), ap length (append-nil bytes))
 

@@ -31,32 +31,37 @@ module _ {A : Type 0} where
 
 module _ {R A : Type 0} where
   -- the bytes given are the part
-  pub record WholePart (look : R → Input) (part : List ℕ → Part A) (old new : Source R) (value : A) : Type 0 where
+  pub record WholePart (look : R → Input) (part : List ℕ → Part A) (old new : Source R)
+      (value : A) : Type 0 where
     pub given : List ℕ
     pub takes : Takes look old new given
     pub live : IsLive look new
     pub is : IsPart part given value
 
   -- the bytes given show the fault; where a field is missing the input is over
-  pub record MetFault (look : R → Input) (part : List ℕ → Part A) (old new : Source R) (fault : WireFault) : Type 0 where
+  pub record MetFault (look : R → Input) (part : List ℕ → Part A) (old new : Source R)
+      (fault : WireFault) : Type 0 where
     pub given : List ℕ
     pub takes : Takes look old new given
     pub is : IsFault part given fault
     pub over : fault ≡ Truncated → IsOver look new
 
   -- the source stopped inside the part
-  pub record MetStop (look : R → Input) (part : List ℕ → Part A) (old new : Source R) (fault : IoFault) : Type 0 where
+  pub record MetStop (look : R → Input) (part : List ℕ → Part A) (old new : Source R)
+      (fault : IoFault) : Type 0 where
     pub given : List ℕ
     pub stops : StopsAfter look old new given fault
     pub is_cut : part given ≡ Err Truncated
 
-  abbrev pub AnswersPart : (R → Input) → (List ℕ → Part A) → Source R → Source R → Result A Halt → Type 0
+  abbrev pub AnswersPart : (R → Input) → (List ℕ → Part A) → Source R
+      → Source R → Result A Halt → Type 0
   AnswersPart look part old new (Ok value) = WholePart look part old new value
   AnswersPart look part old new (Err (halt.Wire fault)) = MetFault look part old new fault
   AnswersPart look part old new (Err (halt.Io fault)) = MetStop look part old new fault
 
   -- what a function that reads the part returns
-  pub record Gets (look : R → Input) (part : List ℕ → Part A) (old new : Source R) (outcome : Result A Halt) : Type 0 where
+  pub record Gets (look : R → Input) (part : List ℕ → Part A) (old new : Source R)
+      (outcome : Result A Halt) : Type 0 where
     pub by : AnswersPart look part old new outcome
 
 -- the result of a function that leaves what it read with its caller, and that value

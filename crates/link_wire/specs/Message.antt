@@ -97,7 +97,15 @@ items_at of (suc room) left bytes =
       (head, bytes) ← item_head_at left bytes
       (total, bytes) ← total_at of head.kind head.length bytes
       (others, bytes) ← items_at of room (left - (item_head + head.length)) bytes
-      Ok (record { flags = head.flags; kind = head.kind; length = head.length; total = total } ∷ others, bytes))
+      Ok (
+        record {
+          flags = head.flags;
+          kind = head.kind;
+          length = head.length;
+          total = total;
+        } ∷ others,
+        bytes,
+      ))
 
 -- the items of a list of `size` bytes
 unfoldable pub items_of : ListOf → ℕ → List ℕ → Part (ArrayVec Item)
@@ -113,7 +121,8 @@ list_at of bytes = do
 
 -- the extension list of a segment (section 5.2.2), which stands there only with START
 unfoldable pub segment_items_at : ℕ → List ℕ → Part (ArrayVec Item)
-segment_items_at flags bytes = if is_start flags then list_at Transfer bytes else Ok (record { items = [] }, bytes)
+segment_items_at flags bytes =
+    if is_start flags then list_at Transfer bytes else Ok (record { items = [] }, bytes)
 
 -- XFER_SEGMENT less its data (section 5.2.2)
 unfoldable pub segment_at : List ℕ → Part Message

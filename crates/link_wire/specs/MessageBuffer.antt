@@ -16,8 +16,10 @@ segment_items flags items = if is_start flags then items else record { items = [
 
 -- a message of its numbers, a node ID and items
 abbrev pub message_with : Fields → ArrayVec ℕ → ArrayVec Item → Message
-message_with (fields.SessInit interval segment_mru transfer_mru) node items = SessInit interval segment_mru transfer_mru node items
-message_with (fields.Segment flags id size) node items = Segment (record { flags = flags; id = id; items = segment_items flags items; length = size })
+message_with (fields.SessInit interval segment_mru transfer_mru) node items =
+    SessInit interval segment_mru transfer_mru node items
+message_with (fields.Segment flags id size) node items =
+    Segment (record { flags = flags; id = id; items = segment_items flags items; length = size })
 message_with (fields.Ack flags id size) node items = Ack flags id size
 message_with (fields.Refuse reason id) node items = Refuse reason id
 message_with fields.Keepalive node items = Keepalive

@@ -10,13 +10,15 @@ Part A = Result (A × List ℕ) WireFault
 
 -- one part, and then what depends on it
 infixl 10 ◌>>=◌
-abbrev pub ◌>>=◌ : {A B : Type 0} → Result A WireFault → (A → Result B WireFault) → Result B WireFault
+abbrev pub ◌>>=◌ : {A B : Type 0} → Result A WireFault
+→ (A → Result B WireFault) → Result B WireFault
 (Ok x) >>= f = f x
 (Err fault) >>= f = Err fault
 
 -- the next n bytes
 unfoldable pub bytes_at : ℕ → List ℕ → Part (List ℕ)
-bytes_at n bytes = if nat_lt (length bytes) n then Err Truncated else Ok (take n bytes, drop n bytes)
+bytes_at n bytes =
+    if nat_lt (length bytes) n then Err Truncated else Ok (take n bytes, drop n bytes)
 
 -- the next n bytes as an unsigned number, the most significant byte first
 unfoldable pub number_at : ℕ → List ℕ → Part ℕ

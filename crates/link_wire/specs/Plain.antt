@@ -11,4 +11,5 @@ use Rattle.link_wire.specs.declared.message.Fields.{Fields}
 pub record IsHead (window : List ℕ) (fields : Fields) (size : ℕ) : Type 0 where
   pub some : 0 < size
   pub within : size ≤ length window
-  pub is : (node : ArrayVec ℕ) → IsPart message_at (take size window) (message_with fields node (record { items = [] }))
+  pub is : (node : ArrayVec ℕ)
+      → IsPart message_at (take size window) (message_with fields node (record { items = [] }))

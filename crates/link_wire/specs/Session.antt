@@ -20,7 +20,8 @@ use Rattle.link_io.specs.declared.source.Source.{Source}
 
 -- a reading that goes on
 abbrev pub joined : Reading → Stream → Reading
-joined reading rest = record { contact = reading.contact; entries = reading.entries ++ rest.entries; end = rest.end }
+joined reading rest =
+    record { contact = reading.contact; entries = reading.entries ++ rest.entries; end = rest.end }
 
 -- the head of a message has come: a message without data is whole with it
 abbrev pub with_message : ℕ → Message → Reading → Reading
@@ -35,7 +36,8 @@ data_after left bytes Clean = ended Clean
 data_after left bytes (Cut offset message content) =
     if nat_lt 0 left
     then ended (Cut offset message (content ++ bytes))
-    else with_entry (record { offset = offset; message = message; content = content ++ bytes }) (ended Clean)
+    else with_entry (record { offset = offset; message = message; content = content ++ bytes })
+    (ended Clean)
 data_after left bytes (Fault offset fault) = ended (Fault offset fault)
 
 -- the same, joined to the reading
@@ -49,13 +51,18 @@ rest_after place left Clean bytes = stream_at place bytes
 rest_after place left (Cut offset message content) bytes =
     if nat_lt (length bytes) left
     then ended (Cut offset message (content ++ bytes))
-    else with_entry (record { offset = offset; message = message; content = content ++ take left bytes }) (stream_at (place + left) (drop left bytes))
+    else with_entry (record {
+      offset = offset;
+      message = message;
+      content = content ++ take left bytes;
+    }) (stream_at (place + left) (drop left bytes))
 rest_after place left (Fault offset fault) bytes = ended (Fault offset fault)
 
 -- between two messages no data is to come, and inside the segment at `offset` its last `left` bytes are
 abbrev pub IsLeft : ℕ → ℕ → End → Type 0
 IsLeft offset left Clean = left ≡ 0
-IsLeft offset left (Cut from message content) = (0 < left) × (from ≡ offset) × (data_length message ≡ length content + left)
+IsLeft offset left (Cut from message content) =
+    (0 < left) × (from ≡ offset) × (data_length message ≡ length content + left)
 IsLeft offset left (Fault from fault) = ⊥
 
 -- between two messages, or within the contact header or the head of one, of which a field is missing: more bytes may mend it
@@ -78,7 +85,8 @@ pub record SameMessages (first second : Reading) : Type 0 where
 
 -- no proper prefix of the bytes after the history shows a fault, or ends in data
 abbrev pub ShownLast : (history bytes : List ℕ) → Type 0
-ShownLast history bytes = (count : ℕ) → count < length bytes → IsUndecided (reading_of (history ++ take count bytes)).end
+ShownLast history bytes =
+    (count : ℕ) → count < length bytes → IsUndecided (reading_of (history ++ take count bytes)).end
 
 abbrev pub is_unopened : Phase → Bool
 is_unopened phase.Unopened = true
@@ -140,7 +148,10 @@ module _ {R : Type 0} where
     pub contact : Contact
     pub has_contact : (reading_of history).contact ≡ Some contact
     pub left : IsLeft s.offset s.left (reading_of history).end
-    pub goes_on : (more : List ℕ) → reading_of (history ++ more) ≡ joined (reading_of history) (rest_after (length history) s.left (reading_of history).end more)
+    pub goes_on : (more : List ℕ)
+        → reading_of (history ++ more)
+        ≡ joined (reading_of history)
+        (rest_after (length history) s.left (reading_of history).end more)
 
   -- the input has enough bytes left for what comes next
   abbrev pub HasNext : (R → Input) → Session R → Type 0
@@ -148,7 +159,8 @@ module _ {R : Type 0} where
 
   -- The whole input is read as `reading`: so are these bytes, whatever may follow them (`MayFollow`); and where the fault is a missing
   -- field, no byte of the input is left.
-  pub record IsRead (look : R → Input) (source : Source R) (history : List ℕ) (fault : WireFault) (reading : Reading) : Type 0 where
+  pub record IsRead (look : R → Input) (source : Source R) (history : List ℕ) (fault : WireFault)
+      (reading : Reading) : Type 0 where
     pub over : fault ≡ wire.Truncated → IsOver look source
     pub all : (more : List ℕ) → MayFollow fault more → reading_of (history ++ more) ≡ reading
 
@@ -171,30 +183,36 @@ module _ {R : Type 0} where
     pub between : left_of new ≡ 0
 
   -- a fault of the contact header
-  pub record RefusedContact (look : R → Input) (old new : Session R) (offset : ℕ) (fault : WireFault) : Type 0 where
+  pub record RefusedContact (look : R → Input) (old new : Session R) (offset : ℕ)
+      (fault : WireFault) : Type 0 where
     pub given : List ℕ
     pub takes : Takes look old.source new.source given
     pub size : length given ≤ 6
     pub place : offset ≡ 0
-    pub is_read : IsRead look new.source given fault (record { contact = None; entries = []; end = Fault 0 fault })
+    pub is_read : IsRead look new.source given fault
+        (record { contact = None; entries = []; end = Fault 0 fault })
     pub shown_last : ShownLast [] given
     pub stopped : HasStopped new (stop.Wire offset fault)
 
   -- a failure inside the contact header
-  pub record StoppedContact (look : R → Input) (old new : Session R) (fault : IoFault) : Type 0 where
+  pub record StoppedContact (look : R → Input) (old new : Session R)
+      (fault : IoFault) : Type 0 where
     pub given : List ℕ
     pub stops : StopsAfter look old.source new.source given fault
     pub size : length given < 6
-    pub reading : reading_of given ≡ record { contact = None; entries = []; end = Fault 0 wire.Truncated }
+    pub reading : reading_of given
+        ≡ record { contact = None; entries = []; end = Fault 0 wire.Truncated }
     pub stopped : HasStopped new (stop.Io fault)
 
   abbrev pub GivesContact : (R → Input) → Session R → Session R → Result Contact Stop → Type 0
   GivesContact look old new (Ok contact) = ReadContact look old new contact
-  GivesContact look old new (Err (stop.Wire offset fault)) = RefusedContact look old new offset fault
+  GivesContact look old new (Err (stop.Wire offset fault)) =
+      RefusedContact look old new offset fault
   GivesContact look old new (Err (stop.Io fault)) = StoppedContact look old new fault
 
   -- the head of a message
-  pub record ReadMessage (look : R → Input) (old new : Session R) (history : List ℕ) (offset : ℕ) (message : Message) : Type 0 where
+  pub record ReadMessage (look : R → Input) (old new : Session R) (history : List ℕ) (offset : ℕ)
+      (message : Message) : Type 0 where
     pub given : List ℕ
     pub takes : Takes look old.source new.source given
     pub some : 0 < length given
@@ -212,17 +230,20 @@ module _ {R : Type 0} where
     pub at : IsSessionAt look new history
 
   -- the first fault, which stands in the message after the history; no byte is given after the one that shows it
-  pub record RefusedMessage (look : R → Input) (old new : Session R) (history : List ℕ) (offset : ℕ) (fault : WireFault) : Type 0 where
+  pub record RefusedMessage (look : R → Input) (old new : Session R) (history : List ℕ) (offset : ℕ)
+      (fault : WireFault) : Type 0 where
     pub given : List ℕ
     pub takes : Takes look old.source new.source given
     pub size : length given ≤ longest_head
     pub place : offset ≡ length history
-    pub is_read : IsRead look new.source (history ++ given) fault (joined (reading_of history) (ended (Fault offset fault)))
+    pub is_read : IsRead look new.source (history ++ given) fault
+        (joined (reading_of history) (ended (Fault offset fault)))
     pub shown_last : ShownLast history given
     pub stopped : HasStopped new (stop.Wire offset fault)
 
   -- a failure before or inside a message: what was given of it makes no message, and shows no fault
-  pub record StoppedMessage (look : R → Input) (old new : Session R) (history : List ℕ) (fault : IoFault) : Type 0 where
+  pub record StoppedMessage (look : R → Input) (old new : Session R) (history : List ℕ)
+      (fault : IoFault) : Type 0 where
     pub given : List ℕ
     pub stops : StopsAfter look old.source new.source given fault
     pub size : length given < longest_head
@@ -230,27 +251,33 @@ module _ {R : Type 0} where
     pub undecided : IsUndecided (reading_of (history ++ given)).end
     pub stopped : HasStopped new (stop.Io fault)
 
-  abbrev pub GivesNext : (R → Input) → Session R → Session R → List ℕ → Result (Option (ℕ × Message)) Stop → Type 0
+  abbrev pub GivesNext : (R → Input) → Session R → Session R → List ℕ
+      → Result (Option (ℕ × Message)) Stop → Type 0
   GivesNext look old new history (Ok None) = CleanEnd look old new history
-  GivesNext look old new history (Ok (Some (offset, message))) = ReadMessage look old new history offset message
-  GivesNext look old new history (Err (stop.Wire offset fault)) = RefusedMessage look old new history offset fault
+  GivesNext look old new history (Ok (Some (offset, message))) =
+      ReadMessage look old new history offset message
+  GivesNext look old new history (Err (stop.Wire offset fault)) =
+      RefusedMessage look old new history offset fault
   GivesNext look old new history (Err (stop.Io fault)) = StoppedMessage look old new history fault
 
   -- these bytes of the open segment's data
-  pub record PassedBytes (look : R → Input) (old new : Session R) (history bytes : List ℕ) : Type 0 where
+  pub record PassedBytes (look : R → Input) (old new : Session R)
+      (history bytes : List ℕ) : Type 0 where
     pub takes : Takes look old.source new.source bytes
     pub left : left_of old ≡ length bytes + left_of new
     pub reading : reading_of (history ++ bytes) ≡ with_data (left_of new) bytes (reading_of history)
     pub at : IsSessionAt look new (history ++ bytes)
 
   -- `n` bytes of data, copied: some, where some are to come and there is room
-  pub record ReadData (look : R → Input) (old new : Session R) (history buffer : List ℕ) (n : ℕ) : Type 0 where
+  pub record ReadData (look : R → Input) (old new : Session R)
+      (history buffer : List ℕ) (n : ℕ) : Type 0 where
     pub room : n ≤ length buffer
     pub gave : PassedBytes look old new history (take n buffer)
     pub some : 0 < left_of old → 0 < length buffer → 0 < n
 
   -- `n` bytes of the open segment's data lie in the window, some where some are to come; nothing was given
-  pub record LoadedData (look : R → Input) (old new : Session R) (history : List ℕ) (n : ℕ) : Type 0 where
+  pub record LoadedData (look : R → Input) (old new : Session R)
+      (history : List ℕ) (n : ℕ) : Type 0 where
     pub readies : Readies look old.source new.source
     pub left : left_of new ≡ left_of old
     pub at : IsSessionAt look new history
@@ -258,7 +285,8 @@ module _ {R : Type 0} where
     pub some : 0 < left_of old → 0 < n
 
   -- the input has ended inside the data of the segment at the offset
-  pub record CutData (look : R → Input) (old new : Session R) (history : List ℕ) (offset : ℕ) (fault : WireFault) : Type 0 where
+  pub record CutData (look : R → Input) (old new : Session R) (history : List ℕ) (offset : ℕ)
+      (fault : WireFault) : Type 0 where
     pub kind : fault ≡ wire.Truncated
     pub takes : Takes look old.source new.source []
     pub over : IsOver look new.source
@@ -272,12 +300,15 @@ module _ {R : Type 0} where
     pub stops : StopsAfter look old.source new.source [] fault
     pub stopped : HasStopped new (stop.Io fault)
 
-  abbrev pub GivesData : (R → Input) → Session R → Session R → List ℕ → List ℕ → Result ℕ Stop → Type 0
+  abbrev pub GivesData : (R → Input) → Session R → Session R → List ℕ
+      → List ℕ → Result ℕ Stop → Type 0
   GivesData look old new history buffer (Ok n) = ReadData look old new history buffer n
-  GivesData look old new history buffer (Err (stop.Wire offset fault)) = CutData look old new history offset fault
+  GivesData look old new history buffer (Err (stop.Wire offset fault)) =
+      CutData look old new history offset fault
   GivesData look old new history buffer (Err (stop.Io fault)) = StoppedData look old new fault
 
   abbrev pub GivesLoad : (R → Input) → Session R → Session R → List ℕ → Result ℕ Stop → Type 0
   GivesLoad look old new history (Ok n) = LoadedData look old new history n
-  GivesLoad look old new history (Err (stop.Wire offset fault)) = CutData look old new history offset fault
+  GivesLoad look old new history (Err (stop.Wire offset fault)) =
+      CutData look old new history offset fault
   GivesLoad look old new history (Err (stop.Io fault)) = StoppedData look old new fault

@@ -53,11 +53,13 @@ These content bytes = AreBytes content × (bytes ≡ content)
 
 -- the contact header (section 4.2): `dtn!`, version 4, and the flags
 abbrev pub ContactSpelled : Contact → Spelling
-ContactSpelled contact bytes = (contact.flags < 2 ^ 8) × (bytes ≡ 0x64 ∷ 0x74 ∷ 0x6e ∷ 0x21 ∷ version ∷ contact.flags ∷ [])
+ContactSpelled contact bytes =
+    (contact.flags < 2 ^ 8) × (bytes ≡ 0x64 ∷ 0x74 ∷ 0x6e ∷ 0x21 ∷ version ∷ contact.flags ∷ [])
 
 -- a node ID (section 4.6): its length, and its bytes
 abbrev pub NodeSpelled : ArrayVec ℕ → Spelling
-NodeSpelled node bytes = (length node.items ≤ longest_node) × (U16 (length node.items) ⨾ These node.items) bytes
+NodeSpelled node bytes =
+    (length node.items ≤ longest_node) × (U16 (length node.items) ⨾ These node.items) bytes
 
 -- what stands before an extension item's value (sections 4.8 and 5.2.5): flags, type and length
 abbrev pub ItemHeadSpelled : (flags kind size : ℕ) → Spelling
@@ -65,15 +67,19 @@ ItemHeadSpelled flags kind size = U8 flags ⨾ U16 kind ⨾ U16 size
 
 -- the number in a value: that of a Transfer Length item (section 5.2.5.1), and of no other
 abbrev pub total_of : (of : ListOf) (kind size : ℕ) → List ℕ → Option ℕ
-total_of of kind size value = if gives_total of kind size then Some (big_number total_size value) else None
+total_of of kind size value =
+    if gives_total of kind size then Some (big_number total_size value) else None
 
 -- an extension item's value: any bytes, as many as the item's length says
 abbrev pub ValueSpelled : (of : ListOf) (kind size : ℕ) → Option ℕ → Spelling
-ValueSpelled of kind size total value = AreBytes value × (length value ≡ size) × (total ≡ total_of of kind size value)
+ValueSpelled of kind size total value =
+    AreBytes value × (length value ≡ size) × (total ≡ total_of of kind size value)
 
 -- an extension item, of a transfer's list or of a session's
 abbrev pub ItemSpelled : (of : ListOf) → Item → Spelling
-ItemSpelled of item = ItemHeadSpelled item.flags item.kind item.length ⨾ ValueSpelled of item.kind item.length item.total
+ItemSpelled of item =
+    ItemHeadSpelled item.flags item.kind item.length ⨾ ValueSpelled of
+    item.kind item.length item.total
 
 -- items one after another
 abbrev pub ItemsSpelled : (of : ListOf) → List Item → Spelling
@@ -97,15 +103,19 @@ SegmentItemsSpelled false items bytes = (items.items ≡ []) × (bytes ≡ [])
 -- XFER_SEGMENT (section 5.2.2), XFER_ACK (5.2.3), XFER_REFUSE (5.2.4), KEEPALIVE (5.1.1), SESS_TERM (6.1), MSG_REJECT
 -- (5.1.2) and SESS_INIT (4.6).
 abbrev pub HeadSpelled : Message → Spelling
-HeadSpelled (Segment head) = U8 xfer_segment ⨾ U8 head.flags ⨾ U64 head.id ⨾ SegmentItemsSpelled (is_start head.flags) head.items ⨾ U64 head.length
+HeadSpelled (Segment head) =
+    U8 xfer_segment ⨾ U8 head.flags ⨾ U64 head.id ⨾ SegmentItemsSpelled (is_start head.flags)
+    head.items ⨾ U64 head.length
 HeadSpelled (Ack flags id size) = U8 xfer_ack ⨾ U8 flags ⨾ U64 id ⨾ U64 size
 HeadSpelled (Refuse reason id) = U8 xfer_refuse ⨾ U8 reason ⨾ U64 id
 HeadSpelled Keepalive = U8 keepalive
 HeadSpelled (SessTerm flags reason) = U8 sess_term ⨾ U8 flags ⨾ U8 reason
 HeadSpelled (MsgReject reason header) = U8 msg_reject ⨾ U8 reason ⨾ U8 header
 HeadSpelled (SessInit interval segment_mru transfer_mru node items) =
-    U8 sess_init ⨾ U16 interval ⨾ U64 segment_mru ⨾ U64 transfer_mru ⨾ NodeSpelled node ⨾ ListSpelled Session items
+    U8 sess_init ⨾ U16 interval ⨾ U64 segment_mru ⨾ U64 transfer_mru ⨾ NodeSpelled node ⨾
+    ListSpelled Session items
 
 -- a message and its data: of a segment as many bytes as its head says, of every other message none
 abbrev pub Spelled : Message → (content : List ℕ) → Spelling
-Spelled message content bytes = (length content ≡ data_length message) × (HeadSpelled message ⨾ These content) bytes
+Spelled message content bytes =
+    (length content ≡ data_length message) × (HeadSpelled message ⨾ These content) bytes

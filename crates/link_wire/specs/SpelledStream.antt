@@ -16,11 +16,16 @@ NoneBegins spelled bytes = (first more : List ℕ) → spelled first → bytes �
 -- begin with no whole head, and the fault in them.
 abbrev pub IsEnd : End → ℕ → Spelling
 IsEnd Clean offset bytes = bytes ≡ []
-IsEnd (Cut at message content) offset bytes = (at ≡ offset) × (length content < data_length message) × (HeadSpelled message ⨾ These content) bytes
-IsEnd (Fault at fault) offset bytes = (at ≡ offset) × (bytes ≢ []) × ((message : Message) → NoneBegins (HeadSpelled message) bytes) × (message_at bytes ≡ Err fault)
+IsEnd (Cut at message content) offset bytes =
+    (at ≡ offset) × (length content < data_length message)
+    × (HeadSpelled message ⨾ These content) bytes
+IsEnd (Fault at fault) offset bytes =
+    (at ≡ offset) × (bytes ≢ []) × ((message : Message) → NoneBegins (HeadSpelled message) bytes)
+    × (message_at bytes ≡ Err fault)
 
 -- a message that stands at an offset with its data, and what stands after it
-pub record EntrySpelled (entry : Entry) (rest : ℕ → Spelling) (offset : ℕ) (bytes : List ℕ) : Type 0 where
+pub record EntrySpelled (entry : Entry) (rest : ℕ → Spelling) (offset : ℕ)
+    (bytes : List ℕ) : Type 0 where
   pub place : entry.offset ≡ offset
   pub before : List ℕ
   pub after : List ℕ
@@ -35,9 +40,11 @@ IsStream (entry ∷ entries) end = EntrySpelled entry (IsStream entries end)
 
 -- the contact header's six bytes and what follows them, or a contact header that is refused
 abbrev pub IsReadingBy : Option Contact → List Entry → End → Spelling
-IsReadingBy (Some contact) entries end bytes = (ContactSpelled contact ⨾ IsStream entries end 6) bytes
+IsReadingBy (Some contact) entries end bytes =
+    (ContactSpelled contact ⨾ IsStream entries end 6) bytes
 IsReadingBy None entries end bytes =
-    (entries ≡ []) × ((contact : Contact) → NoneBegins (ContactSpelled contact) bytes) × ((fault : WireFault) × (end ≡ Fault 0 fault) × (contact_at bytes ≡ Err fault))
+    (entries ≡ []) × ((contact : Contact) → NoneBegins (ContactSpelled contact) bytes)
+    × ((fault : WireFault) × (end ≡ Fault 0 fault) × (contact_at bytes ≡ Err fault))
 
 -- these bytes are read so
 abbrev pub IsReading : List ℕ → Reading → Type 0

@@ -13,7 +13,8 @@ contact_bytes flags = 0x64 ∷ 0x74 ∷ 0x6e ∷ 0x21 ∷ version ∷ flags ∷ 
 -- a SESS_INIT (section 4.6) with this node ID, and with an empty list of session extension items
 unfoldable pub sess_init_bytes : (interval segment_mru transfer_mru : ℕ) (node : List ℕ) → List ℕ
 sess_init_bytes interval segment_mru transfer_mru node =
-    be 1 sess_init ++ be 2 interval ++ be 8 segment_mru ++ be 8 transfer_mru ++ (be 2 (length node) ++ node) ++ be 4 0
+    be 1 sess_init ++ be 2 interval ++ be 8 segment_mru ++ be 8 transfer_mru
+    ++ (be 2 (length node) ++ node) ++ be 4 0
 
 -- a Transfer Length item (section 5.2.5.1): no flag, its type, the length of its value, and the total
 unfoldable pub total_bytes : (total : ℕ) → List ℕ
@@ -53,11 +54,17 @@ segment_head_size flags announce = 18 + list_size (is_start flags) announce
 -- the messages that these bytes are
 abbrev pub announced : Option ℕ → List Item
 announced None = []
-announced (Some total) = record { flags = 0; kind = transfer_length; length = total_size; total = Some total } ∷ []
+announced (Some total) =
+    record { flags = 0; kind = transfer_length; length = total_size; total = Some total } ∷ []
 
 abbrev pub segment_with : (flags id size : ℕ) (announce : Option ℕ) → Message
 segment_with flags id size announce =
-    Segment (record { flags = flags; id = id; items = record { items = announced announce }; length = size })
+    Segment (record {
+      flags = flags;
+      id = id;
+      items = record { items = announced announce };
+      length = size;
+    })
 
 abbrev pub sess_init_with : (interval segment_mru transfer_mru : ℕ) (node : List ℕ) → Message
 sess_init_with interval segment_mru transfer_mru node =

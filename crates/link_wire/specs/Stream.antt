@@ -33,21 +33,28 @@ abbrev pub with_data_of : ℕ → Message → List ℕ → Stream → Stream
 with_data_of offset message bytes rest =
     if nat_lt (length bytes) (data_length message)
     then ended (Cut offset message bytes)
-    else with_entry (record { offset = offset; message = message; content = take (data_length message) bytes }) rest
+    else with_entry (record {
+      offset = offset;
+      message = message;
+      content = take (data_length message) bytes;
+    }) rest
 
 -- The stream that begins with a message that was read, or with its fault. `size` bytes stand at the offset: the head is
 -- `size` less the bytes after it long. `next` reads what stands at a later offset.
 abbrev pub stream_by : (ℕ → List ℕ → Stream) → ℕ → ℕ → Result (Message × List ℕ) WireFault → Stream
 stream_by next offset size (Err fault) = ended (Fault offset fault)
 stream_by next offset size (Ok (message, bytes)) =
-    with_data_of offset message bytes (next (offset + (size - length bytes) + data_length message) (drop (data_length message) bytes))
+    with_data_of offset message bytes
+    (next (offset + (size - length bytes) + data_length message)
+    (drop (data_length message) bytes))
 
 -- The messages from an offset on, `count` at most. The second case, bytes left and no message more, is never met where
 -- `count` is the number of the bytes, since each message has a byte at least.
 unfoldable pub messages_at : ℕ → ℕ → List ℕ → Stream
 messages_at count offset [] = ended Clean
 messages_at zero offset (b ∷ bytes) = ended Clean
-messages_at (suc count) offset (b ∷ bytes) = stream_by (messages_at count) offset (length (b ∷ bytes)) (message_at (b ∷ bytes))
+messages_at (suc count) offset (b ∷ bytes) =
+    stream_by (messages_at count) offset (length (b ∷ bytes)) (message_at (b ∷ bytes))
 
 -- the messages from an offset on
 unfoldable pub stream_at : ℕ → List ℕ → Stream
@@ -61,7 +68,9 @@ pub record Reading : Type 0 where
 
 abbrev pub reading_by : Result (Contact × List ℕ) WireFault → Reading
 reading_by (Err fault) = record { contact = None; entries = []; end = Fault 0 fault }
-reading_by (Ok (contact, bytes)) = let rest = stream_at 6 bytes in record { contact = Some contact; entries = rest.entries; end = rest.end }
+reading_by (Ok (contact, bytes)) =
+    let rest = stream_at 6 bytes in
+    record { contact = Some contact; entries = rest.entries; end = rest.end }
 
 unfoldable pub reading_of : List ℕ → Reading
 reading_of bytes = reading_by (contact_at bytes)

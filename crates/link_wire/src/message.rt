@@ -184,7 +184,8 @@ impl MessageBuffer {
     /// Sets the numbers of a message without items; the node ID stays as it was.
     #[inline(always)]
     pub(crate) fn set(&mut self, fields: Fields)
-        ensures message { message_of self.new ≡ message_with fields self.old.node (record { items = [] }) }
+        ensures message { message_of self.new
+            ≡ message_with fields self.old.node (record { items = [] }) }
         ensures totals { SegmentHasTotals self.new }
     {
         self.fields = fields;

@@ -85,7 +85,8 @@ impl<R: InDevice> Session<R> {
         ensures data { IsTrue result → 0 < left_of self.now → data_in self.now ≡ [] }
         ensures stopped { (stop : _) → HasStopped self.now stop → result ≡ false }
         // It need not wait where the input has enough left, of which a part is here.
-        ensures here { (history : List ℕ) → IsSessionAt R.state self.now history → length (window_of (source_of self.now)) < window_size
+        ensures here { (history : List ℕ) → IsSessionAt R.state self.now history
+            → length (window_of (source_of self.now)) < window_size
             → result ≡ false → HasNext R.state self.now }
     {
         if let Phase::Stopped(_) = self.phase {
@@ -172,12 +173,14 @@ impl<R: InDevice> Session<R> {
         ensures none { result ≡ None → (self.new ≡ self.old) × (message.new ≡ message.old) }
         ensures reader { reader_of (source_of self.new) ≡ reader_of (source_of self.old) }
         ensures gives { (history : List ℕ) → IsSessionAt R.state self.old history
-            → IfSome result (λ offset. ReadMessage R.state self.old self.new history offset (message_of message.new)) }
+            → IfSome result (λ offset.
+            ReadMessage R.state self.old self.new history offset (message_of message.new)) }
         ensures totals { IfSome result (λ offset. SegmentHasTotals message.new) }
         ensures opened { IsTrue (is_opened self.new) }
         ensures again { HasEndedBetween self.old → result ≡ None }
         ensures stopped { (stop : _) → HasStopped self.old stop → result ≡ None }
-        ensures here { (history : List ℕ) → IsSessionAt R.state self.old history → IfSome result (λ offset. HasNext R.state self.old) }
+        ensures here { (history : List ℕ) → IsSessionAt R.state self.old history
+            → IfSome result (λ offset. HasNext R.state self.old) }
     {
         if let Phase::Stopped(_) = self.phase {
             return None;

@@ -28,7 +28,8 @@ first_handed (Some xs) None waiting count written = absurd written
 first_handed (Some xs) (Some ys) waiting count written = (length xs + count, rw (take-append-add xs waiting count) written)
 
 -- the stream failed before all that waited was handed on
-pub handed_part : (answer : Result (Unit {0}) DeviceFault) (old new : Output) (waiting : List ℕ) → is_ok answer ≡ false
+pub handed_part : (answer : Result (Unit {0}) DeviceFault) (old new : Output) (waiting : List ℕ)
+    → is_ok answer ≡ false
     → OnErr answer (GivesPart old.written new.written waiting)
     → MatchResult answer (λ _. new.failed ≡ old.failed) (λ _. new.failed ≡ true)
     → HandsOn (record { written = append_known old.written waiting; failed = old.failed }) new

@@ -17,12 +17,15 @@ AreFirst all first = (count : ℕ) × Keeps (option_map (take count) all) first
 -- What was written was handed on to the stream: all of it, or, where the stream failed, the first bytes.
 pub record HandsOn (written handed : Output) : Type 0 where
   pub failed : written.failed ≡ true → handed.failed ≡ true
-  pub bytes : Keeps written.written handed.written ⊎ ((handed.failed ≡ true) × AreFirst written.written handed.written)
+  pub bytes : Keeps written.written handed.written
+      ⊎ ((handed.failed ≡ true) × AreFirst written.written handed.written)
 
-module _ {R W E : Type 0} (in_look : R → Input) (out_look : W → Output) (report_look : E → Output) where
+module _ {R W E : Type 0} (in_look : R → Input) (out_look : W → Output)
+    (report_look : E → Output) where
   -- The tool was run over the devices `start`. What it wrote was handed on, nothing was read after the run, and the answer is
   -- the tool's own, in which a stream that failed then counts.
-  pub record GivesBuffered (options : Options) (start : Devices R W E) (input : R) (output report : Output) (answer : Result Status IoFault) : Type 0 where
+  pub record GivesBuffered (options : Options) (start : Devices R W E) (input : R)
+      (output report : Output) (answer : Result Status IoFault) : Type 0 where
     pub now : Devices R W E
     pub ends : Result Status IoFault
     pub run : GivesRun in_look out_look report_look options start now ends

@@ -46,9 +46,14 @@ pub fn buffered<R: Read + Drop, W: Write + Drop, E: Write + Drop>(
     output: W,
     report: E,
 ) -> io::Result<Streams<R, W, E>>
-    ensures input { IfOk result (λ streams. ⟦<BufferedReader<R> as InDevice>⟧.state streams.input ≡ record { left = R.remaining input; failed = false }) }
-    ensures output { IfOk result (λ streams. ⟦<TextWriter<Writer<W>> as OutDevice>⟧.state streams.output ≡ record { written = W.contents output; failed = false }) }
-    ensures report { IfOk result (λ streams. ⟦<TextWriter<Writer<E>> as OutDevice>⟧.state streams.report ≡ record { written = E.contents report; failed = false }) }
+    ensures input { IfOk result (λ streams. ⟦<BufferedReader<R> as InDevice>⟧.state streams.input
+        ≡ record { left = R.remaining input; failed = false }) }
+    ensures output { IfOk result
+        (λ streams. ⟦<TextWriter<Writer<W>> as OutDevice>⟧.state streams.output
+        ≡ record { written = W.contents output; failed = false }) }
+    ensures report { IfOk result
+        (λ streams. ⟦<TextWriter<Writer<E>> as OutDevice>⟧.state streams.report
+        ≡ record { written = E.contents report; failed = false }) }
     ensures err { IfErr result (λ error. error_kind error ≡ ErrorKind.OutOfMemory) }
 {
     let reader = BufReader::with_capacity(alloc, INPUT_BUFFER, input)?;
@@ -102,7 +107,8 @@ pub fn run_buffered<R: Read + Drop, W: Write + Drop, E: Write + Drop>(
 
 /// Hands on what waits. Returns the device below, which says whether it failed in that.
 fn handed_on<W: Write + Drop>(writer: TextWriter<Writer<W>>) -> Writer<W>
-    ensures { HandsOn (⟦<TextWriter<Writer<W>> as OutDevice>⟧.state writer) (⟦<Writer<W> as OutDevice>⟧.state result) }
+    ensures { HandsOn (⟦<TextWriter<Writer<W>> as OutDevice>⟧.state writer)
+        (⟦<Writer<W> as OutDevice>⟧.state result) }
 {
     let (mut device, passed) = writer.into_device();
     if passed.is_ok() {

@@ -19,7 +19,8 @@ impl<'a> TestReader<'a> {
     /// A reader that gives these bytes, at most that many a call.
     pub fn new(bytes: &'a [u8], per_call: usize, failing: Failing) -> TestReader<'a>
         requires { 0 < per_call }
-        ensures state { ⟦<TestReader<'a> as InDevice>⟧.state result ≡ record { left = Some bytes.now; failed = false } }
+        ensures state { ⟦<TestReader<'a> as InDevice>⟧.state result
+            ≡ record { left = Some bytes.now; failed = false } }
         ensures pace { (result.pace.per_call ≡ per_call) × (result.pace.failing ≡ failing) }
     {
         TestReader {
@@ -70,7 +71,8 @@ impl TestWriter {
     /// A writer that takes at most that many bytes a call.
     pub fn new(alloc: Global, per_call: usize, failing: Failing) -> TestWriter
         requires { 0 < per_call }
-        ensures state { ⟦<TestWriter as OutDevice>⟧.state result ≡ record { written = Some []; failed = false } }
+        ensures state { ⟦<TestWriter as OutDevice>⟧.state result
+            ≡ record { written = Some []; failed = false } }
         ensures pace { (result.pace.per_call ≡ per_call) × (result.pace.failing ≡ failing) }
     {
         TestWriter {
@@ -81,7 +83,11 @@ impl TestWriter {
 
     /// What was written.
     pub fn written(&self) -> &[u8]
-        ensures { ⟦<TestWriter as OutDevice>⟧.state self.now ≡ record { written = Some result.now; failed = (⟦<TestWriter as OutDevice>⟧.state self.now).failed } }
+        ensures { ⟦<TestWriter as OutDevice>⟧.state self.now
+            ≡ record {
+              written = Some result.now;
+              failed = (⟦<TestWriter as OutDevice>⟧.state self.now).failed;
+            } }
     {
         self.written.as_slice()
     }

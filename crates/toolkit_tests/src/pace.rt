@@ -55,8 +55,10 @@ impl Pace {
             (λ _. self.new.failed ≡ true) }
         ensures never { self.old.failing ≡ Failing.Never → IsOk result }
         ensures counted { self.old.calls + 1 < 2 ^ 64 → self.new.calls ≡ self.old.calls + 1 }
-        ensures moved { IfOk result (λ n. self.old.moved + n < 2 ^ 64 → self.new.moved ≡ self.old.moved + n) }
-        ensures same { (self.new.per_call ≡ self.old.per_call) × (self.new.failing ≡ self.old.failing) }
+        ensures moved { IfOk result (λ n. self.old.moved + n < 2 ^ 64
+            → self.new.moved ≡ self.old.moved + n) }
+        ensures same { (self.new.per_call ≡ self.old.per_call)
+            × (self.new.failing ≡ self.old.failing) }
     {
         self.calls = self.calls.saturating_add(1);
         let count = most.min(self.per_call);

@@ -5,7 +5,9 @@ use Rattle.link_bundle.proofs.whole.blocks_at.Given as goal
 
 abbrev pub invariant-loop-numbers : goal.invariant-loop-numbers
 invariant-loop-numbers l = record {
-  reads : (primary : Primary) → blocks_at 64 [] primary l.bytes l.fn.place ≡ blocks_at (64 - length l.numbers) l.numbers primary l.bytes l.start;
+  reads : (primary : Primary)
+      → blocks_at 64 [] primary l.bytes l.fn.place
+      ≡ blocks_at (64 - length l.numbers) l.numbers primary l.bytes l.start;
 }
 
 abbrev pub decreases-loop-numbers : goal.decreases-loop-numbers

@@ -18,9 +18,11 @@ invariant-loop-left g l =
     record {
       few : length l.items.items ≤ MAX_ITEMS;
       live : IsLive look l.fn.source → IsLive look l.source;
-      rest : IsLive look l.fn.source → (new : Source g.row.R.Denot) (outcome : Result (List Item) Halt)
+      rest : IsLive look l.fn.source → (new : Source g.row.R.Denot)
+          (outcome : Result (List Item) Halt)
           → Gets look (items_at l.of (MAX_ITEMS - length l.items.items) l.left) l.source new outcome
-          → Gets look (items_at l.of MAX_ITEMS l.length) l.fn.source new (with_before l.items.items outcome);
+          → Gets look (items_at l.of MAX_ITEMS l.length) l.fn.source new
+          (with_before l.items.items outcome);
       totals : l.of ≡ Transfer → HasTotals l.items.items;
     }
 

@@ -8,7 +8,8 @@ use Rattle.link_wire.proofs.list.skip.Given as goal
 abbrev pub invariant-loop-left : goal.invariant-loop-left
 invariant-loop-left g l = record {
   within : l.left ≤ l.count;
-  passed : IsLive g.R.InDevice.state l.fn.source → Gets g.R.InDevice.state (skipped_at (l.count - l.left)) l.fn.source l.source (Ok tt);
+  passed : IsLive g.R.InDevice.state l.fn.source
+      → Gets g.R.InDevice.state (skipped_at (l.count - l.left)) l.fn.source l.source (Ok tt);
 }
 
 abbrev pub decreases-loop-left : goal.decreases-loop-left

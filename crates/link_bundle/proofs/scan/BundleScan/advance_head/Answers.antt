@@ -10,7 +10,9 @@ use Rattle.link_bundle.proofs.scan.BundleScan.advance_head.Goals as goal
 use Rattle.link_bundle.proofs.scan.BundleScan.advance_head.Goals.{In-Some}
 
 -- the head lies whole in its run
-whole : (c : In-Some) → head_front (take c.in-Some.size c.args.piece.now) ≡ Whole c.in-Some.head (length (take c.in-Some.size c.args.piece.now))
+whole : (c : In-Some)
+    → head_front (take c.in-Some.size c.args.piece.now)
+    ≡ Whole c.in-Some.head (length (take c.in-Some.size c.args.piece.now))
 whole c = head_alone c.args.piece.now c.in-Some.head c.in-Some.size (sym c.front.ensures.front ∙ c.in-Some.is) c.in-Some.ensures.within
 
 pub head_run-requires-clause-whole : goal.head_run-requires-clause-whole

@@ -21,7 +21,8 @@ loop-taken-preserved c =
     }
 
 -- where no more is needed, these are the bytes taken
-stopped : (c : Else-going) (seen : List ℕ) → HasScanned c.args.self.now seen → TakenInAll seen c.args.bytes.now c.loop-taken.taken
+stopped : (c : Else-going) (seen : List ℕ) → HasScanned c.args.self.now seen
+    → TakenInAll seen c.args.bytes.now c.loop-taken.taken
 stopped c seen related =
     taken_stop seen c.args.bytes.now c.loop-taken.taken c.loop-taken.invariant.within
     (sym (c.going.ensures.seen (seen ++ take c.loop-taken.taken c.args.bytes.now) (c.loop-taken.invariant.seen seen related)) ∙ c.if-going.false)
@@ -34,7 +35,8 @@ pub returns-else-going-clause-count : goal.returns-else-going-clause-count
 returns-else-going-clause-count c = λ seen related. (stopped c seen related).size
 
 -- where every byte was given, so were they taken
-ended : (c : After-loop-taken) (seen : List ℕ) → HasScanned c.args.self.now seen → TakenInAll seen c.args.bytes.now c.loop-taken.taken
+ended : (c : After-loop-taken) (seen : List ℕ) → HasScanned c.args.self.now seen
+    → TakenInAll seen c.args.bytes.now c.loop-taken.taken
 ended c seen related =
     taken_all seen c.args.bytes.now c.loop-taken.taken (omega arith) (c.loop-taken.invariant.split seen related)
 

@@ -7,7 +7,8 @@ abbrev pub invariant-loop-taken : goal.invariant-loop-taken
 invariant-loop-taken l = record {
   within : l.taken ≤ length l.bytes;
   size : scan_size l.self ≡ scan_size l.fn.self + l.taken;
-  seen : (seen : List ℕ) → HasScanned l.fn.self seen → HasScanned l.self (seen ++ take l.taken l.bytes);
+  seen : (seen : List ℕ) → HasScanned l.fn.self seen
+      → HasScanned l.self (seen ++ take l.taken l.bytes);
   split : (seen : List ℕ) → HasScanned l.fn.self seen → TakenSoFar seen l.bytes l.taken;
 }
 

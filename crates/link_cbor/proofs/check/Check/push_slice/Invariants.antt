@@ -6,4 +6,5 @@ use Rattle.link_cbor.proofs.check.Check.push_slice.Given as goal
 abbrev pub invariant-loop-byte : goal.invariant-loop-byte
 invariant-loop-byte l =
     (kind : CheckKind) (before : List ℕ) → HasPushed kind l.fn.self before
-    → HasPushed kind l.self ((before ++ take (length l.bytes / 16 * 16) l.bytes) ++ take l.byte-index l.rest)
+    → HasPushed kind l.self ((before ++ take (length l.bytes / 16 * 16) l.bytes)
+    ++ take l.byte-index l.rest)

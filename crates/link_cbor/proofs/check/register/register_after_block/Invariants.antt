@@ -8,4 +8,5 @@ use Rattle.link_cbor.proofs.check.register.register_after_block.Given as goal
 abbrev pub invariant-loop-zeros : goal.invariant-loop-zeros
 invariant-loop-zeros l =
     (kind : CheckKind) → AreTables kind l.tables
-    → register_after kind (l.register / 2 ^ (8 * (16 - l.zeros))) (drop (16 - l.zeros) l.block) ≡ l.sum
+    → register_after kind (l.register / 2 ^ (8 * (16 - l.zeros))) (drop (16 - l.zeros) l.block)
+    ≡ l.sum

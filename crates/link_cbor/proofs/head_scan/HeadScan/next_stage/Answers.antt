@@ -6,7 +6,9 @@ use Rattle.link_cbor.proofs.head_scan.HeadScan.next_stage.Goals as goal
 use Rattle.link_cbor.proofs.head_scan.HeadScan.next_stage.Goals.{In-Argument}
 
 -- what the scan keeps of its stage, at an argument
-kept : (c : In-Argument) → stage_fits c.args.self.now.count (Argument c.in-Argument.major c.in-Argument.left c.in-Argument.value) ≡ true
+kept : (c : In-Argument)
+    → stage_fits c.args.self.now.count
+    (Argument c.in-Argument.major c.in-Argument.left c.in-Argument.value) ≡ true
 kept c = rw c.in-Argument.is at c.args.self.now.fits
 
 grows : (c : In-Argument) → c.in-Argument.value * 256 + c.args.byte < 2 ^ 64

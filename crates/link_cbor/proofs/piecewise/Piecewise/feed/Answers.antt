@@ -14,7 +14,8 @@ loop-taken-init g c = record {
 }
 
 -- where no more is wanted, these are the bytes taken
-stopped : (g : Over) (c : Then-not-going g) (seen : List ℕ) → g.Self.Piecewise.has_seen c.args.self.now seen
+stopped : (g : Over) (c : Then-not-going g) (seen : List ℕ)
+    → g.Self.Piecewise.has_seen c.args.self.now seen
     → TakenInAll g.Self.Piecewise.goes seen c.args.bytes.now c.loop-taken.taken
 stopped g c seen related =
     taken_stop g.Self.Piecewise.goes seen c.args.bytes.now c.loop-taken.taken c.loop-taken.auto.taken-end
@@ -43,7 +44,8 @@ loop-taken-preserved g c = record {
 }
 
 -- where every byte was given, so were they taken
-ended : (g : Over) (c : After-loop-taken g) (seen : List ℕ) → g.Self.Piecewise.has_seen c.args.self.now seen
+ended : (g : Over) (c : After-loop-taken g) (seen : List ℕ)
+    → g.Self.Piecewise.has_seen c.args.self.now seen
     → TakenInAll g.Self.Piecewise.goes seen c.args.bytes.now c.loop-taken.taken
 ended g c seen related =
     taken_all g.Self.Piecewise.goes seen c.args.bytes.now c.loop-taken.taken (omega arith) (c.loop-taken.invariant.split seen related)

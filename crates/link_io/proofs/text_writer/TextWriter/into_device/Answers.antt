@@ -5,12 +5,14 @@ use Rattle.link_io.specs.declared.device.DeviceFault.{DeviceFault}
 use Rattle.link_io.proofs.text_writer.TextWriter.into_device.Goals as goal
 
 -- what waited was written
-kept : (old new : Option (List ℕ)) (bytes : List ℕ) → Appends old new bytes → Keeps (append_known old bytes) new
+kept : (old new : Option (List ℕ)) (bytes : List ℕ) → Appends old new bytes
+    → Keeps (append_known old bytes) new
 kept None new bytes written = tt
 kept (Some xs) None bytes written = absurd written
 kept (Some xs) (Some ys) bytes written = written
 
-whole : (answer : Result (Unit {0}) DeviceFault) (old new : Option (List ℕ)) (bytes : List ℕ) (count : ℕ) → OnOk answer (count ≡ length bytes) → Appends old new (take count bytes)
+whole : (answer : Result (Unit {0}) DeviceFault) (old new : Option (List ℕ)) (bytes : List ℕ)
+    (count : ℕ) → OnOk answer (count ≡ length bytes) → Appends old new (take count bytes)
     → OnOk answer (Keeps (append_known old bytes) new)
 whole (Ok done) old new bytes count all written =
     let same : take count bytes ≡ bytes = ap (λ n. take n bytes) all ∙ take-length bytes in

@@ -6,7 +6,8 @@ use Rattle.link_io.specs.TextWriter.{waiting}
 use Rattle.link_io.proofs.text_writer.TextWriter.pass.Goals as goal
 
 -- what is left of the first bytes
-rest_of : (xs : List ℕ) (start end : ℕ) → start ≤ end → drop start (take end xs) ≡ slice_range xs start end
+rest_of : (xs : List ℕ) (start end : ℕ) → start ≤ end
+    → drop start (take end xs) ≡ slice_range xs start end
 rest_of xs start end order =
     let whole : start + (end - start) ≡ end = omega arith in
     rw whole at (drop-take start (end - start) xs)

@@ -6,7 +6,8 @@ pub steps-init : goal.steps-init
 steps-init g c = (refl, ([], c.requires))
 
 -- each step is given a byte, and the one before them all is the first
-falls : (limit before after size most next : ℕ) → after ≡ before + size → after < limit → (0 < most → 0 < size) → (next ≡ 0 → ⊥)
+falls : (limit before after size most next : ℕ) → after ≡ before + size → after < limit
+    → (0 < most → 0 < size) → (next ≡ 0 → ⊥)
     → (limit - after) + (1 - next) < (limit - before) + (1 - most)
 falls limit before after size most zero count within some goes_on = absurd (goes_on refl)
 falls limit before after size zero (suc next) count within some goes_on = omega arith
