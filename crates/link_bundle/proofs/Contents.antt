@@ -208,7 +208,7 @@ grown_stored field left stored kind old new draft seen byte come small some take
 pub record Checks (kind : CheckKind) (check : CheckType) (cursor : Cursor)
     (expected : ℕ) : Type 0 where
   pub is : check ≡ Is (Some kind)
-  pub told : (covered : List ℕ) → Covers (Is (Some kind)) cursor.checks covered
+  pub outcome : (covered : List ℕ) → Covers (Is (Some kind)) cursor.checks covered
       → expected ≡ crc kind covered
 
 checked : (kind : CheckKind) (check : CheckType) (cursor : Cursor)
@@ -219,7 +219,7 @@ unfolding zeroed_check
 checked kind check cursor expected start seen more at checks =
     let covered = slice_range seen start cursor.place ++ replicate (length seen - cursor.place) 0 in
     rw (slice_kept seen more start cursor.place at.in_block at.in_bytes)
-    (sym (checks.told covered (subst (λ (check : CheckType). Covers check cursor.checks covered) checks.is at.checks)))
+    (sym (checks.outcome covered (subst (λ (check : CheckType). Covers check cursor.checks covered) checks.is at.checks)))
 
 -- what the check field's last byte makes of the reading
 last_stored : (field left stored expected : ℕ) (kind : CheckKind) (old new : Cursor) (draft : Draft)
@@ -289,8 +289,8 @@ ends-trailing : (payload : Option (ℕ × ℕ)) (info : BundleInfo) (place : ℕ
     → is_some payload ≡ true → place < length bytes
     → ends bytes (record { info = info; length = place; payload = span_of payload })
     ≡ with_known_payload payload (Err (stopped Trailing place))
-ends-trailing None info place bytes told short = cc
-ends-trailing (Some payload) info place bytes told short =
+ends-trailing None info place bytes outcome short = cc
+ends-trailing (Some payload) info place bytes outcome short =
     let other : (place == length bytes) ≡ false = ne_eqb place (length bytes) (λ same. omega arith) in rw other refl
 
 pub trailing : (old new : Cursor) (draft : Draft) (seen : List ℕ) (byte : ℕ)
@@ -298,7 +298,7 @@ pub trailing : (old new : Cursor) (draft : Draft) (seen : List ℕ) (byte : ℕ)
     → new.count ≡ old.count + 1
     → HasCome (Failed Trailing old.place) new draft (seen ++ byte ∷ [])
 unfolding stage_left
-trailing old new draft seen byte come small told counts =
+trailing old new draft seen byte come small outcome counts =
     let longer = length-append seen (byte ∷ []) in
     record {
       all_bytes = all_grown seen (byte ∷ []) come.all_bytes (one_byte byte small);
@@ -307,7 +307,7 @@ trailing old new draft seen byte come small told counts =
       reads = λ more.
           let bytes = (seen ++ byte ∷ []) ++ more in
           regrown (λ (all : List ℕ). stage_left Ended draft come.start old.place all (length seen)) seen (byte ∷ []) come.reads more
-          ∙ ends-trailing draft.payload (bundle_of draft old.place).info old.place bytes told
+          ∙ ends-trailing draft.payload (bundle_of draft old.place).info old.place bytes outcome
           (omega (arith, length-append (seen ++ byte ∷ []) more, longer, come.stands));
       stands = tt;
     }

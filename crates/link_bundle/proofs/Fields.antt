@@ -21,12 +21,12 @@ use Rattle.link_bundle.proofs.Runs.{with_run, bytes_at-step, bytes_at-last}
 -- the check type that was read is that of the field
 pub same_check : (check : CheckType) (kind : CheckKind) → IsTrue (is_kind (kind_of check) kind)
     → check ≡ Is (Some kind)
-same_check Unread kind told = cc
-same_check (Is None) kind told = cc
-same_check (Is (Some Crc16)) Crc16 told = refl
-same_check (Is (Some Crc16)) Crc32 told = cc
-same_check (Is (Some Crc32)) Crc16 told = cc
-same_check (Is (Some Crc32)) Crc32 told = refl
+same_check Unread kind outcome = cc
+same_check (Is None) kind outcome = cc
+same_check (Is (Some Crc16)) Crc16 outcome = refl
+same_check (Is (Some Crc16)) Crc32 outcome = cc
+same_check (Is (Some Crc32)) Crc16 outcome = cc
+same_check (Is (Some Crc32)) Crc32 outcome = refl
 
 -- after the field's head the content is read, and compared with the check
 pub field_at-accepted : (kind : CheckKind) (bytes : List ℕ) (start place next width : ℕ)
@@ -37,9 +37,9 @@ pub field_at-accepted : (kind : CheckKind) (bytes : List ℕ) (start place next 
     ≡ stored_left width 0 (zeroed_check kind start next (next + width - next) bytes) place bytes
     next
 unfolding field_at stored_left check_of zeroed_check
-field_at-accepted kind bytes start place next width head count told judged is_width =
+field_at-accepted kind bytes start place next width head count outcome judged is_width =
     let all : next + width - next ≡ check_width kind = omega (arith, is_width) in
-    rw (row_at-accepted (check_field kind) bytes place next head count told judged, all, is_width) refl
+    rw (row_at-accepted (check_field kind) bytes place next head count outcome judged, all, is_width) refl
 
 -- what a content is compared with, after a byte
 compared : ℕ → ℕ → ℕ → Reading (List ℕ) → Reading Bool

@@ -96,9 +96,9 @@ head_front-some (first ∷ rest) = front_by-some (first / 32) (first % 32) rest
 
 is_whole : (front : HeadFront) (head : Head) (size : ℕ) → whole_of front ≡ Some (head, size)
     → front ≡ Whole head size
-is_whole Cut head size told = cc
-is_whole IllFormed head size told = cc
-is_whole (Whole found found_size) head size told =
+is_whole Cut head size outcome = cc
+is_whole IllFormed head size outcome = cc
+is_whole (Whole found found_size) head size outcome =
     let equal : (found, found_size) ≡ (head, size) = cc in
     ap (λ (front : Head × ℕ). Whole front.0 front.1) equal
 
@@ -112,16 +112,16 @@ head_ends (first ∷ rest) more cut = front_by-ends (first / 32) (first % 32) re
 alone_by : (front : HeadFront) (bytes more : List ℕ) (head : Head) (size : ℕ)
     → front ≡ head_front bytes
     → head_front (bytes ++ more) ≡ Whole head size → size ≤ length bytes → front ≡ Whole head size
-alone_by Cut bytes more head size here told within =
-    absurd (let ends : EndsFrom (suc (length bytes)) (Whole head size) = rw told at (head_ends bytes more (ap is_cut (sym here))) in omega arith)
-alone_by IllFormed bytes more head size here told within = here ∙ sym (uncut_stays bytes more (ap is_cut (sym here))) ∙ told
-alone_by (Whole found found_size) bytes more head size here told within = here ∙ sym (uncut_stays bytes more (ap is_cut (sym here))) ∙ told
+alone_by Cut bytes more head size here outcome within =
+    absurd (let ends : EndsFrom (suc (length bytes)) (Whole head size) = rw outcome at (head_ends bytes more (ap is_cut (sym here))) in omega arith)
+alone_by IllFormed bytes more head size here outcome within = here ∙ sym (uncut_stays bytes more (ap is_cut (sym here))) ∙ outcome
+alone_by (Whole found found_size) bytes more head size here outcome within = here ∙ sym (uncut_stays bytes more (ap is_cut (sym here))) ∙ outcome
 
 pub head_alone : (bytes : List ℕ) (head : Head) (size : ℕ)
     → whole_of (head_front bytes) ≡ Some (head, size) → size ≤ length bytes
     → head_front (take size bytes) ≡ Whole head (length (take size bytes))
-head_alone bytes head size told within =
+head_alone bytes head size outcome within =
     let here : length (take size bytes) ≡ size = length-take-le size bytes within in
     alone_by (head_front (take size bytes)) (take size bytes) (drop size bytes) head size refl
-    (ap head_front (take-append-drop size bytes) ∙ is_whole (head_front bytes) head size told) (omega arith)
+    (ap head_front (take-append-drop size bytes) ∙ is_whole (head_front bytes) head size outcome) (omega arith)
     ∙ ap (λ (size : ℕ). Whole head size) (sym here)

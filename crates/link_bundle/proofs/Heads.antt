@@ -20,14 +20,14 @@ pub row_at-accepted : {A : Type 0} (row : Head → Result A BundleFault) (bytes 
     → head_at bytes place ≡ Ok (head, next) → row head ≡ Ok value
     → row_at row bytes place ≡ Ok (value, next)
 unfolding row_at
-row_at-accepted row bytes place next head value told judged = rw (told, judged) refl
+row_at-accepted row bytes place next head value outcome judged = rw (outcome, judged) refl
 
 pub row_at-refused : {A : Type 0} (row : Head → Result A BundleFault) (bytes : List ℕ)
     (place next : ℕ) (head : Head) (fault : BundleFault)
     → head_at bytes place ≡ Ok (head, next) → row head ≡ Err fault
     → row_at row bytes place ≡ Err (stopped fault place)
 unfolding row_at
-row_at-refused row bytes place next head fault told judged = rw (told, judged) refl
+row_at-refused row bytes place next head fault outcome judged = rw (outcome, judged) refl
 
 pub ruleset heads = (row_at-accepted, row_at-refused)
 
@@ -35,15 +35,15 @@ pub closes : (payload : Option (ℕ × ℕ)) (numbers : List ℕ) (primary : Pri
     (place : ℕ) → is_some payload ≡ true
     → block_end payload numbers primary bytes place
     ≡ (row_at closing bytes place >>= λ x. Ok (record { info = info_of primary (length numbers) (span_of payload).1; length = x.1; payload = span_of payload }))
-closes None numbers primary bytes place told = cc
-closes (Some payload) numbers primary bytes place told = refl
+closes None numbers primary bytes place outcome = cc
+closes (Some payload) numbers primary bytes place outcome = refl
 
 pub goes_to_block : (payload : Option (ℕ × ℕ)) (numbers : List ℕ) (primary : Primary)
     (bytes : List ℕ) (place : ℕ) → is_some payload ≡ false
     → block_end payload numbers primary bytes place
     ≡ blocks_at (64 - length numbers) numbers primary bytes place
-goes_to_block None numbers primary bytes place told = refl
-goes_to_block (Some payload) numbers primary bytes place told = cc
+goes_to_block None numbers primary bytes place outcome = refl
+goes_to_block (Some payload) numbers primary bytes place outcome = cc
 
 -- the payload block's data, and that of another block
 pub data_read : (payload new : Option (ℕ × ℕ)) (is_payload : Bool) (numbers : List ℕ)
@@ -54,9 +54,9 @@ pub data_read : (payload new : Option (ℕ × ℕ)) (is_payload : Bool) (numbers
     else (content_at size check start bytes next >>= λ x. blocks_at (64 - length numbers) numbers primary bytes x.1))
     ≡ with_known_payload new (content_at size check start bytes next >>= λ x. block_end new numbers primary bytes x.1)
 unfolding payload_at
-data_read None new true numbers primary check size start next bytes told is = rw is refl
-data_read None new false numbers primary check size start next bytes told is = rw is refl
-data_read (Some payload) new is_payload numbers primary check size start next bytes told is = cc
+data_read None new true numbers primary check size start next bytes outcome is = rw is refl
+data_read None new false numbers primary check size start next bytes outcome is = rw is refl
+data_read (Some payload) new is_payload numbers primary check size start next bytes outcome is = cc
 
 pub no_content : (check : Option CheckKind) (start : ℕ) (bytes : List ℕ)
     (place : ℕ) → place ≤ length bytes

@@ -37,22 +37,22 @@ pub data Keeps : List ℕ → ℕ → Result Bundle Stop → Result Bundle Stop 
 
 pub stop_without_payload : (stop : Stop) (payload : ℕ × ℕ) → stop.payload ≡ None
     → stop.payload ≡ Some payload → ⊥
-stop_without_payload stop payload plain told = let no : Some payload ≡ None = sym told ∙ plain in cc
+stop_without_payload stop payload plain outcome = let no : Some payload ≡ None = sym outcome ∙ plain in cc
 
 nowhere : (place : ℕ) (stop : Stop) → stop.payload ≡ None → PayloadFrom place (Err stop)
-nowhere place stop plain = λ payload told. absurd (stop_without_payload stop payload plain told)
+nowhere place stop plain = λ payload outcome. absurd (stop_without_payload stop payload plain outcome)
 
 sooner : (place start : ℕ) (reading : Result Bundle Stop) → place ≤ start
     → PayloadFrom start reading
     → PayloadFrom place reading
-sooner place start reading lower from = λ payload told. let on = from payload told in omega arith
+sooner place start reading lower from = λ payload outcome. let on = from payload outcome in omega arith
 
 payload_later : (bytes : List ℕ) (place : ℕ) (now later : Result Bundle Stop)
     → Keeps bytes place now later
     → PayloadFrom place later
 payload_later bytes place now later (before cut from past) = from
-payload_later bytes place now later (inside cut is from) = λ payload told. from payload (sym is ∙ told)
-payload_later bytes place now later (after is from within) = λ payload told. from payload (ap payload_of (sym is) ∙ told)
+payload_later bytes place now later (inside cut is from) = λ payload outcome. from payload (sym is ∙ outcome)
+payload_later bytes place now later (after is from within) = λ payload outcome. from payload (ap payload_of (sym is) ∙ outcome)
 
 keeps-sooner : (bytes : List ℕ) (place start : ℕ) (now later : Result Bundle Stop) → place ≤ start
     → Keeps bytes start now later → Keeps bytes place now later
@@ -76,7 +76,7 @@ keeps-then bytes place (Err stop) (Ok (value, end)) next next_later (short cut o
 keeps-then bytes place (Ok (value, end)) later next next_later (whole is onward) each =
     rw is (keeps-sooner bytes place end (next (value, end)) (next_later (value, end)) onward (each (value, end)))
 keeps-then bytes place (Err stop) later next next_later (whole is onward) each =
-    after (rw is refl) (nowhere place stop onward) (λ payload told. absurd (stop_without_payload stop payload onward told))
+    after (rw is refl) (nowhere place stop onward) (λ payload outcome. absurd (stop_without_payload stop payload onward outcome))
 
 row-keeps : {A : Type 0} (row : Head → Result A BundleFault) (bytes more : List ℕ) (place : ℕ)
     (next next_later : A × ℕ → Result Bundle Stop)
@@ -153,15 +153,15 @@ known_once is = cc
 known-from : (place size : ℕ) (reading : Result Bundle Stop)
     → payload_of reading ≡ Some (place, size)
     → PayloadFrom place reading
-known-from place size reading is = λ payload told.
-    let here : payload ≡ (place, size) = known_once (sym is ∙ told) in
+known-from place size reading is = λ payload outcome.
+    let here : payload ≡ (place, size) = known_once (sym is ∙ outcome) in
     rw here (omega arith)
 
 known-within : (bytes : List ℕ) (place size : ℕ) (reading : Result Bundle Stop)
     → payload_of reading ≡ Some (place, size)
     → place + size ≤ length bytes → PayloadWithin bytes reading
-known-within bytes place size reading is there = λ payload told.
-    let here : payload ≡ (place, size) = known_once (sym is ∙ told) in
+known-within bytes place size reading is there = λ payload outcome.
+    let here : payload ≡ (place, size) = known_once (sym is ∙ outcome) in
     rw here there
 
 keeps-known : (bytes : List ℕ) (place : ℕ) (now later : Result Bundle Stop) → Stays now later

@@ -68,7 +68,7 @@ head_front-within (first ∷ rest) = front_by-within first rest (first / 32) (fi
 pub whole-within : (bytes : List ℕ) (head : Head) (size : ℕ) → head_front bytes ≡ Whole head size
     → size ≤ length bytes
 unfolding HeadWithin
-whole-within bytes head size told = rw told at (head_front-within bytes)
+whole-within bytes head size outcome = rw outcome at (head_front-within bytes)
 
 -- what is read ends within the bytes
 NextWithin : {A : Type 0} → List ℕ → Reading A → Type 0
@@ -79,10 +79,10 @@ placed-within : (bytes : List ℕ) (place : ℕ) (front : HeadFront)
     → HeadWithin (drop place bytes) front → (length bytes < place → front ≡ CutHead)
     → NextWithin bytes (placed bytes place front)
 unfolding NextWithin HeadWithin
-placed-within bytes place CutHead within behind = tt
-placed-within bytes place IllFormed within behind = tt
-placed-within bytes place (Whole head size) within behind =
-    ⊎_elim (λ past. absurd (let none : Whole head size ≡ CutHead = behind past in cc)) (λ before. omega (arith, length-drop place bytes, within)) (cases_lt (length bytes) place)
+placed-within bytes place CutHead within follows = tt
+placed-within bytes place IllFormed within follows = tt
+placed-within bytes place (Whole head size) within follows =
+    ⊎_elim (λ past. absurd (let none : Whole head size ≡ CutHead = follows past in cc)) (λ before. omega (arith, length-drop place bytes, within)) (cases_lt (length bytes) place)
 
 head_at-within : (bytes : List ℕ) (place : ℕ) → NextWithin bytes (head_at bytes place)
 unfolding head_at head_front
@@ -90,9 +90,9 @@ head_at-within bytes place =
     placed-within bytes place (head_front (drop place bytes)) (head_front-within (drop place bytes))
     (λ past. ap (λ (rest : List ℕ). head_front rest) (drop_of_length-le bytes (omega arith)))
 
-judged_at-within : {A : Type 0} (bytes : List ℕ) (place next : ℕ) (told : Result A BundleFault)
+judged_at-within : {A : Type 0} (bytes : List ℕ) (place next : ℕ) (outcome : Result A BundleFault)
     → next ≤ length bytes
-    → NextWithin bytes (judged_at place next told)
+    → NextWithin bytes (judged_at place next outcome)
 unfolding NextWithin
 judged_at-within bytes place next (Ok value) within = within
 judged_at-within bytes place next (Err fault) within = tt
@@ -230,10 +230,10 @@ trailing-lasts bytes more byte info (Ok bundle) later (same is) whole =
 
 pub FaultLasts-holds : FaultLasts
 unfolding verdict judged judgement
-FaultLasts-holds bytes more fault place lasting told =
-    fault-lasts bytes more fault place (bundle_at bytes) (bundle_at (bytes ++ more)) lasting (bundle_at-within bytes) (bundle_at-stays bytes more) told
+FaultLasts-holds bytes more fault place lasting outcome =
+    fault-lasts bytes more fault place (bundle_at bytes) (bundle_at (bytes ++ more)) lasting (bundle_at-within bytes) (bundle_at-stays bytes more) outcome
 
 pub TrailingLasts-holds : TrailingLasts
 unfolding verdict judged judgement
-TrailingLasts-holds bytes more byte info told =
-    trailing-lasts bytes more byte info (bundle_at bytes) (bundle_at (bytes ++ byte ∷ more)) (bundle_at-stays bytes (byte ∷ more)) told
+TrailingLasts-holds bytes more byte info outcome =
+    trailing-lasts bytes more byte info (bundle_at bytes) (bundle_at (bytes ++ byte ∷ more)) (bundle_at-stays bytes (byte ∷ more)) outcome

@@ -27,12 +27,12 @@ pub record IsBlank (draft : Draft) : Type 0 where
   pub numbers : draft.numbers ≡ []
 
 none_of : (payload : Option (ℕ × ℕ)) → IsTrue (is_none payload) → payload ≡ None
-none_of None told = refl
-none_of (Some payload) told = absurd (false≢true told)
+none_of None outcome = refl
+none_of (Some payload) outcome = absurd (false≢true outcome)
 
 empty_of : (numbers : List ℕ) → IsTrue (length numbers == 0) → numbers ≡ []
-empty_of [] told = refl
-empty_of (number ∷ numbers) told = absurd (grind (arith, nat_tests))
+empty_of [] outcome = refl
+empty_of (number ∷ numbers) outcome = absurd (grind (arith, nat_tests))
 
 pub blank : (draft : Draft) → IsTrue (stage_fits Start draft) → IsBlank draft
 blank draft fits = record {

@@ -54,8 +54,8 @@ PayloadLasts-holds bytes more payload is =
 
 nothing_from : (bytes : List ℕ) (place size : ℕ) → length bytes ≤ place
     → [] ≡ take size (drop place bytes)
-nothing_from bytes place size behind =
-    sym (ap (λ (rest : List ℕ). take size rest) (drop_of_length-le bytes behind) ∙ take-nil size)
+nothing_from bytes place size follows =
+    sym (ap (λ (rest : List ℕ). take size rest) (drop_of_length-le bytes follows) ∙ take-nil size)
 
 payload_of-places : (bytes : List ℕ) (now later : Result Bundle Stop) (place size : ℕ)
     → Keeps bytes 0 now later

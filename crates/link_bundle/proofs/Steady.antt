@@ -66,8 +66,8 @@ onward-then place (Ok (value, end)) next onward each =
     onward-from place end (next (value, end)) onward (each (value, end))
 onward-then place (Err stop) next onward each = onward
 
-onward-judged : {A : Type 0} (place next : ℕ) (told : Result A BundleFault)
-    → Onward next (judged_at place next told)
+onward-judged : {A : Type 0} (place next : ℕ) (outcome : Result A BundleFault)
+    → Onward next (judged_at place next outcome)
 onward-judged place next (Ok value) = omega arith
 onward-judged place next (Err fault) = refl
 
@@ -168,10 +168,10 @@ placed-reads : (bytes more : List ℕ) (place : ℕ) (front later : HeadFront)
     → (is_cut front ≡ false → later ≡ front)
     → (is_cut front ≡ true → Past (length bytes) (placed (bytes ++ more) place later))
     → Reads bytes place (placed bytes place front) (placed (bytes ++ more) place later)
-placed-reads bytes more place CutHead later told past =
+placed-reads bytes more place CutHead later outcome past =
     short refl (onward-placed (bytes ++ more) place later) (past refl)
-placed-reads bytes more place IllFormed later told past = whole (rw (told refl) refl) refl
-placed-reads bytes more place (Whole head size) later told past = whole (rw (told refl) refl) (omega arith)
+placed-reads bytes more place IllFormed later outcome past = whole (rw (outcome refl) refl) refl
+placed-reads bytes more place (Whole head size) later outcome past = whole (rw (outcome refl) refl) (omega arith)
 
 head_at-reads : (bytes more : List ℕ) (place : ℕ)
     → Reads bytes place (head_at bytes place) (head_at (bytes ++ more) place)
@@ -179,13 +179,13 @@ unfolding head_at head_front
 head_at-reads bytes more place =
     let later = head_front (drop place (bytes ++ more)) in
     ⊎_elim
-    (λ behind. placed-reads bytes more place (head_front (drop place bytes)) (head_front (drop place (bytes ++ more)))
-    (λ told. absurd (false≢true
-    (sym told ∙ ap (λ (rest : List ℕ). is_cut (head_front rest)) (drop_of_length-le bytes (omega arith)))))
+    (λ follows. placed-reads bytes more place (head_front (drop place bytes)) (head_front (drop place (bytes ++ more)))
+    (λ outcome. absurd (false≢true
+    (sym outcome ∙ ap (λ (rest : List ℕ). is_cut (head_front rest)) (drop_of_length-le bytes (omega arith)))))
     (λ _. past-from (length bytes) place (placed (bytes ++ more) place later) (omega arith)
     (onward-placed (bytes ++ more) place later)))
     (λ within. placed-reads bytes more place (head_front (drop place bytes)) (head_front (drop place (bytes ++ more)))
-    (λ told. ap head_front (drop-append-le place bytes more within) ∙ uncut_stays (drop place bytes) more told)
+    (λ outcome. ap head_front (drop-append-le place bytes more within) ∙ uncut_stays (drop place bytes) more outcome)
     (λ cut. past-placed (bytes ++ more) (length bytes) place later
     (rw (drop-append-le place bytes more within, ← length-drop place bytes) (head_ends (drop place bytes) more cut))))
     (cases_lt (length bytes) place)
@@ -283,7 +283,7 @@ slice-stays : (bytes more : List ℕ) (start end : ℕ) → end ≤ length bytes
     → slice_range (bytes ++ more) start end ≡ slice_range bytes start end
 slice-stays bytes more start end within =
     ⊎_elim
-    (λ behind. let none : end - start ≡ 0 = omega arith in rw none refl)
+    (λ follows. let none : end - start ≡ 0 = omega arith in rw none refl)
     (λ before.
     let fits : end - start ≤ length (drop start bytes) = omega (arith, length-drop start bytes) in
     rw (drop-append-le start bytes more (omega arith), take-append-le (end - start) (drop start bytes) more fits) refl)
@@ -310,7 +310,7 @@ compared-reads : (kind : CheckKind) (bytes more : List ℕ) (start place content
 unfolding compared check_of bytes_at
 compared-reads kind bytes more start place content =
     ⊎_elim
-    (λ behind.
+    (λ follows.
     let short_now : ltb (length bytes) (content + check_width kind) ≡ true =
     lt-ltb (length bytes) (content + check_width kind) (omega arith) in
     let onward = compared-onward kind start place content (bytes ++ more) in

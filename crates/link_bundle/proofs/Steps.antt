@@ -245,28 +245,28 @@ head_at-whole : (place : ℕ) (seen more : List ℕ) (head : HeadItem) → place
     → head_front (drop place seen) ≡ Whole head (length (drop place seen))
     → head_at (seen ++ more) place ≡ Ok (head, length seen)
 unfolding head_at
-head_at-whole place seen more head within told =
+head_at-whole place seen more head within outcome =
     let next : place + length (drop place seen) ≡ length seen = omega (arith, length-drop place seen) in
-    rw (front_stays place seen more within, whole_stays (drop place seen) more head (length (drop place seen)) told, next) refl
+    rw (front_stays place seen more within, whole_stays (drop place seen) more head (length (drop place seen)) outcome, next) refl
 
 head_at-bad : (place : ℕ) (seen more : List ℕ) → place ≤ length seen
     → head_front (drop place seen) ≡ IllFormed
     → head_at (seen ++ more) place ≡ Err (stopped BadHead place)
 unfolding head_at
-head_at-bad place seen more within told =
-    rw (front_stays place seen more within, ill_formed_stays (drop place seen) more told) refl
+head_at-bad place seen more within outcome =
+    rw (front_stays place seen more within, ill_formed_stays (drop place seen) more outcome) refl
 
 -- a head that goes on
 pub more_head : (which : Field) (cursor : Cursor) (draft : Draft) (seen : List ℕ)
     → HeadCame which cursor draft seen
     → HasScannedHead cursor.head (drop cursor.place seen)
     → head_front (drop cursor.place seen) ≡ CutHead → HasCome (Head which) cursor draft seen
-more_head which cursor draft seen come head told = record {
+more_head which cursor draft seen come head outcome = record {
   all_bytes = come.all_bytes;
   count = come.count;
   start = come.start;
   reads = come.reads;
-  stands = record { at = record { in_bytes = come.in_bytes; head = head; in_block = come.in_block; checks = come.checks }; cut = told };
+  stands = record { at = record { in_bytes = come.in_bytes; head = head; in_block = come.in_block; checks = come.checks }; cut = outcome };
 }
 
 -- an ill-formed head
@@ -275,14 +275,14 @@ pub bad_head : (which : Field) (cursor : Cursor) (draft : Draft) (seen : List �
     → head_front (drop cursor.place seen) ≡ IllFormed
     → HasCome (Failed BadHead cursor.place) cursor draft seen
 unfolding stage_left
-bad_head which cursor draft seen come told = record {
+bad_head which cursor draft seen come outcome = record {
   all_bytes = come.all_bytes;
   count = come.count;
   start = come.start;
   reads = λ more. come.reads more
       ∙ ap (λ (reading : Result Bundle Stop). ends_of (seen ++ more) (with_known_payload draft.payload reading))
       (field_left-stopped which draft (block_start which come.start cursor.place) (seen ++ more) cursor.place (stopped BadHead cursor.place)
-      (head_at-bad cursor.place seen more come.in_bytes told))
+      (head_at-bad cursor.place seen more come.in_bytes outcome))
       ∙ ends_of-stopped draft.payload (seen ++ more) (stopped BadHead cursor.place);
   stands = tt;
 }
@@ -296,8 +296,8 @@ judged_head : (which : Field) (cursor : Cursor) (draft new : Draft) (head : Head
     → (more : List ℕ) → judged (seen ++ more)
     ≡ goes_on result new (block_start which come.start cursor.place) cursor.place (length seen) (seen ++ more)
 unfolding stage_left
-judged_head which cursor draft new head result seen come told judges more =
-    let whole = head_at-whole cursor.place seen more head come.in_bytes told in
+judged_head which cursor draft new head result seen come outcome judges more =
+    let whole = head_at-whole cursor.place seen more head come.in_bytes outcome in
     come.reads more
     ∙ subst (λ (count : ℕ). ends_of (seen ++ more) (with_known_payload draft.payload (field_left which draft (block_start which come.start cursor.place) (seen ++ more) cursor.place))
     ≡ goes_on result new (block_start which come.start cursor.place) cursor.place count (seen ++ more)) come.count
@@ -310,10 +310,10 @@ pub went_on : (which : Field) (old cursor : Cursor) (draft new : Draft) (head : 
     → AsReadFrom old.place old.count which draft head (Ok stage) new
     → KeepsCheck draft.check stage new.check → Enters stage old cursor
     → HasCome stage cursor new seen
-went_on which old cursor draft new head stage seen come told judges keeps enters =
+went_on which old cursor draft new head stage seen come outcome judges keeps enters =
     entered stage old cursor draft.check new (block_start which come.start old.place) seen come.all_bytes come.count
     come.in_block come.checks keeps enters
-    (judged_head which old draft new head (Ok stage) seen come told judges)
+    (judged_head which old draft new head (Ok stage) seen come outcome judges)
 
 pub refused : (which : Field) (cursor : Cursor) (draft new : Draft) (head : HeadItem)
     (fault : BundleFault) (seen : List ℕ)
@@ -322,10 +322,10 @@ pub refused : (which : Field) (cursor : Cursor) (draft new : Draft) (head : Head
     → AsReadFrom cursor.place cursor.count which draft head (Err fault) new
     → HasCome (Failed fault cursor.place) cursor new seen
 unfolding stage_left
-refused which cursor draft new head fault seen come told judges = record {
+refused which cursor draft new head fault seen come outcome judges = record {
   all_bytes = come.all_bytes;
   count = come.count;
   start = come.start;
-  reads = judged_head which cursor draft new head (Err fault) seen come told judges;
+  reads = judged_head which cursor draft new head (Err fault) seen come outcome judges;
   stands = tt;
 }

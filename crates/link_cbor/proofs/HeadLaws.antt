@@ -50,8 +50,8 @@ front_by-none major information rest least =
 argument_stays : (major size : ℕ) (rest more : List ℕ)
     → is_cut (argument_front major size rest) ≡ false
     → argument_front major size (rest ++ more) ≡ argument_front major size rest
-argument_stays major size rest more told =
-    ⊎_elim (λ short. absurd (false≢true (sym told ∙ ap is_cut (argument_front-cut major size rest (ltb-true (length rest) size short)))))
+argument_stays major size rest more outcome =
+    ⊎_elim (λ short. absurd (false≢true (sym outcome ∙ ap is_cut (argument_front-cut major size rest (ltb-true (length rest) size short)))))
     (λ enough.
     let there : size ≤ length rest = ltb-false (length rest) size enough in
     argument_front-there major size (rest ++ more) (omega (arith, length-append rest more))
@@ -77,28 +77,28 @@ kind_of information =
 front_stays : (major information : ℕ) (rest more : List ℕ) → Kind information
     → is_cut (front_by major information rest) ≡ false
     → front_by major information (rest ++ more) ≡ front_by major information rest
-front_stays major information rest more (small below) told =
+front_stays major information rest more (small below) outcome =
     front_by-small major information (rest ++ more) below ∙ sym (front_by-small major information rest below)
-front_stays major information rest more (argument least below) told =
+front_stays major information rest more (argument least below) outcome =
     front_by-argument major information (rest ++ more) least below
-    ∙ argument_stays major (2 ^ (information - 24)) rest more (ap is_cut (sym (front_by-argument major information rest least below)) ∙ told)
+    ∙ argument_stays major (2 ^ (information - 24)) rest more (ap is_cut (sym (front_by-argument major information rest least below)) ∙ outcome)
     ∙ sym (front_by-argument major information rest least below)
-front_stays major information rest more (reserved least below) told =
+front_stays major information rest more (reserved least below) outcome =
     front_by-reserved major information (rest ++ more) least below ∙ sym (front_by-reserved major information rest least below)
-front_stays major information rest more (none least) told =
+front_stays major information rest more (none least) outcome =
     front_by-none major information (rest ++ more) least ∙ sym (front_by-none major information rest least)
 
 -- a head that is known to be complete or ill-formed is so whatever bytes follow
 pub uncut_stays : (seen more : List ℕ) → is_cut (head_front seen) ≡ false
     → head_front (seen ++ more) ≡ head_front seen
 unfolding head_front
-uncut_stays [] more told = absurd (false≢true (sym told))
-uncut_stays (first ∷ rest) more told = front_stays (first / 32) (first % 32) rest more (kind_of (first % 32)) told
+uncut_stays [] more outcome = absurd (false≢true (sym outcome))
+uncut_stays (first ∷ rest) more outcome = front_stays (first / 32) (first % 32) rest more (kind_of (first % 32)) outcome
 
 pub whole_stays : (seen more : List ℕ) (head : Head) (size : ℕ)
     → head_front seen ≡ Whole head size → head_front (seen ++ more) ≡ Whole head size
-whole_stays seen more head size told = uncut_stays seen more (ap is_cut told) ∙ told
+whole_stays seen more head size outcome = uncut_stays seen more (ap is_cut outcome) ∙ outcome
 
 pub ill_formed_stays : (seen more : List ℕ) → head_front seen ≡ IllFormed
     → head_front (seen ++ more) ≡ IllFormed
-ill_formed_stays seen more told = uncut_stays seen more (ap is_cut told) ∙ told
+ill_formed_stays seen more outcome = uncut_stays seen more (ap is_cut outcome) ∙ outcome

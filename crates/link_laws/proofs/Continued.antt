@@ -23,20 +23,20 @@ pub record GrowsFirst (offset : ℕ) (message : Message) (content : List ℕ)
   pub others : List Entry
   pub heads : rest.entries ++ cut_heads rest.end ≡ entry offset message (content ++ piece) ∷ others
 
--- what may come behind whole messages, where they ended so
-abbrev pub IsBehind : End → Stream → Type 0
-IsBehind Clean rest = Unit {0}
-IsBehind (Cut offset message content) rest = GrowsFirst offset message content rest
-IsBehind (Fault offset fault) rest = is_lasting fault ≡ true → rest ≡ ended (Fault offset fault)
+-- what may come after whole messages, where they ended so
+abbrev pub FollowsEnd : End → Stream → Type 0
+FollowsEnd Clean rest = Unit {0}
+FollowsEnd (Cut offset message content) rest = GrowsFirst offset message content rest
+FollowsEnd (Fault offset fault) rest = is_lasting fault ≡ true → rest ≡ ended (Fault offset fault)
 
 pub record GoesOn (before after : Stream) : Type 0 where
   pub rest : Stream
   pub are : after ≡ record { entries = before.entries ++ rest.entries; end = rest.end }
-  pub behind : IsBehind before.end rest
+  pub follows : FollowsEnd before.end rest
 
 goes_on_entry : (first : Entry) (before after : Stream) → GoesOn before after
     → GoesOn (with_entry first before) (with_entry first after)
-goes_on_entry first before after on = record { rest = on.rest; are = ap (with_entry first) on.are; behind = on.behind }
+goes_on_entry first before after on = record { rest = on.rest; are = ap (with_entry first) on.are; follows = on.follows }
 
 -- ---- the data of a segment
 
@@ -56,7 +56,7 @@ module _ (offset : ℕ) (message : Message) (bytes more : List ℕ) where
       rw (lt-ltb (length bytes) (data_length message) short) (record {
         rest = with_data_of offset message (bytes ++ more) after;
         are = refl;
-        behind = grows_by (nat_lt (length (bytes ++ more)) (data_length message)) (data_length message) after short (take-append (data_length message) bytes more (omega arith));
+        follows = grows_by (nat_lt (length (bytes ++ more)) (data_length message)) (data_length message) after short (take-append (data_length message) bytes more (omega arith));
       })
 
   -- it is whole
@@ -77,7 +77,7 @@ fault_on offset byte bytes more fault is =
     rw (stream_at-fault offset byte bytes fault is) (record {
       rest = stream_at offset ((byte ∷ bytes) ++ more);
       are = refl;
-      behind = λ stays. stream_at-fault offset byte (bytes ++ more) fault (lasts_message.shown (byte ∷ bytes) more fault stays is);
+      follows = λ stays. stream_at-fault offset byte (bytes ++ more) fault (lasts_message.shown (byte ∷ bytes) more fault stays is);
     })
 
 module _ (count : ℕ) (more : List ℕ)
@@ -105,7 +105,7 @@ module _ (count : ℕ) (more : List ℕ)
   read_on offset byte bytes (Err fault) fewer is = fault_on offset byte bytes more fault is
 
 none_on : (offset : ℕ) (more : List ℕ) → GoesOn (stream_at offset []) (stream_at offset more)
-none_on offset more = rw stream_at-nil (record { rest = stream_at offset more; are = refl; behind = tt })
+none_on offset more = rw stream_at-nil (record { rest = stream_at offset more; are = refl; follows = tt })
 
 stream_on_upto : (count : ℕ) (more : List ℕ) (offset : ℕ) (bytes : List ℕ) → length bytes ≤ count
     → GoesOn (stream_at offset bytes) (stream_at offset (bytes ++ more))
@@ -138,7 +138,7 @@ reading_on_by bytes more (Err fault) is = record {
   messages = record {
     rest = stream_of (reading_by (contact_at (bytes ++ more)));
     are = refl;
-    behind = λ stays. ap (λ read. stream_of (reading_by read)) (lasts_contact.shown bytes more fault stays is);
+    follows = λ stays. ap (λ read. stream_of (reading_by read)) (lasts_contact.shown bytes more fault stays is);
   };
 }
 

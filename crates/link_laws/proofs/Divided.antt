@@ -40,7 +40,7 @@ pub record IsDivided (limit : ℕ) (bytes : List ℕ) (input : Divided) : Type 0
   pub rest : IfSome input.rest (IsRest limit)
   pub whole : input.rest ≡ None → contents input.bundles ≡ bytes
 
--- ---- a front judged
+-- ---- a prefix judged
 
 some_bundle : (front : List ℕ) (info : BundleInfo) → verdict front ≡ Ok info → 0 < length front
 some_bundle [] info is = absurd (false≢true (sym (whole_stops [] info is) ∙ none_goes))

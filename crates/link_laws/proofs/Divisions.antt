@@ -16,7 +16,7 @@ use Rattle.link_pack.proofs.Dividing.{taken_again, none_front, none_goes, some_s
 abbrev pub refused_so : List Packed → Refusal → (accepted : List ℕ) → Divided
 refused_so bundles refusal accepted = record { bundles = bundles; rest = Some (record { accepted = accepted; refusal = refusal }) }
 
--- it shows why it is refused behind these bundles
+-- it shows why it is refused after these bundles
 pub record IsRefused (limit : ℕ) (bytes : List ℕ) : Type 0 where
   pub bundles : List Packed
   pub accepted : List ℕ
@@ -25,7 +25,7 @@ pub record IsRefused (limit : ℕ) (bytes : List ℕ) : Type 0 where
   pub divides : (more : List ℕ)
       → divided limit (bytes ++ more) ≡ refused_so bundles refusal accepted
 
--- behind these bundles another has begun
+-- after these bundles another has begun
 pub record IsOpen (limit : ℕ) (bytes : List ℕ) : Type 0 where
   pub bundles : List Packed
   pub begun : List ℕ
@@ -35,24 +35,24 @@ pub record IsOpen (limit : ℕ) (bytes : List ℕ) : Type 0 where
   pub divides : (more : List ℕ)
       → divided limit (bytes ++ more) ≡ joined bundles (divided limit (begun ++ more))
 
--- ---- a front, and what is behind it
+-- ---- a prefix, and what is after it
 
 is_shortest : (bytes : List ℕ) → IsShortestFront bundle_goes [] bytes (front_of bytes)
 is_shortest bytes = (takes_shortest bundle_goes [] bytes (front_of bytes)).1 refl
 
-behind : (bytes : List ℕ) → bytes ≡ front_of bytes ++ drop (length (front_of bytes)) bytes
-behind bytes =
+follows : (bytes : List ℕ) → bytes ≡ front_of bytes ++ drop (length (front_of bytes)) bytes
+follows bytes =
     sym (take-append-drop (length (front_of bytes)) bytes)
     ∙ ap (λ (xs : List ℕ). xs ++ drop (length (front_of bytes)) bytes) (sym (is_shortest bytes).is_front)
 
--- of what goes on all is its front
+-- of what goes on all is its prefix
 all_taken : (bytes : List ℕ) → bundle_goes (front_of bytes) ≡ true → front_of bytes ≡ bytes
 all_taken bytes goes =
     ⊎_elim (λ stops. absurd (false≢true (sym stops ∙ goes))) (λ all. all) (is_shortest bytes).stops
 
 -- ---- the first of it
 
--- a bundle, and then what is behind it
+-- a bundle, and then what is after it
 module _ (limit : ℕ) (bundle rest : List ℕ) (info : BundleInfo) (front : front_of bundle ≡ bundle)
     (is : verdict bundle ≡ Ok info) (within : length bundle ≤ limit) where
   whole_then : (more : List ℕ)
@@ -79,7 +79,7 @@ module _ (limit : ℕ) (bundle rest : List ℕ) (info : BundleInfo) (front : fro
     divides = λ more. whole_then more ∙ ap (with_bundle (record { bytes = bundle; info = info })) (later.divides more);
   }
 
--- the last byte of the front shows a fault
+-- the last byte of the prefix shows a fault
 faulty_first : (limit : ℕ) (front rest : List ℕ) (fault : BundleFault) (place : ℕ)
     → front_of front ≡ front → verdict front ≡ Err (fault, place) → lasts fault ≡ true
     → length front ≤ limit → IsRefused limit (front ++ rest)
@@ -97,7 +97,7 @@ longer_front : (limit : ℕ) (bytes more : List ℕ) → limit < length (front_o
 longer_front limit bytes more beyond =
     let run = taken bundle_goes (front_of bytes) more in
     let front : front_of (bytes ++ more) ≡ front_of bytes ++ run = joins_pieces bundle_goes [] bytes more in
-    let some : length bytes ≡ length (front_of bytes) + length (drop (length (front_of bytes)) bytes) = ap length (behind bytes) ∙ length-append (front_of bytes) _ in
+    let some : length bytes ≡ length (front_of bytes) + length (drop (length (front_of bytes)) bytes) = ap length (follows bytes) ∙ length-append (front_of bytes) _ in
     divided_front limit (front_of bytes ++ run) (bytes ++ more) (omega (arith, length-append bytes more)) front
     ∙ ap (divided_by (divided limit) (front_of bytes ++ run) (bytes ++ more)) (beyond_limit limit (front_of bytes ++ run) (omega (arith, length-append (front_of bytes) run)))
     ∙ ap (refused_so [] (Longer limit)) (take-append-le limit (front_of bytes) run (omega arith))
@@ -137,7 +137,7 @@ IsDivided limit bytes = IsRefused limit bytes ⊎ IsOpen limit bytes
 
 module _ (count limit : ℕ)
     (later : (rest : List ℕ) → length rest ≤ count → IsDivided limit rest) where
-  -- a front that is judged, and what is behind it, fewer bytes
+  -- a prefix that is judged, and what is after it, fewer bytes
   judged_so : (front rest : List ℕ) (said : Result BundleInfo (BundleFault × ℕ))
       → verdict front ≡ said → bundle_goes front ≡ false
       → front_of front ≡ front → length front ≤ limit → length rest ≤ count
@@ -160,7 +160,7 @@ module _ (count limit : ℕ)
       inr (open_first limit bytes all (ap bundle_goes (sym all) ∙ goes) (omega (arith, ap length all))))
       (λ stops.
       let some = some_stopped front stops in
-      rw (behind bytes)
+      rw (follows bytes)
       (judged_so front (drop (length front) bytes) (verdict front) refl stops (taken_again bundle_goes [] bytes) within (omega (arith, length-drop (length front) bytes))))
       (cases_Bool (bundle_goes front))
 

@@ -26,7 +26,7 @@ pub front_trans : (text mid whole : List ℕ) → IsFrontOf text mid
 front_trans text mid whole first second =
     (first.0 ++ second.0, second.1 ∙ ap (λ (xs : List ℕ). xs ++ second.0) first.1 ∙ append_assoc text first.0 second.0)
 
--- a front of the bytes that are behind others
+-- a prefix of the bytes that are after others
 pub take-append : (count : ℕ) (front back : List ℕ) → length front ≤ count
     → take count (front ++ back) ≡ front ++ take (count - length front) back
 take-append count front back enough =

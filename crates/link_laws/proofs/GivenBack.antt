@@ -32,11 +32,11 @@ use Rattle.link_laws.proofs.Readings.{IsPackedSo, divides, packed_so, carried, n
 
 -- ---- a bundle
 
-good_by : (told : Announced) (size : ℕ) (said : Result BundleInfo (BundleFault × ℕ))
-    (info : BundleInfo) → said ≡ Ok info → (told ≡ Absent) ⊎ ((true ≡ true) × (told ≡ Total size))
-    → judged false told size said ≡ Good info
-good_by told size said info is (inl absent) = rw (absent, is) refl
-good_by told size said info is (inr total) = rw (total.1, is, eq-eqb size size refl) refl
+good_by : (outcome : Announced) (size : ℕ) (said : Result BundleInfo (BundleFault × ℕ))
+    (info : BundleInfo) → said ≡ Ok info → (outcome ≡ Absent) ⊎ ((true ≡ true) × (outcome ≡ Total size))
+    → judged false outcome size said ≡ Good info
+good_by outcome size said info is (inl absent) = rw (absent, is) refl
+good_by outcome size said info is (inr total) = rw (total.1, is, eq-eqb size size refl) refl
 
 module _ (options : PackOptions) where
   judged_good : (number : ℕ) (bundle : Packed) → verdict bundle.bytes ≡ Ok bundle.info

@@ -27,7 +27,7 @@ stays_by : (refused : Option OrderFault) (head : Entry) (rest later : Ordered)
 stays_by (Some fault) head rest later stop same is = refl
 stays_by None head rest later stop same is = ap (ordered_by None head) (same is)
 
--- nothing behind it changes what is in order
+-- nothing after it changes what is in order
 refused_stays : (heads more : List Entry) (seen : List Message) (stop : ℕ × OrderFault)
     → (ordered_after seen heads).refused ≡ Some stop
     → ordered_after seen (heads ++ more) ≡ ordered_after seen heads

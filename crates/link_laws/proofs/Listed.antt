@@ -104,11 +104,11 @@ module _ (options : PackOptions) where
       let next = offset + length (segments_from number whole 0 count) in
       let rest = bundle_entries options (suc number) more next in
       let term = term_entries options options.send_term after in
-      let behind : after ≡ next + length (transfers_of options (suc number) more) =
+      let follows : after ≡ next + length (transfers_of options (suc number) more) =
       omega (arith, at, length-append (segments_from number whole 0 count) (transfers_of options (suc number) more)) in
       ap message_lines (append_assoc front rest term) ∙ lines_then front (rest ++ term)
       ∙ ap₂ (λ (a b : List ℕ). a ++ b) (segments_listed number whole 0 count offset)
-      (bundles_listed (suc number) more next after behind ∙ ap (λ n. bundle_lines options (suc number) (offset + n) more) (length-segments number whole 0 count))
+      (bundles_listed (suc number) more next after follows ∙ ap (λ n. bundle_lines options (suc number) (offset + n) more) (length-segments number whole 0 count))
 
   messages_listed : (bundles : List Packed)
       → message_lines (packed_entries options (record { bundles = bundles; rest = None }))

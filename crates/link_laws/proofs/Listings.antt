@@ -12,7 +12,7 @@ use Rattle.link_run.specs.Ends.{end_lines, lasting_line, lasting_lines, is_lasti
 use Rattle.link_list.specs.Listing.{contact_lines, message_lines, lines_of, listing, listing_sofar, list_tool}
 use Rattle.link_laws.specs.Prefix.{IsFrontOf, IsPrefixed}
 use Rattle.link_laws.proofs.Fronts.{front_same, front_after, front_none}
-use Rattle.link_laws.proofs.Continued.{IsBehind, GoesOn, stream_of, ReadingGoesOn, reading_on}
+use Rattle.link_laws.proofs.Continued.{FollowsEnd, GoesOn, stream_of, ReadingGoesOn, reading_on}
 
 message_lines-none : message_lines [] ≡ []
 unfolding message_lines
@@ -55,19 +55,19 @@ pub lasting_end : (offset : ℕ) (fault : WireFault) → is_lasting fault ≡ tr
 lasting_end offset Truncated stays = absurd (cc)
 lasting_end offset fault stays = refl
 
-end_on : (end : End) (rest : Stream) → IsBehind end rest
+end_on : (end : End) (rest : Stream) → FollowsEnd end rest
     → IsFrontOf (lasting_lines end) (end_lines rest.end)
-end_on Clean rest behind = front_none _
-end_on (Cut offset message content) rest behind = front_none _
-end_on (Fault offset fault) rest behind =
+end_on Clean rest follows = front_none _
+end_on (Cut offset message content) rest follows = front_none _
+end_on (Fault offset fault) rest follows =
     ⊎_elim
-    (λ stays. front_same _ _ (lasting_end offset fault stays ∙ sym (ap (λ (s : Stream). end_lines s.end) (behind stays))))
+    (λ stays. front_same _ _ (lasting_end offset fault stays ∙ sym (ap (λ (s : Stream). end_lines s.end) (follows stays))))
     (λ mends. rw (mended_line offset fault mends) (front_none _))
     (cases_Bool (is_lasting fault))
 
 report_on : (before after : Stream) → GoesOn before after
     → IsFrontOf (lasting_lines before.end) (end_lines after.end)
-report_on before after on = rw on.are (end_on before.end on.rest on.behind)
+report_on before after on = rw on.are (end_on before.end on.rest on.follows)
 
 pub list_prefix : (bytes more : List ℕ) → IsPrefixed list_tool bytes more
 unfolding listing listing_sofar

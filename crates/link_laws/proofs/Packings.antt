@@ -129,7 +129,7 @@ module _ (options : PackOptions) where
 
   -- ---- of an input
 
-  -- what stands behind some bundles
+  -- what stands after some bundles
   output_front : (bundles : List Packed) (begun : List ℕ) (input : Divided)
       → IsFrontOf (begun_segments (length bundles) begun) (segments (length bundles) input)
       → IsFrontOf (prelude_bytes options ++ transfers_of options 0 bundles

@@ -52,9 +52,9 @@ announcement_fits so_far small =
 -- the head of a segment, which announces with the first chunk alone
 head_spelled : (first last : Bool) (id size : ℕ) (announce : Option ℕ) → id < 2 ^ 64 → size < 2 ^ 64
     → IfSome announce (λ total. total < 2 ^ 64)
-    → (let told = if first then announce else None in
-    HeadSpelled (segment_with (flags_of first last) id size told)
-    (segment_head_bytes (flags_of first last) id size told))
+    → (let outcome = if first then announce else None in
+    HeadSpelled (segment_with (flags_of first last) id size outcome)
+    (segment_head_bytes (flags_of first last) id size outcome))
 head_spelled true true id size announce id_fits size_fits fits = segment_spelled 3 id size announce (omega arith) id_fits size_fits fits (λ some. refl)
 head_spelled true false id size announce id_fits size_fits fits = segment_spelled 2 id size announce (omega arith) id_fits size_fits fits (λ some. refl)
 head_spelled false true id size announce id_fits size_fits fits = segment_spelled 1 id size None (omega arith) id_fits size_fits tt (λ some. absurd (cc))

@@ -12,17 +12,17 @@ use Rattle.link_laws.specs.Prefix.{IsFrontOf, IsPrefixed}
 use Rattle.link_laws.proofs.Fronts.{front_same, front_then, front_trans}
 use Rattle.link_laws.proofs.Heads.{OrderGoesOn, more_on, grown_on}
 use Rattle.link_laws.proofs.Listings.{mended_line, lasting_end}
-use Rattle.link_laws.proofs.Continued.{IsBehind, GoesOn, stream_of, reading_on}
+use Rattle.link_laws.proofs.Continued.{FollowsEnd, GoesOn, stream_of, reading_on}
 use Rattle.link_laws.proofs.Transfers.{Precedes, settled_front}
 
 -- ---- a fault of the wire that lasts
 
 -- more bytes leave what was read
-stays_behind : (end : End) (rest : Stream) → IsBehind end rest
+stays_after : (end : End) (rest : Stream) → FollowsEnd end rest
     → is_shown end ≡ true → rest ≡ ended end
-stays_behind Clean rest behind shown = absurd (false≢true shown)
-stays_behind (Cut offset message content) rest behind shown = absurd (false≢true shown)
-stays_behind (Fault offset fault) rest behind shown = behind shown
+stays_after Clean rest follows shown = absurd (false≢true shown)
+stays_after (Cut offset message content) rest follows shown = absurd (false≢true shown)
+stays_after (Fault offset fault) rest follows shown = follows shown
 
 unshown_lines : (end : End) → is_shown end ≡ false → lasting_lines end ≡ []
 unshown_lines Clean mends = refl
@@ -32,13 +32,13 @@ unshown_lines (Fault offset fault) mends = mended_line offset fault mends
 module _ (wanted : Wanted) where
   -- ---- the order of the heads
 
-  order_behind : (entries : List Entry) (end : End) (rest : Stream) → IsBehind end rest
+  order_after : (entries : List Entry) (end : End) (rest : Stream) → FollowsEnd end rest
       → OrderGoesOn wanted (ordered (entries ++ cut_heads end))
       (ordered (entries ++ (rest.entries ++ cut_heads rest.end)))
-  order_behind entries Clean rest behind = rw append-nil (more_on wanted entries _)
-  order_behind entries (Cut offset message content) rest behind =
-      rw behind.heads (grown_on wanted entries behind.others offset message content behind.piece behind.short)
-  order_behind entries (Fault offset fault) rest behind = rw append-nil (more_on wanted entries _)
+  order_after entries Clean rest follows = rw append-nil (more_on wanted entries _)
+  order_after entries (Cut offset message content) rest follows =
+      rw follows.heads (grown_on wanted entries follows.others offset message content follows.piece follows.short)
+  order_after entries (Fault offset fault) rest follows = rw append-nil (more_on wanted entries _)
 
   -- ---- the texts
 
@@ -98,7 +98,7 @@ module _ (wanted : Wanted) where
 
   -- ---- what is read
 
-  module _ (entries : List Entry) (end : End) (rest : Stream) (behind : IsBehind end rest) where
+  module _ (entries : List Entry) (end : End) (rest : Stream) (follows : FollowsEnd end rest) where
     abbrev before : Ordered
     before = ordered (entries ++ cut_heads end)
 
@@ -111,13 +111,13 @@ module _ (wanted : Wanted) where
         ⊎_elim
         (λ shown.
         let P : Stream → Type 0 = λ later. AreFronts (unpacking_sofar_by wanted end before) (with_rest later) in
-        subst P (sym (stays_behind end rest behind shown)) (shown_fronts end before none shown))
-        (λ mends. unshown_fronts end rest.end before _ none mends ((order_behind entries end rest behind).precedes none))
+        subst P (sym (stays_after end rest follows shown)) (shown_fronts end before none shown))
+        (λ mends. unshown_fronts end rest.end before _ none mends ((order_after entries end rest follows).precedes none))
         (cases_Bool (is_shown end))
 
     texts_by : (refused : Option (ℕ × OrderFault)) → before.refused ≡ refused
         → AreFronts (unpacking_sofar_by wanted end before) (with_rest rest)
-    texts_by (Some stop) is = refused_fronts end rest.end before _ stop is ((order_behind entries end rest behind).stays stop is)
+    texts_by (Some stop) is = refused_fronts end rest.end before _ stop is ((order_after entries end rest follows).stays stop is)
     texts_by None is = unrefused_texts is
 
     texts_on : AreFronts (unpacking_sofar_by wanted end before) (with_rest rest)
@@ -128,7 +128,7 @@ module _ (wanted : Wanted) where
       (unpacking_by wanted after.end (ordered (heads_of after))).texts
   reading_texts before after on =
       let P : Stream → Type 0 = λ later. AreFronts (unpacking_sofar_by wanted before.end (ordered (heads_of before))) (unpacking_by wanted later.end (ordered (later.entries ++ cut_heads later.end))).texts in
-      subst P (sym on.are) (rw append_assoc (texts_on before.entries before.end on.rest on.behind))
+      subst P (sym on.are) (rw append_assoc (texts_on before.entries before.end on.rest on.follows))
 
   pub unpack_prefix : (bytes more : List ℕ) → IsPrefixed (unpack_tool wanted) bytes more
   unfolding unpacking unpacking_sofar

@@ -13,7 +13,7 @@ use Rattle.link_bundle.specs.Bundle.{opening_at, bundle_at, judged, verdict, sta
 use Rattle.link_pack.specs.Bundles.{Packed, Refusal, Longer, Faulty, Divided, front_of, refused_by, judged_front, with_bundle, divided_by, divided_in, divided, joined}
 use Rattle.link_pack.specs.Packer.{IsCut}
 
--- ---- fronts
+-- ---- prefixes
 
 -- of what is taken all is taken
 pub taken_again : (goes : List ℕ → Bool) (seen bytes : List ℕ)
@@ -27,7 +27,7 @@ taken_again goes seen (byte ∷ bytes) =
     (λ idle. rw (taken-idle goes seen (byte ∷ bytes) idle) (taken-nil goes seen))
     (cases_Bool (goes seen))
 
--- bytes that are their own front take of what follows what they need
+-- bytes that are taken whole take of what follows what they need
 pub front_more : (part more : List ℕ) → front_of part ≡ part
     → front_of (part ++ more) ≡ part ++ taken bundle_goes part more
 front_more part more front =
@@ -90,7 +90,7 @@ open_mends part fault place is goes = going_mends (lasts fault) fault place (ap 
 pub goes_cut : (part : List ℕ) → bundle_goes part ≡ true → IsCut part
 goes_cut part goes = cut_by part (verdict part) refl goes
 
--- ---- a front judged
+-- ---- a prefix judged
 
 pub within_limit : (limit : ℕ) (front : List ℕ) → length front ≤ limit
     → judged_front limit front ≡ refused_by (verdict front)
@@ -118,7 +118,7 @@ judged_whole limit front info is = judged_whole_by (nat_lt limit (length front))
 
 -- ---- an input divided
 
--- two ways to divide what stands behind a bundle that agree there
+-- two ways to divide what stands after a bundle that agree there
 divided_by-same : (next other : List ℕ → Divided) (front bytes : List ℕ)
     (said : Result BundleInfo Refusal)
     → ((info : BundleInfo) → said ≡ Ok info
@@ -127,7 +127,7 @@ divided_by-same : (next other : List ℕ → Divided) (front bytes : List ℕ)
 divided_by-same next other front bytes (Ok info) same = ap (with_bundle (record { bytes = front; info = info })) (same info refl)
 divided_by-same next other front bytes (Err refusal) same = refl
 
--- behind a bundle fewer bytes are left
+-- after a bundle fewer bytes are left
 fewer_left : (limit byte : ℕ) (bytes front : List ℕ) (info : BundleInfo)
     → judged_front limit front ≡ Ok info
     → length (drop (length front) (byte ∷ bytes)) ≤ length bytes
@@ -158,7 +158,7 @@ pub divided_none : (limit : ℕ) → divided limit [] ≡ record { bundles = [];
 unfolding divided divided_in
 divided_none limit = refl
 
--- bytes that there are, by their front
+-- bytes that there are, by the prefix that is taken
 pub divided_front : (limit : ℕ) (front bytes : List ℕ) → 0 < length bytes → front_of bytes ≡ front
     → divided limit bytes ≡ divided_by (divided limit) front bytes (judged_front limit front)
 unfolding divided divided_in
@@ -192,7 +192,7 @@ divided_longer limit part byte more front goes full =
     ∙ ap (divided_by (divided limit) (part ++ byte ∷ rest) (part ++ byte ∷ more)) (beyond_limit limit (part ++ byte ∷ rest) (omega (arith, length-append part (byte ∷ rest))))
     ∙ ap (refused_with (Longer limit)) (ap (λ count. take count (part ++ byte ∷ rest)) (sym full) ∙ take-append_seam part (byte ∷ rest))
 
--- the last byte of the front shows a fault
+-- the last byte of the prefix shows a fault
 pub divided_faulty : (limit : ℕ) (front more : List ℕ) (fault : BundleFault) (place : ℕ)
     → front_of front ≡ front → verdict front ≡ Err (fault, place)
     → lasts fault ≡ true → length front ≤ limit

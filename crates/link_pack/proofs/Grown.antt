@@ -30,10 +30,10 @@ module _ (options : PackOptions) where
   grown_any number begun (byte ∷ bytes) = grown number begun (byte ∷ bytes) false (omega arith)
 
   -- after what stands before it
-  behind : (bundles : List Packed) (segments more all : List ℕ) → segments ++ more ≡ all
+  followed : (bundles : List Packed) (segments more all : List ℕ) → segments ++ more ≡ all
       → (prelude_bytes options ++ transfers_of options 0 bundles ++ segments) ++ more
       ≡ prelude_bytes options ++ transfers_of options 0 bundles ++ all
-  behind bundles segments more all is =
+  followed bundles segments more all is =
       append_assoc (prelude_bytes options ++ transfers_of options 0 bundles) segments more
       ∙ ap (λ (xs : List ℕ). prelude_bytes options ++ transfers_of options 0 bundles ++ xs) is
 
@@ -43,7 +43,7 @@ module _ (options : PackOptions) where
       then on_output (run_segments options (length bundles) begun run false)
       ≡ texts_of options bundles (begun ++ run)
   texts_grown bundles begun run =
-      texts_as (behind bundles _ _ _ (grown_any (length bundles) begun run)) (append-nil (lines_of options 0 bundles))
+      texts_as (followed bundles _ _ _ (grown_any (length bundles) begun run)) (append-nil (lines_of options 0 bundles))
 
   -- it is refused
   pub texts_refused : (bundles : List Packed) (begun run line : List ℕ)
@@ -53,7 +53,7 @@ module _ (options : PackOptions) where
         report = line;
       }) ≡ texts_of options bundles (begun ++ run) then on_report line
   texts_refused bundles begun run line =
-      texts_as (behind bundles _ _ _ (grown_any (length bundles) begun run) ∙ sym (append-nil _)) refl
+      texts_as (followed bundles _ _ _ (grown_any (length bundles) begun run) ∙ sym (append-nil _)) refl
 
   -- it is whole, and nothing of the next one has come
   whole_output : (bundles : List Packed) (bundle : Packed) (idle : List ℕ) → idle ≡ []
@@ -76,6 +76,6 @@ module _ (options : PackOptions) where
       ≡ texts_of options (bundles ++ bundle ∷ []) []
   texts_whole bundles begun run bundle is some =
       texts_as
-      (behind bundles _ _ _ (grown (length bundles) begun run true some ∙ ap (λ (bytes : List ℕ). segments_of (length bundles) (sending options true bytes)) (sym is))
+      (followed bundles _ _ _ (grown (length bundles) begun run true some ∙ ap (λ (bytes : List ℕ). segments_of (length bundles) (sending options true bytes)) (sym is))
       ∙ whole_output bundles bundle _ (segments_none (length (bundles ++ bundle ∷ [])) (segment_size options) options.announce))
       (ap (λ (n : ℕ). lines_of options 0 bundles ++ line_of options n bundle) {y = 0 + length bundles} (omega arith) ∙ sym (lines_of_push options 0 bundles bundle))

@@ -116,26 +116,26 @@ module _ (packer : Packer) (begun run : List ℕ) (here : Comes packer begun run
       → MakesOf packer begun run (found_by packer.number (if test
       then state.Failed fault place else state.Going))
   unfolding Cuts
-  took_fault fault place true lasting told cut = record {
+  took_fault fault place true lasting outcome cut = record {
     accepted = take (length run - 1) run;
     refusal = Faulty fault place;
     cut = cut;
     text = refl;
     lasts = lasting;
     divides = λ more. rw (sym (but_last begun run here.some))
-        (divided_faulty packer.options.peer_transfer (begun ++ run) more fault place here.front told lasting here.within);
+        (divided_faulty packer.options.peer_transfer (begun ++ run) more fault place here.front outcome lasting here.within);
   }
-  took_fault fault place false lasting told cut = (
+  took_fault fault place false lasting outcome cut = (
     grows false cut,
-    ap (λ told. is_going (state_of told)) told ∙ ap (λ test. is_going (if test then state.Failed fault place else state.Going)) lasting,
+    ap (λ outcome. is_going (state_of outcome)) outcome ∙ ap (λ test. is_going (if test then state.Failed fault place else state.Going)) lasting,
   )
 
-  took_told : (told : Result BundleInfo (BundleFault × ℕ)) → verdict (begun ++ run) ≡ told
-      → Cuts (found_by packer.number (state_of told))
-      → MakesOf packer begun run (found_by packer.number (state_of told))
+  took_told : (outcome : Result BundleInfo (BundleFault × ℕ)) → verdict (begun ++ run) ≡ outcome
+      → Cuts (found_by packer.number (state_of outcome))
+      → MakesOf packer begun run (found_by packer.number (state_of outcome))
   unfolding Cuts
-  took_told (Ok info) told cut = (grows true cut, (info, told))
-  took_told (Err (fault, place)) told cut = took_fault fault place (lasts fault) refl told cut
+  took_told (Ok info) outcome cut = (grows true cut, (info, outcome))
+  took_told (Err (fault, place)) outcome cut = took_fault fault place (lasts fault) refl outcome cut
 
   pub took : (found : Found) → found ≡ found_by packer.number (state_of (verdict (begun ++ run)))
       → IsCutterAt packer.cutter

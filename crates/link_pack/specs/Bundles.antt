@@ -48,7 +48,7 @@ accepted_by (Faulty fault place) front =
 abbrev pub with_bundle : Packed → Divided → Divided
 with_bundle bundle more = record { bundles = bundle ∷ more.bundles; rest = more.rest }
 
--- `next` divides what stands behind the bundle
+-- `next` divides what stands after the bundle
 abbrev pub divided_by : (next : List ℕ → Divided) → (front bytes : List ℕ)
     → Result BundleInfo Refusal → Divided
 divided_by next front bytes (Ok info) =

@@ -74,7 +74,7 @@ escaped-none bytes none =
     let top = position_or_len is_other bytes in
     let past : length bytes ≤ top = elim (cases_lt top (length bytes)) [
       | inl below ↦
-          let told : Some top ≡ None = cond_below top (length bytes) (Some top) None below ∙ none in
+          let outcome : Some top ≡ None = cond_below top (length bytes) (Some top) None below ∙ none in
           absurd (cc)
       | inr past ↦ past
     ] in

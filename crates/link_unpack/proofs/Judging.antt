@@ -45,11 +45,11 @@ idle_stuck state.Ended idle other = absurd (other refl)
 idle_stuck (state.Failed fault place) idle other = refl
 
 -- what a state says of a verdict
-record HasFailed (told : Result BundleInfo (BundleFault × ℕ)) : Type 0 where
+record HasFailed (outcome : Result BundleInfo (BundleFault × ℕ)) : Type 0 where
   fault : BundleFault
   place : ℕ
   lasting : IsTrue (lasts fault)
-  is : told ≡ Err (fault, place)
+  is : outcome ≡ Err (fault, place)
 
 failed_lasts : (fault : BundleFault) (place : ℕ) (test : Bool) → lasts fault ≡ test
     → takes_bytes (if test then state.Failed fault place else state.Going) ≡ false
@@ -57,22 +57,23 @@ failed_lasts : (fault : BundleFault) (place : ℕ) (test : Bool) → lasts fault
 failed_lasts fault place true lasting stuck = record { fault = fault; place = place; lasting = lasting; is = refl }
 failed_lasts fault place false lasting stuck = absurd (false≢true (sym stuck))
 
-has_failed : (told : Result BundleInfo (BundleFault × ℕ)) → takes_bytes (state_of told) ≡ false
-    → HasFailed told
+has_failed : (outcome : Result BundleInfo (BundleFault × ℕ))
+    → takes_bytes (state_of outcome) ≡ false
+    → HasFailed outcome
 has_failed (Ok info) stuck = absurd (false≢true (sym stuck))
 has_failed (Err (fault, place)) stuck = failed_lasts fault place (lasts fault) refl stuck
 
-record HasEnded (told : Result BundleInfo (BundleFault × ℕ)) : Type 0 where
+record HasEnded (outcome : Result BundleInfo (BundleFault × ℕ)) : Type 0 where
   info : BundleInfo
-  is : told ≡ Ok info
+  is : outcome ≡ Ok info
 
 ended_fault : (fault : BundleFault) (place : ℕ) (test : Bool)
     → (if test then state.Failed fault place else state.Going) ≡ state.Ended → ⊥
 ended_fault fault place true is = cc
 ended_fault fault place false is = cc
 
-has_ended : (told : Result BundleInfo (BundleFault × ℕ))
-    → state_of told ≡ state.Ended → HasEnded told
+has_ended : (outcome : Result BundleInfo (BundleFault × ℕ))
+    → state_of outcome ≡ state.Ended → HasEnded outcome
 has_ended (Ok info) is = record { info = info; is = refl }
 has_ended (Err (fault, place)) is = absurd (ended_fault fault place (lasts fault) is)
 
@@ -161,7 +162,7 @@ module _ (scan later : BundleScan) (content piece : List ℕ) (count : ℕ)
         → takes_bytes (state_of (verdict ((before.seen ++ front) ++ byte ∷ []))) ≡ false
     trailing_stuck byte is =
         let ended = has_ended (verdict (before.seen ++ front)) is in
-        ap (λ told. takes_bytes (state_of told)) (TrailingLasts-holds (before.seen ++ front) [] byte ended.info ended.is)
+        ap (λ outcome. takes_bytes (state_of outcome)) (TrailingLasts-holds (before.seen ++ front) [] byte ended.info ended.is)
 
     judged_trailing : (last : BundleScan) (byte : ℕ) → count < length piece
         → byte ≡ get_or piece count 0
@@ -252,14 +253,14 @@ span_known (Some (at, size)) place count there is =
       all = ap (λ (p : ℕ × ℕ). p.1) same;
     }
 
-span_none : (told : Option (ℕ × ℕ)) (there : ℕ) → None ≡ spanned told there → told ≡ None
+span_none : (outcome : Option (ℕ × ℕ)) (there : ℕ) → None ≡ spanned outcome there → outcome ≡ None
 span_none None there is = refl
 span_none (Some (at, size)) there is = cc
 
 payload_in-known : (bytes : List ℕ) (payload : Option (ℕ × ℕ)) → payload_of (judged bytes) ≡ payload
     → payload_in bytes ≡ bytes_of payload bytes
 unfolding payload_in
-payload_in-known bytes payload is = ap (λ (told : Option (ℕ × ℕ)). bytes_of told bytes) is
+payload_in-known bytes payload is = ap (λ (outcome : Option (ℕ × ℕ)). bytes_of outcome bytes) is
 
 module _ (scan : BundleScan) (content piece : List ℕ)
     (now : HasJudged scan (content ++ piece)) where

@@ -57,15 +57,15 @@ same_entry id start written size judgement id' start' written' size' judgement' 
 module _ (now : TransferScan) (transfer : Transfer) (earlier : List Transfer)
     (follows : Follows now transfer earlier)
     (abandoned : Bool) (over : abandoned ≡ not transfer.closed)
-    (told : Result BundleInfo (BundleFault × ℕ)) (seen : (seen : List ℕ) → HasScanned now.scan seen → told ≡ verdict seen)
-    (shown : JudgementView) (judges : viewed_judgement shown ≡ judged abandoned now.announced now.size told) where
+    (outcome : Result BundleInfo (BundleFault × ℕ)) (seen : (seen : List ℕ) → HasScanned now.scan seen → outcome ≡ verdict seen)
+    (shown : JudgementView) (judges : viewed_judgement shown ≡ judged abandoned now.announced now.size outcome) where
   pub judgement_is : viewed_judgement shown ≡ judgement_of transfer
   judgement_is =
       let bytes = follows.judged.seen in
       judges
-      ∙ ap (λ gone. judged gone now.announced now.size told) over
-      ∙ ap (λ announced. judged (not transfer.closed) announced now.size told) follows.announced
-      ∙ ap (λ size. judged (not transfer.closed) (announced_of transfer.first.items.items) size told) follows.size
+      ∙ ap (λ gone. judged gone now.announced now.size outcome) over
+      ∙ ap (λ announced. judged (not transfer.closed) announced now.size outcome) follows.announced
+      ∙ ap (λ size. judged (not transfer.closed) (announced_of transfer.first.items.items) size outcome) follows.size
       ∙ ap (judged (not transfer.closed) (announced_of transfer.first.items.items) (length transfer.content))
       (seen bytes follows.judged.scanned ∙ verdict-judged now.scan transfer.content follows.judged)
 

@@ -3,7 +3,7 @@ use Rattle.std.specs.Prelude.{◌≡◌, ℕ, ◌+◌, ◌-◌, min, ◌⊎◌, 
 use Rattle.link_bundle.specs.Scan.{HasScanned, may_scan}
 use Rattle.link_bundle.specs.declared.scan.BundleScan.{BundleScan}
 
--- The scan's verdict on these bytes is known: it has seen them, or so many of them that the others change nothing.
+-- The scan's verdict on these bytes is known: it has seen them, or enough of them that the others change nothing.
 pub record HasJudged (scan : BundleScan) (content : List ℕ) : Type 0 where
   pub seen : List ℕ
   pub rest : List ℕ

@@ -11,7 +11,7 @@ Part A = Result (A × List ℕ) WireFault
 -- one part, and then what depends on it
 infixl 10 ◌>>=◌
 abbrev pub ◌>>=◌ : {A B : Type 0} → Result A WireFault
-→ (A → Result B WireFault) → Result B WireFault
+    → (A → Result B WireFault) → Result B WireFault
 (Ok x) >>= f = f x
 (Err fault) >>= f = Err fault
 

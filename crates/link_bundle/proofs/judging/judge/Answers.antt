@@ -13,8 +13,8 @@ pub returns-in_err-check_field-in-Check : goal.returns-in_err-check_field-in-Che
 unfolding field_left stage_left field_at
 returns-in_err-check_field-in-Check c = as_judged (search rules) (search rules) (let exit = err_from_is_err_and c.from_residual.result c.from_residual.ensures.1 in
     rw (c.in-Check.is, exit.1, exit.2)
-    (λ bytes start told within.
-    rw (row_at-refused (check_field c.in-Check.kind) bytes c.args.cursor.now.place c.args.cursor.now.count c.args.head c.in_err-check_field-in-Check.field-0.0 told (sym c.check_field.ensures.judged ∙ c.in_err-check_field-in-Check.was))
+    (λ bytes start outcome within.
+    rw (row_at-refused (check_field c.in-Check.kind) bytes c.args.cursor.now.place c.args.cursor.now.count c.args.head c.in_err-check_field-in-Check.field-0.0 outcome (sym c.check_field.ensures.judged ∙ c.in_err-check_field-in-Check.was))
     (ends_of-stopped c.args.draft.now.payload bytes (stopped c.in_err-check_field-in-Check.field-0.0 c.args.cursor.now.place))))
 
 pub returns-in_ok-check_field-in-Check : goal.returns-in_ok-check_field-in-Check
@@ -22,7 +22,7 @@ unfolding field_left stage_left
 returns-in_ok-check_field-in-Check c = as_judged (search rules) (search rules) (let now = c.args.draft.now in
     let cursor = c.args.cursor.now in
     rw c.in-Check.is
-    (λ bytes start told within.
+    (λ bytes start outcome within.
     ap (λ (field : Reading Bool). ends_of bytes (with_known_payload now.payload (after_field now bytes field)))
     (field_at-accepted c.in-Check.kind bytes start cursor.place cursor.count c.check_width.result c.args.head c.in_ok-check_field-in-Check.field-0
-    told (sym c.check_field.ensures.judged ∙ c.in_ok-check_field-in-Check.was) c.check_width.ensures)))
+    outcome (sym c.check_field.ensures.judged ∙ c.in_ok-check_field-in-Check.was) c.check_width.ensures)))

@@ -7,5 +7,5 @@ use Rattle.link_bundle.proofs.draft.Draft.total_length.Goals as goal
 
 pub returns : goal.returns
 unfolding field_left stage_left total_left
-returns c = as_judged (search rules) (search rules) (λ next place bytes start told within.
-    rw (row_at-accepted unsigned bytes place next c.args.head c.in_ok-total_length.total_length told (sym c.unsigned.ensures.judged ∙ c.in_ok-total_length.was)) (c.after_fields.ensures.reads bytes start next))
+returns c = as_judged (search rules) (search rules) (λ next place bytes start outcome within.
+    rw (row_at-accepted unsigned bytes place next c.args.head c.in_ok-total_length.total_length outcome (sym c.unsigned.ensures.judged ∙ c.in_ok-total_length.was)) (c.after_fields.ensures.reads bytes start next))

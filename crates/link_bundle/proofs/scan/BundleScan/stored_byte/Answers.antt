@@ -42,7 +42,7 @@ returns-then-stored-value-clause-seen c = λ seen come.
     (eq-eqb (c.args.stored * 256 + c.args.byte) c.value.result
     (ap (λ (byte : ℕ). c.args.stored * 256 + byte) (sym c.from.ensures) ∙ c.if-stored-value.true))
     (record { count = c.content_run.ensures.count; place = c.content_run.ensures.place; checks = c.content_run.ensures.checks })
-    (record { is = same_check now.draft.check c.args.kind (before_and is_kind (room c.args.left c.args.stored) fits); told = c.value.ensures })
+    (record { is = same_check now.draft.check c.args.kind (before_and is_kind (room c.args.left c.args.stored) fits); outcome = c.value.ensures })
     c.after_block-stage.ensures.reads c.after_block-stage.ensures.keeps
     (record { count = c.enter.ensures.count; place = c.enter.ensures.place; head = c.enter.ensures.head; checks = c.enter.ensures.checks })
 
@@ -57,4 +57,4 @@ returns-else-stored-value-clause-seen c = λ seen come.
     here (omega arith) (omega (arith, wants)) (ne_eqb (c.args.stored * 256 + c.args.byte) c.value.result
     (λ same. c.if-stored-value.false (ap (λ (byte : ℕ). c.args.stored * 256 + byte) c.from.ensures ∙ same)))
     (record { count = c.content_run.ensures.count; place = c.content_run.ensures.place; checks = c.content_run.ensures.checks })
-    (record { is = same_check now.draft.check c.args.kind (before_and is_kind (room c.args.left c.args.stored) fits); told = c.value.ensures })
+    (record { is = same_check now.draft.check c.args.kind (before_and is_kind (room c.args.left c.args.stored) fits); outcome = c.value.ensures })
