@@ -15,7 +15,7 @@ ghost use Rattle.link_pack.specs.PackRun.{may_go_on, is_begun, IsPacking, GivesS
 use crate::options::PackOptions;
 use crate::packer::{Found, Packer};
 use crate::segments::write_segments;
-use link_run::{Progress, Run, RunEnd, Status, Writers};
+use link_run::{Progress, Run, RunEnd, Status, Writers, ready_bytes};
 use link_wire::{
     HeadBuf, InDevice, IoFault, OutDevice, Source, put_contact, put_sess_init, put_sess_term,
 };
@@ -114,7 +114,7 @@ fn write_prelude<W: OutDevice, E: OutDevice>(
     }
 }
 
-/// Reads bytes of bundles. What was written is handed on first, if the read may have to wait.
+/// Reads bytes, as far as they belong to one chunk of one bundle. What was written is handed on first, if the read may have to wait.
 fn take_bundles<R: InDevice, W: OutDevice, E: OutDevice>(
     source: &mut Source<R>,
     writers: &mut Writers<W, E>,
@@ -131,32 +131,7 @@ fn take_bundles<R: InDevice, W: OutDevice, E: OutDevice>(
         source.new writers.new packer.new history result }
     ensures options { packer.new.options ≡ packer.old.options }
 {
-    if source.window().is_empty() && source.may_wait() {
-        if let Err(fault) = writers.settle() {
-            return Stage::Ended(Err(fault));
-        }
-    }
-    take_bytes(source, writers, packer, head)
-}
-
-/// Reads bytes, as far as they belong to one chunk of one bundle.
-fn take_bytes<R: InDevice, W: OutDevice, E: OutDevice>(
-    source: &mut Source<R>,
-    writers: &mut Writers<W, E>,
-    packer: &mut Packer,
-    head: &mut HeadBuf,
-) -> Stage
-    requires { cut_waits packer.old.cutter ≡ false }
-    ensures begun { IsTrue (is_begun result) }
-    ensures fits { IsTrue (may_go_on result packer.new) }
-    ensures gives { (start : Devices R W E) (history : List ℕ)
-        → IsPacking R.state W.state E.state start Stage.Bundles source.old
-        writers.old packer.old history
-        → GivesStage R.state W.state E.state start packer.old.options Stage.Bundles source.old
-        source.new writers.new packer.new history result }
-    ensures options { packer.new.options ≡ packer.old.options }
-{
-    let ready = match source.ready() {
+    let ready = match ready_bytes(source, writers) {
         Ok(0) => return finish(writers, packer, head),
         Ok(ready) => ready.min(PIECE),
         Err(fault) => return Stage::Ended(Err(fault)),

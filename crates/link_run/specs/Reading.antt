@@ -1,10 +1,11 @@
--- What a run reads of a session, once what was written was handed on.
-use Rattle.std.specs.Prelude.{◌≡◌, ℕ, ◌<◌, ◌⊎◌, false, List, [], length, Option, Result, Ok, Err}
-use Rattle.link_wire.specs.Device.{Input, Output}
+-- What a run reads of a session or of a source, once what was written was handed on.
+use Rattle.std.specs.Prelude.{◌≡◌, ℕ, ◌<◌, ◌⊎◌, List, [], length, Option, Result, Ok, Err}
+use Rattle.link_wire.specs.Device.{Input, Output, HasBytes}
 use Rattle.link_wire.specs.Limits.{window_size}
 use Rattle.link_wire.specs.Session.{source_of, IsSessionAt, HasNext, GivesNext, GivesLoad}
-use Rattle.link_wire.specs.Source.{window_of}
+use Rattle.link_wire.specs.Source.{window_of, ahead, GivesReady}
 use Rattle.link_wire.specs.declared.IoFault.{IoFault}
+use Rattle.link_wire.specs.declared.Source.{Source}
 use Rattle.link_wire.specs.declared.fault.Stop.{Stop}
 use Rattle.link_wire.specs.declared.fault.Stop.TheVariants as stop
 use Rattle.link_wire.specs.declared.message.Message.{Message}
@@ -42,12 +43,27 @@ module _ {R W E : Type 0} (in_look : R → Input) (out_look : W → Output) (rep
       × GivesLoad in_look old new history (Err why))
       ⊎ NotHandedOn why
 
--- No text waits while the input is waited for: where no writer has failed, all that was written was handed on, or the input has
--- enough left for what comes next. (A whole window that lies unread has just come.)
+-- Nothing is held back while the input is waited for: all that was written was handed on, or the input has enough left for
+-- what comes next.
 abbrev pub HoldsNothingBack : {R W E : Type 0} → (R → Input) → (W → Output) → (E → Output)
     → (W → Option (List ℕ)) → (E → Option (List ℕ)) → Session R → Writers W E → Type 0
 HoldsNothingBack in_look out_look report_look out_handed report_handed session after =
     (history : List ℕ) → IsSessionAt in_look session history
-    → length (window_of (source_of session)) < window_size
-    → (out_look after.output).failed ≡ false → (report_look after.report).failed ≡ false
     → HasHandedOn out_look report_look out_handed report_handed after ⊎ HasNext in_look session
+
+-- The same of a run that reads bytes. Nothing was written, and bytes are ready in the window, or the source stopped; or what was
+-- written could not be handed on, and nothing was read.
+abbrev pub ReadsBytes : {R W E : Type 0} → (R → Input) → (W → Output) → (E → Output)
+    → (old new : Source R) → (before after : Writers W E) → Result ℕ IoFault → Type 0
+ReadsBytes in_look out_look report_look old new before after (Ok n) =
+    Writes out_look report_look before after (on_output []) × GivesReady in_look old new (Ok n)
+ReadsBytes in_look out_look report_look old new before after (Err fault) =
+    (Writes out_look report_look before after (on_output []) × GivesReady in_look old new (Err fault))
+    ⊎ ((new ≡ old) × (length (window_of old) < window_size)
+    × Unsettled out_look report_look before after fault)
+
+-- all that was written was handed on, or the input has a byte left
+abbrev pub HoldsNoBytesBack : {R W E : Type 0} → (R → Input) → (W → Output) → (E → Output)
+    → (W → Option (List ℕ)) → (E → Option (List ℕ)) → Source R → Writers W E → Type 0
+HoldsNoBytesBack in_look out_look report_look out_handed report_handed source after =
+    HasHandedOn out_look report_look out_handed report_handed after ⊎ HasBytes (ahead in_look source)

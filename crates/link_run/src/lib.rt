@@ -5,6 +5,6 @@ mod reading;
 mod run;
 mod writers;
 
-pub use reading::{load_data, next_message};
+pub use reading::{load_data, next_message, ready_bytes};
 pub use run::{Progress, Run, RunEnd, Status};
 pub use writers::Writers;

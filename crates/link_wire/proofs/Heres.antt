@@ -7,12 +7,12 @@ use Rattle.byteorder.specs.Endian.{big_number}
 use Rattle.link_wire.specs.Codes.{is_start}
 use Rattle.link_wire.specs.Here.{IsHere}
 use Rattle.link_wire.specs.Limits.{longest_node, longest_list}
-use Rattle.link_wire.specs.Message.{list_at, items_of, node_at, node_bytes_at, segment_items_at, segment_at, sess_init_at, fields_at, message_at}
+use Rattle.link_wire.specs.Message.{contact_at, list_at, items_of, node_at, node_bytes_at, segment_items_at, segment_at, sess_init_at, fields_at, message_at}
 use Rattle.link_wire.specs.Part.{Part, ◌>>=◌, number_at}
 use Rattle.link_wire.proofs.FieldReads.{bytes_at-enough, same_part}
 use Rattle.link_wire.proofs.Plains.{byte_of}
 use Rattle.link_wire.proofs.Shrinks.{both_read}
-use Rattle.link_wire.proofs.Within.{Within, both_cut, within_items_of}
+use Rattle.link_wire.proofs.Within.{Within, both_cut, within_contact, within_items_of}
 use Rattle.link_wire.specs.declared.fault.WireFault.{WireFault}
 use Rattle.link_wire.specs.declared.fault.WireFault.TheVariants.{Truncated, UnknownType, NodeIdTooLong, ListTooLong}
 use Rattle.link_wire.specs.Plain.{IsHead}
@@ -81,6 +81,10 @@ here_list of after bytes enough room =
     here_number 4 after bytes _ enough
     (here_if after (nat_lt longest_list size) (ListTooLong size) (items_of of size (drop 4 bytes)) (λ e. cc)
     (here_within size after (items_of of size) (drop 4 bytes) (within_items_of of size) (omega (arith, length-drop 4 bytes))))
+
+-- six bytes decide the contact header
+pub here_contact : (bytes : List ℕ) → 6 ≤ length bytes → IsHere 0 (contact_at bytes)
+here_contact bytes enough = here_within 6 0 contact_at bytes within_contact (omega (arith, enough))
 
 -- all bytes from an index on
 to_end : (at : ℕ) (bytes : List ℕ) → slice_range bytes at (length bytes) ≡ drop at bytes

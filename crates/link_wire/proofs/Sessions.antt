@@ -1,11 +1,13 @@
 -- What each call of a session does to where it stands.
-use Rattle.std.proofs.Common.{◌≡◌, ℕ, ◌+◌, ◌<◌, true, eqb, eqb-true, List, [], ◌∷◌, ◌++◌, length, take, Some, Result, Ok, Err, arith, refl, ap, sym, ◌∙◌, subst, append_assoc, append-nil, length-append}
+use Rattle.std.proofs.Common.{⊎_elim, ◌≡◌, ℕ, ◌+◌, ◌<◌, true, eqb, eqb-true, List, [], ◌∷◌, ◌++◌, length, take, Some, Result, Ok, Err, arith, refl, ap, sym, ◌∙◌, subst, append_assoc, append-nil, length-append}
 use Rattle.std.specs.Prelude.{IsErrAnd}
+use Rattle.std.proofs.lemmas.Bool.{cases_lt}
 use Rattle.std.proofs.lemmas.List.{nil_from_length}
 use Rattle.link_io.specs.Device.{Input}
 use Rattle.link_wire.specs.Part.{number_at}
 use Rattle.link_wire.specs.Message.{contact_at, message_at, fields_at, data_length}
-use Rattle.link_io.specs.Source.{is_fresh, IsSourceAt, IsLive, Takes, Readies}
+use Rattle.link_io.specs.Source.{window_of, is_fresh, IsSourceAt, IsLive, Takes, Readies}
+use Rattle.link_wire.specs.Limits.{window_size}
 use Rattle.link_wire.specs.Getting.{Needs, IsFault, WholePart, Gets, OneKind}
 use Rattle.link_wire.specs.Stream.{End, Clean, Cut, Fault, Stream, ended, stream_at, Reading, reading_of}
 use Rattle.link_wire.specs.Session.{joined, data_after, with_data, rest_after, IsLeft, IsUndecided, SameMessages, ShownLast, is_unopened, reads_next, may_open, may_read, left_of, HasStopped, IsSessionAt, ReadContact, GivesContact, ReadMessage, GivesNext, PassedBytes, LoadedData, GivesLoad, GivesData}
@@ -26,9 +28,15 @@ use Rattle.link_wire.specs.declared.halt.Halt.{Halt}
 use Rattle.link_wire.specs.declared.halt.Halt.TheVariants as halt
 use Rattle.link_wire.specs.declared.message.Contact.{Contact}
 use Rattle.link_wire.specs.declared.message.Message.{Message}
+use Rattle.link_wire.specs.declared.session.Phase.{Phase}
 use Rattle.link_wire.specs.declared.session.Phase.TheVariants as phase
 use Rattle.link_wire.specs.declared.session.Session.{Session}
 use Rattle.link_io.specs.declared.source.Source.{Source}
+
+unopened_by : (now : Phase) → is_unopened now ≡ true → now ≡ phase.Unopened
+unopened_by phase.Unopened is = refl
+unopened_by phase.Reading is = absurd (cc)
+unopened_by (phase.Stopped why) is = absurd (cc)
 
 module _ {R : Type 0} (look : R → Input) (s : Session R) (fresh : may_open s ≡ true) where
   -- the facts of a session that may be opened
@@ -37,6 +45,9 @@ module _ {R : Type 0} (look : R → Input) (s : Session R) (fresh : may_open s �
       let first = and_true (is_unopened s.phase) _ fresh in
       let second = and_true (eqb s.left 0) _ first.1 in
       (first.0, eqb-true s.left 0 second.0, second.1)
+
+  pub opens_unopened : s.phase ≡ phase.Unopened
+  opens_unopened = unopened_by s.phase parts.0
 
   pub opens_at : IsSourceAt s.source []
   opens_at = fresh_at s.source parts.2
@@ -68,11 +79,12 @@ module _ {R : Type 0} {look : R → Input} where
       → IsSourceAt s.source history → IsLive look s.source → s.phase ≡ phase.Reading
       → reading.contact ≡ Some contact
       → (is : IsLeft s.offset s.left part.end)
+      → (few : s.left ≡ 0 → length (window_of s.source) < window_size)
       → (reads : (more : List ℕ)
       → reading_of (history ++ more)
       ≡ joined reading (appended part (rest_after (length history) s.left part.end more)))
       → IsSessionAt look s history
-  stands s history reading part contact at live going has is reads =
+  stands s history reading part contact at live going has is few reads =
       let read = settled reading history part s.offset s.left (length history) is reads in
       record {
         at = at;
@@ -81,6 +93,7 @@ module _ {R : Type 0} {look : R → Input} where
         contact = contact;
         has_contact = ap (λ (r : Reading). r.contact) read ∙ has;
         left = let P : End → Type 0 = λ end. IsLeft s.offset s.left end in subst P (sym (ap (λ (r : Reading). r.end) read)) is;
+        few = few;
         goes_on = goes_on_from reading history part s.offset s.left (length history) is reads;
       }
 
@@ -100,7 +113,7 @@ module _ {R : Type 0} {look : R → Input} where
         takes = got.by.takes;
         reading = settled begins given (ended Clean) new.offset new.left (length given) is reads;
         size = six;
-        at = stands new given begins (ended Clean) contact (IsSourceAt-then look old.source new.source [] given got.by.takes (opens_at look old fresh)) got.by.live going refl is reads;
+        at = stands new given begins (ended Clean) contact (IsSourceAt-then look old.source new.source [] given got.by.takes (opens_at look old fresh)) got.by.live going refl is (λ _. got.by.takes.window.less (omega (arith, six))) reads;
         between = none;
       }
 
@@ -159,15 +172,16 @@ module _ {R : Type 0} {look : R → Input} where
         ∙ ap (λ p. joined (reading_of history) (appended (begun here message) (rest_after p (data_length message) (begun here message).end more))) (sym place)
         ∙ ap (λ n. joined (reading_of history) (appended (begun here message) (rest_after (length (history ++ given)) n (begun here message).end more))) (sym left)
         in
+        let some : 0 < length given = omega (arith, shrinks_message.by (given ++ []) message [] (got.is.is_part []), length-append given []) in
         record {
           given = given;
           takes = got.takes;
-          some = omega (arith, shrinks_message.by (given ++ []) message [] (got.is.is_part []), length-append given []);
+          some = some;
           size = part_size within_message given message got.is;
           place = refl;
           left = left;
           reading = settled (reading_of history) (history ++ given) (begun here message) new.offset new.left (length (history ++ given)) is reads;
-          at = stands new (history ++ given) (reading_of history) (begun here message) at.contact (IsSourceAt-then look old.source new.source history given got.takes at.at) got.live going at.has_contact is reads;
+          at = stands new (history ++ given) (reading_of history) (begun here message) at.contact (IsSourceAt-then look old.source new.source history given got.takes at.at) got.live going at.has_contact is (λ _. got.takes.window.less some) reads;
         }
 
     -- bytes that make no message leave the messages as they were, and more bytes may mend them
@@ -271,6 +285,12 @@ module _ {R : Type 0} {look : R → Input} where
         )
     read_by (Fault from fault) is = absurd is
 
+    -- where the last of it was given, or none, less than a window is here
+    few_after : new.left ≡ 0 → length (window_of new.source) < window_size
+    few_after none =
+        ⊎_elim (λ few. let empty : length bytes ≡ 0 = omega (arith, few) in rw (takes.window.kept empty) (at.few (omega (arith, left, none, empty))))
+        (λ some. takes.window.less (omega (arith, some))) (cases_lt (length bytes) 1)
+
     -- the session stands after it
     pub data_stands : (reading_of (history ++ bytes)
         ≡ with_data new.left bytes (reading_of history))
@@ -283,7 +303,7 @@ module _ {R : Type 0} {look : R → Input} where
         λ more. ap reading_of (append_assoc history bytes more) ∙ at.goes_on (bytes ++ more) ∙ by.1 more
         in (
           settled (reading_of history) (history ++ bytes) (data_after new.left bytes end) new.offset new.left (length (history ++ bytes)) by.0 reads,
-          stands new (history ++ bytes) (reading_of history) (data_after new.left bytes end) at.contact (IsSourceAt-then look old.source new.source history bytes takes at.at) live going at.has_contact by.0 reads,
+          stands new (history ++ bytes) (reading_of history) (data_after new.left bytes end) at.contact (IsSourceAt-then look old.source new.source history bytes takes at.at) live going at.has_contact by.0 few_after reads,
         )
 
     -- some data of the open segment was given
@@ -294,15 +314,16 @@ module _ {R : Type 0} {look : R → Input} where
   -- data was made ready: the session stands where it stood
   pub loaded_stands : (old new : Session R) (history : List ℕ) → IsSessionAt look old history
       → Readies look old.source new.source → IsLive look new.source
-      → new.phase ≡ old.phase → new.offset ≡ old.offset → new.left ≡ old.left
+      → new.phase ≡ old.phase → new.offset ≡ old.offset → new.left ≡ old.left → 0 < old.left
       → IsSessionAt look new history
-  loaded_stands old new history at ready live phase offset left = record {
+  loaded_stands old new history at ready live phase offset left some = record {
     at = record { bytes = at.at.bytes; given = ready.count ∙ at.at.given };
     live = live;
     going = phase ∙ at.going;
     contact = at.contact;
     has_contact = at.has_contact;
     left = rw (offset, left) at.left;
+    few = λ none. absurd (omega (arith, left, none, some));
     goes_on = λ more. rw left (at.goes_on more);
   }
 

@@ -1,16 +1,17 @@
 -- What is read of some bytes stays as it is when more come after them, unless a field is missing.
-use Rattle.std.proofs.Common.{◌≡◌, ℕ, zero, suc, ◌+◌, ◌-◌, ◌<◌, Bool, true, false, eqb, List, ◌++◌, length, take, drop, Option, Some, None, Ok, Err, nat_lt, if◌then◌else◌, refl, ap, sym, ◌∙◌, subst, length-append, length-take, arith, ⊎_elim}
+use Rattle.std.proofs.Common.{◌≡◌, ℕ, zero, suc, ◌+◌, ◌-◌, ◌<◌, Bool, true, false, eqb, List, ◌++◌, length, take, drop, slice_index, Option, Some, None, Ok, Err, nat_lt, if◌then◌else◌, refl, ap, sym, ◌∙◌, subst, length-append, length-take, arith, ⊎_elim}
 use Rattle.std.proofs.lemmas.Bool.{cases_lt}
 use Rattle.std.proofs.lemmas.List.{take-append-le, drop-append-le}
 use Rattle.std.specs.Io.KnownBytes.{prepend_known}
 use Rattle.link_io.specs.Device.{Input, BeginsWith}
 use Rattle.link_io.specs.Source.{ahead, window_of}
-use Rattle.link_wire.specs.Codes.{is_start}
+use Rattle.link_wire.specs.Codes.{magic, version, is_start}
+use Rattle.byteorder.specs.Endian.{big_number}
 use Rattle.link_wire.specs.Here.{IsHere}
 use Rattle.link_wire.specs.Limits.{longest_node, longest_list, most_items}
-use Rattle.link_wire.specs.Message.{skipped_at, gives_total, total_at, item_head_at, items_at, items_of, list_at, node_bytes_at, node_at, segment_items_at, segment_at, ack_at, refuse_at, sess_term_at, msg_reject_at, sess_init_at, fields_at, message_at}
+use Rattle.link_wire.specs.Message.{contact_at, skipped_at, gives_total, total_at, item_head_at, items_at, items_of, list_at, node_bytes_at, node_at, segment_items_at, segment_at, ack_at, refuse_at, sess_term_at, msg_reject_at, sess_init_at, fields_at, message_at}
 use Rattle.link_wire.specs.Part.{Part, ◌>>=◌, bytes_at, number_at}
-use Rattle.link_wire.specs.Session.{IsEnough, HasNext, data_in}
+use Rattle.link_wire.specs.Session.{IsEnoughFor, IsEnough, HasContact, HasNext, data_in}
 use Rattle.link_wire.specs.declared.fault.WireFault.{WireFault}
 use Rattle.link_wire.specs.declared.fault.WireFault.TheVariants.{Truncated}
 use Rattle.link_wire.specs.declared.message.ListOf.{ListOf}
@@ -193,6 +194,14 @@ steady_message : Steady message_at
 unfolding message_at
 steady_message = steady_then _ _ (steady_number 1) (λ kind. steady_fields kind)
 
+steady_contact : Steady contact_at
+unfolding contact_at
+steady_contact =
+    steady_then _ _ (steady_bytes 6) (λ header.
+    steady_if (eqb (big_number 4 header) magic) _ _
+    (steady_if (eqb (slice_index header 4) version) _ _ (steady_pure _) (steady_err _))
+    (steady_err _))
+
 -- where no field is missing in some bytes, none is in them and more
 module _ {A : Type 0} (part : List ℕ → Part A) (steady : Steady part) (bytes more : List ℕ) where
   stays_whole : (read : Part A) → part bytes ≡ read → (read ≡ Err Truncated → ⊥)
@@ -203,12 +212,13 @@ module _ {A : Type 0} (part : List ℕ → Part A) (steady : Steady part) (bytes
       let lasting : fault ≡ Truncated → ⊥ = λ e. whole (ap (λ f. let read : Part A = Err f in read) e) in
       whole (sym (steady.faulty bytes more fault lasting is) ∙ cut)
 
--- bytes with a whole head come next: so the input has enough for it
-enough_here : (left : Option (List ℕ)) (bytes : List ℕ) → BeginsWith left bytes
-    → IsHere 0 (message_at bytes) → IsEnough 0 left
-enough_here None bytes next here = tt
-enough_here (Some all) bytes next here = λ cut.
-    stays_whole message_at steady_message bytes next.0 (message_at bytes) refl here.whole (ap message_at (sym next.1) ∙ cut)
+-- bytes in which no field of a part is missing come next: so the input has enough for it
+module _ {A : Type 0} (part : List ℕ → Part A) (steady : Steady part) where
+  enough_here : (left : Option (List ℕ)) (bytes : List ℕ) → BeginsWith left bytes
+      → IsHere 0 (part bytes) → IsEnoughFor part left
+  enough_here None bytes next here = tt
+  enough_here (Some all) bytes next here = λ cut.
+      stays_whole part steady bytes next.0 (part bytes) refl here.whole (ap part (sym next.1) ∙ cut)
 
 begins_window : (left : Option (List ℕ)) (window : List ℕ)
     → BeginsWith (prepend_known window left) window
@@ -220,7 +230,7 @@ module _ {R : Type 0} (look : R → Input) (s : Session R) (between : s.left ≡
       → IsHere 0 (message_at bytes) → HasNext look s
   head_next bytes next here =
       let P : ℕ → Type 0 = λ left. IsEnough left (ahead look s.source) in
-      subst P (sym between) (enough_here (ahead look s.source) bytes next here)
+      subst P (sym between) (enough_here message_at steady_message (ahead look s.source) bytes next here)
 
   pub window_has_head : IsHere 0 (message_at (window_of s.source)) → HasNext look s
   window_has_head here = head_next (window_of s.source) (begins_window (look s.source.reader).left (window_of s.source)) here
@@ -236,3 +246,9 @@ enough_data (suc left) (Some all) window some = omega (arith, length-take (suc l
 pub data_next : {R : Type 0} (look : R → Input) (s : Session R)
     → 0 < length (data_in s) → HasNext look s
 data_next look s some = enough_data s.left (look s.source.reader).left (window_of s.source) some
+
+-- a contact header that is here comes next
+pub contact_next : {R : Type 0} (look : R → Input) (s : Session R) (bytes : List ℕ)
+    → BeginsWith (ahead look s.source) bytes → IsHere 0 (contact_at bytes) → HasContact look s
+contact_next look s bytes next here =
+    enough_here contact_at steady_contact (ahead look s.source) bytes next here

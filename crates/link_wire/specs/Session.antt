@@ -1,9 +1,10 @@
 -- Where a session stands in the reading of the bytes that it was given.
 use Rattle.std.specs.Prelude.{◌≡◌, ℕ, zero, suc, ◌+◌, ◌<◌, ◌≤◌, Bool, true, false, ◌&&◌, ◌==◌, List, [], ◌++◌, length, take, drop, Option, Some, None, Result, Ok, Err, nat_lt, if◌then◌else◌, ⊤}
-use Rattle.link_io.specs.Device.{Input}
+use Rattle.link_io.specs.Device.{Input, HasBytes}
 use Rattle.link_wire.specs.Getting.{MayFollow}
-use Rattle.link_wire.specs.Limits.{longest_head}
-use Rattle.link_wire.specs.Message.{data_length, message_at}
+use Rattle.link_wire.specs.Limits.{longest_head, window_size}
+use Rattle.link_wire.specs.Message.{data_length, contact_at, message_at}
+use Rattle.link_wire.specs.Part.{Part}
 use Rattle.link_io.specs.Source.{IsSourceAt, IsLive, IsOver, HasEnded, Takes, Readies, StopsAfter, is_fresh, window_of, ahead}
 use Rattle.link_wire.specs.Stream.{End, Clean, Cut, Fault, Stream, ended, with_entry, stream_at, Reading, reading_of}
 use Rattle.link_io.specs.declared.fault.IoFault.{IoFault}
@@ -71,12 +72,15 @@ IsUndecided Clean = Unit {0}
 IsUndecided (Cut offset message content) = ⊥
 IsUndecided (Fault offset fault) = fault ≡ wire.Truncated
 
--- What is left, where it is known, is enough for what comes next: a head of which no field is missing, or its fault; or, where
--- `left` bytes of data are to come, some of them.
+-- What is left, where it is known, is enough for this part: no field of it is missing, or it shows a fault.
+abbrev pub IsEnoughFor : {A : Type 0} → (List ℕ → Part A) → Option (List ℕ) → Type 0
+IsEnoughFor part None = ⊤
+IsEnoughFor part (Some bytes) = part bytes ≡ Err wire.Truncated → ⊥
+
+-- It is enough for what comes next: the head of a message, or, where `left` bytes of data are to come, one of them.
 abbrev pub IsEnough : (left : ℕ) → Option (List ℕ) → Type 0
-IsEnough left None = ⊤
-IsEnough zero (Some bytes) = message_at bytes ≡ Err wire.Truncated → ⊥
-IsEnough (suc left) (Some bytes) = 0 < length bytes
+IsEnough zero rest = IsEnoughFor message_at rest
+IsEnough (suc left) rest = HasBytes rest
 
 -- both readings have the same contact header and messages
 pub record SameMessages (first second : Reading) : Type 0 where
@@ -140,7 +144,7 @@ module _ {R : Type 0} where
   data_in s = take s.left (window_of s.source)
 
   -- The session was given exactly these bytes, and met no fault: it stands where their reading ends, and however the bytes
-  -- go on, what follows is read from there.
+  -- go on, what follows is read from there. Between two messages it has not read on: less than a window is here.
   pub record IsSessionAt (look : R → Input) (s : Session R) (history : List ℕ) : Type 0 where
     pub at : IsSourceAt s.source history
     pub live : IsLive look s.source
@@ -148,10 +152,15 @@ module _ {R : Type 0} where
     pub contact : Contact
     pub has_contact : (reading_of history).contact ≡ Some contact
     pub left : IsLeft s.offset s.left (reading_of history).end
+    pub few : s.left ≡ 0 → length (window_of s.source) < window_size
     pub goes_on : (more : List ℕ)
         → reading_of (history ++ more)
         ≡ joined (reading_of history)
         (rest_after (length history) s.left (reading_of history).end more)
+
+  -- the input has enough bytes left for the contact header
+  abbrev pub HasContact : (R → Input) → Session R → Type 0
+  HasContact look s = IsEnoughFor contact_at (ahead look s.source)
 
   -- the input has enough bytes left for what comes next
   abbrev pub HasNext : (R → Input) → Session R → Type 0

@@ -2,7 +2,7 @@
 
 ghost use Rattle.std.specs.Prelude.{◌≡◌, ◌<◌, length, slice_index, IsTrue};
 ghost use Rattle.link_wire.specs.Here.{IsHere};
-ghost use Rattle.link_wire.specs.Message.{list_at, message_at};
+ghost use Rattle.link_wire.specs.Message.{contact_at, list_at, message_at};
 
 use crate::codes::{
     KEEPALIVE, MSG_REJECT, SESS_INIT, SESS_TERM, START, XFER_ACK, XFER_REFUSE, XFER_SEGMENT,
@@ -12,6 +12,14 @@ use byteorder::{BigEndian, ByteOrder};
 
 /// How many bytes are looked at to tell: more than a head with a few items has.
 pub const FRONT: usize = 128;
+
+/// Whether these bytes are enough for a contact header.
+#[tactic(auto, using(crate::proofs::Heres::here_contact))]
+pub fn has_contact(bytes: &[u8]) -> bool
+    ensures { IsTrue result → IsHere 0 (contact_at bytes.now) }
+{
+    bytes.len() >= 6
+}
 
 /// Whether these bytes begin with a whole extension list, its length and that many bytes, and `after` bytes follow it.
 fn has_list(bytes: &[u8], after: usize) -> bool

@@ -3,7 +3,7 @@
 use crate::fault::{Stop, WireFault};
 use crate::halt::Halt;
 use crate::head::{contact, fields, kind};
-use crate::here::{FRONT, has_head};
+use crate::here::{FRONT, has_contact, has_head};
 use crate::message::{Contact, Fields, Message, MessageBuffer};
 use crate::plain::plain;
 use link_io::{InDevice, Source, WINDOW};
@@ -38,7 +38,7 @@ impl<R: InDevice> Session<R> {
     ghost use Rattle.link_wire.specs.Plain.{IsHead};
     ghost use Rattle.link_wire.specs.Message.{MessageHasTotals};
     ghost use Rattle.link_wire.specs.MessageBuffer.{message_of, SegmentHasTotals};
-    ghost use Rattle.link_wire.specs.Session.{source_of, may_open, may_read, is_opened, IsSessionAt, HasEndedBetween, HasNext, HasStopped, left_of, data_in, with_message_read, GivesContact, ReadMessage, GivesNext};
+    ghost use Rattle.link_wire.specs.Session.{source_of, may_open, may_read, is_opened, IsSessionAt, HasContact, HasEndedBetween, HasNext, HasStopped, left_of, data_in, with_message_read, GivesContact, ReadMessage, GivesNext};
     ghost use Rattle.link_wire.specs.declared.session.Phase.TheVariants as phase;
 
     /// A session over a source that has taken nothing.
@@ -78,16 +78,16 @@ impl<R: InDevice> Session<R> {
         self.left
     }
 
-    /// Whether the next call may have to wait for the reader: the bytes that are here are not enough for it. A window of which nothing was
-    /// given has just come, and what came with it was not waited for. After a stop nothing is read.
+    /// Whether the next call may have to wait for the reader: the bytes that are here are not enough for it. After a stop nothing
+    /// is read.
     pub fn may_wait(&self) -> bool
         ensures few { IsTrue result → length (window_of (source_of self.now)) < window_size }
         ensures data { IsTrue result → 0 < left_of self.now → data_in self.now ≡ [] }
         ensures stopped { (stop : _) → HasStopped self.now stop → result ≡ false }
-        // It need not wait where the input has enough left, of which a part is here.
-        ensures here { (history : List ℕ) → IsSessionAt R.state self.now history
-            → length (window_of (source_of self.now)) < window_size
-            → result ≡ false → HasNext R.state self.now }
+        // Where it need not wait, the input has enough left for what comes next.
+        ensures contact { IsTrue (may_open self.now) → result ≡ false → HasContact R.state self.now }
+        ensures here { (history : List ℕ) → IsSessionAt R.state self.now history → result ≡ false
+            → HasNext R.state self.now }
     {
         if let Phase::Stopped(_) = self.phase {
             return false;
@@ -97,6 +97,9 @@ impl<R: InDevice> Session<R> {
         }
         let mut front = [0; FRONT];
         let count = self.source.peek(&mut front);
+        if let Phase::Unopened = self.phase {
+            return !has_contact(&front[..count]) && self.source.window().len() < WINDOW;
+        }
         !has_head(&front[..count]) && self.source.window().len() < WINDOW
     }
 

@@ -157,3 +157,65 @@ fn terminations(rt: HostRuntime) -> Result<(), Fail> {
     }
     Ok(())
 }
+
+/// What follows a contact header, and whether the next call may have to wait for more: a head does until none of its fields is missing
+/// (RFC 9174 sections 4.6 and 5.1 to 6.1). A KEEPALIVE, a SESS_TERM, an acknowledgement, a segment with an item, and a type that no
+/// message has.
+const HEADS: &[(&[u8], bool)] = &[
+    (b"dtn!\x04\x00", true),
+    (b"dtn!\x04\x00\x04", false),
+    (b"dtn!\x04\x00\x05\x00", true),
+    (b"dtn!\x04\x00\x05\x00\x00", false),
+    (
+        b"dtn!\x04\x00\x02\x00\x00\x00\x00\x00\x00\x00\x00\x07\x00\x00\x00\x00\x00\x00\x00",
+        true,
+    ),
+    (
+        b"dtn!\x04\x00\x02\x00\x00\x00\x00\x00\x00\x00\x00\x07\x00\x00\x00\x00\x00\x00\x00\x22",
+        false,
+    ),
+    (
+        b"dtn!\x04\x00\x01\x02\x00\x00\x00\x00\x00\x00\x00\x00\x00\x00\x00\x05\x00\x00\x02\x00\x00\x00\x00\x00\x00\x00\x00\x00",
+        true,
+    ),
+    (
+        b"dtn!\x04\x00\x01\x02\x00\x00\x00\x00\x00\x00\x00\x00\x00\x00\x00\x05\x00\x00\x02\x00\x00\x00\x00\x00\x00\x00\x00\x00\x02",
+        false,
+    ),
+    (b"dtn!\x04\x00\x2a", false),
+];
+
+#[test]
+fn heads_that_are_waited_for(rt: HostRuntime) -> Result<(), Fail> {
+    for (stream, waits) in HEADS {
+        let mut session = Session::new(Source::new(Reader::new(*stream)));
+        assert!(rt; session.may_wait());
+        session.open()?;
+        assert_eq!(rt; session.may_wait(), *waits);
+    }
+    Ok(())
+}
+
+/// The head of a segment with two bytes of data, the first of them, and whether the call for data may have to wait.
+const DATA: &[(&[u8], bool)] = &[
+    (
+        b"dtn!\x04\x00\x01\x01\x00\x00\x00\x00\x00\x00\x00\x00\x00\x00\x00\x00\x00\x00\x00\x02",
+        true,
+    ),
+    (
+        b"dtn!\x04\x00\x01\x01\x00\x00\x00\x00\x00\x00\x00\x00\x00\x00\x00\x00\x00\x00\x00\x02\x9f",
+        false,
+    ),
+];
+
+#[test]
+fn data_that_is_waited_for(rt: HostRuntime) -> Result<(), Fail> {
+    for (stream, waits) in DATA {
+        let mut session = Session::new(Source::new(Reader::new(*stream)));
+        session.open()?;
+        let _head = session.next()?;
+        assert_eq!(rt; session.left(), 2);
+        assert_eq!(rt; session.may_wait(), *waits);
+    }
+    Ok(())
+}

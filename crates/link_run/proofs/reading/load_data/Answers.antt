@@ -17,8 +17,8 @@ returns-clause-gives g c = λ history at.
 
 pub returns-clause-handed : goal.returns-clause-handed
 returns-clause-handed g c = elim c.if-is_empty.branch [
-  | then-is_empty+in_ok-settle_before w ↦ rw w.writers-is w.in_ok-settle_before.ensures.handed
-  | else-is_empty w ↦ λ history at few output report.
+  | then-is_empty+in_ok-settle_before w ↦ λ other. rw w.writers-is w.in_ok-settle_before.ensures.handed
+  | else-is_empty w ↦ λ other history at.
       let some : 0 < length c.loaded.result.now = grind (arith, nat_tests) in
       inr (data_next g.R.InDevice.state c.args.session.now (subst (λ d. 0 < length d) c.loaded.ensures some))
 ]

@@ -13,7 +13,7 @@ returns-in-Ok-clause-gives g c = λ history at.
     record {
       readies = ready.readies;
       left = refl;
-      at = loaded_stands old _ history at ready.readies ready.live refl refl refl;
+      at = loaded_stands old _ history at ready.readies ready.live refl refl refl (omega arith);
       size = omega (arith, c.in-Ok.ensures.size, c.min.ensures, length-take old.left (window_of c.ready.new.self));
       some = λ left. let some : c.in-Ok.ready ≢ 0 = c.in-Ok.ready-test.1 in omega (arith, c.min.ensures);
     }

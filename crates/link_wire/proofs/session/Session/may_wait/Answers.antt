@@ -1,7 +1,19 @@
 use Rattle.std.proofs.Common.{◌≡◌, false, not, ap, sym, ◌∙◌, arith}
 use Rattle.std.proofs.lemmas.Bool.{false≢true}
-use Rattle.link_wire.proofs.Steady.{head_next}
+use Rattle.link_wire.proofs.Sessions.{opens_unopened}
+use Rattle.link_wire.proofs.Steady.{contact_next, head_next}
 use Rattle.link_wire.proofs.session.Session.may_wait.Goals as goal
+
+pub returns-else-not-has_contact : goal.returns-else-not-has_contact
+returns-else-not-has_contact g c =
+    let no : not c.has_contact.result ≡ false = ap not c.if-not-has_contact.false in
+    record {
+      few = λ is. absurd (false≢true (sym no ∙ is));
+      «data» = λ is. absurd (false≢true (sym no ∙ is));
+      stopped = λ stop is. no;
+      contact = λ may waits. contact_next g.R.InDevice.state c.args.self.now _ c.peek-count.ensures.next (c.has_contact.ensures c.if-not-has_contact.false);
+      here = λ history at waits. let never = sym at.going ∙ c.in-Unopened.is in absurd (cc);
+    }
 
 pub returns-else-not-has_head : goal.returns-else-not-has_head
 returns-else-not-has_head g c =
@@ -10,7 +22,8 @@ returns-else-not-has_head g c =
       few = λ is. absurd (false≢true (sym no ∙ is));
       «data» = λ is. absurd (false≢true (sym no ∙ is));
       stopped = λ stop is. no;
-      here = λ history at few waits.
+      contact = λ may waits. absurd (c.in_default-phase.not-Unopened (opens_unopened g.R.InDevice.state c.args.self.now may));
+      here = λ history at waits.
           let between : c.args.self.now.left ≡ 0 = omega (arith, c.if-self-gt0.false) in
           head_next g.R.InDevice.state c.args.self.now between _ c.peek-count.ensures.next (c.has_head.ensures c.if-not-has_head.false);
     }
