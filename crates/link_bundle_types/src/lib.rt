@@ -2,6 +2,14 @@
 //!
 //! [`BundleInfo`] is what a whole bundle says of itself, with its endpoint IDs as [`Eid`]; [`BundleView`] and
 //! [`EidView`] are the same by reference. [`State`] is the state of a scan, and [`BundleFault`] why bytes are no bundle.
+//!
+//! ```ignore
+//! match state {
+//!     State::Going => {}                 // more bytes are needed
+//!     State::Ended => {}                 // the bytes are a bundle
+//!     State::Failed(fault, offset) => {} // they are none: why, and where that shows
+//! }
+//! ```
 #![tactic(auto)]
 
 mod eid;

@@ -1,4 +1,11 @@
 //! `pack`: bundles as the stream of a TCPCLv4 sender (RFC 9174), within the limits of a peer.
+//!
+//! [`pack`] is the whole run, and [`PackRun`] the same step by step; [`PackOptions`] has what the stream says of its sender, and the
+//! limits of the peer.
+//!
+//! ```ignore
+//! let end = pack(alloc, options, reader, output, report);
+//! ```
 #![tactic(auto)]
 
 mod options;

@@ -335,7 +335,8 @@ impl<R: InDevice, W: OutDevice, E: OutDevice> PackRun<R, W, E> {
         ensures ran { IfOk begun
             (λ run. GivesAnswer R.state W.state E.state (tool_of_pack run)
             (devices_at (place_of_pack run))
-            (record { reader = result.reader; output = result.output; report = result.report }) result.answer) }
+            (record { reader = result.reader; output = result.output; report = result.report })
+            result.answer) }
         ensures lacked { IfErr begun (λ end. result ≡ end) }
     {
         match begun {
@@ -412,9 +413,11 @@ pub fn pack<R: InDevice, W: OutDevice, E: OutDevice>(
     requires report { (E.state report).failed ≡ false }
     ensures { GivesAnswer R.state W.state E.state (pack_tool options)
         (record { reader = reader; output = output; report = report })
-        (record { reader = result.reader; output = result.output; report = result.report }) result.answer
+        (record { reader = result.reader; output = result.output; report = result.report })
+        result.answer
         ⊎ LacksMemory (record { reader = reader; output = output; report = report })
-        (record { reader = result.reader; output = result.output; report = result.report }) result.answer }
+        (record { reader = result.reader; output = result.output; report = result.report })
+        result.answer }
 {
     PackRun::finish(PackRun::new(alloc, options, reader, output, report))
 }

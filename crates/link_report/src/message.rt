@@ -184,7 +184,8 @@ fn write_segment(page: &mut [u8], at: usize, flags: u8, id: u64, items: &[Item],
 fn write_refuse(page: &mut [u8], at: usize, reason: u8, id: u64) -> usize
     requires { at + REASON_MAX ≤ length page.old }
     ensures text { take result page.new ≡ take at page.old
-        ++ codes " xfer-refuse" ++ reason_text reason (name_in refuse_names reason) ++ number_text (codes " id=") id }
+        ++ codes " xfer-refuse" ++ reason_text reason (name_in refuse_names reason)
+        ++ number_text (codes " id=") id }
     ensures fits { result ≤ at + REASON_MAX }
     ensures size { length page.new ≡ length page.old }
 {
@@ -200,7 +201,8 @@ fn write_refuse(page: &mut [u8], at: usize, reason: u8, id: u64) -> usize
 fn write_sess_term(page: &mut [u8], at: usize, flags: u8, reason: u8) -> usize
     requires { at + REASON_MAX ≤ length page.old }
     ensures text { take result page.new ≡ take at page.old
-        ++ codes " sess-term" ++ flags_text flags ++ reason_text reason (name_in term_names reason) }
+        ++ codes " sess-term" ++ flags_text flags
+        ++ reason_text reason (name_in term_names reason) }
     ensures fits { result ≤ at + REASON_MAX }
     ensures size { length page.new ≡ length page.old }
 {
@@ -215,7 +217,8 @@ fn write_sess_term(page: &mut [u8], at: usize, flags: u8, reason: u8) -> usize
 fn write_msg_reject(page: &mut [u8], at: usize, reason: u8, header: u8) -> usize
     requires { at + REASON_MAX ≤ length page.old }
     ensures text { take result page.new ≡ take at page.old
-        ++ codes " msg-reject" ++ reason_text reason (name_in reject_names reason) ++ codes " header=" ++ hex2 header }
+        ++ codes " msg-reject" ++ reason_text reason (name_in reject_names reason)
+        ++ codes " header=" ++ hex2 header }
     ensures fits { result ≤ at + REASON_MAX }
     ensures size { length page.new ≡ length page.old }
 {

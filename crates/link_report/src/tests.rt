@@ -1,3 +1,5 @@
+//! The lines of messages and faults, and the pieces of text that they are made of.
+
 use crate::{
     Fault, KeptDigits, Line, MessageText, contact_line, fault_line, message_line, put_decimal,
     put_escaped, put_hex2, put_hex4, put_text,

@@ -154,7 +154,8 @@ fn settle_before_bytes<R: InDevice, W: OutDevice, E: OutDevice>(
         (λ fault. (length (window_of source.now) < window_size)
         × Unsettled W.state E.state writers.old writers.new fault) }
     ensures handed { length (window_of source.now) ≡ 0
-        → OnOk result (HoldsNoBytesBack R.state W.state E.state W.handed E.handed source.now writers.new) }
+        → OnOk result
+        (HoldsNoBytesBack R.state W.state E.state W.handed E.handed source.now writers.new) }
     ensures line { next_line writers.new ≡ next_line writers.old }
 {
     if !source.may_wait() {

@@ -81,7 +81,8 @@ pub trait Run<R: InDevice, W: OutDevice, E: OutDevice>: Sized {
     final fn run(self) -> RunEnd<R, W, E>
         requires { stands self (devices_at (place self)) [] }
         ensures { GivesAnswer R.state W.state E.state (tool self) (devices_at (place self))
-            (record { reader = result.reader; output = result.output; report = result.report }) result.answer }
+            (record { reader = result.reader; output = result.output; report = result.report })
+            result.answer }
     {
         let mut run = self;
         'steps: loop {

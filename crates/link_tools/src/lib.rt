@@ -1,5 +1,12 @@
 //! The tools over recorded TCPCLv4 sessions (RFC 9174): each reads a device step by step, and writes its
 //! output and its report.
+//!
+//! [`run_tool`] runs the tool that the options are for, and [`run_exit`] says how its answer ends a program.
+//!
+//! ```ignore
+//! let end = run_tool(alloc, Options::List, reader, output, report);
+//! let (status, message) = run_exit(&end.answer);
+//! ```
 #![tactic(auto)]
 
 mod exit;

@@ -34,7 +34,8 @@ pub fn run_tool<R: InDevice, W: OutDevice, E: OutDevice>(
     requires report { (E.state report).failed ≡ false }
     ensures { GivesRun R.state W.state E.state options
         (record { reader = reader; output = output; report = report })
-        (record { reader = result.reader; output = result.output; report = result.report }) result.answer }
+        (record { reader = result.reader; output = result.output; report = result.report })
+        result.answer }
 {
     match options {
         Options::List => list(reader, output, report),

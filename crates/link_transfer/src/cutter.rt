@@ -181,7 +181,8 @@ impl Cutter {
     /// The cut that waits.
     fn next_cut(&self) -> Cut
         ensures { result
-            ≡ cut_of self.now.begun self.now.ended self.now.segment self.now.hold (held_size self.now) }
+            ≡ cut_of self.now.begun self.now.ended self.now.segment self.now.hold
+            (held_size self.now) }
     {
         Cut {
             first: !self.begun,
@@ -200,7 +201,8 @@ impl Cutter {
     /// The length to be announced with the next chunk.
     fn announcement(&self) -> Option<u64>
         ensures { result
-            ≡ announced_by self.now.begun self.now.ended self.now.segment self.now.hold (held_size self.now) }
+            ≡ announced_by self.now.begun self.now.ended self.now.segment self.now.hold
+            (held_size self.now) }
     {
         let size = self.held.len();
         if self.begun || !self.ended || size <= self.segment || size > self.hold {

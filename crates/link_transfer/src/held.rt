@@ -33,7 +33,8 @@ impl Model for Held {
     } };
 
     ghost invariant = { λ held.
-        (held.given ≤ held.start) × (held.start ≤ held.end) × (held.end ≤ length held.buffer.items) };
+        (held.given ≤ held.start) × (held.start ≤ held.end)
+        × (held.end ≤ length held.buffer.items) };
 }
 
 /// Moves the bytes from `start` to `end` to the beginning of the buffer if there are none, or fewer than `count` bytes

@@ -85,7 +85,8 @@ impl<R: InDevice> Session<R> {
         ensures data { IsTrue result → 0 < left_of self.now → data_in self.now ≡ [] }
         ensures stopped { (stop : _) → HasStopped self.now stop → result ≡ false }
         // Where it need not wait, the input has enough left for what comes next.
-        ensures contact { IsTrue (may_open self.now) → result ≡ false → HasContact R.state self.now }
+        ensures contact { IsTrue (may_open self.now) → result ≡ false
+            → HasContact R.state self.now }
         ensures here { (history : List ℕ) → IsSessionAt R.state self.now history → result ≡ false
             → HasNext R.state self.now }
     {

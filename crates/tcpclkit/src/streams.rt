@@ -83,10 +83,12 @@ pub fn run_buffered<R: Read + Drop, W: Write + Drop, E: Write + Drop>(
     requires output { (⟦<TextWriter<Writer<W>> as OutDevice>⟧.state streams.output).failed ≡ false }
     requires report { (⟦<TextWriter<Writer<E>> as OutDevice>⟧.state streams.report).failed ≡ false }
     ensures { GivesBuffered
-        ⟦<BufferedReader<R> as InDevice>⟧.state ⟦<TextWriter<Writer<W>> as OutDevice>⟧.state ⟦<TextWriter<Writer<E>> as OutDevice>⟧.state
-        options (record { reader = streams.input; output = streams.output; report = streams.report })
-        result.input (⟦<Writer<W> as OutDevice>⟧.state result.output) (⟦<Writer<E> as OutDevice>⟧.state result.report)
-        result.answer }
+        ⟦<BufferedReader<R> as InDevice>⟧.state
+        ⟦<TextWriter<Writer<W>> as OutDevice>⟧.state
+        ⟦<TextWriter<Writer<E>> as OutDevice>⟧.state options
+        (record { reader = streams.input; output = streams.output; report = streams.report })
+        result.input (⟦<Writer<W> as OutDevice>⟧.state result.output)
+        (⟦<Writer<E> as OutDevice>⟧.state result.report) result.answer }
 {
     let Streams {
         input,

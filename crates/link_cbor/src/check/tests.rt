@@ -1,3 +1,5 @@
+//! Check values against another implementation, in slices and byte by byte.
+
 use super::*;
 
 /// Two blocks and half a block.

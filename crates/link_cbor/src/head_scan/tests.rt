@@ -1,3 +1,5 @@
+//! Heads of RFC 8949 appendix A, byte by byte.
+
 use super::*;
 use std::process::Abort;
 

@@ -1,3 +1,5 @@
+//! Bundles cut into chunks.
+
 ghost use Rattle.std.specs.Prelude.{◌≡◌, ◌≤◌, false, length, OnOk};
 ghost use Rattle.link_transfer.specs.Cutter.{cut_waits};
 

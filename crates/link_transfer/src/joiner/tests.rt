@@ -1,3 +1,5 @@
+//! The order of messages.
+
 use super::*;
 use link_wire::{Items, NodeId, SegmentHead};
 use std::process::Abort;

@@ -1,3 +1,5 @@
+//! Announced lengths.
+
 ghost use Rattle.link_wire.specs.Message.{HasTotal, HasTotals};
 
 use super::*;
