@@ -43,16 +43,8 @@ module _ {R W E : Type 0} (in_look : R → Input) (out_look : W → Output) (rep
       × GivesLoad in_look old new history (Err why))
       ⊎ NotHandedOn why
 
--- Nothing is held back while the input is waited for: all that was written was handed on, or the input has enough left for
--- what comes next.
-abbrev pub HoldsNothingBack : {R W E : Type 0} → (R → Input) → (W → Output) → (E → Output)
-    → (W → Option (List ℕ)) → (E → Option (List ℕ)) → Session R → Writers W E → Type 0
-HoldsNothingBack in_look out_look report_look out_handed report_handed session after =
-    (history : List ℕ) → IsSessionAt in_look session history
-    → HasHandedOn out_look report_look out_handed report_handed after ⊎ HasNext in_look session
-
--- The same of a run that reads bytes. Nothing was written, and bytes are ready in the window, or the source stopped; or what was
--- written could not be handed on, and nothing was read.
+-- What a run gives that reads bytes: nothing was written, and bytes are ready in the window, or the source has ended or stopped; or
+-- what was written could not be handed on, and nothing was read.
 abbrev pub ReadsBytes : {R W E : Type 0} → (R → Input) → (W → Output) → (E → Output)
     → (old new : Source R) → (before after : Writers W E) → Result ℕ IoFault → Type 0
 ReadsBytes in_look out_look report_look old new before after (Ok n) =
@@ -61,6 +53,14 @@ ReadsBytes in_look out_look report_look old new before after (Err fault) =
     (Writes out_look report_look before after (on_output []) × GivesReady in_look old new (Err fault))
     ⊎ ((new ≡ old) × (length (window_of old) < window_size)
     × Unsettled out_look report_look before after fault)
+
+-- Nothing is held back while the input is waited for: all that was written was handed on, or the input has enough left for
+-- what comes next.
+abbrev pub HoldsNothingBack : {R W E : Type 0} → (R → Input) → (W → Output) → (E → Output)
+    → (W → Option (List ℕ)) → (E → Option (List ℕ)) → Session R → Writers W E → Type 0
+HoldsNothingBack in_look out_look report_look out_handed report_handed session after =
+    (history : List ℕ) → IsSessionAt in_look session history
+    → HasHandedOn out_look report_look out_handed report_handed after ⊎ HasNext in_look session
 
 -- all that was written was handed on, or the input has a byte left
 abbrev pub HoldsNoBytesBack : {R W E : Type 0} → (R → Input) → (W → Output) → (E → Output)

@@ -1,11 +1,11 @@
-//! How a run reads a session: before a read that may have to wait it hands on what was written, so that a reader of the texts sees
+//! How a run reads a session or a source: before a read that may have to wait it hands on what was written, so that a reader of the texts sees
 //! all that the bytes so far determine.
 
-ghost use Rattle.std.specs.Prelude.{◌≡◌, ◌<◌, ℕ, List, [], length, Ok, Err, IfErr, IfOk, IfSome, IsOk, IsTrue, OnOk, MatchResult};
+ghost use Rattle.std.specs.Prelude.{◌≡◌, ◌<◌, ◌⊎◌, ℕ, List, [], length, Ok, Err, IfErr, IfOk, IfSome, IsOk, IsTrue, OnOk, MatchResult};
 ghost use Rattle.link_wire.specs.MessageBuffer.{message_of, SegmentHasTotals};
 ghost use Rattle.link_wire.specs.Session.{may_read, is_opened, data_in, left_of, IsSessionAt, HasStopped, with_message_read};
 ghost use Rattle.link_wire.specs.Limits.{window_size};
-ghost use Rattle.link_wire.specs.Source.{window_of, IsLive};
+ghost use Rattle.link_wire.specs.Source.{window_of, HasEnded, HasFailed, IsLive};
 ghost use Rattle.link_run.specs.Reading.{HoldsNothingBack, HoldsNoBytesBack, NotHandedOn, ReadsMessage, ReadsData, ReadsBytes};
 ghost use Rattle.link_run.specs.Writers.{on_output, next_line, Writes, Unsettled};
 
@@ -120,7 +120,8 @@ fn settle_before<R: InDevice, W: OutDevice, E: OutDevice>(
 }
 
 /// How many bytes lie in the window, as `Source::ready` has them lie there: 0 at the end of the input. Where none lies there yet, what
-/// was written is handed on first if the read may have to wait. Where that fails, nothing is read.
+/// was written is handed on first if the read may have to wait. Where that fails, nothing is read. After the end and after a fault of the
+/// source nothing is read, and the same is returned.
 #[inline(always)]
 pub fn ready_bytes<R: InDevice, W: OutDevice, E: OutDevice>(
     source: &mut Source<R>,
@@ -135,6 +136,9 @@ pub fn ready_bytes<R: InDevice, W: OutDevice, E: OutDevice>(
     ensures handed { (result ≡ Err IoFault.Write → ⊥)
         → HoldsNoBytesBack R.state W.state E.state W.handed E.handed source.old writers.new }
     ensures line { next_line writers.new ≡ next_line writers.old }
+    ensures ended { HasEnded source.old → source.new ≡ source.old }
+    ensures failed { (fault : _) → HasFailed source.old fault → (source.new ≡ source.old)
+        × ((result ≡ Err fault) ⊎ (result ≡ Err IoFault.Write)) }
 {
     if source.window().is_empty() {
         settle_before_bytes(source, writers)?;

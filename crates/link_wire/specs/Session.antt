@@ -77,7 +77,7 @@ abbrev pub IsEnoughFor : {A : Type 0} → (List ℕ → Part A) → Option (List
 IsEnoughFor part None = ⊤
 IsEnoughFor part (Some bytes) = part bytes ≡ Err wire.Truncated → ⊥
 
--- It is enough for what comes next: the head of a message, or, where `left` bytes of data are to come, one of them.
+-- What is left is enough for what comes next: the head of a message, or, where `left` bytes of data are to come, one of them.
 abbrev pub IsEnough : (left : ℕ) → Option (List ℕ) → Type 0
 IsEnough zero rest = IsEnoughFor message_at rest
 IsEnough (suc left) rest = HasBytes rest
@@ -144,7 +144,7 @@ module _ {R : Type 0} where
   data_in s = take s.left (window_of s.source)
 
   -- The session was given exactly these bytes, and met no fault: it stands where their reading ends, and however the bytes
-  -- go on, what follows is read from there. Between two messages it has not read on: less than a window is here.
+  -- go on, what follows is read from there. Where no data is to come, less than a whole window lies unread.
   pub record IsSessionAt (look : R → Input) (s : Session R) (history : List ℕ) : Type 0 where
     pub at : IsSourceAt s.source history
     pub live : IsLive look s.source

@@ -1,4 +1,5 @@
-//! Whether the head of the next message is here, so that reading it need not wait (RFC 9174 sections 4.6 and 5.1 to 6.1).
+//! Whether the contact header or the head of the next message is here, so that reading it need not wait (RFC 9174 sections 4.2, 4.6 and
+//! 5.1 to 6.1).
 
 ghost use Rattle.std.specs.Prelude.{◌≡◌, ◌<◌, length, slice_index, IsTrue};
 ghost use Rattle.link_wire.specs.Here.{IsHere};

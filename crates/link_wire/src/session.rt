@@ -98,6 +98,7 @@ impl<R: InDevice> Session<R> {
         }
         let mut front = [0; FRONT];
         let count = self.source.peek(&mut front);
+        // A whole window never lies unread here, where the session has not stopped (`few` of `IsSessionAt`).
         if let Phase::Unopened = self.phase {
             return !has_contact(&front[..count]) && self.source.window().len() < WINDOW;
         }

@@ -158,9 +158,9 @@ fn terminations(rt: HostRuntime) -> Result<(), Fail> {
     Ok(())
 }
 
-/// What follows a contact header, and whether the next call may have to wait for more: a head does until none of its fields is missing
-/// (RFC 9174 sections 4.6 and 5.1 to 6.1). A KEEPALIVE, a SESS_TERM, an acknowledgement, a segment with an item, and a type that no
-/// message has.
+/// A recording, and whether the call after its contact header may have to wait: for a head, until none of its fields is missing (RFC 9174
+/// sections 4.6 and 5.1 to 6.1). After the header come nothing, a KEEPALIVE, a SESS_TERM, an acknowledgement, a segment with an item, and a
+/// type that no message has.
 const HEADS: &[(&[u8], bool)] = &[
     (b"dtn!\x04\x00", true),
     (b"dtn!\x04\x00\x04", false),
@@ -196,7 +196,8 @@ fn heads_that_are_waited_for(rt: HostRuntime) -> Result<(), Fail> {
     Ok(())
 }
 
-/// The head of a segment with two bytes of data, the first of them, and whether the call for data may have to wait.
+/// A recording up to the head of a segment with two bytes of data, and up to the first of them; and whether the call for data may have to
+/// wait.
 const DATA: &[(&[u8], bool)] = &[
     (
         b"dtn!\x04\x00\x01\x01\x00\x00\x00\x00\x00\x00\x00\x00\x00\x00\x00\x00\x00\x00\x00\x02",
