@@ -1,19 +1,24 @@
 -- How the reading of a stream goes on, with more bytes after it.
-use Rattle.std.proofs.Common.{◌≡◌, ℕ, zero, suc, ◌+◌, ◌-◌, ◌<◌, ◌≤◌, ◌⊎◌, inl, inr, Bool, true, false, nat_lt, List, [], ◌∷◌, ◌++◌, length, take, drop, None, Result, Ok, Err, if◌then◌else◌, refl, ap, ⊎_elim, length-append, length-drop, arith}
-use Rattle.std.proofs.lemmas.Bool.{cases_lt, lt-ltb, le-ltb}
+use Rattle.std.proofs.Common.{◌≡◌, ℕ, zero, suc, ◌+◌, ◌-◌, ◌<◌, ◌≤◌, ◌⊎◌, inl, inr, Bool, true, false, nat_lt, List, [], ◌∷◌, ◌++◌, length, take, drop, None, Result, Ok, Err, if◌then◌else◌, refl, ap, sym, ◌∙◌, ⊎_elim, length-append, length-drop, arith}
+use Rattle.std.proofs.lemmas.Bool.{cases_lt, false≢true, lt-ltb, le-ltb}
 use Rattle.std.proofs.lemmas.List.{take-append-le, drop-append-le}
 use Rattle.link_wire.specs.Message.{contact_at, message_at, data_length}
 use Rattle.link_wire.specs.Stream.{Entry, End, Clean, Cut, Fault, Stream, ended, with_entry, with_data_of, stream_at, Reading, reading_by, reading_of}
 use Rattle.link_wire.specs.declared.fault.WireFault.{WireFault}
 use Rattle.link_wire.specs.declared.message.Contact.{Contact}
 use Rattle.link_wire.specs.declared.message.Message.{Message}
+use Rattle.link_wire.specs.declared.fault.WireFault.TheVariants.{Truncated}
 use Rattle.link_wire.proofs.Shrinks.{shrinks_message}
+use Rattle.link_wire.proofs.Steady.{steady_contact, steady_message}
 use Rattle.link_wire.proofs.Streams.{stream_at-nil, stream_at-message, stream_at-fault}
 use Rattle.link_run.specs.Ends.{is_lasting}
 use Rattle.link_unpack.specs.Transfers.{cut_heads}
 use Rattle.link_unpack.proofs.Heads.{entry}
 use Rattle.link_laws.proofs.Fronts.{take-append}
-use Rattle.link_laws.proofs.Lasting.{lasts_contact, lasts_message}
+
+-- a fault that lasts is no missing field
+not_missing : (fault : WireFault) → is_lasting fault ≡ true → fault ≡ Truncated → ⊥
+not_missing fault stays is = false≢true (sym (ap is_lasting is) ∙ stays)
 
 -- the data of a segment goes on that is cut
 pub record GrowsFirst (offset : ℕ) (message : Message) (content : List ℕ)
@@ -77,7 +82,7 @@ fault_on offset byte bytes more fault is =
     rw (stream_at-fault offset byte bytes fault is) (record {
       rest = stream_at offset ((byte ∷ bytes) ++ more);
       are = refl;
-      follows = λ stays. stream_at-fault offset byte (bytes ++ more) fault (lasts_message.shown (byte ∷ bytes) more fault stays is);
+      follows = λ stays. stream_at-fault offset byte (bytes ++ more) fault (steady_message.faulty (byte ∷ bytes) more fault (not_missing fault stays) is);
     })
 
 module _ (count : ℕ) (more : List ℕ)
@@ -91,7 +96,7 @@ module _ (count : ℕ) (more : List ℕ)
       let place = offset + (length bytes - length rest) + size in
       let shorter = shrinks_message.by bytes message rest is in
       let same : offset + (length (bytes ++ more) - length (rest ++ more)) + size ≡ place = omega (arith, length-append bytes more, length-append rest more) in
-      rw (stream_at-message offset bytes message rest is, stream_at-message offset (bytes ++ more) message (rest ++ more) (lasts_message.read bytes more message rest is), same)
+      rw (stream_at-message offset bytes message rest is, stream_at-message offset (bytes ++ more) message (rest ++ more) (steady_message.read bytes more message rest is), same)
       (⊎_elim
       (λ short. cut_on offset message rest more _ _ short)
       (λ whole. whole_on offset message rest more _ _ whole
@@ -132,13 +137,13 @@ reading_on_by : (bytes more : List ℕ) (read : Result (Contact × List ℕ) Wir
     → contact_at bytes ≡ read
     → ReadingGoesOn (reading_by read) (reading_by (contact_at (bytes ++ more)))
 reading_on_by bytes more (Ok (contact, rest)) is =
-    rw (lasts_contact.read bytes more contact rest is) (record { contact = inl refl; messages = stream_on 6 rest more })
+    rw (steady_contact.read bytes more contact rest is) (record { contact = inl refl; messages = stream_on 6 rest more })
 reading_on_by bytes more (Err fault) is = record {
   contact = inr (refl, refl);
   messages = record {
     rest = stream_of (reading_by (contact_at (bytes ++ more)));
     are = refl;
-    follows = λ stays. ap (λ read. stream_of (reading_by read)) (lasts_contact.shown bytes more fault stays is);
+    follows = λ stays. ap (λ read. stream_of (reading_by read)) (steady_contact.faulty bytes more fault (not_missing fault stays) is);
   };
 }
 

@@ -13,7 +13,6 @@ mod Listed
 mod Fronts
 mod Divisions
 mod Packings
-mod Lasting
 mod Continued
 mod Listings
 mod Payloads

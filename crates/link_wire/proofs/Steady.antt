@@ -21,7 +21,7 @@ use Rattle.link_wire.proofs.FieldReads.{bytes_at-short, bytes_at-enough, same_pa
 use Rattle.link_wire.proofs.Shrinks.{both_read}
 use Rattle.link_wire.proofs.Within.{both_cut}
 
-record Steady {A : Type 0} (part : List ℕ → Part A) : Type 0 where
+pub record Steady {A : Type 0} (part : List ℕ → Part A) : Type 0 where
   pub read : (bytes more : List ℕ) (value : A) (rest : List ℕ) → part bytes ≡ Ok (value, rest)
       → part (bytes ++ more) ≡ Ok (value, rest ++ more)
   pub faulty : (bytes more : List ℕ) (fault : WireFault) → (fault ≡ Truncated → ⊥)
@@ -190,11 +190,11 @@ steady_fields kind =
     (steady_if (eqb kind 6) _ _ steady_msg_reject
     (steady_if (eqb kind 7) _ _ steady_sess_init (steady_err _)))))))
 
-steady_message : Steady message_at
+pub steady_message : Steady message_at
 unfolding message_at
 steady_message = steady_then _ _ (steady_number 1) (λ kind. steady_fields kind)
 
-steady_contact : Steady contact_at
+pub steady_contact : Steady contact_at
 unfolding contact_at
 steady_contact =
     steady_then _ _ (steady_bytes 6) (λ header.
