@@ -1,4 +1,4 @@
--- a bundle is read of its own bytes alone
+-- A bundle is read from its own bytes alone.
 
 use Rattle.std.proofs.Common.{◌≡◌, ℕ, zero, suc, ◌+◌, ◌<◌, ◌≤◌, Bool, true, false, List, [], ◌∷◌, ◌++◌, length, take, drop, Option, Result, Ok, Err, refl, sym, ap, subst, ◌∙◌, length-append, arith}
 use Rattle.std.specs.Prelude.{◌==◌, if◌then◌else◌}
@@ -29,8 +29,8 @@ use Rattle.link_bundle.proofs.Lengths.{bundle_within}
 use Rattle.link_bundle.proofs.Payloads.{cut_goes-on}
 use Rattle.link_bundle.proofs.Steps.{all_grown}
 
--- a bundle that is read of the bytes with more after them ends at this offset or after it, and where it ends within the
--- bytes it is read of them alone
+-- A bundle that is read from the bytes and more after them ends at this offset or after it. If it
+-- ends within the bytes, it is read from them alone too.
 abbrev Alone : List ℕ → ℕ → Result Bundle Stop → Result Bundle Stop → Type 0
 Alone bytes place now later =
     (bundle : Bundle) → later ≡ Ok bundle → (place ≤ bundle.length) × (bundle.length ≤ length bytes → now ≡ Ok bundle)
@@ -135,12 +135,12 @@ bundle_at-alone bytes more =
 
 -- ---- bytes that begin with a bundle
 
--- they begin with a bundle of this size, whatever the bytes after it are
+-- the bytes begin with this bundle, whatever bytes follow it
 pub record BeginsWith (bundle : Bundle) (bytes : List ℕ) : Type 0 where
   pub some : 0 < bundle.length
   pub within : bundle.length ≤ length bytes
   pub reads : (more : List ℕ) → bundle_at (take bundle.length bytes ++ more) ≡ Ok bundle
-  -- before its last byte more are needed
+  -- more bytes are needed before its last byte
   pub goes : (count : ℕ) → count < bundle.length → bundle_goes (take count bytes) ≡ true
 
 ok_stays : (now later : Result Bundle Stop) (bundle : Bundle) → Stays now later
@@ -155,7 +155,7 @@ unfolding bundle_at opening_at
 not_empty zero bytes bundle is = cc
 not_empty (suc size) bytes bundle is = omega arith
 
--- fewer bytes than the bundle has are cut
+-- fewer bytes than the bundle has end inside it
 cut_before : (bytes : List ℕ) (now later : Result Bundle Stop) (bundle : Bundle)
     → now ≡ bundle_at bytes → Stays now later → later ≡ Ok bundle
     → length bytes < bundle.length → EndsCut now
@@ -182,7 +182,7 @@ begins_with bundle bytes is =
           (omega (arith, length-take-le count bytes (omega arith))));
     }
 
--- ---- a scan that passes over a whole bundle
+-- ---- a scan that takes a whole bundle at once
 
 pub whole_come : (old new : Cursor) (draft after : Draft) (seen bytes : List ℕ) (size : ℕ)
     → HasCome Start old draft seen → AreBytes bytes → BeginsWith (bundle_of after size) bytes
@@ -215,7 +215,7 @@ unread_of : (check : CheckType) → is_unread check ≡ true → check ≡ Unrea
 unread_of Unread is = refl
 unread_of (Is kind) is = cc
 
--- a scan that has seen nothing has so with a new draft too
+-- a scan that has seen nothing may have a new draft
 pub restarted : (cursor : Cursor) (draft after : Draft) (seen : List ℕ)
     → HasCome Start cursor draft seen → is_unread draft.check ≡ true → after.check ≡ Unread
     → HasCome Start cursor after seen

@@ -1,4 +1,4 @@
--- the head of a canonical block's array
+-- The head of a canonical block's array.
 
 use Rattle.std.proofs.Common.{◌≡◌, ℕ, zero, suc, ◌+◌, ◌-◌, ◌<◌, ◌≤◌, true, false, List, length, Ok, Err, refl, arith}
 use Rattle.std.specs.Prelude.{◌==◌}

@@ -1,4 +1,4 @@
--- more bytes of a name, of data, of a check field's content, and after the bundle
+-- More bytes of a name, of data and of a check field's content, and bytes after the bundle.
 
 use Rattle.std.proofs.Common.{◌≡◌, ℕ, ◌+◌, ◌-◌, ◌*◌, ◌<◌, ◌≤◌, Bool, true, false, List, [], ◌∷◌, ◌++◌, length, replicate, take, drop, Option, None, Some, Result, Ok, Err, refl, sym, ap, subst, ◌∙◌, append_assoc, length-append, length-drop, arith}
 use Rattle.std.specs.Prelude.{is_some, ◌==◌, slice_range, if◌then◌else◌}
@@ -31,15 +31,15 @@ use Rattle.link_bundle.proofs.Heads.{no_content, ends_of-stopped}
 use Rattle.link_bundle.proofs.Runs.{with_run, bytes_at-run, run_within}
 use Rattle.link_bundle.proofs.Steps.{Enters, entered, regrown, all_grown, one_byte, next_run}
 
--- the bundle, by what comes after its present block's data
+-- the bundle, by the check field of its current block
 abbrev by_field : Draft → List ℕ → Reading Bool → Result Bundle Stop
 by_field draft bytes field = ends_of bytes (with_known_payload draft.payload (after_field draft bytes field))
 
--- what a check field at `field` says, whose content ends at `place`
+-- the result of a check field whose head is at `field` and whose content ends before `place`
 abbrev check_result : Bool → ℕ → ℕ → Reading Bool
 check_result same place field = if same then Ok (true, place) else Err (stopped CheckDiffers field)
 
--- a run of the content, and then the rest
+-- the check field after bytes that were read
 skipped : Option CheckKind → ℕ → List ℕ → Reading (List ℕ) → Reading Bool
 skipped check start bytes reading = reading >>= λ (_, place). field_at check start bytes place
 
@@ -70,14 +70,14 @@ content_at-ends left check start bytes more run place here some all =
     ∙ ap (λ (rest : ℕ). content_at rest check start bytes (place + length run)) none
     ∙ no_content check start bytes (place + length run) (run_within bytes more run place here (omega arith))
 
--- what the scan and its checks have taken of a name or of data
+-- a scan and its checks take bytes of a name or of data
 pub record TakesRun (check : CheckType) (old new : Cursor) (run : List ℕ) : Type 0 where
   pub all_bytes : AreBytes run
   pub count : new.count ≡ old.count + length run
   pub checks : (covered : List ℕ) → Covers check old.checks covered
       → Covers check new.checks (covered ++ run)
 
--- the checks and the block after a run of bytes
+-- the checks and the block after more bytes of a name or of data
 inside_grown : (draft : Draft) (old new : Cursor) (start : ℕ) (seen run : List ℕ)
     → IsInside old draft.check start seen → TakesRun draft.check old new run
     → IsInside new draft.check start (seen ++ run)
@@ -92,7 +92,7 @@ count_grown : (check : CheckType) (old new : Cursor) (seen run : List ℕ) → o
 count_grown check old new seen run counted takes =
     takes.count ∙ ap (λ (count : ℕ). count + length run) counted ∙ sym (length-append seen run)
 
--- data, with more of it to come
+-- incomplete data
 pub grown_content : (left rest : ℕ) (old new : Cursor) (draft : Draft) (seen run : List ℕ)
     → HasCome (Content left) old draft seen → length run ≤ left → rest ≡ left - length run
     → TakesRun draft.check old new run
@@ -150,14 +150,14 @@ grown_name role left old grown_cursor new draft after stage seen run come takes 
     ∙ goes bytes more come.start old.place (length seen) (next_run seen more run)
     ∙ ap (λ (place : ℕ). stage_left stage after come.start place bytes place) (sym (length-append seen run)))
 
--- the checks take a byte of a check field's content as zero
+-- the checks cover a byte of a check field's content as zero
 pub record TakesZero (check : CheckType) (old new : Cursor) : Type 0 where
   pub count : new.count ≡ old.count + 1
   pub place : new.place ≡ old.place
   pub checks : (covered : List ℕ) → Covers check old.checks covered
       → Covers check new.checks (covered ++ 0 ∷ [])
 
--- the part of a block that has come stays as it is
+-- the part of a block that was seen does not change
 slice_kept : (seen more : List ℕ) (start place : ℕ) → start ≤ length seen → place ≤ length seen
     → slice_range (seen ++ more) start place ≡ slice_range seen start place
 slice_kept seen more start place within bound =
@@ -180,7 +180,7 @@ stored_grown check old new start seen byte at takes =
           (takes.checks (front ++ replicate count 0) at.checks));
     }
 
--- the content of a check field, with more of it to come
+-- incomplete content of a check field
 pub grown_stored : (field left stored : ℕ) (kind : CheckKind) (old new : Cursor) (draft : Draft)
     (seen : List ℕ) (byte : ℕ)
     → HasCome (Stored field left stored kind) old draft seen → byte < 256 → 0 < left
@@ -204,7 +204,7 @@ grown_stored field left stored kind old new draft seen byte come small some take
       stands = stored_grown draft.check old new come.start seen byte come.stands takes;
     }
 
--- what the checks say of the block and of zeros for its check field's content
+-- the expected check value is that of the block, with zeros for the content of its check field
 pub record Checks (kind : CheckKind) (check : CheckType) (cursor : Cursor)
     (expected : ℕ) : Type 0 where
   pub is : check ≡ Is (Some kind)
@@ -221,7 +221,7 @@ checked kind check cursor expected start seen more at checks =
     rw (slice_kept seen more start cursor.place at.in_block at.in_bytes)
     (sym (checks.outcome covered (subst (λ (check : CheckType). Covers check cursor.checks covered) checks.is at.checks)))
 
--- what the check field's last byte makes of the reading
+-- the reading after the last byte of a check field's content
 last_stored : (field left stored expected : ℕ) (kind : CheckKind) (old new : Cursor) (draft : Draft)
     (seen more : List ℕ) (byte : ℕ)
     → (come : HasCome (Stored field left stored kind) old draft seen) → left ≡ 1
@@ -243,7 +243,7 @@ last_stored field left stored expected kind old new draft seen more byte come on
     ∙ stored_left-last left stored expected field bytes more byte (length seen) (next_run seen more (byte ∷ [])) one
     ∙ ap (λ (place : ℕ). check_result (stored * 256 + byte == expected) place field) (sym longer))
 
--- the check is there, and nothing more of the block is checked
+-- the check is equal, and no more of the block is checked
 pub equal_stored : (field left stored expected : ℕ) (kind : CheckKind)
     (old grown_cursor new : Cursor) (draft after : Draft) (stage : Stage) (seen : List ℕ) (byte : ℕ)
     → HasCome (Stored field left stored kind) old draft seen → byte < 256 → left ≡ 1

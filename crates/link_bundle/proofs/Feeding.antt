@@ -1,4 +1,4 @@
--- a piece that is taken in runs
+-- A piece that is taken in runs.
 
 use Rattle.std.proofs.Common.{◌≡◌, ℕ, suc, ◌+◌, ◌-◌, ◌<◌, ◌≤◌, true, false, List, [], ◌∷◌, ◌++◌, length, take, drop, Option, None, Some, Result, Err, refl, sym, ap, ◌∙◌, append_assoc, append-nil, length-append, length-drop, arith}
 use Rattle.std.proofs.lemmas.List.{drop-drop, drop_all, length-take, length-take-le, take-take, take-append-drop}
@@ -26,7 +26,7 @@ use Rattle.link_bundle.proofs.Steps.{after_seen}
 use Rattle.link_bundle.proofs.Stops.{field_left-stopped}
 use Rattle.link_bundle.proofs.Verdicts.{head_at-cut}
 
--- a run before each byte of which more were needed is taken whole
+-- a run is taken whole if more bytes were needed before each of its bytes
 runs-wanted : (seen run : List ℕ) (byte : ℕ)
     → ((count : ℕ) → count < length (byte ∷ run)
     → bundle_goes (seen ++ take count (byte ∷ run)) ≡ true)
@@ -44,12 +44,12 @@ taken-run seen (byte ∷ run) rest wanted =
     (taken-run (seen ++ byte ∷ []) run rest (runs-wanted seen run byte wanted)
     ∙ ap (λ (seen : List ℕ). run ++ taken bundle_goes seen rest) (append_assoc seen (byte ∷ []) run))
 
--- after `count` bytes of the piece, what is taken is these and what is taken of the rest
+-- the bytes taken are the first `count` bytes of the piece and those taken of the rest
 pub record TakenSoFar (seen bytes : List ℕ) (count : ℕ) : Type 0 where
   pub splits : taken bundle_goes seen bytes ≡ take count bytes
       ++ taken bundle_goes (seen ++ take count bytes) (drop count bytes)
 
--- the same at the end, with how many they are
+-- the bytes taken at the end, and their number
 pub record TakenInAll (seen bytes : List ℕ) (count : ℕ) : Type 0 where
   pub prefix : taken bundle_goes seen bytes ≡ take count bytes
   pub size : count ≡ length (taken bundle_goes seen bytes)
@@ -57,12 +57,12 @@ pub record TakenInAll (seen bytes : List ℕ) (count : ℕ) : Type 0 where
 pub none_taken : (seen bytes : List ℕ) → TakenSoFar seen bytes 0
 none_taken seen bytes = record { splits = ap (λ (seen : List ℕ). taken bundle_goes seen bytes) (sym (append-nil seen)) }
 
--- the bytes from a place on, as the code takes them
+-- the bytes from an offset on, as the code takes them
 pub the_rest : (bytes : List ℕ) (count : ℕ)
     → take (length bytes - count) (drop count bytes) ≡ drop count bytes
 the_rest bytes count = ap (λ (size : ℕ). take size (drop count bytes)) (sym (length-drop count bytes)) ∙ take-length (drop count bytes)
 
--- a history and the bytes of a piece, a run further
+-- a history and the first bytes of a piece, with one more run
 pub joined_run : (seen bytes : List ℕ) (count more : ℕ)
     → (seen ++ take count bytes) ++ take more (drop count bytes) ≡ seen ++ take (count + more) bytes
 joined_run seen bytes count more =
@@ -95,7 +95,7 @@ in_all seen bytes count within prefix = record {
   size = sym (ap length prefix ∙ length-take-le count bytes within);
 }
 
--- where no more is needed, these are the bytes taken
+-- the bytes taken, if no more are needed
 pub taken_stop : (seen bytes : List ℕ) (count : ℕ) → count ≤ length bytes
     → bundle_goes (seen ++ take count bytes) ≡ false
     → TakenSoFar seen bytes count → TakenInAll seen bytes count
@@ -105,7 +105,7 @@ taken_stop seen bytes count within idle before =
     ∙ ap (λ (rest : List ℕ). take count bytes ++ rest) (taken-idle bundle_goes (seen ++ take count bytes) (drop count bytes) idle)
     ∙ append-nil (take count bytes))
 
--- where every byte was given, so were they taken
+-- the bytes taken, if all were consumed
 pub taken_all : (seen bytes : List ℕ) (count : ℕ) → count ≡ length bytes
     → TakenSoFar seen bytes count → TakenInAll seen bytes count
 taken_all seen bytes count all before =
@@ -115,7 +115,7 @@ taken_all seen bytes count all before =
     ∙ ap (λ (rest : List ℕ). take count bytes ++ rest) (taken-nil bundle_goes (seen ++ take count bytes))
     ∙ append-nil (take count bytes))
 
--- bytes that are cut go on
+-- more bytes are needed if the bytes end inside a bundle
 verdict_by-cut : (payload : Option (ℕ × ℕ)) (place : ℕ)
     → is_going (state_of (verdict_by (with_known_payload payload (Err (stopped Cut place))))) ≡ true
 verdict_by-cut None place = refl
@@ -127,7 +127,7 @@ pub goes-cut : (payload : Option (ℕ × ℕ)) (bytes : List ℕ) (place : ℕ)
 unfolding verdict
 goes-cut payload bytes place is = rw is (verdict_by-cut payload place)
 
--- inside a name and inside data more is needed
+-- more bytes are needed inside a name and inside data
 pub goes_in_content : (left : ℕ) (cursor : Cursor) (draft : Draft) (seen run : List ℕ)
     → HasCome (Content left) cursor draft seen
     → length run < left → bundle_goes (seen ++ run) ≡ true
@@ -148,7 +148,7 @@ goes_in_name role left cursor draft seen run come inside =
     ∙ rw (bytes_at-cut left (seen ++ run) (length seen) (omega (arith, length-append seen run)))
     (ends_of-stopped draft.payload (seen ++ run) (stopped Cut (length (seen ++ run)))))
 
--- before its last byte a head is cut
+-- a head is cut before its last byte
 cut_by : (run : List ℕ) (head : HeadItem) (count : ℕ) (front : HeadFront)
     → head_front run ≡ Whole head (length run) → count < length run
     → head_front (take count run) ≡ front → front ≡ CutHead

@@ -1,4 +1,4 @@
--- the content of a check field
+-- The content of a check field.
 
 use Rattle.std.proofs.Common.{◌≡◌, ℕ, zero, suc, ◌+◌, ◌-◌, ◌*◌, ◌^◌, ◌<◌, Bool, true, false, ◌&&◌, List, [], ◌∷◌, drop, None, Some, Ok, Err, refl, ap, ◌∙◌, arith}
 use Rattle.std.specs.Prelude.{IsTrue, nat_lt, nat_le, ◌==◌, if◌then◌else◌}
@@ -18,7 +18,7 @@ use Rattle.link_bundle.specs.Left.{zeroed_check, stored_left}
 use Rattle.link_bundle.proofs.Heads.{row_at-accepted}
 use Rattle.link_bundle.proofs.Runs.{with_run, bytes_at-step, bytes_at-last}
 
--- the check type that was read is that of the field
+-- the check type that was read is that of the check field
 pub same_check : (check : CheckType) (kind : CheckKind) → IsTrue (is_kind (kind_of check) kind)
     → check ≡ Is (Some kind)
 same_check Unread kind outcome = cc
@@ -28,7 +28,7 @@ same_check (Is (Some Crc16)) Crc32 outcome = cc
 same_check (Is (Some Crc32)) Crc16 outcome = cc
 same_check (Is (Some Crc32)) Crc32 outcome = refl
 
--- after the field's head the content is read, and compared with the check
+-- after the head of the field, its content is read and compared with the check
 pub field_at-accepted : (kind : CheckKind) (bytes : List ℕ) (start place next width : ℕ)
     (head : Head) (count : ℕ)
     → head_at bytes place ≡ Ok (head, next) → check_field kind head ≡ Ok count
@@ -41,7 +41,7 @@ field_at-accepted kind bytes start place next width head count outcome judged is
     let all : next + width - next ≡ check_width kind = omega (arith, is_width) in
     rw (row_at-accepted (check_field kind) bytes place next head count outcome judged, all, is_width) refl
 
--- what a content is compared with, after a byte
+-- the comparison of a content with its check, after some of its bytes
 compared : ℕ → ℕ → ℕ → Reading (List ℕ) → Reading Bool
 compared stored expected field reading =
     reading >>= λ (rest, next). if number_from stored rest == expected then Ok (true, next) else Err (stopped CheckDiffers field)
@@ -62,7 +62,7 @@ stored_left-step left stored expected field bytes more byte place here some =
     ap (λ (reading : Reading (List ℕ)). compared stored expected field reading) (bytes_at-step left bytes more byte place here some)
     ∙ compared-with_run stored expected field byte (bytes_at (left - 1) bytes (place + 1))
 
--- the last byte
+-- the last byte of a content
 pub stored_left-last : (left stored expected field : ℕ) (bytes more : List ℕ) (byte place : ℕ)
     → drop place bytes ≡ byte ∷ more → left ≡ 1
     → stored_left left stored expected field bytes place
@@ -71,7 +71,7 @@ unfolding stored_left
 stored_left-last left stored expected field bytes more byte place here one =
     rw (one, bytes_at-last bytes more byte place here) refl
 
--- the content's number stays within its bytes
+-- the number that the content spells fits in its bytes
 abbrev pub room : ℕ → ℕ → Bool
 room left stored = nat_lt 0 left && (nat_le left 4 && nat_lt stored (256 ^ (4 - left)))
 
@@ -96,7 +96,7 @@ pub before_and : (a b : Bool) → IsTrue (a && b) → IsTrue a
 before_and true b both = refl
 before_and false b both = absurd (false≢true both)
 
--- bytes of a content are left
+-- some bytes of a content are left
 pub some_left : (left : ℕ) (fits : Bool) → IsTrue (nat_lt 0 left && fits) → 0 < left
 some_left left fits both = ltb-true 0 left (before_and (nat_lt 0 left) fits both)
 

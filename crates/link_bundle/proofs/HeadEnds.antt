@@ -1,4 +1,4 @@
--- a head that some bytes end inside has more than these, however they go on
+-- If some bytes end inside a head, the head has more bytes than these, whatever bytes follow.
 
 use Rattle.std.proofs.Common.{◌≡◌, ℕ, suc, ◌+◌, ◌-◌, ◌/◌, ◌%◌, ◌^◌, ◌<◌, ◌≤◌, true, false, ◌&&◌, ◌||◌, nat_lt, List, [], ◌∷◌, ◌++◌, length, take, drop, Some, refl, sym, ap, ◌∙◌, ⊎_elim, arith}
 use Rattle.std.specs.Prelude.{◌==◌}
@@ -108,7 +108,7 @@ unfolding head_front
 head_ends [] more cut = head_front-some more
 head_ends (first ∷ rest) more cut = front_by-ends (first / 32) (first % 32) rest more cut
 
--- a head is read of its own bytes alone
+-- a head is read from its own bytes alone
 alone_by : (front : HeadFront) (bytes more : List ℕ) (head : Head) (size : ℕ)
     → front ≡ head_front bytes
     → head_front (bytes ++ more) ≡ Whole head size → size ≤ length bytes → front ≡ Whole head size

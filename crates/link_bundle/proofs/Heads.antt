@@ -1,4 +1,4 @@
--- a whole head, judged by its row; what comes after a block
+-- A whole head that is judged by its row, and the stage after a block.
 
 use Rattle.std.proofs.Common.{◌≡◌, ℕ, ◌-◌, ◌≤◌, Bool, true, false, List, length, Option, None, Some, Result, Ok, Err, refl, is_some}
 use Rattle.std.specs.Prelude.{is_none, if◌then◌else◌}
@@ -45,7 +45,7 @@ pub goes_to_block : (payload : Option (ℕ × ℕ)) (numbers : List ℕ) (primar
 goes_to_block None numbers primary bytes place outcome = refl
 goes_to_block (Some payload) numbers primary bytes place outcome = cc
 
--- the payload block's data, and that of another block
+-- the data of the payload block, and of another block
 pub data_read : (payload new : Option (ℕ × ℕ)) (is_payload : Bool) (numbers : List ℕ)
     (primary : Primary) (check : Option CheckKind) (size start next : ℕ) (bytes : List ℕ)
     → is_none payload ≡ true → new ≡ then_some is_payload (next, size)
@@ -64,7 +64,7 @@ pub no_content : (check : Option CheckKind) (start : ℕ) (bytes : List ℕ)
 unfolding content_at
 no_content check start bytes place within = rw (bytes_at-none bytes place within) refl
 
--- a stop stays, with what is known of its payload
+-- a stop does not change, and neither does the payload that is known
 pub ends_of-stopped : (payload : Option (ℕ × ℕ)) (bytes : List ℕ) (stop : Stop)
     → ends_of bytes (with_known_payload payload (Err stop)) ≡ with_known_payload payload (Err stop)
 ends_of-stopped None bytes stop = refl

@@ -1,4 +1,4 @@
--- a head that is judged, from the three parts of that
+-- The promise of a judged head, from its three parts.
 
 use Rattle.std.specs.Prelude.{Result, IfOk}
 use Rattle.link_bundle_types.specs.declared.fault.BundleFault.{BundleFault}

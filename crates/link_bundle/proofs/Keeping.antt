@@ -1,4 +1,4 @@
--- a bundle, read of some bytes and of those bytes with more after them: where the payload's bytes are
+-- The payload of a bundle that is read from some bytes, and from those bytes with more after them.
 
 use Rattle.std.proofs.Common.{◌≡◌, ℕ, zero, suc, ◌+◌, ◌<◌, ◌≤◌, Bool, true, false, List, [], ◌∷◌, ◌++◌, length, Option, None, Some, Result, Ok, Err, refl, sym, ap, ◌∙◌, ⊎_elim, arith, ltb}
 use Rattle.std.specs.Prelude.{◌==◌, if◌then◌else◌}
@@ -15,16 +15,17 @@ use Rattle.link_bundle.specs.Canonical.{content_at}
 use Rattle.link_bundle.specs.Bundle.{Bundle, with_payload, payload_at, blocks_at, opening_at, bundle_at, payload_of}
 use Rattle.link_bundle.proofs.Steady.{EndsCut, Stays, cuts, same, stays-then, IsCut, Reads, short, whole, stays_of, row_at-reads, field_at-reads, content_at-reads, primary_at-reads, opening_at-reads}
 
--- the payload, where it is known, begins at this offset or after it
+-- the payload, if it is known, begins at this offset or after it
 abbrev pub PayloadFrom : ℕ → Result Bundle Stop → Type 0
 PayloadFrom place reading = (payload : ℕ × ℕ) → payload_of reading ≡ Some payload → place ≤ payload.0
 
--- all of its bytes are there
+-- all bytes of the payload, if it is known, are there
 abbrev pub PayloadWithin : List ℕ → Result Bundle Stop → Type 0
 PayloadWithin bytes reading = (payload : ℕ × ℕ) → payload_of reading ≡ Some payload → payload.0 + payload.1 ≤ length bytes
 
--- what is read of a bundle from an offset, of some bytes and of those bytes with more after them: the bytes end before
--- the payload is known, or after that, or they do not end inside the bundle
+-- A bundle that is read from an offset on, of some bytes and of those bytes with more after them.
+-- The bytes end before the payload is known, or they end inside the bundle after that, or they do
+-- not end inside it.
 pub data Keeps : List ℕ → ℕ → Result Bundle Stop → Result Bundle Stop → Type 0 where
   before : {bytes : List ℕ} {place : ℕ} {now later : Result Bundle Stop}
       → IsCut bytes now → PayloadFrom place later → PayloadFrom (length bytes) later
@@ -137,7 +138,7 @@ payload_at-stays primary blocks size check start bytes more place =
     (stays_of bytes end _ _ (row_at-reads closing bytes more end))
     (λ last. same refl)))
 
--- bytes that end before the payload does end inside the bundle
+-- bytes that end before the end of the payload end inside the bundle
 payload_at-cut : (primary : Primary) (blocks size : ℕ) (check : Option CheckKind)
     (start : ℕ) (bytes : List ℕ)
     (place : ℕ)

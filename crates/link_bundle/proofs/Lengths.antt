@@ -1,4 +1,4 @@
--- a bundle that is read lies within the bytes; laws of the verdict
+-- A bundle that is read lies within the bytes. Laws of the verdict follow.
 
 use Rattle.std.proofs.Common.{◌≡◌, ℕ, zero, suc, ◌+◌, ◌-◌, ◌/◌, ◌%◌, ◌^◌, ◌<◌, ◌≤◌, Bool, true, false, ◌&&◌, ◌||◌, nat_lt, List, [], ◌∷◌, ◌++◌, length, take, drop, Option, Result, Ok, Err, refl, sym, ap, ◌∙◌, ⊎_elim, length-append, length-drop, arith}
 use Rattle.std.specs.Prelude.{◌==◌, IsTrue, if◌then◌else◌}
@@ -70,7 +70,7 @@ pub whole-within : (bytes : List ℕ) (head : Head) (size : ℕ) → head_front 
 unfolding HeadWithin
 whole-within bytes head size outcome = rw outcome at (head_front-within bytes)
 
--- what is read ends within the bytes
+-- a part that is read ends within the bytes
 NextWithin : {A : Type 0} → List ℕ → Reading A → Type 0
 NextWithin bytes (Ok (value, next)) = next ≤ length bytes
 NextWithin bytes (Err stop) = Unit {0}
@@ -180,7 +180,7 @@ pub bundle_within : (bytes : List ℕ) (bundle : Bundle) → bundle_at bytes ≡
 unfolding BundleWithin
 bundle_within bytes bundle is = rw is at (bundle_at-within bytes)
 
--- the verdict by what is read
+-- the verdict, by the reading of the bundle
 judgement : List ℕ → Result Bundle Stop → Result BundleInfo (BundleFault × ℕ)
 judgement bytes reading = verdict_by (reading >>= λ bundle. ends bytes bundle)
 

@@ -1,4 +1,4 @@
--- an endpoint ID that goes to its place, and its name in runs
+-- An endpoint ID that is kept in its field, and its name in runs of bytes.
 
 use Rattle.std.proofs.Common.{◌≡◌, ℕ, ◌+◌, ◌-◌, ◌<◌, ◌≤◌, List, Option, ◌++◌, length, drop, Result, Ok, Err, refl, sym, ap, ◌∙◌, append_assoc, append-nil, arith}
 use Rattle.link_bundle.specs.declared.draft.Draft.{Draft}
@@ -14,12 +14,12 @@ use Rattle.link_bundle.specs.Left.{with_eid, after_eid, after_primary, ends_of, 
 use Rattle.link_bundle.specs.Stages.{stage_after}
 use Rattle.link_bundle.proofs.Runs.{with_run, bytes_at-none, bytes_at-run, run_within}
 
--- the reading of the whole bundle, by what stands at an endpoint ID
+-- the reading of the whole bundle, by the reading of an endpoint ID
 abbrev pub by_eid : Role → Draft → ℕ → List ℕ → Reading Eid → Result Bundle Stop
 by_eid role draft start bytes reading =
     ends_of bytes (with_known_payload draft.payload (after_primary draft start bytes (after_eid role draft bytes reading)))
 
--- the numbers so far of an ipn endpoint ID make no difference after it
+-- the numbers of an ipn endpoint ID that were read so far make no difference after it
 pub by_eid-numbered : (role : Role) (draft : Draft) (allocator : Option ℕ) (node start : ℕ)
     (bytes : List ℕ) (reading : Reading Eid)
     → by_eid role draft start bytes reading
@@ -32,7 +32,7 @@ by_eid-numbered Source draft allocator node start bytes (Err stop) = refl
 by_eid-numbered ReportTo draft allocator node start bytes (Ok (eid, place)) = refl
 by_eid-numbered ReportTo draft allocator node start bytes (Err stop) = refl
 
--- an endpoint ID that was read is in its place
+-- an endpoint ID that was read is in its field
 pub eid_ends : (role : Role) (old new : Draft) (eid : Eid) (bytes : List ℕ) (start next : ℕ)
     → new ≡ with_eid role old eid
     → by_eid role old start bytes (Ok (eid, next))
@@ -42,7 +42,7 @@ eid_ends Destination old new eid bytes start next is = rw is refl
 eid_ends Source old new eid bytes start next is = rw is refl
 eid_ends ReportTo old new eid bytes start next is = rw is refl
 
--- the name of these bytes and those that a reading gives
+-- a name that begins with these bytes and ends with those that a reading returns
 abbrev name_then : List ℕ → Reading (List ℕ) → Reading Eid
 name_then name reading = reading >>= λ (rest, place). Ok (Dtn (record { items = name ++ rest }), place)
 
@@ -61,7 +61,7 @@ name_left-run name run left bytes more place here fits =
     ap (λ (reading : Reading (List ℕ)). name_then name reading) (bytes_at-run left bytes more run place here fits)
     ∙ name_then-with_run name run (bytes_at (left - length run) bytes (place + length run))
 
--- the bytes so far of a name are in its place, and those of the report-to endpoint nowhere
+-- the bytes so far of a name are in its field, and those of the report-to endpoint are not kept
 in_place : (role : Role) (draft : Draft) (name : List ℕ) (start : ℕ) (bytes : List ℕ)
     (reading : Reading (List ℕ))
     → by_eid role draft start bytes (name_then name reading)
@@ -74,7 +74,7 @@ in_place Source draft name start bytes (Err stop) = refl
 in_place ReportTo draft name start bytes (Ok (rest, place)) = refl
 in_place ReportTo draft name start bytes (Err stop) = refl
 
--- a name goes on
+-- an incomplete name
 pub name_goes_on : (role : Role) (old new : Draft) (name : List ℕ) (left : ℕ)
     (bytes : List ℕ) (start field place : ℕ)
     → new ≡ with_eid role old (Dtn (record { items = name }))
@@ -85,7 +85,7 @@ name_goes_on role old new name left bytes start field place is =
     in_place role old name start bytes (bytes_at left bytes place)
     ∙ ap (λ (draft : Draft). by_eid role draft start bytes (name_then (kept_name role draft) (bytes_at left bytes place))) (sym is)
 
--- a name is whole
+-- a complete name
 pub name_ends : (role : Role) (old new : Draft) (name bytes : List ℕ)
     (start next : ℕ) → next ≤ length bytes
     → new ≡ with_eid role old (Dtn (record { items = name }))
@@ -97,7 +97,7 @@ name_ends role old new name bytes start next within is =
     ∙ ap (λ (items : List ℕ). by_eid role old start bytes (Ok (Dtn (record { items = items }), next))) (append-nil name)
     ∙ eid_ends role old new (Dtn (record { items = name })) bytes start next is
 
--- the same after more of its bytes
+-- an incomplete name, after more of its bytes
 pub name_run_goes_on : (role : Role) (old new : Draft) (run : List ℕ) (left rest : ℕ)
     (bytes more : List ℕ) (start field place : ℕ)
     → drop place bytes ≡ run ++ more → length run ≤ left → rest ≡ left - length run

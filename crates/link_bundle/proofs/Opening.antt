@@ -1,4 +1,4 @@
--- the bundle's first byte
+-- The first byte of a bundle.
 
 use Rattle.std.proofs.Common.{◌≡◌, ◌≢◌, ℕ, ◌+◌, ◌<◌, ◌&&◌, List, [], ◌∷◌, ◌++◌, length, Option, None, Some, Err, refl, sym, ap, subst, ◌∙◌, length-append, arith}
 use Rattle.std.specs.Prelude.{IsTrue, is_none, ◌==◌}
@@ -21,7 +21,7 @@ use Rattle.link_bundle.specs.Scan.{HasCome}
 use Rattle.link_bundle.proofs.Fields.{before_and, after_and}
 use Rattle.link_bundle.proofs.Steps.{Enters, entered, all_grown, one_byte}
 
--- a draft that nothing was put into
+-- a draft without a payload and without block numbers
 pub record IsBlank (draft : Draft) : Type 0 where
   pub payload : draft.payload ≡ None
   pub numbers : draft.numbers ≡ []

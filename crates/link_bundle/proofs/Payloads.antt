@@ -1,4 +1,4 @@
--- laws of the payload's bytes
+-- Laws of the bytes of the payload.
 
 use Rattle.std.proofs.Common.{◌≡◌, ℕ, ◌+◌, ◌≤◌, Bool, true, false, List, [], ◌++◌, length, take, drop, Option, None, Some, Result, Ok, Err, refl, sym, ap, ◌∙◌, length-drop, arith}
 use Rattle.std.specs.Prelude.{◌==◌, if◌then◌else◌}
@@ -13,7 +13,7 @@ use Rattle.link_bundle.specs.Bundle.{Bundle, bundle_at, ends, judged, verdict_by
 use Rattle.link_bundle.proofs.Steady.{EndsCut}
 use Rattle.link_bundle.proofs.Keeping.{Keeps, before, inside, after, stop_without_payload, bundle_at-keeps}
 
--- the reading of all of the bytes: bytes after a bundle leave its payload
+-- the reading of all of the bytes; bytes after a bundle do not change its payload
 whole_of : List ℕ → Result Bundle Stop → Result Bundle Stop
 whole_of bytes reading = reading >>= λ bundle. ends bytes bundle
 
@@ -50,7 +50,7 @@ PayloadLasts-holds bytes more payload is =
     ∙ payload_of-lasts bytes (bundle_at bytes) (bundle_at (bytes ++ more)) payload (bundle_at-keeps bytes more)
     (sym (payload_of-judged bytes) ∙ is)
 
--- ---- it says which of the payload's bytes are there
+-- ---- a known payload determines which of its bytes are there
 
 nothing_from : (bytes : List ℕ) (place size : ℕ) → length bytes ≤ place
     → [] ≡ take size (drop place bytes)
@@ -75,7 +75,7 @@ PayloadPlaced-holds bytes more place size is =
     ∙ payload_of-places bytes (bundle_at bytes) (bundle_at (bytes ++ more)) place size (bundle_at-keeps bytes more)
     (sym (payload_of-judged (bytes ++ more)) ∙ is)
 
--- ---- no more of them come where the bytes do not end inside the bundle
+-- ---- no more bytes of it come once the bytes do not end inside the bundle
 
 all_there : (known : Option (ℕ × ℕ)) (bytes more : List ℕ)
     → ((payload : ℕ × ℕ) → known ≡ Some payload → payload.0 + payload.1 ≤ length bytes)
@@ -87,7 +87,7 @@ all_there (Some (place, size)) bytes more within =
     let fits : size ≤ length (drop place bytes) = omega (arith, length-drop place bytes) in
     rw (drop-append-le place bytes more here, take-append-le size (drop place bytes) more fits) refl
 
--- the bytes end inside the bundle
+-- whether the bytes end inside the bundle
 goes : List ℕ → Result Bundle Stop → Bool
 goes bytes reading = is_going (state_of (verdict_by (whole_of bytes reading)))
 

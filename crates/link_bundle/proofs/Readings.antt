@@ -1,4 +1,4 @@
--- a bundle that lies whole in some bytes, part by part
+-- A bundle that lies whole in some bytes, part by part.
 
 use Rattle.std.proofs.Common.{◌≡◌, ℕ, ◌+◌, ◌-◌, ◌/◌, ◌%◌, ◌<◌, ◌≤◌, Bool, true, false, List, [], ◌∷◌, ◌++◌, length, take, drop, get_or, Some, Ok, refl, sym, ap, ◌∙◌, arith}
 use Rattle.std.proofs.lemmas.Bool.{le-ltb}
@@ -51,7 +51,7 @@ pub field_at-equal : (kind : CheckKind) (start content next count : ℕ) (bytes 
 unfolding field_at
 field_at-equal kind start content next count bytes place stored head there equal = rw (head, there, equal) refl
 
--- after the heads of the payload block, and of another
+-- the rest after the heads of the payload block, and after those of another block
 pub payload_read : (heads : Heads) (left : ℕ) (numbers : List ℕ) (primary : Primary)
     (start place next end : ℕ) (last : Bool) (bytes : List ℕ)
     → (heads.block_type == 1) ≡ true

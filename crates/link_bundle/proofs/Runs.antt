@@ -1,4 +1,4 @@
--- that many bytes from a place, taken in runs
+-- That many bytes from an offset on, taken in runs.
 
 use Rattle.std.proofs.Common.{◌≡◌, ℕ, ◌+◌, ◌-◌, ◌<◌, ◌≤◌, Bool, true, false, List, [], ◌∷◌, ◌++◌, length, take, drop, Ok, refl, sym, ap, ◌∙◌, arith, add-zero, ltb, length-append, length-drop}
 use Rattle.std.specs.Prelude.{if◌then◌else◌}
@@ -15,7 +15,7 @@ bytes_at-none bytes place within =
     let enough : ltb (length bytes) (place + 0) ≡ false = le-ltb (length bytes) (place + 0) (omega arith) in
     rw enough (rw add-zero refl)
 
--- where the bytes end before, more are needed
+-- more bytes are needed if the bytes end before
 pub bytes_at-cut : (left : ℕ) (bytes : List ℕ) (place : ℕ) → length bytes < place + left
     → bytes_at left bytes place ≡ cut_short bytes
 unfolding bytes_at
@@ -26,7 +26,7 @@ pub drop-run : (bytes more run : List ℕ) (place : ℕ) → drop place bytes �
 drop-run bytes more run place here =
     sym (drop-drop (length run) place bytes) ∙ ap (λ (rest : List ℕ). drop (length run) rest) here ∙ drop-append_seam run more
 
--- the bytes of a run stand within the bytes
+-- a run lies within the bytes
 pub run_within : (bytes more run : List ℕ) (place : ℕ) → drop place bytes ≡ run ++ more
     → 0 < length run → place + length run ≤ length bytes
 run_within bytes more run place here some =

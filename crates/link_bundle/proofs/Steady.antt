@@ -1,4 +1,4 @@
--- what is read of some bytes, and of those bytes with more after them
+-- The parts that are read from some bytes, and from those bytes with more after them.
 
 use Rattle.std.proofs.Common.{◌≡◌, ℕ, suc, ◌+◌, ◌-◌, ◌<◌, ◌≤◌, Bool, true, false, List, [], ◌∷◌, ◌++◌, length, drop, Option, None, Some, Result, Ok, Err, refl, sym, ap, ◌∙◌, ⊎_elim, length-append, length-drop, arith, ltb}
 use Rattle.std.specs.Prelude.{◌==◌, slice_range, if◌then◌else◌}
@@ -25,12 +25,12 @@ use Rattle.link_bundle.proofs.HeadEnds.{EndsFrom, head_ends}
 
 -- ---- how far one reading goes
 
--- what is read at an offset ends there or after it, and a stop in it has no payload
+-- a part that is read at an offset ends there or after it, and a stop in it has no payload
 abbrev pub Onward : {A : Type 0} → ℕ → Reading A → Type 0
 Onward place (Ok (value, next)) = place ≤ next
 Onward place (Err stop) = stop.payload ≡ None
 
--- what is read, if it is, ends after this offset
+-- a part that is read ends after this offset
 abbrev pub Past : {A : Type 0} → ℕ → Reading A → Type 0
 Past limit (Ok (value, next)) = limit < next
 Past limit (Err stop) = Unit {0}
@@ -91,12 +91,13 @@ onward-bytes count bytes place =
 
 -- ---- two readings
 
--- the bytes end inside what is read
+-- the bytes end inside the part
 abbrev pub EndsCut : {A : Type 0} → Result A Stop → Type 0
 EndsCut (Ok value) = ⊥
 EndsCut (Err stop) = stop.fault ≡ Cut
 
--- what is read of some bytes, and of those bytes with more after them: either the bytes end inside it, or it is the same
+-- A part that is read from some bytes, and from those bytes with more after them. Either the bytes
+-- end inside it, or it is the same.
 pub data Stays {A : Type 0} : Result A Stop → Result A Stop → Type 0 where
   cuts : {now later : Result A Stop} → EndsCut now → Stays now later
   same : {now later : Result A Stop} → later ≡ now → Stays now later
@@ -109,13 +110,13 @@ stays-then (Err stop) later next next_later (cuts cut) each = cuts cut
 stays-then (Ok value) later next next_later (same is) each = rw is (each value)
 stays-then (Err stop) later next next_later (same is) each = same (rw is refl)
 
--- it ends where the bytes end, and no payload is known
+-- the reading stops where the bytes end, and no payload is known
 abbrev pub IsCut : {A : Type 0} → List ℕ → Result A Stop → Type 0
 IsCut bytes (Ok value) = ⊥
 IsCut bytes (Err stop) = stop ≡ stopped Cut (length bytes)
 
--- what is read at an offset of some bytes, and of those bytes with more after them: either the first bytes end inside it,
--- and then it ends after them, or it is the same
+-- A part that is read at an offset of some bytes, and of those bytes with more after them. Either
+-- the first bytes end inside it, and then it ends after them, or it is the same.
 pub data Reads {A : Type 0} : List ℕ → ℕ → Reading A → Reading A → Type 0 where
   short : {bytes : List ℕ} {place : ℕ} {now later : Reading A}
       → IsCut bytes now → Onward place later → Past (length bytes) later
@@ -157,7 +158,7 @@ reads-then bytes place (Ok (value, end)) later next next_later (whole is onward)
     rw is (reads-from bytes place end (next (value, end)) (next_later (value, end)) onward (each (value, end)))
 reads-then bytes place (Err stop) later next next_later (whole is onward) each = whole (rw is refl) onward
 
--- nothing more is read
+-- no more bytes are read
 ended : {A : Type 0} (bytes : List ℕ) (value : A) (place : ℕ)
     → Reads bytes place (Ok (value, place)) (Ok (value, place))
 ended bytes value place = whole refl (omega arith)
@@ -278,7 +279,7 @@ fragment_at-reads true bytes more place =
     row-then unsigned bytes more place _ _
     (λ (offset, place). row-then unsigned bytes more place _ _ (λ (total, end). ended bytes _ end))
 
--- a check field: what is checked stands before its content
+-- a check field: the bytes that are checked come before its content
 slice-stays : (bytes more : List ℕ) (start end : ℕ) → end ≤ length bytes
     → slice_range (bytes ++ more) start end ≡ slice_range bytes start end
 slice-stays bytes more start end within =
@@ -289,7 +290,7 @@ slice-stays bytes more start end within =
     rw (drop-append-le start bytes more (omega arith), take-append-le (end - start) (drop start bytes) more fits) refl)
     (cases_lt end start)
 
--- what a check field's content is compared with
+-- the comparison of a check field's content with the check
 compared : CheckKind → ℕ → ℕ → ℕ → List ℕ → Reading Bool
 compared kind start place content bytes =
     bytes_at (check_width kind) bytes content >>= λ (stored, next).

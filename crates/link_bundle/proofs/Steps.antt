@@ -1,4 +1,4 @@
--- one more byte, stage by stage
+-- One more byte, stage by stage.
 
 use Rattle.std.proofs.Common.{◌≡◌, ℕ, ◌+◌, ◌<◌, ◌≤◌, Bool, true, false, List, [], ◌∷◌, ◌++◌, length, take, drop, None, Some, Result, Ok, Err, refl, sym, ap, subst, ◌∙◌, append_assoc, append-nil, length-append, length-drop, ◌⊎◌, inl, inr, ⊎_elim, arith}
 use Rattle.std.proofs.lemmas.Bool.{false≢true}
@@ -36,7 +36,7 @@ use Rattle.link_bundle.proofs.Heads.{ends_of-stopped}
 use Rattle.link_bundle.proofs.Stops.{field_left-stopped}
 use Rattle.link_bundle.specs.Scan.{HasCome, HeadCame, Stands, IsInHead, IsInside, IsInStored}
 
--- the bytes with a run of more, and those that follow
+-- the bytes seen, a run of more bytes, and those that follow
 pub next_run : (seen more run : List ℕ) → drop (length seen) ((seen ++ run) ++ more) ≡ run ++ more
 next_run seen more run = ap (λ (bytes : List ℕ). drop (length seen) bytes) (append_assoc seen run more) ∙ drop-append_seam seen (run ++ more)
 
@@ -44,7 +44,7 @@ up_to_the_end : (seen : List ℕ) (start : ℕ) → slice_range seen start (leng
 up_to_the_end seen start =
     ap (λ (count : ℕ). take count (drop start seen)) (sym (length-drop start seen)) ∙ take-length (drop start seen)
 
--- the checks that are wanted
+-- the checks that are needed
 narrowed : (check : CheckType) (checks : BlockChecks) (covered : List ℕ)
     → Covers Unread checks covered → Covers check checks covered
 narrowed Unread checks covered both = both
@@ -59,14 +59,14 @@ kept : (old new : CheckType) (checks : BlockChecks) (covered : List ℕ)
 kept Unread new checks covered keeps covers = narrowed new checks covered covers
 kept (Is kind) new checks covered keeps covers = keeps refl checks covered covers
 
--- what `enter` makes of a cursor
+-- the effect of `enter` on a cursor
 pub record Enters (stage : Stage) (old new : Cursor) : Type 0 where
   pub count : new.count ≡ old.count
   pub place : new.place ≡ old.count
   pub head : HasScannedHead new.head []
   pub checks : MatchBool (is_block stage) (Covers Unread new.checks []) (new.checks ≡ old.checks)
 
--- at the end of the bytes nothing of what comes next has come
+-- at the end of the bytes, no byte of the next part was seen
 nothing_yet : (place : ℕ) (seen : List ℕ) → place ≡ length seen → drop place seen ≡ []
 nothing_yet place seen here = ap (λ (place : ℕ). drop place seen) here ∙ drop-length seen
 
@@ -86,7 +86,7 @@ begun which cursor check start seen here head in_block checks = record {
   cut = rw (nothing_yet cursor.place seen here) refl;
 }
 
--- a head either begins its block or stands in it
+-- a head either begins its block or lies inside it
 begins : (which : Field) (start place : ℕ)
     → ((is_block (Head which) ≡ true) × (block_start which start place ≡ place))
     ⊎ ((is_block (Head which) ≡ false) × (block_start which start place ≡ start))
@@ -169,7 +169,7 @@ stands_entered (Stored place left stored kind) old new check after start seen co
 stands_entered Ended old new check after start seen counted within covers keeps enters = enters.place ∙ counted
 stands_entered (Failed fault place) old new check after start seen counted within covers keeps enters = tt
 
--- a stage is entered, with what is left to be read from there
+-- a stage that is entered, with the rest from there on
 pub entered : (stage : Stage) (old new : Cursor) (check : CheckType) (draft : Draft)
     (start : ℕ) (seen : List ℕ)
     → AreBytes seen → old.count ≡ length seen → start ≤ length seen
@@ -187,7 +187,7 @@ entered stage old new check draft start seen all counted within covers keeps ent
   stands = stands_entered stage old new check draft.check start seen counted within covers keeps enters;
 }
 
--- what was left to be read with a run before it
+-- the rest, after a run of more bytes
 pub regrown : (left : List ℕ → Result Bundle Stop) (seen run : List ℕ)
     → ((more : List ℕ) → judged (seen ++ more) ≡ left (seen ++ more))
     → (more : List ℕ) → judged ((seen ++ run) ++ more) ≡ left ((seen ++ run) ++ more)
@@ -200,7 +200,7 @@ all_grown seen run all more = All-append (λ (b : ℕ). b < 256) seen run all mo
 pub one_byte : (byte : ℕ) → byte < 256 → AreBytes (byte ∷ [])
 one_byte byte small = All-push (λ (b : ℕ). b < 256) [] byte (All-nil (λ (b : ℕ). b < 256)) small
 
--- bytes of a head
+-- more bytes of a head
 pub grown_head : (which : Field) (old new : Cursor) (draft : Draft) (seen run : List ℕ)
     → HasCome (Head which) old draft seen → AreBytes run
     → new.count ≡ old.count + length run → new.place ≡ old.place
@@ -222,7 +222,7 @@ grown_head which old new draft seen run come small counts stays covers =
           (covers (drop (block_start which come.start old.place) seen) at.checks);
     }
 
--- the bytes of a head that have come, with one more
+-- the bytes seen of a head, with one more
 pub grown_bytes : (which : Field) (old new : Cursor) (draft : Draft) (seen : List ℕ) (byte : ℕ)
     → HasCome (Head which) old draft seen → new.place ≡ old.place
     → ((head : List ℕ) → HasScannedHead old.head head → HasScannedHead new.head (head ++ byte ∷ []))
@@ -236,7 +236,7 @@ pub after_seen : (place : ℕ) (seen run : List ℕ) → place ≡ length seen
     → drop place (seen ++ run) ≡ run
 after_seen place seen run here = ap (λ (place : ℕ). drop place (seen ++ run)) here ∙ drop-append_seam seen run
 
--- the head that has come, however the bytes go on
+-- the bytes seen of a head stay the same, whatever bytes follow
 front_stays : (place : ℕ) (seen more : List ℕ) → place ≤ length seen
     → drop place (seen ++ more) ≡ drop place seen ++ more
 front_stays place seen more within = drop-append-le place seen more within
@@ -256,7 +256,7 @@ unfolding head_at
 head_at-bad place seen more within outcome =
     rw (front_stays place seen more within, ill_formed_stays (drop place seen) more outcome) refl
 
--- a head that goes on
+-- a head that is not whole yet
 pub more_head : (which : Field) (cursor : Cursor) (draft : Draft) (seen : List ℕ)
     → HeadCame which cursor draft seen
     → HasScannedHead cursor.head (drop cursor.place seen)
@@ -287,7 +287,7 @@ bad_head which cursor draft seen come outcome = record {
   stands = tt;
 }
 
--- a head that is whole and judged
+-- a whole head that is judged
 judged_head : (which : Field) (cursor : Cursor) (draft new : Draft) (head : HeadItem)
     (result : Result Stage BundleFault) (seen : List ℕ)
     → (come : HeadCame which cursor draft seen)

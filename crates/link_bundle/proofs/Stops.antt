@@ -1,4 +1,4 @@
--- a head that is cut or ill-formed ends the reading, at each field
+-- A head that is cut or ill-formed ends the reading, at each field.
 
 use Rattle.std.proofs.Common.{◌≡◌, ℕ, zero, suc, ◌-◌, List, length, Err, refl}
 use Rattle.link_cbor.specs.declared.head.Head.{Head}

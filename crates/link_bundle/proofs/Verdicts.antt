@@ -1,4 +1,4 @@
--- the verdict on the bytes that a scan has seen
+-- The verdict on the bytes that a scan has seen.
 
 use Rattle.std.proofs.Common.{◌≡◌, ℕ, ◌-◌, true, min, List, [], length, drop, Option, None, Some, Result, Ok, Err, refl, sym, ap, subst, ◌∙◌, append-nil, length-drop, length-take, arith}
 use Rattle.std.specs.Prelude.{IsTrue, is_some}
@@ -25,7 +25,7 @@ use Rattle.link_bundle.proofs.Opening.{blank}
 use Rattle.link_bundle.proofs.Runs.{bytes_at-cut}
 use Rattle.link_bundle.proofs.Stops.{field_left-stopped}
 
--- with nothing after the bytes seen
+-- the reading of the bytes seen, if no more follow
 read_now : (stage : Stage) (cursor : Cursor) (draft : Draft) (seen : List ℕ)
     → (come : HasCome stage cursor draft seen)
     → judged seen ≡ stage_left stage draft come.start cursor.place seen (length seen)
@@ -37,7 +37,7 @@ pub head_at-cut : (bytes : List ℕ) (place : ℕ) → head_front (drop place by
 unfolding head_at
 head_at-cut bytes place cut = rw cut refl
 
--- bytes that may go on are cut
+-- bytes that end inside a bundle
 going_cut : (stage : Stage) (cursor : Cursor) (draft : Draft) (seen : List ℕ)
     → HasCome stage cursor draft seen
     → IsTrue (scan_fits stage cursor draft) → stage_state stage ≡ state.Going
@@ -133,7 +133,7 @@ state_of-seen Ended cursor draft seen come fits = sym (ap state_of (verdict-ende
 state_of-seen (Failed fault place) cursor draft seen come fits =
     sym (ap state_of (verdict-failed (Failed fault place) cursor draft seen fault place come refl) ∙ rw fits refl)
 
--- where the payload is
+-- the offset and the length of the payload
 payload_of-stopped : (payload : Option (ℕ × ℕ)) (stop_fault : BundleFault) (place : ℕ)
     → payload_of (with_known_payload payload (Err (stopped stop_fault place))) ≡ payload
 payload_of-stopped None fault place = refl
@@ -161,7 +161,7 @@ payload_of-seen Ended cursor draft seen come fits = ap payload_of (ended_whole c
 payload_of-seen (Failed fault place) cursor draft seen come fits =
     ap payload_of (failed_stop fault place cursor draft seen come) ∙ payload_of-stopped draft.payload fault place
 
--- how much of the payload is there
+-- the number of payload bytes that are there
 pub seen_of-none : (seen : List ℕ) (payload : Option (ℕ × ℕ)) → payload_of (judged seen) ≡ payload
     → payload ≡ None → payload_span seen ≡ None
 unfolding payload_span payload_in

@@ -1,4 +1,4 @@
--- bundles (RFC 9171 section 4.1), and the verdict on a list of bytes
+-- Bundles (RFC 9171 section 4.1), and the verdict on a list of bytes.
 
 use Rattle.std.specs.Prelude.{ℕ, zero, suc, ◌+◌, ◌==◌, Bool, true, false, List, [], ◌∷◌, ◌++◌, length, take, drop, Option, Some, None, Result, Ok, Err, if◌then◌else◌}
 use Rattle.link_bundle_types.specs.declared.fault.BundleFault.{BundleFault}
@@ -14,13 +14,14 @@ use Rattle.link_bundle.specs.CheckField.{field_at}
 use Rattle.link_bundle.specs.Primary.{Primary, primary_at}
 use Rattle.link_bundle.specs.Canonical.{content_at}
 
--- a whole bundle: its length, and where the payload's bytes begin and how many they are
+-- a whole bundle: its length, and the offset and the length of its payload
 pub record Bundle : Type 0 where
   pub info : BundleInfo
   pub length : ℕ
   pub payload : ℕ × ℕ
 
--- a stop after the payload's data head: where its bytes are is known
+-- a stop after the head of the payload's data, where the offset and the length of the payload are
+-- known
 abbrev pub with_payload : {A : Type 0} → ℕ × ℕ → Result A Stop → Result A Stop
 with_payload payload (Ok value) = Ok value
 with_payload payload (Err stop) = Err (record stop { payload = Some payload })
@@ -39,16 +40,18 @@ info_of primary blocks payload =
       payload = payload;
     }
 
--- the data of the payload block that begins at `start`, its check field, and the break after it
+-- the data of the payload block that begins at `start`, its check field, and the break after the
+-- block
 unfoldable pub payload_at : Primary → ℕ → ℕ → Option CheckKind → ℕ → List ℕ → ℕ → Result Bundle Stop
 payload_at primary blocks size check start bytes place = with_payload (place, size) do
   (_, end) ← content_at size check start bytes place
   (_, end) ← row_at closing bytes end
   Ok (record { info = info_of primary blocks size; length = end; payload = (place, size) })
 
--- the canonical blocks up to the payload block, which has type 1 and is the last, and the break; `left` more blocks may
--- come, and `numbers` are those of the blocks before. Each block (section 4.3.2): its array, block type code, block number
--- (section 4.1), block processing control flags (section 4.2.4), check type (section 4.2.1), data, and its check field
+-- The canonical blocks up to the payload block, which has type 1 and is the last, and the break.
+-- `left` more blocks may come, and `numbers` are the numbers of the blocks before. The array of a
+-- block (section 4.3.2) has its type code, block number (section 4.1), block processing control
+-- flags (section 4.2.4) and check type (section 4.2.1). Its data and its check field follow.
 unfoldable pub blocks_at : ℕ → List ℕ → Primary → List ℕ → ℕ → Result Bundle Stop
 blocks_at zero numbers primary bytes start = do
   (_, place) ← row_at block_too_many bytes start
@@ -77,7 +80,7 @@ bundle_at bytes = do
   (_, place) ← field_at check start bytes place
   blocks_at 64 [] primary bytes place
 
--- the bundle that the bytes are: nothing follows it
+-- the bundle, if no byte follows it, or else the fault of trailing bytes
 abbrev pub ends : List ℕ → Bundle → Result Bundle Stop
 ends bytes bundle =
     if bundle.length == length bytes then Ok bundle
@@ -104,11 +107,12 @@ abbrev pub bytes_of : Option (ℕ × ℕ) → List ℕ → List ℕ
 bytes_of None bytes = []
 bytes_of (Some (place, size)) bytes = take size (drop place bytes)
 
--- the payload's bytes that are there, also in what is no bundle; none where its data head was not accepted
+-- The bytes of the payload that are there, also if the bytes are no bundle. There are none if the
+-- head of its data was not accepted.
 unfoldable pub payload_in : List ℕ → List ℕ
 payload_in bytes = bytes_of (payload_of (judged bytes)) bytes
 
--- the offset of the payload's first byte, and how many of its bytes are there
+-- the offset of the payload's first byte, and the number of its bytes that are there
 abbrev pub spanned : Option (ℕ × ℕ) → ℕ → Option (ℕ × ℕ)
 spanned None count = None
 spanned (Some (place, size)) count = Some (place, count)
@@ -116,7 +120,7 @@ spanned (Some (place, size)) count = Some (place, count)
 unfoldable pub payload_span : List ℕ → Option (ℕ × ℕ)
 payload_span bytes = spanned (payload_of (judged bytes)) (length (payload_in bytes))
 
--- a verdict as a state: bytes that end inside a bundle may go on
+-- the state of a scan, by its verdict; more bytes are needed if the bytes end inside a bundle
 abbrev pub state_of : Result BundleInfo (BundleFault × ℕ) → State
 state_of (Ok info) = state.Ended
 state_of (Err (fault, place)) = if lasts fault then state.Failed fault place else state.Going
@@ -126,6 +130,6 @@ is_going state.Going = true
 is_going state.Ended = false
 is_going (state.Failed fault place) = false
 
--- the bytes end inside a bundle
+-- whether the bytes end inside a bundle
 abbrev pub bundle_goes : List ℕ → Bool
 bundle_goes seen = is_going (state_of (verdict seen))

@@ -1,4 +1,4 @@
--- canonical blocks (RFC 9171 section 4.3.2)
+-- Canonical blocks (RFC 9171 section 4.3.2).
 
 use Rattle.std.specs.Prelude.{ℕ, Bool, List, Option}
 use Rattle.link_cbor.specs.declared.check.CheckKind.{CheckKind}

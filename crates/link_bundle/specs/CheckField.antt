@@ -1,4 +1,4 @@
--- check fields (RFC 9171 section 4.2.1)
+-- Check fields (RFC 9171 section 4.2.1).
 
 use Rattle.std.specs.Prelude.{ℕ, ◌+◌, ◌*◌, ◌==◌, Bool, true, List, ◌++◌, Option, Some, None, Ok, Err, fold, replicate, slice_range, if◌then◌else◌}
 use Rattle.link_cbor.specs.declared.check.CheckKind.{CheckKind}
@@ -7,16 +7,17 @@ use Rattle.link_bundle_types.specs.declared.fault.BundleFault.TheVariants.{Check
 use Rattle.link_bundle_rows.specs.Rows.{◌>>=◌, check_width, check_field}
 use Rattle.link_bundle.specs.Reading.{Reading, stopped, row_at, bytes_at}
 
--- the number that bytes spell, the most significant first, after those that spell `high`
+-- the number that bytes spell after those that spell `high`, the most significant byte first
 abbrev pub number_from : ℕ → List ℕ → ℕ
 number_from high bytes = fold (λ number byte. number * 256 + byte) high bytes
 
--- the check of a block that begins at `start`, with its field's content, which begins at `content`, as zeros
+-- The check value of a block that begins at `start`. The content of its check field begins at
+-- `content` and counts as zeros.
 unfoldable pub check_of : CheckKind → ℕ → ℕ → List ℕ → ℕ
 check_of kind start content bytes =
     crc kind (slice_range bytes start content ++ replicate (check_width kind) 0)
 
--- the check field at an offset, of a block that begins at `start` (section 4.2.1)
+-- the check field at an offset, in a block that begins at `start` (section 4.2.1)
 unfoldable pub field_at : Option CheckKind → ℕ → List ℕ → ℕ → Reading Bool
 field_at None start bytes place = Ok (true, place)
 field_at (Some kind) start bytes place = do

@@ -1,4 +1,4 @@
--- what the checks of a block have been given
+-- The bytes that the checks of a block cover.
 
 use Rattle.std.specs.Prelude.{ℕ, List, None, Some}
 use Rattle.link_cbor.specs.declared.check.CheckKind.TheVariants.{Crc16, Crc32}
@@ -7,7 +7,7 @@ use Rattle.link_bundle.specs.declared.checks.BlockChecks.{BlockChecks}
 use Rattle.link_bundle.specs.declared.stage.CheckType.{CheckType}
 use Rattle.link_bundle.specs.declared.stage.CheckType.TheVariants.{Unread, Is}
 
--- those that the block may have were given exactly these bytes
+-- exactly these bytes were pushed to each check that the block may have
 abbrev pub Covers : CheckType → BlockChecks → List ℕ → Type 0
 Covers Unread checks covered =
     HasPushed Crc16 checks.crc16 covered × HasPushed Crc32 checks.crc32 covered

@@ -1,4 +1,4 @@
--- endpoint IDs (RFC 9171 section 4.2.5.1)
+-- Endpoint IDs (RFC 9171 section 4.2.5.1).
 
 use Rattle.std.specs.Prelude.{ℕ, ◌==◌, Bool, true, false, List, Option, Some, None, Ok}
 use Rattle.link_bundle_types.specs.declared.eid.Eid.{Eid}
@@ -8,14 +8,14 @@ use Rattle.link_bundle_rows.specs.declared.endpoint.Scheme.TheVariants.{Dtn, Ipn
 use Rattle.link_bundle_rows.specs.Rows.{◌>>=◌, unsigned, pair, scheme, dtn_part, ipn_part}
 use Rattle.link_bundle.specs.Reading.{Reading, row_at, bytes_at}
 
--- dtn:none, or a name of that many bytes
+-- dtn:none, or a dtn name of that many bytes
 unfoldable pub dtn_at : Option ℕ → List ℕ → ℕ → Reading Eid
 dtn_at None bytes place = Ok (DtnNone, place)
 dtn_at (Some count) bytes place = do
   (name, place) ← bytes_at count bytes place
   Ok (DtnName (record { items = name }), place)
 
--- node and service number, with an allocator identifier before them or without it
+-- a node number and a service number, after an allocator identifier if there is one
 unfoldable pub ipn_at : Bool → List ℕ → ℕ → Reading Eid
 ipn_at false bytes place = do
   (node, place) ← row_at unsigned bytes place

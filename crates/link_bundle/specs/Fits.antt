@@ -1,4 +1,4 @@
--- what keeps a scan in bounds at each stage
+-- The bounds of a scan at each stage.
 
 use Rattle.std.specs.Prelude.{◌≡◌, ℕ, ◌-◌, ◌^◌, Bool, true, false, ◌&&◌, ◌==◌, nat_lt, nat_le, List, length, is_none, is_some, Result, MatchResult, IsTrue}
 use Rattle.link_cbor.specs.declared.head_scan.HeadScan.{HeadScan}
@@ -23,7 +23,7 @@ use Rattle.link_bundle.specs.declared.checks.BlockChecks.{BlockChecks}
 use Rattle.link_bundle.specs.CheckKinds.{kind_of, is_unread, is_kind}
 use Rattle.link_bundle.specs.Covers.{Covers}
 
--- before the check type's head both checks run
+-- both checks are computed until the head of the check type was read
 abbrev pub primary_fits : PrimaryField → Draft → Bool
 primary_fits primary.Block draft = is_unread draft.check
 primary_fits primary.Version draft = is_unread draft.check
@@ -36,7 +36,7 @@ primary_fits primary.Lifetime draft = true
 primary_fits primary.FragmentOffset draft = true
 primary_fits primary.TotalLength draft = true
 
--- the payload block has not come, and there is room for the block's number
+-- the payload block was not seen yet, and there is room for the number of the block
 abbrev pub canonical_fits : CanonicalField → Draft → Bool
 canonical_fits canonical.Block draft = is_none draft.payload && is_unread draft.check
 canonical_fits canonical.Type draft =
@@ -54,7 +54,7 @@ field_fits (field.Canonical which) draft = canonical_fits which draft
 field_fits (field.Check kind) draft = is_kind (kind_of draft.check) kind
 field_fits field.Closing draft = is_some draft.payload
 
--- a name that is kept has room for the rest of it
+-- a name that is kept has room for the bytes that are left of it
 abbrev pub rest_fits : Role → Draft → ℕ → Bool
 rest_fits Destination draft left = name_fits draft.destination left
 rest_fits Source draft left = name_fits draft.source left
@@ -72,7 +72,7 @@ stage_fits (Stored place left stored kind) draft =
 stage_fits Ended draft = is_some draft.payload
 stage_fits (Failed fault place) draft = lasts fault
 
--- at the head of a block's array, where its checks begin
+-- whether the stage is at the head of a block's array, where the block's checks begin
 abbrev pub is_block : Stage → Bool
 is_block Start = false
 is_block (Head (field.Primary primary.Block)) = true
@@ -109,14 +109,14 @@ is_begun (Stored place left stored kind) = true
 is_begun Ended = true
 is_begun (Failed fault place) = true
 
--- once the check type was read, what the checks cover is kept to the end of the block
+-- once the check type was read, what the checks cover stays covered until the end of the block
 abbrev pub KeepsCheck : CheckType → Stage → CheckType → Type 0
 KeepsCheck old stage new =
     IsTrue (is_begun stage)
     × (is_block stage ≡ false → is_unread old ≡ false → (checks : BlockChecks) (covered : List ℕ)
     → Covers old checks covered → Covers new checks covered)
 
--- what follows a head keeps the scan in bounds
+-- the stage after a head is within its bounds, and a fault lasts
 abbrev pub Follows : Result Stage BundleFault → Draft → Type 0
 Follows result draft =
     MatchResult result (λ stage. IsTrue (stage_fits stage draft)) (λ fault. IsTrue (lasts fault))

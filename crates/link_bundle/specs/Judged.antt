@@ -1,4 +1,4 @@
--- a head of a bundle, judged: what every judging of one promises
+-- The promise of every function that judges a head of a bundle.
 
 use Rattle.std.specs.Prelude.{ℕ, Result, IfOk}
 use Rattle.link_cbor.specs.declared.head.Head.{Head as HeadItem}
@@ -9,25 +9,25 @@ use Rattle.link_bundle.specs.declared.stage.Field.{Field}
 use Rattle.link_bundle.specs.Fits.{Follows, KeepsCheck}
 use Rattle.link_bundle.specs.Left.{AsReadFrom}
 
--- the head is judged as the reading judges it (`reading` says so); what follows keeps the scan in bounds, and keeps what
--- the checks cover
+-- The type `reading` states that the head is judged as the reading of the bundle judges it. The
+-- next stage is within its bounds, and the checks cover what they covered.
 pub record IsJudged (reading : Type 0) (old : Draft) (result : Result Stage BundleFault)
     (new : Draft) : Type 0 where
   pub judges : reading
   pub follows : Follows result new
   pub keeps : IfOk result (λ stage. KeepsCheck old.check stage new.check)
 
--- the head at `place`, with `next` after it
+-- a head that begins at `place` and ends before `next`
 abbrev pub JudgedFrom : ℕ → ℕ → Field → Draft → HeadItem → Result Stage BundleFault → Draft → Type 0
 JudgedFrom place next which old head result new =
     IsJudged (AsReadFrom place next which old head result new) old result new
 
--- wherever it begins
+-- a head that ends before `next`, wherever it begins
 abbrev pub JudgedAt : ℕ → Field → Draft → HeadItem → Result Stage BundleFault → Draft → Type 0
 JudgedAt next which old head result new =
     IsJudged ((place : ℕ) → AsReadFrom place next which old head result new) old result new
 
--- and wherever it ends
+-- a head, wherever it begins and ends
 abbrev pub Judged : Field → Draft → HeadItem → Result Stage BundleFault → Draft → Type 0
 Judged which old head result new =
     IsJudged ((next place : ℕ) → AsReadFrom place next which old head result new) old result new

@@ -1,4 +1,4 @@
--- how a verdict lasts, over the definitions alone
+-- How a verdict lasts, over the definitions alone.
 
 use Rattle.std.specs.Prelude.{◌≡◌, ℕ, false, List, ◌∷◌, ◌++◌, length, take, drop, Some, Ok, Err, IsTrue}
 use Rattle.link_bundle_types.specs.declared.fault.BundleFault.{BundleFault}
@@ -7,32 +7,33 @@ use Rattle.link_bundle_types.specs.declared.info.BundleInfo.{BundleInfo}
 use Rattle.link_bundle_types.specs.Faults.{lasts}
 use Rattle.link_bundle.specs.Bundle.{judged, verdict, payload_of, payload_in, bundle_goes}
 
--- a fault stays, unless it is that the bytes end inside the bundle
+-- a fault stays the same, unless it is that the bytes end inside the bundle
 abbrev pub FaultLasts : Type 0
 FaultLasts =
     (bytes more : List ℕ) (fault : BundleFault) (place : ℕ) → IsTrue (lasts fault) →
     verdict bytes ≡ Err (fault, place) → verdict (bytes ++ more) ≡ Err (fault, place)
 
--- a bundle with a byte after it is trailing bytes at the bundle's length
+-- a bundle with a byte after it is the fault of trailing bytes, at the bundle's length
 abbrev pub TrailingLasts : Type 0
 TrailingLasts =
     (bytes more : List ℕ) (byte : ℕ) (info : BundleInfo) →
     verdict bytes ≡ Ok info → verdict (bytes ++ byte ∷ more) ≡ Err (Trailing, length bytes)
 
--- where the payload's bytes begin, and how many its head says, stays known
+-- the offset of the payload and its length by its head stay the same once they are known
 abbrev pub PayloadLasts : Type 0
 PayloadLasts =
     (bytes more : List ℕ) (payload : ℕ × ℕ) →
     payload_of (judged bytes) ≡ Some payload → payload_of (judged (bytes ++ more)) ≡ Some payload
 
--- where the payload's bytes are, known or not yet known, says which of them are there
+-- The offset and the length of the payload determine which of its bytes are there. This holds for
+-- fewer bytes too, in which the two may not be known yet.
 abbrev pub PayloadPlaced : Type 0
 PayloadPlaced =
     (bytes more : List ℕ) (place size : ℕ) →
     payload_of (judged (bytes ++ more)) ≡ Some (place, size)
     → payload_in bytes ≡ take size (drop place bytes)
 
--- once the bytes are a bundle, or no bundle however they go on, all of the payload's bytes are there that will be
+-- once the bytes do not end inside a bundle, no more bytes of the payload come
 abbrev pub PayloadEnds : Type 0
 PayloadEnds =
     (bytes more : List ℕ) →

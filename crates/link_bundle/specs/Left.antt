@@ -1,5 +1,6 @@
--- What is left to be read where a scan is: the reading of Primary, Canonical and Bundle from there on. A draft has what the heads
--- before gave. This joins the code to `judged`, and the promises need none of it.
+-- The rest of a bundle at each stage of a scan: the reading by Primary, Canonical and Bundle from
+-- there on. A draft has the values of the heads before. These definitions join the code to
+-- `judged`. The promises need none of them.
 
 use Rattle.std.specs.Prelude.{◌≡◌, ◌≤◌, ℕ, ◌+◌, ◌-◌, ◌==◌, Bool, true, List, [], ◌∷◌, ◌++◌, length, replicate, slice_range, drop, unwrap_or, Option, Some, None, Result, Ok, Err, if◌then◌else◌}
 use Rattle.link_cbor.specs.declared.check.CheckKind.{CheckKind}
@@ -45,7 +46,7 @@ primary_of draft =
       fragment = draft.fragment;
     }
 
--- where the payload's bytes begin, and how many they are
+-- the offset and the length of the payload
 abbrev pub span_of : Option (ℕ × ℕ) → ℕ × ℕ
 span_of payload = unwrap_or payload (0, 0)
 
@@ -62,7 +63,7 @@ abbrev pub with_known_payload : Option (ℕ × ℕ) → Result Bundle Stop → R
 with_known_payload None reading = reading
 with_known_payload (Some payload) reading = with_payload payload reading
 
--- after a block: the next block, or after the payload block the break
+-- the rest after a block: the next block, or the break after the payload block
 abbrev pub block_end : Option (ℕ × ℕ) → List ℕ → Primary → List ℕ → ℕ → Result Bundle Stop
 block_end None numbers primary bytes place =
     blocks_at (64 - length numbers) numbers primary bytes place
@@ -74,13 +75,13 @@ block_end (Some (start, size)) numbers primary bytes place = do
     payload = (start, size);
   })
 
--- after what a check field says
+-- the rest after a check field
 abbrev pub after_field : Draft → List ℕ → Reading Bool → Result Bundle Stop
 after_field draft bytes field = do
   (_, place) ← field
   block_end draft.payload draft.numbers (primary_of draft) bytes place
 
--- after the primary block's fields
+-- the rest after the fields of the primary block
 abbrev pub after_primary : Draft → ℕ → List ℕ → Reading (Primary × Option CheckKind)
     → Result Bundle Stop
 after_primary draft start bytes fields = do
@@ -88,7 +89,7 @@ after_primary draft start bytes fields = do
   (_, place) ← field_at check start bytes place
   block_end draft.payload draft.numbers primary bytes place
 
--- in the primary block
+-- the rest of the primary block, from each of its fields on
 
 abbrev pub fields_of : Draft → ℕ → Reading (Primary × Option CheckKind)
 fields_of draft place = Ok ((primary_of draft, kind_of draft.check), place)
@@ -142,7 +143,7 @@ destination_left draft bytes place = do
   (eid, place) ← eid_at bytes place
   source_left (record draft { destination = eid }) bytes place
 
--- an endpoint ID in its place; the report-to endpoint is not kept
+-- an endpoint ID in the field of its role; the report-to endpoint is not kept
 abbrev pub with_eid : Role → Draft → Eid → Draft
 with_eid Destination draft eid = record draft { destination = eid }
 with_eid Source draft eid = record draft { source = eid }
@@ -193,7 +194,7 @@ primary_left primary.Lifetime draft bytes place = lifetime_left draft bytes plac
 primary_left primary.FragmentOffset draft bytes place = offset_left draft bytes place
 primary_left primary.TotalLength draft bytes place = total_left draft bytes place
 
--- in an endpoint ID
+-- the rest of an endpoint ID, from each of its heads on
 
 abbrev pub numbered : Option ℕ → ℕ → ℕ → Eid
 numbered None node service = Ipn node service
@@ -233,13 +234,13 @@ kept_name Destination draft = name_of draft.destination
 kept_name Source draft = name_of draft.source
 kept_name ReportTo draft = []
 
--- in a name, of which these bytes have come
+-- the rest of a name that begins with these bytes
 unfoldable pub name_left : List ℕ → ℕ → List ℕ → ℕ → Reading Eid
 name_left name left bytes place = do
   (rest, place) ← bytes_at left bytes place
   Ok (Dtn (record { items = name ++ rest }), place)
 
--- in a canonical block; `left` more blocks may come, and with this one `blocks` have come
+-- the rest of a canonical block; `left` more blocks may come, and with this one there are `blocks`
 
 unfoldable pub data_left : ℕ → ℕ → Draft → ℕ → List ℕ → ℕ → Result Bundle Stop
 data_left left blocks draft start bytes place = do
@@ -284,7 +285,7 @@ canonical_left canonical.CheckType draft start bytes place =
 canonical_left canonical.Data draft start bytes place =
     data_left (64 - length draft.numbers) (length draft.numbers) draft start bytes place
 
--- at each field, of a block that begins at `start`
+-- the rest from each field on, in a block that begins at `start`
 unfoldable pub field_left : Field → Draft → ℕ → List ℕ → ℕ → Result Bundle Stop
 field_left (field.Primary which) draft start bytes place =
     after_primary draft start bytes (primary_left which draft bytes place)
@@ -298,24 +299,25 @@ field_left field.Closing draft start bytes place = do
   (_, end) ← row_at closing bytes place
   Ok (bundle_of draft end)
 
--- nothing may follow the bundle
+-- the bundle that was read, if no byte follows it, or else the fault of trailing bytes
 abbrev pub ends_of : List ℕ → Result Bundle Stop → Result Bundle Stop
 ends_of bytes reading = do
   bundle ← reading
   ends bytes bundle
 
--- the check of a block from its start to its check field's content, and of that many zeros
+-- the check value of a block from its start to the content of its check field, and of that many
+-- zeros
 unfoldable pub zeroed_check : CheckKind → ℕ → ℕ → ℕ → List ℕ → ℕ
 zeroed_check kind start content zeros bytes =
     crc kind (slice_range bytes start content ++ replicate zeros 0)
 
--- in the content of a check field, whose head is at `field`
+-- the rest of the content of a check field whose head is at `field`
 unfoldable pub stored_left : ℕ → ℕ → ℕ → ℕ → List ℕ → ℕ → Reading Bool
 stored_left left stored expected field bytes place = do
   (rest, next) ← bytes_at left bytes place
   if number_from stored rest == expected then Ok (true, next) else Err (stopped CheckDiffers field)
 
--- an array's head begins its block
+-- the offset of the current block: the head of an array begins its block
 abbrev pub block_start : Field → ℕ → ℕ → ℕ
 block_start (field.Primary primary.Block) start place = place
 block_start (field.Primary primary.Version) start place = start
@@ -337,7 +339,8 @@ block_start (field.Canonical canonical.Data) start place = start
 block_start (field.Check kind) start place = start
 block_start field.Closing start place = start
 
--- in a block that begins at `start`, at or in a field whose head is at `field`, where `place` bytes have come
+-- The rest at a stage, in a block that begins at `start`. The current head or the head of the
+-- current field is at `field`, and `place` bytes were seen.
 unfoldable pub stage_left : Stage → Draft → ℕ → ℕ → List ℕ → ℕ → Result Bundle Stop
 stage_left Start draft start field bytes place = judged bytes
 stage_left (Head which) draft start field bytes place =
@@ -358,14 +361,14 @@ stage_left Ended draft start field bytes place = ends bytes (bundle_of draft fie
 stage_left (Failed fault at) draft start field bytes place =
     with_known_payload draft.payload (Err (stopped fault at))
 
--- what a whole head at `place`, with `next` after it, leads to
+-- the rest after a whole head that begins at `place` and ends before `next`
 abbrev pub goes_on : Result Stage BundleFault → Draft → ℕ → ℕ → ℕ → List ℕ → Result Bundle Stop
 goes_on (Ok stage) draft start place next bytes = stage_left stage draft start next bytes next
 goes_on (Err fault) draft start place next bytes =
     with_known_payload draft.payload (Err (stopped fault place))
 
--- the head at this offset, with `next` after it, is judged as the reading judges it: the stage and the draft are those
--- after it
+-- The head that begins at `place` and ends before `next` is judged as the reading of the bundle
+-- judges it. The stage and the draft after it determine the rest.
 abbrev pub AsReadFrom : ℕ → ℕ → Field → Draft → HeadItem → Result Stage BundleFault → Draft → Type 0
 AsReadFrom place next which old head result new =
     (bytes : List ℕ) (start : ℕ) → head_at bytes place ≡ Ok (head, next) → next ≤ length bytes →
@@ -373,7 +376,7 @@ AsReadFrom place next which old head result new =
     (field_left which old (block_start which start place) bytes place))
     ≡ goes_on result new (block_start which start place) place next bytes
 
--- what comes after a block, after its fields and after an endpoint ID
+-- the stage after a block, after its fields and after an endpoint ID
 
 abbrev pub BlockEnds : Draft → Stage → Draft → Type 0
 BlockEnds old stage new =
@@ -389,7 +392,7 @@ FieldsEnd old stage new =
     (after_field old bytes (field_at (kind_of old.check) start bytes next)))
     ≡ stage_left stage new start next bytes next
 
--- after the head of data of this size
+-- the stage after the head of data of this size
 abbrev pub ContentBegins : ℕ → Draft → Stage → Draft → Type 0
 ContentBegins size old stage new =
     (bytes : List ℕ) (start next : ℕ) → next ≤ length bytes →
@@ -404,7 +407,7 @@ EidEnds role eid old stage new =
     (after_primary old start bytes (after_eid role old bytes (Ok (eid, next)))))
     ≡ stage_left stage new start next bytes next
 
--- a name begins, of this many bytes
+-- the stage at the beginning of a name of this many bytes
 abbrev pub NameBegins : Role → ℕ → Draft → Stage → Draft → Type 0
 NameBegins role size old stage new =
     (bytes : List ℕ) (start next : ℕ) → next ≤ length bytes →
@@ -412,7 +415,7 @@ NameBegins role size old stage new =
     (after_primary old start bytes (after_eid role old bytes (name_left [] size bytes next))))
     ≡ stage_left stage new start next bytes next
 
--- more bytes of a name, of which `left` bytes were left
+-- the stage after more bytes of a name that had `left` bytes left
 abbrev pub NameGoesOn : Role → ℕ → List ℕ → Draft → Stage → Draft → Type 0
 NameGoesOn role left run old stage new =
     (bytes more : List ℕ) (start field place : ℕ) → drop place bytes ≡ run ++ more →

@@ -1,4 +1,4 @@
--- the primary block (RFC 9171 section 4.3.1)
+-- The primary block (RFC 9171 section 4.3.1).
 
 use Rattle.std.specs.Prelude.{ℕ, Bool, true, false, List, Option, Some, None, Ok}
 use Rattle.link_cbor.specs.declared.check.CheckKind.{CheckKind}
@@ -7,7 +7,7 @@ use Rattle.link_bundle_rows.specs.Rows.{◌>>=◌, unsigned, pair, primary_block
 use Rattle.link_bundle.specs.Reading.{Reading, row_at}
 use Rattle.link_bundle.specs.EndpointId.{eid_at}
 
--- what is kept of the primary block
+-- the fields of the primary block that are kept
 pub record Primary : Type 0 where
   pub flags : ℕ
   pub destination : Eid
@@ -18,7 +18,7 @@ pub record Primary : Type 0 where
   -- the fragment offset and the total length
   pub fragment : Option (ℕ × ℕ)
 
--- in a fragment the fragment offset and the total length
+-- the fragment offset and the total length, if the bundle is a fragment
 unfoldable pub fragment_at : Bool → List ℕ → ℕ → Reading (Option (ℕ × ℕ))
 fragment_at false bytes place = Ok (None, place)
 fragment_at true bytes place = do
@@ -26,9 +26,11 @@ fragment_at true bytes place = do
   (total, place) ← row_at unsigned bytes place
   Ok (Some (offset, total), place)
 
--- the primary block up to its check field, and its check type (section 4.3.1): version, bundle processing control flags
--- (section 4.2.3), check type (section 4.2.1), the endpoint IDs of destination, source and report-to (section 4.2.5.1),
--- creation timestamp (section 4.2.7) of time (section 4.2.6) and sequence number, lifetime, and the fragment's fields
+-- The primary block up to its check field, and its check type (section 4.3.1). The version, the
+-- bundle processing control flags (section 4.2.3) and the check type (section 4.2.1) come first.
+-- The endpoint IDs of destination, source and report-to follow (section 4.2.5.1). The creation
+-- timestamp (section 4.2.7) has a time (section 4.2.6) and a sequence number. The lifetime and the
+-- fields of a fragment come last.
 unfoldable pub primary_at : List ℕ → ℕ → Reading (Primary × Option CheckKind)
 primary_at bytes place = do
   (count, place) ← row_at primary_block bytes place

@@ -1,4 +1,4 @@
--- reading a bundle's parts at offsets of a whole list of bytes
+-- How the parts of a bundle are read at offsets of a whole list of bytes.
 
 use Rattle.std.specs.Prelude.{ℕ, ◌+◌, nat_lt, List, length, take, drop, Option, None, Result, Ok, Err, if◌then◌else◌}
 use Rattle.link_cbor.specs.declared.head.Head.{Head}
@@ -7,8 +7,8 @@ use Rattle.link_bundle_types.specs.declared.fault.BundleFault.{BundleFault}
 use Rattle.link_bundle_types.specs.declared.fault.BundleFault.TheVariants.{Cut, BadHead}
 use Rattle.link_bundle_rows.specs.Rows.{◌>>=◌}
 
--- what ends a reading: the fault, its offset, and where the payload's bytes begin and how many its head says, if that
--- head was accepted before
+-- The end of a reading: the fault and its offset. If the head of the payload's data was accepted
+-- before, the offset and the length of the payload are known too.
 pub record Stop : Type 0 where
   pub fault : BundleFault
   pub place : ℕ
@@ -17,11 +17,11 @@ pub record Stop : Type 0 where
 abbrev pub stopped : BundleFault → ℕ → Stop
 stopped fault place = record { fault = fault; place = place; payload = None }
 
--- what is at an offset and the offset after it, or the stop
+-- a part that begins at an offset and the offset after it, or the stop
 abbrev pub Reading : Type 0 → Type 0
 Reading A = Result (A × ℕ) Stop
 
--- missing bytes: the offset is the number of bytes that there are
+-- the fault of missing bytes, whose offset is the number of bytes that there are
 abbrev pub cut_short : {A : Type 0} → List ℕ → Result A Stop
 cut_short bytes = Err (stopped Cut (length bytes))
 
@@ -38,13 +38,13 @@ abbrev pub judged_at : {A : Type 0} → ℕ → ℕ → Result A BundleFault →
 judged_at place next (Ok value) = Ok (value, next)
 judged_at place next (Err fault) = Err (stopped fault place)
 
--- the head at an offset, judged; the offset of a fault is that of the head
+-- the head at an offset, judged; a fault has the offset of the head
 unfoldable pub row_at : {A : Type 0} → (Head → Result A BundleFault) → List ℕ → ℕ → Reading A
 row_at row bytes place = do
   (head, next) ← head_at bytes place
   judged_at place next (row head)
 
--- that many bytes from an offset
+-- that many bytes from an offset on
 unfoldable pub bytes_at : ℕ → List ℕ → ℕ → Reading (List ℕ)
 bytes_at count bytes place =
     if nat_lt (length bytes) (place + count) then cut_short bytes

@@ -1,5 +1,5 @@
--- What a scan of a bundle has seen. The promises need no more of it than that `new` has seen nothing and that a step adds
--- its byte.
+-- The bytes that a scan of a bundle has seen. The promises need only two facts: `new` has seen
+-- nothing, and a step adds its byte.
 
 use Rattle.std.specs.Prelude.{◌≡◌, ℕ, ◌≤◌, Bool, ◌-◌, List, [], ◌++◌, length, replicate, slice_range, drop}
 use Rattle.link_cbor.specs.Head.{AreBytes, Cut, head_front}
@@ -16,7 +16,7 @@ use Rattle.link_bundle.specs.Covers.{Covers}
 use Rattle.link_bundle.specs.Left.{block_start, stage_left}
 use Rattle.link_bundle.specs.Stages.{stage_state, takes_bytes}
 
--- the head at `cursor.place` has come so far, in a block that begins at `start`
+-- in a head that begins at `cursor.place`, in a block that begins at `start`
 pub record IsAtHead (field : Field) (cursor : Cursor) (check : CheckType) (start : ℕ)
     (seen : List ℕ) : Type 0 where
   pub in_bytes : cursor.place ≤ length seen
@@ -24,7 +24,7 @@ pub record IsAtHead (field : Field) (cursor : Cursor) (check : CheckType) (start
   pub in_block : block_start field start cursor.place ≤ length seen
   pub checks : Covers check cursor.checks (drop (block_start field start cursor.place) seen)
 
--- the same, and the head is not whole
+-- the same, while the head is not whole
 pub record IsInHead (field : Field) (cursor : Cursor) (check : CheckType) (start : ℕ)
     (seen : List ℕ) : Type 0 where
   pub at : IsAtHead field cursor check start seen
@@ -35,7 +35,7 @@ pub record IsInside (cursor : Cursor) (check : CheckType) (start : ℕ) (seen : 
   pub in_block : start ≤ length seen
   pub checks : Covers check cursor.checks (drop start seen)
 
--- in a check field's content, which begins at `cursor.place`: the checks take it as zeros
+-- in the content of a check field, which begins at `cursor.place`; the checks cover it as zeros
 pub record IsInStored (cursor : Cursor) (check : CheckType) (start : ℕ)
     (seen : List ℕ) : Type 0 where
   pub in_block : start ≤ length seen
@@ -48,7 +48,7 @@ pub record IsFresh (cursor : Cursor) (check : CheckType) (seen : List ℕ) : Typ
   pub nothing : seen ≡ []
   pub checks : Covers check cursor.checks []
 
--- what the cursor has at each stage
+-- the state of the cursor at each stage
 abbrev pub Stands : Stage → Cursor → CheckType → ℕ → List ℕ → Type 0
 Stands Start cursor check start seen = IsFresh cursor check seen
 Stands (Head field) cursor check start seen = IsInHead field cursor check start seen
@@ -58,18 +58,19 @@ Stands (Stored place left stored kind) cursor check start seen = IsInStored curs
 Stands Ended cursor check start seen = cursor.place ≡ length seen
 Stands (Failed fault place) cursor check start seen = Unit {0}
 
--- exactly these bytes have come: however they go on, the bundle is what is left to be read from here
+-- Exactly these bytes were seen. Whatever bytes follow, the bundle is the rest that is read from
+-- this stage on.
 pub record HasCome (stage : Stage) (cursor : Cursor) (draft : Draft) (seen : List ℕ) : Type 0 where
   pub all_bytes : AreBytes seen
   pub count : cursor.count ≡ length seen
-  -- where the present block begins
+  -- the offset of the current block
   pub start : ℕ
   pub reads : (more : List ℕ)
       → judged (seen ++ more)
       ≡ stage_left stage draft start cursor.place (seen ++ more) (length seen)
   pub stands : Stands stage cursor draft.check start seen
 
--- the head at `cursor.place` has come, and is not judged yet
+-- bytes of the head at `cursor.place` were seen, and the head is not judged yet
 pub record HeadCame (which : Field) (cursor : Cursor) (draft : Draft) (seen : List ℕ) : Type 0 where
   pub all_bytes : AreBytes seen
   pub count : cursor.count ≡ length seen
@@ -81,14 +82,14 @@ pub record HeadCame (which : Field) (cursor : Cursor) (draft : Draft) (seen : Li
   pub in_block : block_start which start cursor.place ≤ length seen
   pub checks : Covers draft.check cursor.checks (drop (block_start which start cursor.place) seen)
 
--- the scan has stepped over exactly these bytes
+-- the scan has seen exactly these bytes
 abbrev pub HasScanned : BundleScan → List ℕ → Type 0
 HasScanned scan seen = HasCome scan.stage scan.cursor scan.draft seen
 
--- how many bytes it has stepped over
+-- the number of bytes seen
 abbrev pub scan_size : BundleScan → ℕ
 scan_size scan = scan.cursor.count
 
--- one more byte may be given
+-- whether one more byte may be fed
 abbrev pub may_scan : BundleScan → Bool
 may_scan scan = takes_bytes (stage_state scan.stage)

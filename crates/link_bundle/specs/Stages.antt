@@ -1,4 +1,4 @@
--- what a caller sees of a stage
+-- The state that a caller sees at a stage.
 
 use Rattle.std.specs.Prelude.{Bool, true, false}
 use Rattle.link_bundle_types.specs.declared.fault.State.{State}
@@ -20,13 +20,13 @@ stage_state (Stored place left stored kind) = state.Going
 stage_state Ended = state.Ended
 stage_state (Failed fault place) = state.Failed fault place
 
--- the head after an endpoint ID
+-- the stage at the head after an endpoint ID
 abbrev pub stage_after : Role → Stage
 stage_after Destination = Head (field.Endpoint Source part.Whole)
 stage_after Source = Head (field.Endpoint ReportTo part.Whole)
 stage_after ReportTo = Head (field.Primary primary.Timestamp)
 
--- one more byte may be given where no fault was reported
+-- whether one more byte may be fed, which is not so after a fault
 abbrev pub takes_bytes : State → Bool
 takes_bytes state.Going = true
 takes_bytes state.Ended = true

@@ -1,4 +1,5 @@
--- what is left to be read of a bundle that is read at once, and what it comes to. The promises need none of it.
+-- The rest of a bundle that is read at once, and its result. The promises need none of these
+-- definitions.
 
 use Rattle.std.specs.Prelude.{ℕ, ◌+◌, ◌==◌, List, [], ◌∷◌, ◌++◌, length, Result, if◌then◌else◌}
 use Rattle.link_bundle_rows.specs.Rows.{◌>>=◌}
@@ -8,7 +9,7 @@ use Rattle.link_bundle.specs.Primary.{Primary}
 use Rattle.link_bundle.specs.Canonical.{content_at}
 use Rattle.link_bundle.specs.Bundle.{Bundle, info_of, payload_at, blocks_at}
 
--- after the heads of a block that begins at `start`, where its data begins at `place`
+-- the rest after the heads of a block that begins at `start` and whose data begins at `place`
 abbrev pub after_heads : Heads → ℕ → List ℕ → Primary → ℕ → List ℕ → ℕ → Result Bundle Stop
 after_heads heads left numbers primary start bytes place =
     if heads.block_type == 1

@@ -4,8 +4,10 @@ ghost use Rattle.std.specs.Prelude.{◌≡◌, ℕ, List, [], ◌∷◌, ◌++�
 use crate::stage::CheckType;
 use link_cbor::{Check, CheckKind};
 
-/// The checks that run along a block from its array's head (RFC 9171 section 4.2.1). Both run until the check type has
-/// come, since it stands after other heads; then the one that the block has.
+/// The checks that cover a block, from the head of its array on (RFC 9171 section 4.2.1).
+///
+/// The check type comes after other heads. Until it is known both checks are computed, and then
+/// only the one that the block has.
 #[derive(Drop)]
 pub(crate) struct BlockChecks {
     crc16: Check,
@@ -16,7 +18,7 @@ impl BlockChecks {
     ghost use Rattle.link_bundle.specs.Covers.{Covers};
     ghost use Rattle.link_cbor.specs.Crc.{crc};
 
-    /// The checks of a block of which no byte has come.
+    /// The checks of a block before its first byte.
     pub fn new() -> BlockChecks
         ensures { Covers CheckType.Unread result [] }
     {
@@ -26,7 +28,7 @@ impl BlockChecks {
         }
     }
 
-    /// Takes a byte of the block into what is needed.
+    /// Takes a byte of the block into the checks that are needed.
     fn push(&mut self, check: CheckType, byte: u8)
         ensures { (covered : List ℕ) → Covers check self.old covered
             → Covers check self.new (covered ++ byte ∷ []) }
@@ -42,7 +44,9 @@ impl BlockChecks {
         }
     }
 
-    /// The same for a run. Most blocks have no check, so that nothing is to be done for most of the data.
+    /// Takes bytes of the block into the checks that are needed.
+    ///
+    /// Most blocks have no check, and then there is nothing to do for their data.
     #[inline]
     pub fn take(&mut self, check: CheckType, run: &[u8])
         ensures { (covered : List ℕ) → Covers check self.old covered
@@ -54,7 +58,9 @@ impl BlockChecks {
         self.take_covered(check, run);
     }
 
-    /// The same for a run that a check may cover. Most heads are one byte, which goes faster alone.
+    /// Takes bytes of a block that may have a check.
+    ///
+    /// Most heads are one byte, and one byte is faster alone.
     #[inline(never)]
     fn take_covered(&mut self, check: CheckType, run: &[u8])
         ensures { (covered : List ℕ) → Covers check self.old covered
@@ -82,7 +88,7 @@ impl BlockChecks {
         }
     }
 
-    /// The check of this kind, where the block has it, of the bytes taken.
+    /// The check value of the bytes taken, in a block that has a check of this kind.
     pub fn value(&self, kind: CheckKind) -> u32
         ensures { (covered : List ℕ) → Covers (CheckType.Is (Some kind)) self.now covered
             → result ≡ crc kind covered }

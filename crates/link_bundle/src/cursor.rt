@@ -1,4 +1,4 @@
-//! How far a scan has come: bytes counted, the head in hand, and the checks.
+//! The progress of a scan: the bytes counted, the head that is being read, and the checks.
 ghost use Rattle.std.specs.Prelude.{◌≡◌, ℕ, ◌+◌, ◌-◌, ◌^◌, ◌<◌, ◌≤◌, ◌↔◌, IsTrue, List, ◌∷◌, [], ◌++◌, length};
 ghost use Rattle.std.specs.Bool.{MatchBool};
 ghost use Rattle.link_cbor.specs.Head.{head_front, front_of};
@@ -10,19 +10,19 @@ use crate::checks::BlockChecks;
 use crate::stage::{CheckType, Stage};
 use link_cbor::{HeadScan, HeadStep, Piecewise};
 
-/// How far a scan has come in its bytes.
+/// The progress of a scan through its bytes.
 #[derive(Drop)]
 pub(crate) struct Cursor {
-    /// How many bytes have come.
+    /// The number of bytes seen.
     pub count: u64,
-    /// Where the present head begins.
+    /// At a head, the offset of its first byte.
     pub place: u64,
     pub head: HeadScan,
     pub checks: BlockChecks,
 }
 
 impl Cursor {
-    /// Before the first byte.
+    /// A cursor before the first byte.
     pub fn new() -> Cursor
         ensures count { result.count ≡ 0 }
         ensures head { HasScannedHead result.head [] }
@@ -36,7 +36,7 @@ impl Cursor {
         }
     }
 
-    /// Takes a byte of a head.
+    /// Takes a byte of a head, and returns the state of the head.
     pub fn head_byte(&mut self, check: CheckType, byte: u8) -> HeadStep
         requires room { self.old.count < 2 ^ 63 - 1 }
         requires may_step { IsTrue (may_scan_head self.old.head) }
@@ -56,7 +56,7 @@ impl Cursor {
         self.head.outcome()
     }
 
-    /// Takes bytes of a name, of data or of a check field.
+    /// Takes bytes without reading them as a head.
     #[inline(always)]
     pub fn content_run(&mut self, check: CheckType, run: &[u8])
         requires room { self.old.count + length run.now ≤ 2 ^ 63 - 1 }
@@ -69,7 +69,9 @@ impl Cursor {
         self.checks.take(check, run);
     }
 
-    /// Makes ready for what comes next.
+    /// Prepares the cursor for the next stage.
+    ///
+    /// The next head is new, and at the head of a block's array the checks are new too.
     pub fn enter(&mut self, stage: Stage)
         ensures count { self.new.count ≡ self.old.count }
         ensures place { self.new.place ≡ self.old.count }

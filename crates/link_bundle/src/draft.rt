@@ -1,4 +1,4 @@
-//! What is held of a bundle while its heads come, and how each head goes into it.
+//! The parts of a bundle that a scan keeps, and how each head changes them.
 ghost use Rattle.std.specs.Prelude.{◌≡◌, ◌≤◌, [], ◌++◌, IsTrue, length};
 
 use crate::stage::{CanonicalField, CheckType, Field, Part, PrimaryField, Role, Stage};
@@ -7,31 +7,31 @@ use link_bundle_rows::{Scheme, row};
 use link_bundle_types::{BundleFault, BundleInfo, BundleView};
 use link_cbor::Head;
 
-/// What the heads so far have given.
+/// The values of the heads so far.
 #[derive(Drop)]
 pub(crate) struct Draft {
-    /// How many elements the present block has.
+    /// The number of elements in the array of the current block.
     pub count: u64,
-    /// The present block's check type.
+    /// The check type of the current block.
     pub check: CheckType,
     pub flags: u64,
     pub destination: KeptEid,
     pub source: KeptEid,
-    /// Of the ipn endpoint ID that is being read, the allocator identifier if it has one.
+    /// The allocator identifier of the ipn endpoint ID that is being read, if it has one.
     pub allocator: Option<u64>,
-    /// Its node number.
+    /// The node number of the ipn endpoint ID that is being read.
     pub node: u64,
     pub time: u64,
     pub sequence: u64,
     pub lifetime: u64,
     pub fragment_offset: u64,
-    /// The fragment offset and the total length.
+    /// The fragment offset and the total length, if the bundle is a fragment.
     pub fragment: Option<(u64, u64)>,
-    /// The present canonical block's type code.
+    /// The type code of the current canonical block.
     pub block_type: u64,
     /// The numbers of the canonical blocks so far.
     pub numbers: BlockNumbers,
-    /// Where the payload's bytes begin, and how many they are.
+    /// The offset of the payload's first byte, and the payload's length by its head.
     pub payload: Option<(u64, u64)>,
 }
 
@@ -42,7 +42,7 @@ impl Draft {
     ghost use Rattle.link_bundle_types.specs.ShortNames.{HasShortNames};
     ghost use Rattle.link_bundle.specs.Left.{BlockEnds, FieldsEnd, primary_of, span_of};
 
-    /// The draft of a bundle of which no byte has come.
+    /// The draft of a bundle before its first byte.
     pub fn new() -> Draft
         ensures fits { IsTrue (stage_fits Stage.Start result) }
         ensures check { result.check ≡ CheckType.Unread }
@@ -66,7 +66,9 @@ impl Draft {
         }
     }
 
-    /// Makes it the draft of a bundle of which no byte has come. What the heads give before it is asked for stays.
+    /// Makes the draft that of a bundle before its first byte.
+    ///
+    /// A field keeps its value if the heads of the next bundle set it before it is read.
     pub fn restart(&mut self)
         ensures fits { IsTrue (stage_fits Stage.Start self.new) }
         ensures check { self.new.check ≡ CheckType.Unread }
@@ -76,7 +78,7 @@ impl Draft {
         self.payload = None;
     }
 
-    /// What a whole bundle says.
+    /// The fields of a complete bundle, by value.
     pub fn info(&self) -> BundleInfo
         ensures { result ≡ info_of (primary_of self.now) (length self.now.numbers)
             (span_of self.now.payload).1 }
@@ -95,7 +97,7 @@ impl Draft {
         }
     }
 
-    /// The same by reference.
+    /// The fields of a complete bundle, by reference.
     pub fn view(&self) -> BundleView<'_>
         ensures view { viewed_info result
             ≡ info_of (primary_of self.now) (length self.now.numbers) (span_of self.now.payload).1 }
@@ -115,7 +117,7 @@ impl Draft {
         }
     }
 
-    /// What comes after a block: the next block, or after the payload block the break.
+    /// The stage after a block: the next block, or the break after the payload block.
     #[tactic(auto, using(crate::proofs::Heads::closes, crate::proofs::Heads::goes_to_block), unfolding(crate::specs::Left::stage_left, crate::specs::Left::field_left))]
     pub fn after_block(&mut self) -> Stage
         ensures reads { BlockEnds self.old result self.new }
@@ -129,7 +131,7 @@ impl Draft {
         Stage::Head(Field::Canonical(CanonicalField::Block))
     }
 
-    /// What comes after the fields of a block but its check field.
+    /// The stage after those fields of a block that come before its check field.
     #[tactic(auto, unfolding(crate::specs::Left::stage_left, crate::specs::Left::field_left, crate::specs::CheckField::field_at))]
     pub fn after_fields(&mut self) -> Stage
         ensures reads { FieldsEnd self.old result self.new }
@@ -365,7 +367,7 @@ impl Draft {
         }
     }
 
-    /// Takes bytes of a dtn name, of which `left` bytes were left.
+    /// Takes bytes of a dtn name that has `left` bytes left.
     pub fn name_run(&mut self, role: Role, left: u64, run: &[u8]) -> Stage
         requires fits { IsTrue (stage_fits (Stage.Name role left) self.old) }
         requires within { length run.now ≤ left }
@@ -380,7 +382,7 @@ impl Draft {
         }
     }
 
-    /// Keeps an endpoint ID, and says what comes after it.
+    /// Keeps an endpoint ID, and returns the stage after it.
     fn after_eid(&mut self, role: Role, form: EidForm) -> Stage
         ensures reads { EidEnds role (formed form []) self.old result self.new }
         ensures fits { IsTrue (stage_fits result self.new) }
@@ -390,7 +392,9 @@ impl Draft {
         role.stage_after()
     }
 
-    /// Keeps an endpoint ID in its place: the report-to endpoint is judged and not kept.
+    /// Keeps an endpoint ID in the field of its role.
+    ///
+    /// The report-to endpoint is judged but not kept.
     fn keep(&mut self, role: Role, form: EidForm)
         ensures { self.new ≡ with_eid role self.old (formed form []) }
     {
@@ -401,7 +405,7 @@ impl Draft {
         }
     }
 
-    /// Keeps more bytes of a dtn name.
+    /// Appends bytes to the dtn name in the field of its role.
     fn keep_more(&mut self, role: Role, run: &[u8])
         requires { IsTrue (rest_fits role self.old (length run.now)) }
         ensures { self.new ≡ with_eid role self.old
@@ -421,7 +425,7 @@ impl Draft {
     ghost use Rattle.link_bundle.specs.Judged.{Judged, JudgedAt};
     ghost use Rattle.link_bundle.specs.Left.{ContentBegins};
 
-    /// Judges a head of a canonical block, with `next` the offset after it.
+    /// Judges a head of a canonical block; `next` is the offset after the head.
     pub fn canonical(
         &mut self,
         field: CanonicalField,
@@ -505,7 +509,7 @@ impl Draft {
         Ok(self.content(size))
     }
 
-    /// What comes after the head of data of this size.
+    /// The stage after the head of data of this size.
     #[tactic(auto, using(crate::proofs::Heads::no_content), unfolding(crate::specs::Left::stage_left))]
     fn content(&mut self, size: u64) -> Stage
         ensures reads { ContentBegins size self.old result self.new }

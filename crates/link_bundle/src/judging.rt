@@ -1,4 +1,4 @@
-//! What a head of a bundle that has come whole leads to.
+//! The effect of a complete head on a scan.
 ghost use Rattle.std.specs.Prelude.{◌≡◌, ℕ, IsTrue, List, length, drop};
 ghost use Rattle.link_cbor.specs.Head.{Whole, head_front};
 ghost use Rattle.link_bundle.specs.Fits.{scan_fits, stage_fits};
@@ -12,7 +12,7 @@ use link_bundle_rows::row;
 use link_bundle_types::BundleFault;
 use link_cbor::Head;
 
-/// Judges a whole head at a field: what comes next, or the fault.
+/// Judges a complete head at a field, and returns the next stage or the fault.
 #[tactic(auto, using(crate::proofs::Heads::heads), unfolding(crate::specs::Left::field_left, crate::specs::Left::stage_left))]
 fn judge(draft: &mut Draft, cursor: &Cursor, field: Field, head: Head) -> Result<Stage, BundleFault>
     requires { IsTrue (stage_fits (Stage.Head field) draft.old) }
@@ -38,7 +38,7 @@ fn judge(draft: &mut Draft, cursor: &Cursor, field: Field, head: Head) -> Result
     }
 }
 
-/// Takes a head at a field that has come whole: what the scan comes to.
+/// Takes a complete head at a field, and returns the next stage, which is `Failed` after a fault.
 pub(crate) fn take_head(draft: &mut Draft, cursor: &mut Cursor, field: Field, head: Head) -> Stage
     requires { IsTrue (stage_fits (Stage.Head field) draft.old) }
     ensures count { cursor.new.count ≡ cursor.old.count }

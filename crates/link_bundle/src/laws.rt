@@ -1,10 +1,17 @@
-//! Laws over the definitions alone. The functions do nothing when they run: their contracts are the laws.
+//! Laws over the definitions alone.
+//!
+//! The functions do nothing when they run. Their contracts are the laws.
 ghost use Rattle.link_bundle.specs.Laws.{FaultLasts, TrailingLasts, PayloadLasts, PayloadPlaced, PayloadEnds};
 
-/// A fault other than that the bytes end inside the bundle stays what it is, at its offset, however the bytes go on. A
-/// bundle with a byte after it is trailing bytes at the bundle's length, whatever follows. Where the payload's bytes begin,
-/// and how many its head says, stays known once it is, and says of fewer bytes too which of the payload's are there. Once the
-/// bytes do not end inside the bundle, all of the payload's are there that will be.
+/// How the verdict on some bytes lasts when more bytes follow.
+///
+/// - A fault stays the same, at the same offset, unless it is that the bytes end inside the bundle.
+/// - A bundle with a byte after it is the fault of trailing bytes, at the bundle's length, whatever
+///   follows.
+/// - Once the offset of the payload and its length by its head are known, they stay the same.
+/// - This offset and this length also determine which bytes of the payload a prefix of the bytes
+///   has.
+/// - Once the bytes do not end inside the bundle, no more bytes of the payload come.
 pub fn verdict_lasts()
     ensures fault { FaultLasts }
     ensures trailing { TrailingLasts }

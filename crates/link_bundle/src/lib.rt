@@ -8,16 +8,16 @@
 //! +-----+----------------+------------------+--+-------------------+-----+
 //! ```
 //!
-//! A [`BundleScan`] is fed the bytes as they come, and judges each head as soon as it is complete. What it has found is
-//! at hand at any time, and one scan serves many bundles:
+//! A [`BundleScan`] is fed the bytes of a bundle as they come. It judges each head as soon as the
+//! head is complete. Its findings can be read at any time, and one scan serves many bundles:
 //!
 //! ```text
 //! let mut scan = BundleScan::new();
-//! let taken = scan.feed(piece);            // stops after the bundle, or at the byte that shows a fault
+//! let taken = scan.feed(piece);            // stops after the bundle or a fault
 //! match scan.state() {
 //!     State::Going => {}                   // more bytes are needed
 //!     State::Ended => {
-//!         let bundle = scan.view()?;       // the bundle by reference; `finish` gives it as a value
+//!         let bundle = scan.view()?;       // by reference; `finish` returns a value
 //!         let payload = scan.payload_seen();
 //!     }
 //!     State::Failed(fault, offset) => {}
@@ -25,9 +25,10 @@
 //! scan.restart();                          // the next byte is a bundle's first
 //! ```
 //!
-//! The verdict depends on the bytes alone, however they are cut into pieces: it is the definition `verdict` of
-//! specs/Bundle.antt. The types stand in the crate `link_bundle_types`, how each head is judged in `link_bundle_rows`,
-//! and what is kept in place in `link_bundle_kept`.
+//! The verdict depends on the bytes alone, however they are cut into pieces. It is the definition
+//! `verdict` of specs/Bundle.antt. The crate `link_bundle_types` has the types, and
+//! `link_bundle_rows` judges the heads. `link_bundle_kept` has the values that a scan keeps in
+//! place.
 #![tactic(auto)]
 
 mod checks;

@@ -1,4 +1,4 @@
-//! The scanner of bundles.
+//! The scan of a bundle.
 ghost use Rattle.std.specs.Prelude.{◌≡◌, ℕ, ◌+◌, ◌-◌, ◌^◌, ◌<◌, ◌≤◌, IfOk, IsTrue, List, ◌∷◌, [], ◌++◌, length, take, min, true};
 ghost use Rattle.link_bundle.specs.Fits.{scan_fits};
 ghost use Rattle.link_cbor.specs.Head.{Whole, head_front};
@@ -14,8 +14,9 @@ use std::fmt;
 /// The first byte of a bundle: it opens an array of indefinite length (RFC 9171 section 4.1).
 pub(crate) const OPENING: u8 = 0x9f;
 
-/// Scans one bundle (RFC 9171 section 4), in pieces of any size. It holds what [`BundleInfo`] says and no bytes of the
-/// data.
+/// Scans one bundle (RFC 9171 section 4) in pieces of any size.
+///
+/// It keeps the fields of [`BundleInfo`], and no bytes of a block's data.
 #[derive(Drop)]
 pub struct BundleScan {
     stage: Stage,
@@ -24,7 +25,7 @@ pub struct BundleScan {
     ghost fits: { IsTrue (scan_fits stage cursor draft) },
 }
 
-/// The first bytes of a piece, at most as many as are left.
+/// The first bytes of a piece, at most `left` of them.
 #[inline(always)]
 fn first_of(piece: &[u8], left: u64) -> &[u8]
     ensures run { result.now ≡ take (min left (length piece.now)) piece.now }
@@ -41,7 +42,7 @@ impl BundleScan {
     ghost use Rattle.link_bundle.specs.Scan.{HasScanned, scan_size, may_scan};
     ghost use Rattle.link_bundle.specs.Stages.{takes_bytes};
 
-    /// A scan that has seen nothing.
+    /// A scan that has seen no byte.
     pub fn new() -> BundleScan
         ensures seen { HasScanned result [] }
         ensures size { scan_size result ≡ 0 }
@@ -54,8 +55,9 @@ impl BundleScan {
         }
     }
 
-    /// Makes the scan new, whatever it has seen and met, also after a fault: the next byte is a bundle's first. What no
-    /// reader sees is not written over.
+    /// Makes the scan new, whatever it has seen, also after a fault.
+    ///
+    /// The next byte is the first of a bundle. Values that are not read again are not overwritten.
     pub fn restart(&mut self)
         ensures seen { HasScanned self.new [] }
         ensures size { scan_size self.new ≡ 0 }
@@ -66,18 +68,19 @@ impl BundleScan {
         self.stage = Stage::Start;
     }
 
-    /// The state of the scan: what the verdict on the bytes seen says.
+    /// The state of the scan, which follows from the verdict on the bytes seen.
     pub fn state(&self) -> State
         ensures seen { (seen : List ℕ) → HasScanned self.now seen
             → result ≡ state_of (verdict seen) }
-        // Where it has not failed it may be stepped.
+        // A scan that has not failed may take one more byte.
         ensures may_step { may_scan self.now ≡ takes_bytes result }
     {
         self.stage.state()
     }
 
-    /// The verdict on the bytes seen: the bundle that they are, or their fault and its offset. Where they end inside a
-    /// bundle, that is [`BundleFault::Cut`] at their number.
+    /// The verdict on the bytes seen: the bundle that they are, or the first fault and its offset.
+    ///
+    /// If the bytes end inside a bundle, this is [`BundleFault::Cut`] at their number.
     pub fn finish(&self) -> Result<BundleInfo, (BundleFault, u64)>
         ensures { (seen : List ℕ) → HasScanned self.now seen → result ≡ verdict seen }
     {
@@ -88,11 +91,11 @@ impl BundleScan {
         }
     }
 
-    /// The verdict on the bytes seen, as [`finish`](BundleScan::finish) gives it, with the bundle by reference.
+    /// The verdict that [`finish`](BundleScan::finish) returns, with the bundle by reference.
     pub fn view(&self) -> Result<BundleView<'_>, (BundleFault, u64)>
         ensures seen { (seen : List ℕ) → HasScanned self.now seen
             → viewed_verdict result ≡ verdict seen }
-        // Whatever was scanned: there is room for no longer names.
+        // This holds whatever was scanned, since there is no room for longer names.
         ensures short { IfOk result (λ view. HasShortNames (viewed_info view)) }
     {
         match self.stage.state() {
@@ -102,8 +105,10 @@ impl BundleScan {
         }
     }
 
-    /// The offset of the payload's first byte, and how many bytes of the payload have come. `None` until the head of the
-    /// payload block's data (RFC 9171 section 4.3.2) is whole and accepted. A later fault leaves the result as it is.
+    /// The offset of the payload's first byte, and the number of payload bytes seen.
+    ///
+    /// It is `None` until the head of the payload block's data (RFC 9171 section 4.3.2) is complete
+    /// and accepted. A later fault does not change the result.
     pub fn payload_seen(&self) -> Option<(u64, u64)>
         ensures { (seen : List ℕ) → HasScanned self.now seen → result ≡ payload_span seen }
     {
@@ -111,7 +116,7 @@ impl BundleScan {
         Some((place, size.min(self.cursor.count.saturating_sub(place))))
     }
 
-    /// The first byte.
+    /// Takes the first byte of a bundle.
     fn open(&mut self, byte: u8)
         requires stage { self.old.stage ≡ Stage.Start }
         requires room { self.old.cursor.count < 2 ^ 63 - 1 }
@@ -128,7 +133,7 @@ impl BundleScan {
         }
     }
 
-    /// A byte of a head.
+    /// Takes a byte of a head.
     fn head_byte(&mut self, field: Field, byte: u8)
         requires stage { self.old.stage ≡ Stage.Head field }
         requires room { self.old.cursor.count < 2 ^ 63 - 1 }
@@ -150,7 +155,7 @@ impl BundleScan {
         }
     }
 
-    /// A head that lies whole in a piece.
+    /// Takes a head that lies whole in a piece.
     fn head_run(&mut self, field: Field, head: Head, run: &[u8])
         requires stage { self.old.stage ≡ Stage.Head field }
         requires begins { self.old.cursor.place ≡ self.old.cursor.count }
@@ -164,7 +169,7 @@ impl BundleScan {
         self.stage = take_head(&mut self.draft, &mut self.cursor, field, head);
     }
 
-    /// Bytes of a dtn name, of which `left` bytes were left.
+    /// Takes bytes of a dtn name that has `left` bytes left.
     fn name_run(&mut self, role: Role, left: u64, run: &[u8])
         requires stage { self.old.stage ≡ Stage.Name role left }
         requires within { length run.now ≤ left }
@@ -179,7 +184,7 @@ impl BundleScan {
         self.stage = stage;
     }
 
-    /// Bytes of a block's data, of which `left` bytes were left.
+    /// Takes bytes of a block's data, which has `left` bytes left.
     #[inline(always)]
     fn content_run(&mut self, left: u64, run: &[u8])
         requires stage { self.old.stage ≡ Stage.Content left }
@@ -200,7 +205,7 @@ impl BundleScan {
         }
     }
 
-    /// A byte of a check field's content, which the check takes as zero.
+    /// Takes a byte of a check field's content, which the check covers as zero.
     fn stored_byte(&mut self, place: u64, left: u64, stored: u32, kind: CheckKind, byte: u8)
         requires stage { self.old.stage ≡ Stage.Stored place left stored kind }
         requires room { self.old.cursor.count < 2 ^ 63 - 1 }
@@ -228,7 +233,7 @@ impl BundleScan {
         }
     }
 
-    /// A byte after the bundle.
+    /// Takes a byte after the bundle.
     fn trailing_byte(&mut self, byte: u8)
         requires stage { self.old.stage ≡ Stage.Ended }
         requires room { self.old.cursor.count < 2 ^ 63 - 1 }
@@ -245,7 +250,10 @@ impl BundleScan {
     ghost use Rattle.link_bundle.specs.Bundle.{bundle_goes};
     ghost use Rattle.link_bundle.specs.Scan.{HasScanned, scan_size, may_scan};
 
-    /// Takes the next bytes of a piece where more are needed: of a name and of data as many as there are, else one byte.
+    /// Takes the next bytes of a piece while more are needed, and returns how many, at least one.
+    ///
+    /// It takes the bytes of a name or of data that the piece has, or a whole bundle, or a whole
+    /// head. In all other cases it takes one byte.
     #[inline(always)]
     fn advance(&mut self, piece: &[u8]) -> usize
         requires may_step { IsTrue (may_scan self.old) }
@@ -257,7 +265,7 @@ impl BundleScan {
         ensures size { scan_size self.new ≡ scan_size self.old + result }
         ensures seen { (seen : List ℕ) → HasScanned self.old seen
             → HasScanned self.new (seen ++ take result piece.now) }
-        // Before each of these bytes more were needed.
+        // More bytes were needed before each of these.
         ensures goes { (seen : List ℕ) → HasScanned self.old seen
             → (count : ℕ) → count < result → bundle_goes (seen ++ take count piece.now) ≡ true }
     {
@@ -283,7 +291,7 @@ impl BundleScan {
         }
     }
 
-    /// The same before the first byte: the whole bundle if the piece has it, else one byte.
+    /// Takes the first bytes of a bundle: the whole bundle if the piece has it, or else one byte.
     #[inline(never)]
     fn advance_start(&mut self, piece: &[u8]) -> usize
         requires stage { self.old.stage ≡ Stage.Start }
@@ -313,7 +321,7 @@ impl BundleScan {
         }
     }
 
-    /// The same at a head of which no byte has come: the whole head if the piece has it, else one byte.
+    /// Takes the first bytes of a head: the whole head if the piece has it, or else one byte.
     #[inline(never)]
     fn advance_head(&mut self, field: Field, piece: &[u8]) -> usize
         requires stage { self.old.stage ≡ Stage.Head field }
@@ -342,7 +350,7 @@ impl BundleScan {
     }
 }
 
-/// Shows the state and the count, and not what is held.
+/// Shows the state and the number of bytes seen, and nothing of the bundle.
 impl fmt::Debug for BundleScan {
     fn fmt<W: fmt::Write>(&self, f: &mut fmt::Formatter<W>) -> fmt::Result {
         f.debug_struct("BundleScan")

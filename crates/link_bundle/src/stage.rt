@@ -5,7 +5,7 @@ use link_bundle_rows::Scheme;
 use link_bundle_types::{BundleFault, State};
 use link_cbor::CheckKind;
 
-/// An endpoint ID of the primary block.
+/// The role of an endpoint ID in the primary block.
 #[derive(Clone, Copy)]
 pub(crate) enum Role {
     Destination,
@@ -16,7 +16,7 @@ pub(crate) enum Role {
 impl Role {
     ghost use Rattle.link_bundle.specs.Stages.{stage_after};
 
-    /// The head after this endpoint ID.
+    /// The stage at the head after this endpoint ID.
     pub fn stage_after(self) -> Stage
         ensures { result ≡ stage_after self }
     {
@@ -28,21 +28,23 @@ impl Role {
     }
 }
 
-/// A head inside an endpoint ID.
+/// A head of an endpoint ID.
 #[derive(Clone, Copy)]
 pub(crate) enum Part {
-    /// The array of scheme and specific part.
+    /// The array of the scheme and the specific part.
     Whole,
     Scheme,
-    /// The specific part of this scheme.
+    /// The head of this scheme's specific part.
     Specific(Scheme),
-    /// The allocator identifier of an ipn endpoint ID of three numbers.
+    /// The allocator identifier of an ipn endpoint ID with three numbers.
     Allocator,
     Node,
     Service,
 }
 
-/// A head of the primary block (RFC 9171 section 4.3.1), but for its endpoint IDs and its check field.
+/// A head of the primary block (RFC 9171 section 4.3.1).
+///
+/// The heads of its endpoint IDs and of its check field are not among them.
 #[derive(Clone, Copy)]
 pub(crate) enum PrimaryField {
     Block,
@@ -57,7 +59,9 @@ pub(crate) enum PrimaryField {
     TotalLength,
 }
 
-/// A head of a canonical block (RFC 9171 section 4.3.2), but for its check field.
+/// A head of a canonical block (RFC 9171 section 4.3.2).
+///
+/// The head of its check field is not among them.
 #[derive(Clone, Copy)]
 pub(crate) enum CanonicalField {
     Block,
@@ -68,31 +72,32 @@ pub(crate) enum CanonicalField {
     Data,
 }
 
-/// Which head comes next.
+/// The head that comes next.
 #[derive(Clone, Copy)]
 pub(crate) enum Field {
     Primary(PrimaryField),
     Endpoint(Role, Part),
     Canonical(CanonicalField),
-    /// The check field of a block with a check of this kind.
+    /// The check field of a block whose check is of this kind.
     Check(CheckKind),
     /// The break after the payload block.
     Closing,
 }
 
-/// Where in the bundle the scan is.
+/// The position of a scan in its bundle.
 #[derive(Clone, Copy)]
 pub(crate) enum Stage {
     /// Before the first byte.
     Start,
     /// At a head.
     Head(Field),
-    /// In a dtn name, of which this many bytes are left.
+    /// In a dtn name that has this many bytes left.
     Name(Role, u64),
-    /// In a block's data, of which this many bytes are left.
+    /// In a block's data, which has this many bytes left.
     Content(u64),
-    /// In the content of the check field whose head is at `place`, of which `left` bytes are left. Those before spell
-    /// `stored`.
+    /// In the content of the check field whose head is at `place`.
+    ///
+    /// The bytes seen of it spell `stored`, and `left` bytes are left.
     Stored {
         place: u64,
         left: u64,
@@ -107,7 +112,7 @@ impl Stage {
     ghost use Rattle.link_bundle.specs.Fits.{is_block};
     ghost use Rattle.link_bundle.specs.Stages.{stage_state};
 
-    /// What a caller sees of the stage.
+    /// The state that a caller sees.
     pub fn state(self) -> State
         ensures { result ≡ stage_state self }
     {
@@ -118,7 +123,7 @@ impl Stage {
         }
     }
 
-    /// At the head of a block's array, where its checks begin.
+    /// Whether the stage is at the head of a block's array, where the block's checks begin.
     pub fn is_block(self) -> bool
         ensures { result ≡ is_block self }
     {
@@ -130,19 +135,19 @@ impl Stage {
     }
 }
 
-/// What is known of the present block's check.
+/// The check of the current block, as far as it is known.
 #[derive(Clone, Copy)]
 pub(crate) enum CheckType {
-    /// The check type's head has not come.
+    /// The head of the check type was not seen yet.
     Unread,
-    /// The check type, `None` for a block without check field.
+    /// The check type, which is `None` for a block without a check field.
     Is(Option<CheckKind>),
 }
 
 impl CheckType {
     ghost use Rattle.link_bundle.specs.CheckKinds.{kind_of};
 
-    /// The check that a field of the block has to hold.
+    /// The kind of the block's check, or `None` if it has none or its type was not seen yet.
     pub fn kind(self) -> Option<CheckKind>
         ensures { result ≡ kind_of self }
     {

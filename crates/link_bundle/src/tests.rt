@@ -1,4 +1,4 @@
-//! Verdicts, however the bytes are cut: at once, byte by byte, and in two pieces cut at every place.
+//! Verdicts on bytes fed at once, byte by byte, and in two pieces cut at every position.
 ghost use Rattle.std.specs.Prelude.{◌+◌, ◌-◌, ◌*◌, ◌^◌, ◌<◌, ◌≤◌, length};
 ghost use Rattle.link_bundle.specs.Scan.{scan_size};
 
@@ -13,16 +13,16 @@ mod outside;
 
 use outside::{BUNDLES, LARGE_FRONT, LARGE_REST};
 
-/// The fault and its place, of what is no bundle.
+/// The expected fault and its offset, or `None` for a bundle.
 type Fault = Option<(BundleFault, u64)>;
 
-/// A bundle without checks: destination ipn:2.1, source ipn:1.1, report-to dtn:none, payload `hello`.
+/// A bundle without checks, from ipn:1.1 to ipn:2.1, with report-to dtn:none and payload `hello`.
 const PLAIN: &[u8] =
     b"\x9f\x88\x07\x00\x00\x82\x02\x82\x02\x01\x82\x02\x82\x01\x01\x82\x01\x00\x82\x00\x00\x00\x85\x01\x01\x00\x00\x45\x68\x65\x6c\x6c\x6f\xff";
 
-/// Bundles with a fault, and its place.
+/// Bytes with a fault, and the offset of the fault.
 const FAULTS: [(&[u8], BundleFault, u64); 31] = [
-    // another byte under the check
+    // a byte changed that the check covers
     (
         b"\x9f\x88\x07\x00\x00\x82\x02\x82\x02\x01\x82\x02\x82\x01\x01\x82\x01\x00\x82\x00\x00\x00\x86\x01\x01\x00\x01\x45\x69\x65\x6c\x6c\x6f\x42\x4b\xf3\xff",
         BundleFault::CheckDiffers,
@@ -40,7 +40,7 @@ const FAULTS: [(&[u8], BundleFault, u64); 31] = [
         BundleFault::Trailing,
         34,
     ),
-    // without its last byte
+    // the last byte missing
     (
         b"\x9f\x88\x07\x00\x00\x82\x02\x82\x02\x01\x82\x02\x82\x01\x01\x82\x01\x00\x82\x00\x00\x00\x85\x01\x01\x00\x00\x45\x68\x65\x6c\x6c\x6f",
         BundleFault::Cut,
@@ -168,7 +168,7 @@ const FAULTS: [(&[u8], BundleFault, u64); 31] = [
         BundleFault::BadHead,
         33,
     ),
-    // a number spelled long, twice
+    // a block number twice, the second time encoded in more bytes than needed
     (
         b"\x9f\x88\x07\x00\x00\x82\x02\x82\x02\x01\x82\x02\x82\x01\x01\x82\x01\x00\x82\x00\x00\x00\x85\x0a\x02\x00\x00\x40\x85\x0a\x18\x02\x00\x00\x40\x85\x01\x01\x00\x00\x45\x68\x65\x6c\x6c\x6f\xff",
         BundleFault::RepeatedBlockNumber,
@@ -180,7 +180,7 @@ const FAULTS: [(&[u8], BundleFault, u64); 31] = [
         BundleFault::BadBlockNumber,
         30,
     ),
-    // a check field spelled longer than the check says
+    // a check field whose length is encoded in more bytes than needed
     (
         b"\x9f\x88\x07\x00\x00\x82\x02\x82\x02\x01\x82\x02\x82\x01\x01\x82\x01\x00\x82\x00\x00\x00\x86\x01\x01\x00\x01\x45\x68\x65\x6c\x6c\x6f\x58\x02\x4b\xf3\xff",
         BundleFault::CheckDiffers,
@@ -206,7 +206,7 @@ const FAULTS: [(&[u8], BundleFault, u64); 31] = [
     ),
 ];
 
-/// Whole bundles, and what they say.
+/// Whole bundles, and their fields.
 const WHOLE: [Expected; 8] = [
     // the plain bundle
     Expected {
@@ -224,7 +224,7 @@ const WHOLE: [Expected; 8] = [
         numbers: [0, 0, 0, 0, 1, 5],
         fragment: None,
     },
-    // a long spelling of the version
+    // the version encoded in more bytes than needed
     Expected {
         bytes: b"\x9f\x88\x1a\x00\x00\x00\x07\x00\x00\x82\x02\x82\x02\x01\x82\x02\x82\x01\x01\x82\x01\x00\x82\x00\x00\x00\x85\x01\x01\x00\x00\x45\x68\x65\x6c\x6c\x6f\xff",
         destination: EidView::Ipn(2, 1),
@@ -248,7 +248,7 @@ const WHOLE: [Expected; 8] = [
         numbers: [0, 0, 0, 0, 1, 5],
         fragment: None,
     },
-    // a number that differs above 32 bits
+    // a block number that differs from an earlier one above 32 bits
     Expected {
         bytes: b"\x9f\x88\x07\x00\x00\x82\x02\x82\x02\x01\x82\x02\x82\x01\x01\x82\x01\x00\x82\x00\x00\x00\x85\x0a\x02\x00\x00\x40\x85\x0a\x1b\x00\x00\x00\x01\x00\x00\x00\x02\x00\x00\x40\x85\x01\x01\x00\x00\x45\x68\x65\x6c\x6c\x6f\xff",
         destination: EidView::Ipn(2, 1),
@@ -256,7 +256,7 @@ const WHOLE: [Expected; 8] = [
         numbers: [0, 0, 0, 0, 3, 5],
         fragment: None,
     },
-    // three ipn numbers, of which the allocator identifier is 0
+    // three ipn numbers, with the allocator identifier 0
     Expected {
         bytes: b"\x9f\x88\x07\x00\x00\x82\x02\x83\x00\x02\x01\x82\x02\x82\x01\x01\x82\x01\x00\x82\x00\x00\x00\x85\x01\x01\x00\x00\x45\x68\x65\x6c\x6c\x6f\xff",
         destination: EidView::Ipn3(0, 2, 1),
@@ -274,14 +274,14 @@ const WHOLE: [Expected; 8] = [
     },
 ];
 
-/// Where the payload begins, and how much of it there is.
+/// The offset of the payload, and the number of its bytes that are there.
 const PAYLOADS: [(&[u8], Option<(u64, u64)>); 9] = [
     // nothing of the payload block
     (
         b"\x9f\x88\x07\x00\x00\x82\x02\x82\x02\x01\x82\x02\x82\x01\x01\x82\x01\x00\x82\x00\x00\x00",
         None,
     ),
-    // the data's head to come
+    // without the data's head
     (
         b"\x9f\x88\x07\x00\x00\x82\x02\x82\x02\x01\x82\x02\x82\x01\x01\x82\x01\x00\x82\x00\x00\x00\x85\x01\x01\x00\x00",
         None,
@@ -313,14 +313,14 @@ const PAYLOADS: [(&[u8], Option<(u64, u64)>); 9] = [
         b"\x9f\x88\x07\x40\x00\x82\x02\x82\x02\x01\x82\x02\x82\x01\x01\x82\x01\x00\x82\x00\x00\x00\x85\x01\x01\x00\x00\x45\x68\x65\x6c\x6c\x6f\xff",
         None,
     ),
-    // three of 2^64 - 1 bytes
+    // three bytes of a payload of 2^64 - 1 bytes
     (
         b"\x9f\x88\x07\x00\x00\x82\x02\x82\x02\x01\x82\x02\x82\x01\x01\x82\x01\x00\x82\x00\x00\x00\x85\x01\x01\x00\x00\x5b\xff\xff\xff\xff\xff\xff\xff\xff\x01\x02\x03",
         Some((36, 3)),
     ),
 ];
 
-/// A bundle of another encoder, and what it says.
+/// A bundle, and the fields that a scan of it has to report.
 #[derive(Clone, Copy)]
 struct Expected {
     bytes: &'static [u8],
@@ -331,7 +331,7 @@ struct Expected {
     fragment: Option<(u64, u64)>,
 }
 
-/// Feeds a piece; where the bundle has ended and a byte is left, that byte goes in by a step.
+/// Feeds a piece, and passes the byte after the end of a bundle to `step`.
 fn give(scan: &mut BundleScan, bytes: &[u8])
     requires { scan_size scan.old + length bytes.now ≤ 2 ^ 63 - 1 }
     ensures { scan_size scan.new ≤ scan_size scan.old + length bytes.now }
@@ -446,7 +446,7 @@ fn expect_bundles(rt: &impl Abort, bundles: &[Expected]) {
     }
 }
 
-/// The bytes in pieces of this size.
+/// Restarts the scan and feeds it the bytes in pieces of this size.
 fn in_pieces(scan: &mut BundleScan, bytes: &[u8], size: usize)
     requires short { length bytes.now < 2 ^ 32 }
     requires some { 0 < size }
@@ -460,7 +460,7 @@ fn in_pieces(scan: &mut BundleScan, bytes: &[u8], size: usize)
     }
 }
 
-/// In pieces of 1 to 40 bytes, by one scan that is begun again for each.
+/// Pieces of 1 to 40 bytes, fed to one scan that is restarted for each size.
 #[test]
 fn bundles_in_pieces(rt: HostRuntime) {
     let mut scan = BundleScan::new();
@@ -479,7 +479,7 @@ fn bundles_in_pieces(rt: HostRuntime) {
     }
 }
 
-/// A scan is as new after each fault.
+/// A restarted scan is like a new one after each fault.
 #[test]
 fn faults_do_not_outlast_a_restart(rt: HostRuntime) {
     let mut scan = BundleScan::new();
@@ -525,8 +525,9 @@ fn a_large_payload_by_bytes(rt: HostRuntime) -> Result<(), Fail> {
     Ok(())
 }
 
-/// Cuts the bundle with the large payload in two, at each place of one of its eighths: a test of all 70,042 places would be
-/// near its time limit.
+/// Cuts the bundle with the large payload in two, at each position of one of its eighths.
+///
+/// A test of all 70,042 positions would be near its time limit.
 fn cut_in_eighth(rt: &(impl Abort + AllocGlobal), eighth: usize) -> Result<(), Fail>
     requires { eighth < 8 }
 {
@@ -578,7 +579,7 @@ fn a_large_payload_cut_in_its_last_eighth(rt: HostRuntime) -> Result<(), Fail> {
     cut_in_eighth(&rt, 7)
 }
 
-/// The plain bundle with this many blocks before its payload block, from number 2 on.
+/// The plain bundle with this many more blocks before its payload block, numbered from 2 on.
 fn with_blocks(alloc: Global, blocks: u8) -> Result<Vec<u8>, AllocError>
     requires { blocks ≤ 64 }
 {

@@ -1,5 +1,7 @@
-//! Reading a bundle that lies whole in the bytes at hand, as specs/ reads one: each function has the name of its definition
-//! there. An error says only that the bundle is not whole or not right: the scan then finds byte by byte what it is.
+//! Reads a bundle that lies whole in a slice.
+//!
+//! Each function has the name of its definition in specs/. An error means only that the slice
+//! begins with no complete bundle or with a fault. The scan then finds out which, byte by byte.
 ghost use Rattle.std.specs.Prelude.{◌≡◌, ℕ, suc, ◌+◌, ◌<◌, ◌≤◌, ◌++◌, [], length, replicate, is_some, true, Some, Ok, IfOk, IsTrue};
 ghost use Rattle.link_bundle_types.specs.EidView.{viewed_eid};
 ghost use Rattle.link_bundle_types.specs.ShortNames.{IsShort};
@@ -22,10 +24,10 @@ use link_bundle_rows::{Scheme, row};
 use link_bundle_types::{BundleFault, EidView};
 use link_cbor::{Check, CheckKind, Head};
 
-/// The head of an array of two elements, in one byte.
+/// The head of an array of two elements, encoded in one byte.
 const PAIR: u8 = 0x82;
 
-/// The head at an offset, and the offset after it.
+/// Reads the head at an offset, and returns it and the offset after it.
 #[inline(always)]
 fn head_at(bytes: &[u8], place: usize) -> Result<(Head, usize), BundleFault>
     ensures { IfOk result (λ read. head_at bytes.now place ≡ Ok read) }
@@ -39,7 +41,9 @@ fn head_at(bytes: &[u8], place: usize) -> Result<(Head, usize), BundleFault>
     }
 }
 
-/// An unsigned integer. Most are one byte, which is its own value.
+/// Reads an unsigned integer.
+///
+/// Most are encoded in one byte, which is the value.
 #[inline(always)]
 #[tactic(auto, using(crate::proofs::Heads::heads, crate::proofs::Readings::one_byte))]
 fn unsigned_at(bytes: &[u8], place: usize) -> Result<(u64, usize), BundleFault>
@@ -52,7 +56,7 @@ fn unsigned_at(bytes: &[u8], place: usize) -> Result<(u64, usize), BundleFault>
     Ok((row::unsigned(head)?, next))
 }
 
-/// An array of two elements.
+/// Reads the head of an array of two elements.
 #[inline(always)]
 #[tactic(auto, using(crate::proofs::Heads::heads, crate::proofs::Readings::one_byte))]
 fn pair_at(bytes: &[u8], place: usize) -> Result<(u64, usize), BundleFault>
@@ -65,7 +69,7 @@ fn pair_at(bytes: &[u8], place: usize) -> Result<(u64, usize), BundleFault>
     Ok((row::pair(head)?, next))
 }
 
-/// That many bytes from an offset, and the offset after them.
+/// Reads that many bytes from an offset on, and returns them and the offset after them.
 fn bytes_at(size: u64, bytes: &[u8], place: usize) -> Result<(&[u8], usize), BundleFault>
     ensures read { IfOk result (λ read. bytes_at size bytes.now place ≡ Ok (read.0.now, read.1)) }
     ensures size { IfOk result (λ read. length read.0.now ≡ size) }
@@ -78,7 +82,7 @@ fn bytes_at(size: u64, bytes: &[u8], place: usize) -> Result<(&[u8], usize), Bun
     Ok((&bytes[place..next], next))
 }
 
-/// An endpoint ID (RFC 9171 section 4.2.5.1).
+/// Reads an endpoint ID (RFC 9171 section 4.2.5.1).
 #[tactic(auto, using(crate::proofs::Heads::heads), unfolding(crate::specs::EndpointId::eid_at))]
 fn eid_at(bytes: &[u8], place: usize) -> Result<(EidView<'_>, usize), BundleFault>
     ensures read { IfOk result (λ read. eid_at bytes.now place ≡ Ok (viewed_eid read.0, read.1)) }
@@ -92,7 +96,7 @@ fn eid_at(bytes: &[u8], place: usize) -> Result<(EidView<'_>, usize), BundleFaul
     }
 }
 
-/// The specific part of scheme dtn.
+/// Reads the specific part of scheme dtn.
 #[tactic(auto, using(crate::proofs::Heads::heads), unfolding(crate::specs::EndpointId::specific_at, crate::specs::EndpointId::dtn_at))]
 fn dtn_at(bytes: &[u8], place: usize) -> Result<(EidView<'_>, usize), BundleFault>
     ensures read { IfOk result (λ read. specific_at Dtn bytes.now place
@@ -109,7 +113,7 @@ fn dtn_at(bytes: &[u8], place: usize) -> Result<(EidView<'_>, usize), BundleFaul
     }
 }
 
-/// The specific part of scheme ipn.
+/// Reads the specific part of scheme ipn.
 #[tactic(auto, using(crate::proofs::Heads::heads), unfolding(crate::specs::EndpointId::specific_at, crate::specs::EndpointId::ipn_at))]
 fn ipn_at(bytes: &[u8], place: usize) -> Result<(EidView<'_>, usize), BundleFault>
     ensures read { IfOk result (λ read. specific_at Ipn bytes.now place
@@ -127,7 +131,7 @@ fn ipn_at(bytes: &[u8], place: usize) -> Result<(EidView<'_>, usize), BundleFaul
     Ok((EidView::Ipn3(first, second, third), place))
 }
 
-/// In a fragment the fragment offset and the total length.
+/// Reads the fragment offset and the total length, if the bundle is a fragment.
 #[tactic(auto, unfolding(crate::specs::Primary::fragment_at))]
 fn fragment_at(
     is_fragment: bool,
@@ -144,7 +148,7 @@ fn fragment_at(
     Ok((Some((offset, total)), place))
 }
 
-/// The number that the bytes of a check field spell.
+/// The number that the content of a check field spells.
 fn number_of(stored: &[u8]) -> u32
     requires { length stored.now ≤ 4 }
     ensures { result ≡ number_from 0 stored.now }
@@ -156,7 +160,9 @@ fn number_of(stored: &[u8]) -> u32
     number
 }
 
-/// The check of a block's bytes before its check field's content, and of zeros for that.
+/// The check value of a block, from its bytes before the content of its check field.
+///
+/// The content counts as zeros.
 fn check_of(kind: CheckKind, block: &[u8]) -> u32
     ensures { result ≡ crc kind (block.now ++ replicate (check_width kind) 0) }
 {
@@ -169,7 +175,9 @@ fn check_of(kind: CheckKind, block: &[u8]) -> u32
     check.value()
 }
 
-/// The check field of a block that begins at `start` (RFC 9171 section 4.2.1), where it has one: the offset after it.
+/// Reads the check field of a block, if it has one (RFC 9171 section 4.2.1).
+///
+/// The block begins at `start`. Returns the offset after the field.
 #[tactic(auto, unfolding(crate::specs::CheckField::field_at))]
 fn field_at(
     check: Option<CheckKind>,
@@ -185,7 +193,9 @@ fn field_at(
     }
 }
 
-/// The same of a block that has a check of this kind.
+/// Reads the check field of a block that has a check of this kind.
+///
+/// The block begins at `start`. Returns the offset after the field.
 fn stored_at(
     kind: CheckKind,
     start: usize,
@@ -203,7 +213,9 @@ fn stored_at(
     Ok(next)
 }
 
-/// The data of a canonical block that begins at `start`, and its check field: the offset after them.
+/// Reads the data of a canonical block and its check field.
+///
+/// The block begins at `start`. Returns the offset after the field.
 #[tactic(auto, unfolding(crate::specs::Canonical::content_at))]
 fn content_at(
     size: u64,
@@ -218,7 +230,7 @@ fn content_at(
     field_at(check, start, bytes, place)
 }
 
-/// What the heads of a canonical block say, up to its data.
+/// The values of the heads of a canonical block, up to its data.
 #[derive(Clone, Copy)]
 struct Heads {
     block_type: u64,
@@ -227,7 +239,9 @@ struct Heads {
     size: u64,
 }
 
-/// The heads of a canonical block (RFC 9171 section 4.3.2), where blocks of these numbers came before.
+/// Reads the heads of a canonical block (RFC 9171 section 4.3.2).
+///
+/// `numbers` are the numbers of the blocks before it.
 fn heads_at(numbers: &[u64], bytes: &[u8], place: usize) -> Result<(Heads, usize), BundleFault>
     ensures { IfOk result (λ read. (left : ℕ) (primary : Primary)
         → blocks_at (suc left) numbers.now primary bytes.now place
@@ -251,7 +265,9 @@ fn heads_at(numbers: &[u64], bytes: &[u8], place: usize) -> Result<(Heads, usize
     Ok((heads, place))
 }
 
-/// The canonical blocks and the break after the payload block: where the payload is, and the bundle's length.
+/// Reads the canonical blocks, and the break after the payload block.
+///
+/// Returns the offset and the length of the payload, and the offset after the break.
 fn blocks_at(
     numbers: &mut BlockNumbers,
     bytes: &[u8],
@@ -278,7 +294,9 @@ fn blocks_at(
 }
 
 impl Draft {
-    /// The primary block up to its check field, and its check type (RFC 9171 section 4.3.1).
+    /// Reads the primary block up to its check field (RFC 9171 section 4.3.1).
+    ///
+    /// Returns the block's check type, and the offset after what was read.
     fn primary_at(
         &mut self,
         bytes: &[u8],
@@ -313,8 +331,9 @@ impl Draft {
         Ok((check, place))
     }
 
-    /// Reads the bundle that the bytes begin with, where all of it is there: its length. After an error, what the draft
-    /// holds is to be made new.
+    /// Reads the bundle that the bytes begin with, and returns its length.
+    ///
+    /// After an error, the draft has to be restarted before it is used again.
     pub fn whole(&mut self, bytes: &[u8]) -> Result<usize, BundleFault>
         requires some { 0 < length bytes.now }
         requires blank { self.old.numbers ≡ [] }

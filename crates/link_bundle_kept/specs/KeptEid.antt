@@ -1,4 +1,4 @@
--- an endpoint ID by its form and the bytes of its dtn name
+-- An endpoint ID by its form and the bytes of its dtn name.
 
 use Rattle.std.specs.Prelude.{ℕ, ◌+◌, Bool, false, nat_le, List, [], length}
 use Rattle.link_bundle_types.specs.declared.eid.Eid.{Eid}
@@ -12,14 +12,14 @@ formed Dtn name = eid.Dtn (record { items = name })
 formed (Ipn node service) name = eid.Ipn node service
 formed (Ipn3 allocator node service) name = eid.Ipn3 allocator node service
 
--- the bytes of a dtn name
+-- the bytes of a dtn name, or no bytes
 abbrev pub name_of : Eid → List ℕ
 name_of eid.DtnNone = []
 name_of (eid.Dtn name) = name.items
 name_of (eid.Ipn node service) = []
 name_of (eid.Ipn3 allocator node service) = []
 
--- a dtn name has room for more bytes
+-- whether a dtn name has room for this many more bytes
 abbrev pub name_fits : Eid → ℕ → Bool
 name_fits eid.DtnNone more = false
 name_fits (eid.Dtn name) more = nat_le (length name.items + more) 1024

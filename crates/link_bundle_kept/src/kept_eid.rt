@@ -1,24 +1,30 @@
-//! An endpoint ID of the bundle that is scanned.
+//! An endpoint ID of the bundle that is being scanned.
 ghost use Rattle.std.specs.Prelude.{◌≡◌, ◌+◌, ◌≤◌, [], ◌++◌, length, take, IsTrue};
 
 use arrayvec::ArrayVec;
 use link_bundle_types::{EID_LIMIT, Eid, EidView};
 use std::marker::Model;
 
-/// An endpoint ID but for the bytes of a dtn name.
+/// The form of an endpoint ID: all of it except the bytes of a dtn name.
 #[derive(Clone, Copy)]
 pub enum EidForm {
+    /// `dtn:none`.
     DtnNone,
+    /// A dtn endpoint ID with a name.
     Dtn,
+    /// The node number and the service number of an ipn endpoint ID.
     Ipn(u64, u64),
+    /// The allocator identifier, node number and service number of an ipn endpoint ID.
     Ipn3(u64, u64, u64),
 }
 
-/// An endpoint ID that is kept in place: the bytes of a dtn name go straight here, in pieces of any size.
+/// An endpoint ID that is kept in place.
+///
+/// The bytes of a dtn name are appended to it in pieces of any size.
 #[derive(Drop)]
 pub struct KeptEid {
     form: EidForm,
-    /// The name's bytes so far, and then bytes that no reader sees.
+    /// The bytes of the name so far, and then bytes that are not read.
     name: [u8; EID_LIMIT],
     length: usize,
 }
@@ -35,7 +41,7 @@ impl Model for KeptEid {
     ghost invariant = { λ eid. eid.length ≤ 1024 };
 }
 
-/// Writes the bytes into a buffer from `at` on.
+/// Writes the bytes into a buffer, from the index `at` on.
 fn write_at(buffer: &mut [u8], at: usize, bytes: &[u8])
     requires { at + length bytes.now ≤ length buffer.old }
     ensures { take (at + length bytes.now) buffer.new ≡ take at buffer.old ++ bytes.now }
@@ -49,7 +55,7 @@ impl KeptEid {
     ghost use Rattle.link_bundle_kept.specs.KeptEid.{formed, name_of, name_fits};
     ghost use Rattle.link_bundle_types.specs.declared.eid.Eid.TheVariants.{DtnNone, Dtn};
 
-    /// `dtn:none`.
+    /// The endpoint ID `dtn:none`.
     pub fn new() -> KeptEid
         ensures { result ≡ DtnNone }
     {
@@ -60,7 +66,7 @@ impl KeptEid {
         }
     }
 
-    /// Keeps an endpoint ID of this form, with a name of no bytes.
+    /// Keeps an endpoint ID of this form, whose dtn name has no bytes yet.
     pub fn set(&mut self, form: EidForm)
         ensures { self.new ≡ formed form [] }
     {
@@ -69,6 +75,8 @@ impl KeptEid {
     }
 
     /// Appends bytes to the dtn name.
+    ///
+    /// The endpoint ID has a dtn name, which has at most 1,024 bytes with them.
     pub fn extend(&mut self, bytes: &[u8])
         requires { IsTrue (name_fits self.old (length bytes.now)) }
         ensures { self.new ≡ Dtn (record { items = name_of self.old ++ bytes.now }) }
@@ -77,7 +85,7 @@ impl KeptEid {
         self.length += bytes.len();
     }
 
-    /// Keeps this endpoint ID.
+    /// Keeps this endpoint ID, whose dtn name has at most 1,024 bytes.
     pub fn keep(&mut self, eid: EidView<'_>)
         requires { IsShort (viewed_eid eid) }
         ensures { self.new ≡ viewed_eid eid.entry }

@@ -1,5 +1,7 @@
-//! What a scan of a bundle (RFC 9171 section 4) keeps in place, in pieces of any size: an endpoint ID ([`KeptEid`]) and the
-//! numbers of the canonical blocks ([`BlockNumbers`]). Both are made empty without writing over what they held.
+//! Values that a scan of a bundle (RFC 9171 section 4) keeps in place.
+//!
+//! A [`KeptEid`] is an endpoint ID whose dtn name comes in pieces of any size. [`BlockNumbers`] has
+//! the numbers of the canonical blocks. Both are emptied without overwriting what they held.
 //!
 //! ```ignore
 //! let mut eid = KeptEid::new();

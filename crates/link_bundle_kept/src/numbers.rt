@@ -4,7 +4,9 @@ ghost use Rattle.std.specs.Prelude.{◌≡◌, ◌<◌, ◌≤◌, ◌==◌, [],
 use link_bundle_types::BLOCK_LIMIT;
 use std::marker::Model;
 
-/// Block numbers in the order of their blocks. They are kept in place, and emptied without writing over them.
+/// The numbers of at most 64 blocks in the order of the blocks, kept in place.
+///
+/// They are emptied without being overwritten.
 #[derive(Drop)]
 pub struct BlockNumbers {
     cells: [u64; BLOCK_LIMIT],
@@ -22,7 +24,7 @@ impl Model for BlockNumbers {
 }
 
 impl BlockNumbers {
-    /// No number.
+    /// An empty list.
     pub fn new() -> BlockNumbers
         ensures { result ≡ [] }
     {
@@ -32,7 +34,7 @@ impl BlockNumbers {
         }
     }
 
-    /// Forgets all numbers.
+    /// Removes all numbers.
     pub fn clear(&mut self)
         ensures { self.new ≡ [] }
     {
@@ -47,7 +49,7 @@ impl BlockNumbers {
         &self.cells[..self.length]
     }
 
-    /// Whether there is no room for one more.
+    /// Whether there are 64 numbers and no room for another.
     pub fn is_full(&self) -> bool
         ensures value { result ≡ (length self.now == 64) }
         ensures fits { length self.now ≤ 64 }
@@ -55,7 +57,7 @@ impl BlockNumbers {
         self.length == BLOCK_LIMIT
     }
 
-    /// Appends a number.
+    /// Appends a number to a list that is not full.
     pub fn push(&mut self, number: u64)
         requires { length self.old < 64 }
         ensures { self.new ≡ self.old ++ number ∷ [] }

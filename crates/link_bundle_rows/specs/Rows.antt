@@ -1,4 +1,5 @@
--- what each head of a bundle is judged: a value, or the first fault in the order given (RFC 9171 section 4)
+-- The judgement of each head of a bundle: a value, or the first fault in the order given (RFC 9171
+-- section 4).
 
 use Rattle.std.specs.Prelude.{ℕ, ◌+◌, Bool, true, false, not, ◌&&◌, ◌||◌, ◌==◌, nat_le, List, Option, Some, None, Result, Ok, Err, if◌then◌else◌, bit_and}
 use Rattle.std.specs.List.{list_any}
@@ -10,17 +11,17 @@ use Rattle.link_bundle_types.specs.declared.fault.BundleFault.TheVariants.{Wrong
 use Rattle.link_bundle_rows.specs.declared.endpoint.Scheme.{Scheme}
 use Rattle.link_bundle_rows.specs.declared.endpoint.Scheme.TheVariants.{Dtn, Ipn}
 
--- the first fault, or what follows gives
+-- the first fault, or the result of the next part
 infixl 10 ◌>>=◌
 abbrev pub ◌>>=◌ : {A B E : Type 0} → Result A E → (A → Result B E) → Result B E
 (Ok value) >>= next = next value
 (Err fault) >>= next = Err fault
 
--- a value that passes a test
+-- the value, if it passes a test
 abbrev pub wanted : {A : Type 0} → Bool → A → BundleFault → Result A BundleFault
 wanted passes value fault = if passes then Ok value else Err fault
 
--- kinds of items (RFC 8949 section 3.1): the major type, with a value
+-- the value of an item that has the right major type and a value (RFC 8949 section 3.1)
 abbrev pub valued : Bool → Option ℕ → Result ℕ BundleFault
 valued true (Some value) = Ok value
 valued true None = Err WrongKind
@@ -38,7 +39,7 @@ byte_string head = of_major 2 head
 unfoldable pub array : Head → Result ℕ BundleFault
 array head = of_major 4 head
 
--- an array of two elements
+-- an array that has to have two elements
 unfoldable pub pair : Head → Result ℕ BundleFault
 pair head = do
   count ← array head
@@ -52,7 +53,8 @@ is_absent (Some value) = false
 unfoldable pub is_break : Head → Bool
 is_break head = (head.major == 7) && is_absent head.value
 
--- the primary block (section 4.3.1): eight elements, two more in a fragment, one more with a check field
+-- the primary block (section 4.3.1) has eight elements, two more in a fragment, and one more with a
+-- check field
 unfoldable pub primary_block : Head → Result ℕ BundleFault
 primary_block head = do
   count ← array head
@@ -67,7 +69,7 @@ version head = do
 unfoldable pub is_fragment : ℕ → Bool
 is_fragment flags = bit_and flags 1 == 1
 
--- check types (section 4.2.1)
+-- the check types by their numbers (section 4.2.1)
 abbrev pub kind_of_type : ℕ → Result (Option CheckKind) BundleFault
 kind_of_type number =
     if number == 0 then Ok None else
@@ -79,7 +81,7 @@ check_type head = do
   number ← unsigned head
   kind_of_type number
 
--- how many elements a check field makes
+-- the number of elements that a check field adds to its block
 abbrev pub check_elements : Option CheckKind → ℕ
 check_elements None = 0
 check_elements (Some kind) = 1
@@ -89,13 +91,13 @@ primary_check_type count flags head = do
   kind ← check_type head
   wanted (count == 8 + (if is_fragment flags then 2 else 0) + check_elements kind) kind BadCount
 
--- endpoint IDs (section 4.2.5.1): an array of scheme and specific part
+-- an endpoint ID (section 4.2.5.1) is an array of a scheme and a specific part
 unfoldable pub scheme : Head → Result Scheme BundleFault
 scheme head = do
   number ← unsigned head
   if number == 1 then Ok Dtn else (if number == 2 then Ok Ipn else Err BadScheme)
 
--- the specific part of scheme dtn: `None` for dtn:none, or how many bytes the name has
+-- the specific part of scheme dtn: the length of its name in bytes, or `None` for dtn:none
 abbrev pub dtn_by : ℕ → Option ℕ → Result (Option ℕ) BundleFault
 dtn_by major None = Err BadSpecificPart
 dtn_by major (Some value) =
@@ -113,21 +115,22 @@ ipn_count (Err fault) = Err BadSpecificPart
 unfoldable pub ipn_part : Head → Result ℕ BundleFault
 ipn_part head = ipn_count (array head)
 
--- where a canonical block may begin (section 4.3.2), with the payload block still to come:
--- five elements, one more with a check field
+-- The array of a canonical block (section 4.3.2), while the payload block is still to come. It has
+-- five elements, and one more with a check field.
 unfoldable pub block : Head → Result ℕ BundleFault
 block head =
     if is_break head then Err NoPayloadLast else do
       count ← array head
       wanted (nat_le 5 count && nat_le count 6) count BadCount
 
--- the same where 64 blocks have come
+-- the same after 64 blocks, where another block is a fault
 unfoldable pub block_too_many : Head → Result ℕ BundleFault
 block_too_many head = do
   count ← block head
   Err TooManyBlocks
 
--- the payload block has number 1, and no other block has it; 0 is the primary block's (section 4.1)
+-- the payload block (type 1) has number 1 and no other block has it; 0 is that of the primary block
+-- (section 4.1)
 abbrev pub fits_type : ℕ → ℕ → Bool
 fits_type type number = not (number == 0) && (if type == 1 then number == 1 else not (number == 1))
 
@@ -142,7 +145,7 @@ block_check_type count head = do
   kind ← check_type head
   wanted (count == 5 + check_elements kind) kind BadCount
 
--- how many bytes a check has (section 4.2.1)
+-- the length of a check value in bytes (section 4.2.1)
 abbrev pub check_width : CheckKind → ℕ
 check_width Crc16 = 2
 check_width Crc32 = 4
@@ -152,6 +155,6 @@ check_field kind head = do
   count ← byte_string head
   wanted (count == check_width kind) count BadCheckLength
 
--- after the payload block
+-- the break after the payload block
 unfoldable pub closing : Head → Result Bool BundleFault
 closing head = wanted (is_break head) true NoPayloadLast

@@ -1,8 +1,9 @@
-//! How each head of a bundle is judged (RFC 9171 section 4), once it is whole and well-formed: its kind first, then its
-//! value.
+//! The judgement of each head of a bundle (RFC 9171 section 4) that is complete and well-formed.
+//!
+//! The kind of the item is judged first, and then its value.
 //!
 //! ```ignore
-//! let lifetime = row::unsigned(head)?; // the fault says what the head is in place of an unsigned number
+//! let lifetime = row::unsigned(head)?; // a fault, if the head is no unsigned integer
 //! ```
 #![tactic(auto)]
 

@@ -1,4 +1,4 @@
-//! The rows of the tables in docs/FORMATS.md, from a head to its value or the first fault.
+//! The rows of the tables in docs/FORMATS.md, each from a head to its value or its first fault.
 ghost use Rattle.std.specs.Prelude.{◌≡◌, ◌≤◌, IfOk, IfErr, IfSome, IsTrue};
 ghost use Rattle.link_bundle_types.specs.Faults.{lasts};
 ghost use Rattle.link_bundle_rows.specs.Rows as row;
@@ -7,7 +7,7 @@ use crate::endpoint::Scheme;
 use link_bundle_types::{BundleFault, EID_LIMIT};
 use link_cbor::{CheckKind, Head};
 
-/// Major types (RFC 8949 section 3.1).
+/// The major types of heads in a bundle (RFC 8949 section 3.1).
 const UNSIGNED: u8 = 0;
 
 const BYTE_STRING: u8 = 2;
@@ -30,7 +30,7 @@ pub const PAYLOAD_TYPE: u64 = 1;
 /// The block number of the payload block (RFC 9171 section 4.1).
 const PAYLOAD_NUMBER: u64 = 1;
 
-/// The value of a head of this major type.
+/// The value of a head, which has to have this major type.
 fn of_major(major: u8, head: Head) -> Result<u64, BundleFault>
     ensures judged { result ≡ row.of_major major head }
     ensures lasts { IfErr result (λ fault. IsTrue (lasts fault)) }
@@ -41,6 +41,9 @@ fn of_major(major: u8, head: Head) -> Result<u64, BundleFault>
     }
 }
 
+/// The value of an unsigned integer.
+///
+/// The fault of another item is `WrongKind`.
 #[tactic(auto, unfolding(crate::specs::Rows::unsigned))]
 pub fn unsigned(head: Head) -> Result<u64, BundleFault>
     ensures judged { result ≡ row.unsigned head }
@@ -49,6 +52,9 @@ pub fn unsigned(head: Head) -> Result<u64, BundleFault>
     of_major(UNSIGNED, head)
 }
 
+/// The length of a byte string in bytes.
+///
+/// The fault of another item is `WrongKind`.
 #[tactic(auto, unfolding(crate::specs::Rows::byte_string))]
 pub fn byte_string(head: Head) -> Result<u64, BundleFault>
     ensures judged { result ≡ row.byte_string head }
@@ -65,7 +71,9 @@ fn array(head: Head) -> Result<u64, BundleFault>
     of_major(ARRAY, head)
 }
 
-/// An array of two elements.
+/// The number of elements of an array, which has to be two.
+///
+/// The faults are `WrongKind` and `BadCount`, in this order.
 #[tactic(auto, unfolding(crate::specs::Rows::pair))]
 pub fn pair(head: Head) -> Result<u64, BundleFault>
     ensures judged { result ≡ row.pair head }
@@ -77,7 +85,7 @@ pub fn pair(head: Head) -> Result<u64, BundleFault>
     }
 }
 
-/// The break of an indefinite length (RFC 8949 section 3.2.1).
+/// Whether the head is the break of an indefinite length (RFC 8949 section 3.2.1).
 #[tactic(auto, unfolding(crate::specs::Rows::is_break))]
 fn is_break(head: Head) -> bool
     ensures { result ≡ row.is_break head }
@@ -85,7 +93,9 @@ fn is_break(head: Head) -> bool
     head.major == SIMPLE && head.value.is_none()
 }
 
-/// The primary block's array: how many elements it has (RFC 9171 section 4.3.1).
+/// The number of elements of the primary block's array, 8 to 11 (RFC 9171 section 4.3.1).
+///
+/// The faults are `WrongKind` and `BadCount`, in this order.
 #[tactic(auto, unfolding(crate::specs::Rows::primary_block))]
 pub fn primary_block(head: Head) -> Result<u64, BundleFault>
     ensures judged { result ≡ row.primary_block head }
@@ -97,6 +107,9 @@ pub fn primary_block(head: Head) -> Result<u64, BundleFault>
     }
 }
 
+/// The version of a bundle, which has to be 7 (RFC 9171 section 4.3.1).
+///
+/// The faults are `WrongKind` and `BadVersion`, in this order.
 #[tactic(auto, unfolding(crate::specs::Rows::version))]
 pub fn version(head: Head) -> Result<u64, BundleFault>
     ensures judged { result ≡ row.version head }
@@ -108,7 +121,7 @@ pub fn version(head: Head) -> Result<u64, BundleFault>
     }
 }
 
-/// Whether the bundle is a fragment, by its flags.
+/// Whether a bundle with these flags is a fragment.
 #[tactic(auto, unfolding(crate::specs::Rows::is_fragment))]
 pub fn is_fragment(flags: u64) -> bool
     ensures { result ≡ row.is_fragment flags }
@@ -116,7 +129,7 @@ pub fn is_fragment(flags: u64) -> bool
     flags & FRAGMENT == FRAGMENT
 }
 
-/// A check type (RFC 9171 section 4.2.1).
+/// The check type, which is `None` for 0 (RFC 9171 section 4.2.1).
 #[tactic(auto, unfolding(crate::specs::Rows::check_type))]
 fn check_type(head: Head) -> Result<Option<CheckKind>, BundleFault>
     ensures judged { result ≡ row.check_type head }
@@ -130,7 +143,7 @@ fn check_type(head: Head) -> Result<Option<CheckKind>, BundleFault>
     }
 }
 
-/// How many elements a check field makes.
+/// The number of elements that the check field adds to the array of its block.
 fn check_elements(kind: Option<CheckKind>) -> u64
     ensures { result ≡ row.check_elements kind }
 {
@@ -140,7 +153,10 @@ fn check_elements(kind: Option<CheckKind>) -> u64
     }
 }
 
-/// The check type of a primary block of `count` elements with these flags.
+/// The check type of a primary block with these flags, whose array has `count` elements.
+///
+/// The faults are `WrongKind`, `BadCheckType` and `BadCount`, in this order. `BadCount` means that
+/// `count` does not fit the flags and the check type.
 #[tactic(auto, unfolding(crate::specs::Rows::primary_check_type))]
 pub fn primary_check_type(
     count: u64,
@@ -159,6 +175,9 @@ pub fn primary_check_type(
     }
 }
 
+/// The scheme of an endpoint ID, dtn or ipn (RFC 9171 section 4.2.5.1).
+///
+/// The faults are `WrongKind` and `BadScheme`, in this order.
 #[tactic(auto, unfolding(crate::specs::Rows::scheme))]
 pub fn scheme(head: Head) -> Result<Scheme, BundleFault>
     ensures judged { result ≡ row.scheme head }
@@ -171,7 +190,10 @@ pub fn scheme(head: Head) -> Result<Scheme, BundleFault>
     }
 }
 
-/// The specific part of scheme dtn: `None` for `dtn:none`, or how many bytes its name has.
+/// The specific part of scheme dtn: the length of its name in bytes, or `None` for `dtn:none`.
+///
+/// The fault of a name of more than 1,024 bytes is `EidTooLong`, and that of another item is
+/// `BadSpecificPart`.
 #[tactic(auto, unfolding(crate::specs::Rows::dtn_part))]
 pub fn dtn_part(head: Head) -> Result<Option<u64>, BundleFault>
     ensures judged { result ≡ row.dtn_part head }
@@ -186,7 +208,9 @@ pub fn dtn_part(head: Head) -> Result<Option<u64>, BundleFault>
     }
 }
 
-/// The specific part of scheme ipn, an array: how many numbers it has, two or three.
+/// The specific part of scheme ipn: the number of elements of its array, two or three.
+///
+/// The fault of another array is `BadCount`, and that of another item is `BadSpecificPart`.
 #[tactic(auto, unfolding(crate::specs::Rows::ipn_part))]
 pub fn ipn_part(head: Head) -> Result<u64, BundleFault>
     ensures judged { result ≡ row.ipn_part head }
@@ -199,7 +223,10 @@ pub fn ipn_part(head: Head) -> Result<u64, BundleFault>
     }
 }
 
-/// The array of a canonical block, before the payload block has come: how many elements it has.
+/// The number of elements of a canonical block's array, while the payload block is still to come.
+///
+/// The fault of the break is `NoPayloadLast`. The faults of other heads are `WrongKind` and
+/// `BadCount`, in this order.
 #[tactic(auto, unfolding(crate::specs::Rows::block))]
 pub fn block(head: Head) -> Result<u64, BundleFault>
     ensures judged { result ≡ row.block head }
@@ -214,7 +241,9 @@ pub fn block(head: Head) -> Result<u64, BundleFault>
     }
 }
 
-/// The number of a block of this type, where blocks of these numbers came before.
+/// The number of a block of this type, after blocks with these numbers.
+///
+/// The faults are `WrongKind`, `BadBlockNumber` and `RepeatedBlockNumber`, in this order.
 #[tactic(auto, unfolding(crate::specs::Rows::block_number))]
 pub fn block_number(block_type: u64, numbers: &[u64], head: Head) -> Result<u64, BundleFault>
     ensures judged { result ≡ row.block_number block_type numbers.now head }
@@ -230,7 +259,10 @@ pub fn block_number(block_type: u64, numbers: &[u64], head: Head) -> Result<u64,
     Ok(number)
 }
 
-/// The check type of a canonical block of `count` elements.
+/// The check type of a canonical block whose array has `count` elements.
+///
+/// The faults are `WrongKind`, `BadCheckType` and `BadCount`, in this order. `BadCount` means that
+/// `count` does not fit the check type.
 #[tactic(auto, unfolding(crate::specs::Rows::block_check_type))]
 pub fn block_check_type(count: u64, head: Head) -> Result<Option<CheckKind>, BundleFault>
     ensures judged { result ≡ row.block_check_type count head }
@@ -244,7 +276,7 @@ pub fn block_check_type(count: u64, head: Head) -> Result<Option<CheckKind>, Bun
     }
 }
 
-/// How many bytes a check has (RFC 9171 section 4.2.1).
+/// The length of a check value in bytes (RFC 9171 section 4.2.1).
 pub fn check_width(kind: CheckKind) -> u64
     ensures { result ≡ row.check_width kind }
 {
@@ -254,7 +286,9 @@ pub fn check_width(kind: CheckKind) -> u64
     }
 }
 
-/// A check field of this kind: how many bytes its content has.
+/// The length of a check field's content in bytes, which has to be that of this kind of check.
+///
+/// The faults are `WrongKind` and `BadCheckLength`, in this order.
 #[tactic(auto, unfolding(crate::specs::Rows::check_field))]
 pub fn check_field(kind: CheckKind, head: Head) -> Result<u64, BundleFault>
     ensures judged { result ≡ row.check_field kind head }
@@ -268,7 +302,9 @@ pub fn check_field(kind: CheckKind, head: Head) -> Result<u64, BundleFault>
     }
 }
 
-/// The break after the payload block.
+/// Returns true for the break after the payload block.
+///
+/// Any other head has the fault `NoPayloadLast`.
 #[tactic(auto, unfolding(crate::specs::Rows::closing))]
 pub fn closing(head: Head) -> Result<bool, BundleFault>
     ensures judged { result ≡ row.closing head }

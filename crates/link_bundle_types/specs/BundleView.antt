@@ -1,4 +1,4 @@
--- what a view of a bundle shows
+-- The bundle that a view shows.
 
 use Rattle.std.specs.Prelude.{ℕ, Result, Ok, Err}
 use Rattle.link_bundle_types.specs.declared.fault.BundleFault.{BundleFault}
@@ -20,7 +20,7 @@ viewed_info view =
       payload = view.payload;
     }
 
--- a verdict whose bundle is a view
+-- the verdict, if its bundle is given as a view
 abbrev pub viewed_verdict : Result BundleView (BundleFault × ℕ)
     → Result BundleInfo (BundleFault × ℕ)
 viewed_verdict (Ok view) = Ok (viewed_info view)

@@ -1,4 +1,4 @@
--- the endpoint ID that a view shows
+-- The endpoint ID that a view shows.
 
 use Rattle.link_bundle_types.specs.declared.eid.Eid.{Eid}
 use Rattle.link_bundle_types.specs.declared.eid.Eid.TheVariants as eid

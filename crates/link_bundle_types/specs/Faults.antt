@@ -1,4 +1,4 @@
--- faults that stay, however the bytes go on: all but that the bytes end inside the bundle
+-- Faults that stay, whatever bytes follow: all but that the bytes end inside the bundle.
 
 use Rattle.std.specs.Prelude.{Bool, true, false}
 use Rattle.link_bundle_types.specs.declared.fault.BundleFault.{BundleFault}

@@ -1,4 +1,4 @@
--- how long the names of a bundle's endpoint IDs may be
+-- The greatest length of the names in a bundle's endpoint IDs.
 
 use Rattle.std.specs.Prelude.{◌≤◌, length}
 use Rattle.link_bundle_types.specs.declared.eid.Eid.{Eid}
@@ -12,7 +12,7 @@ IsShort (Dtn name) = length name.items ≤ 1024
 IsShort (Ipn node service) = Unit {0}
 IsShort (Ipn3 allocator node service) = Unit {0}
 
--- the names in a bundle's source and destination have at most 1,024 bytes each
+-- the names of a bundle's source and destination have at most 1,024 bytes each
 pub record HasShortNames (info : BundleInfo) : Type 0 where
   pub source : IsShort info.source
   pub destination : IsShort info.destination

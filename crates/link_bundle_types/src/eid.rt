@@ -1,24 +1,27 @@
-//! Endpoint IDs (RFC 9171 section 4.2.5.1): as values, and as views of what another value holds.
+//! Endpoint IDs (RFC 9171 section 4.2.5.1), by value and by reference.
 ghost use Rattle.std.specs.Prelude.{◌≡◌};
 ghost use Rattle.link_bundle_types.specs.EidView.{viewed_eid};
 ghost use Rattle.link_bundle_types.specs.ShortNames.{IsShort};
 
 use arrayvec::ArrayVec;
 
-/// The most bytes of the specific part of a dtn endpoint ID.
+/// The greatest length of a dtn endpoint ID's specific part, in bytes.
 pub const EID_LIMIT: usize = 1024;
 
-/// An endpoint ID, RFC 9171 section 4.2.5.1.
+/// An endpoint ID (RFC 9171 section 4.2.5.1).
 #[derive(Debug, Drop, PartialEq, Eq)]
 pub enum Eid {
-    /// `dtn:none`, spelled as the number 0.
+    /// `dtn:none`, which is encoded as the number 0.
     DtnNone,
-    /// The specific part of a dtn endpoint ID, the bytes after `dtn:` as they stand. They are not judged as UTF-8.
+    /// The specific part of a dtn endpoint ID: the bytes after `dtn:`, unchanged.
+    ///
+    /// They need not be UTF-8.
     Dtn(ArrayVec<u8, EID_LIMIT>),
-    /// The node and service numbers of an ipn endpoint ID.
+    /// The node number and the service number of an ipn endpoint ID.
     Ipn(u64, u64),
-    /// The allocator identifier, node and service numbers of an ipn endpoint ID of three numbers. An allocator identifier
-    /// of 0 stays.
+    /// The allocator identifier, node and service numbers of an ipn endpoint ID of three numbers.
+    ///
+    /// An allocator identifier of 0 is kept.
     Ipn3(u64, u64, u64),
 }
 
@@ -26,7 +29,7 @@ impl Eid {
     /// The same endpoint ID by reference.
     pub fn view(&self) -> EidView<'_>
         ensures view { viewed_eid result ≡ self.now }
-        // There is room for no longer name.
+        // This holds for every value, since there is no room for a longer name.
         ensures short { IsShort self.now }
     {
         match self {
@@ -38,14 +41,16 @@ impl Eid {
     }
 }
 
-/// An [`Eid`] by reference: it has the same variants, and borrows the bytes of a dtn endpoint ID.
+/// An [`Eid`] by reference, with the same variants.
+///
+/// It borrows the bytes of a dtn endpoint ID.
 #[derive(Clone, Copy, Debug, PartialEq, Eq)]
 pub enum EidView<'a> {
-    /// `dtn:none`, spelled as the number 0.
+    /// `dtn:none`, which is encoded as the number 0.
     DtnNone,
-    /// The specific part of a dtn endpoint ID, the bytes after `dtn:` as they stand.
+    /// The specific part of a dtn endpoint ID: the bytes after `dtn:`, unchanged.
     Dtn(&'a [u8]),
-    /// The node and service numbers of an ipn endpoint ID.
+    /// The node number and the service number of an ipn endpoint ID.
     Ipn(u64, u64),
     /// The allocator identifier, node and service numbers of an ipn endpoint ID of three numbers.
     Ipn3(u64, u64, u64),

@@ -1,8 +1,11 @@
-//! Faults of bundles, and the states of a scan.
+//! The faults of bundles, and the states of a scan.
 use thiserror::Error;
 
-/// Why bytes are no bundle. The scan reports it with an offset, counted from the bundle's first byte: for `Cut` the number
-/// of bytes seen, for `Trailing` the bundle's length, for every other fault the offset of the head that was judged.
+/// The reason why bytes are no bundle.
+///
+/// A scan reports it with an offset, counted from the bundle's first byte. For `Cut` that is the
+/// number of bytes seen, and for `Trailing` the bundle's length. For every other fault it is the
+/// offset of the head that was judged.
 #[derive(Clone, Copy, Debug, PartialEq, Eq, Error)]
 pub enum BundleFault {
     /// B1: the bytes end inside the bundle.
@@ -17,10 +20,10 @@ pub enum BundleFault {
     /// B4: no well-formed CBOR head (RFC 8949 section 3).
     #[error("ill-formed head")]
     BadHead,
-    /// B5: a CBOR item of another kind than the field wants.
+    /// B5: a CBOR item of another kind than that of the field.
     #[error("wrong kind of item")]
     WrongKind,
-    /// B6: an array of another number of elements than its block or field has.
+    /// B6: an array with another number of elements than its block or field has.
     #[error("wrong number of elements")]
     BadCount,
     /// B7: a version other than 7 (RFC 9171 section 4.3.1).
@@ -32,28 +35,30 @@ pub enum BundleFault {
     /// B9: an endpoint scheme other than dtn and ipn (RFC 9171 section 4.2.5.1).
     #[error("unknown endpoint scheme")]
     BadScheme,
-    /// B10: a scheme-specific part that its scheme does not have.
+    /// B10: a scheme-specific part that the scheme does not have.
     #[error("wrong scheme-specific part")]
     BadSpecificPart,
     /// B11: a dtn specific part of more than [`EID_LIMIT`](crate::EID_LIMIT) bytes.
     #[error("endpoint id too long")]
     EidTooLong,
-    /// B12: a check field of another length than its check type has.
+    /// B12: a check field whose length is not that of its check type.
     #[error("wrong check length")]
     BadCheckLength,
     /// B13: a check field that differs from the check of its block.
     #[error("check differs")]
     CheckDiffers,
-    /// B14: block number 0, or number 1 and type 1 apart (RFC 9171 section 4.1).
+    /// B14: a wrong block number (RFC 9171 section 4.1).
+    ///
+    /// No block has number 0. Number 1 is that of the payload block, type 1, and of no other block.
     #[error("wrong block number")]
     BadBlockNumber,
-    /// B15: the number of an earlier block.
+    /// B15: the number of an earlier block, repeated.
     #[error("repeated block number")]
     RepeatedBlockNumber,
     /// B16: more canonical blocks than [`BLOCK_LIMIT`](crate::BLOCK_LIMIT).
     #[error("too many blocks")]
     TooManyBlocks,
-    /// B17: no payload block as the last block (RFC 9171 section 4.1).
+    /// B17: no payload block, or another item than the break after it (RFC 9171 section 4.1).
     #[error("no payload block at the end")]
     NoPayloadLast,
 }
@@ -61,10 +66,10 @@ pub enum BundleFault {
 /// The state of a scan.
 #[derive(Clone, Copy, Debug, PartialEq, Eq)]
 pub enum State {
-    /// The bytes seen are a prefix of a bundle, and more are needed.
+    /// The bytes seen are no whole bundle and show no fault, so more are needed.
     Going,
     /// The bytes seen are a whole bundle.
     Ended,
-    /// The bytes seen are no bundle, however they go on: the fault and its offset.
+    /// The bytes seen are no bundle, whatever bytes follow: the fault and its offset.
     Failed(BundleFault, u64),
 }

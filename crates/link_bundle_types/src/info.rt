@@ -1,14 +1,14 @@
-//! What a whole bundle says of itself: as a value, and as a view of what another value holds.
+//! The fields of a whole bundle, by value and by reference.
 ghost use Rattle.std.specs.Prelude.{◌≡◌};
 ghost use Rattle.link_bundle_types.specs.BundleView.{viewed_info};
 ghost use Rattle.link_bundle_types.specs.ShortNames.{HasShortNames};
 
 use crate::eid::{Eid, EidView};
 
-/// The most canonical blocks of one bundle.
+/// The greatest number of canonical blocks in one bundle.
 pub const BLOCK_LIMIT: usize = 64;
 
-/// What a whole bundle says of itself (RFC 9171 sections 4.3.1 and 4.3.2).
+/// The fields of a whole bundle (RFC 9171 sections 4.3.1 and 4.3.2).
 #[derive(Debug, Drop, PartialEq, Eq)]
 pub struct BundleInfo {
     /// The bundle processing control flags (RFC 9171 section 4.2.3).
@@ -17,22 +17,22 @@ pub struct BundleInfo {
     pub destination: Eid,
     /// The endpoint ID of the source node.
     pub source: Eid,
-    /// The creation timestamp's time, in milliseconds since 2000-01-01 UTC (RFC 9171 section 4.2.6).
+    /// The creation time, in milliseconds since 2000-01-01 UTC (RFC 9171 section 4.2.6).
     pub time: u64,
-    /// The creation timestamp's sequence number (RFC 9171 section 4.2.7).
+    /// The sequence number of the creation timestamp (RFC 9171 section 4.2.7).
     pub sequence: u64,
-    /// How long the bundle is of use after its creation, in milliseconds.
+    /// The lifetime, in milliseconds after the creation time (RFC 9171 section 4.3.1).
     pub lifetime: u64,
-    /// Of a fragment the fragment offset and the total length, both in bytes (RFC 9171 section 4.3.1).
+    /// The offset and the total length of a fragment, both in bytes (RFC 9171 section 4.3.1).
     pub fragment: Option<(u64, u64)>,
-    /// How many canonical blocks the bundle has.
+    /// The number of canonical blocks.
     pub blocks: u64,
     /// The payload's length in bytes.
     pub payload: u64,
 }
 
 impl BundleInfo {
-    /// The same by reference.
+    /// The same bundle by reference.
     pub fn view(&self) -> BundleView<'_>
         ensures view { viewed_info result ≡ self.now }
         ensures short { HasShortNames self.now }
@@ -51,7 +51,9 @@ impl BundleInfo {
     }
 }
 
-/// A [`BundleInfo`] by reference: it has the same fields, and borrows the bytes of dtn endpoint IDs.
+/// A [`BundleInfo`] by reference, with the same fields.
+///
+/// It borrows the bytes of dtn endpoint IDs.
 #[derive(Clone, Copy, Debug, PartialEq, Eq)]
 pub struct BundleView<'a> {
     /// The bundle processing control flags (RFC 9171 section 4.2.3).
@@ -60,15 +62,15 @@ pub struct BundleView<'a> {
     pub destination: EidView<'a>,
     /// The endpoint ID of the source node.
     pub source: EidView<'a>,
-    /// The creation timestamp's time, in milliseconds since 2000-01-01 UTC (RFC 9171 section 4.2.6).
+    /// The creation time, in milliseconds since 2000-01-01 UTC (RFC 9171 section 4.2.6).
     pub time: u64,
-    /// The creation timestamp's sequence number (RFC 9171 section 4.2.7).
+    /// The sequence number of the creation timestamp (RFC 9171 section 4.2.7).
     pub sequence: u64,
-    /// How long the bundle is of use after its creation, in milliseconds.
+    /// The lifetime, in milliseconds after the creation time (RFC 9171 section 4.3.1).
     pub lifetime: u64,
-    /// Of a fragment the fragment offset and the total length, both in bytes (RFC 9171 section 4.3.1).
+    /// The offset and the total length of a fragment, both in bytes (RFC 9171 section 4.3.1).
     pub fragment: Option<(u64, u64)>,
-    /// How many canonical blocks the bundle has.
+    /// The number of canonical blocks.
     pub blocks: u64,
     /// The payload's length in bytes.
     pub payload: u64,

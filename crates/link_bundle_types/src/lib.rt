@@ -1,13 +1,14 @@
-//! What a scan of a bundle (RFC 9171 section 4) reports: the bundle, or its fault.
+//! The result of a scan of a bundle (RFC 9171 section 4): the bundle, or its fault.
 //!
-//! [`BundleInfo`] is what a whole bundle says of itself, with its endpoint IDs as [`Eid`]; [`BundleView`] and
-//! [`EidView`] are the same by reference. [`State`] is the state of a scan, and [`BundleFault`] why bytes are no bundle.
+//! [`BundleInfo`] has the fields of a whole bundle, with its endpoint IDs as [`Eid`].
+//! [`BundleView`] and [`EidView`] are the same by reference. [`State`] is the state of a scan.
+//! [`BundleFault`] is the reason why bytes are no bundle.
 //!
 //! ```ignore
 //! match state {
 //!     State::Going => {}                 // more bytes are needed
 //!     State::Ended => {}                 // the bytes are a bundle
-//!     State::Failed(fault, offset) => {} // they are none: why, and where that shows
+//!     State::Failed(fault, offset) => {} // the bytes are no bundle, which shows at this offset
 //! }
 //! ```
 #![tactic(auto)]

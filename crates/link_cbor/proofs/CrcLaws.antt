@@ -1,4 +1,5 @@
--- what follows from the definition of a check value: bytes one after another, and zero bits and bytes
+-- Consequences of the definition of a check value, for lists of bytes in a row and for zero bits
+-- and bytes.
 
 use Rattle.std.proofs.Common.{◌≡◌, ℕ, zero, suc, ◌+◌, ◌*◌, ◌/◌, ◌%◌, ◌^◌, ◌<◌, List, [], ◌∷◌, ◌++◌, replicate, refl, sym, ap, ◌∙◌, ⊎_elim, arith}
 use Rattle.std.specs.Prelude.{fold, bit_xor}
@@ -18,7 +19,7 @@ pub register_after-nil : (kind : CheckKind) (register : ℕ)
 unfolding register_after all_bits
 register_after-nil kind register = refl
 
--- the bytes of a second list go on from the register after the first
+-- the bytes of the second list are taken into the register after the first
 pub register_after-append : (kind : CheckKind) (register : ℕ) (first second : List ℕ)
     → register_after kind register (first ++ second)
     ≡ register_after kind (register_after kind register first) second
@@ -27,7 +28,7 @@ register_after-append kind register first second =
     ap (λ bits. fold (turn kind) register bits) (flat_map-append (low_bits 8) first second)
     ∙ fold-append (turn kind) register (flat_map (low_bits 8) first) (flat_map (low_bits 8) second)
 
--- the turns of this many zero bits of the message
+-- the turns of this many zero bits
 unfoldable pub zero_turns : CheckKind → ℕ → ℕ → ℕ
 zero_turns kind count register = fold (turn kind) register (replicate count 0)
 
@@ -62,7 +63,7 @@ bits_differ (suc (suc x)) y a b other = absurd (omega arith)
 bits_differ zero (suc (suc y)) a b other = absurd (omega arith)
 bits_differ (suc zero) (suc (suc y)) a b other = absurd (omega arith)
 
--- a bit of the message may be exclusive-ored into the register first, and a zero bit take its turn
+-- a bit of the message may be exclusive-ored into the register before the turn of a zero bit
 pub turn_first : (kind : CheckKind) (register number : ℕ)
     → bit_xor (turn kind register (number % 2)) (number / 2) ≡ turn kind (bit_xor register number) 0
 turn_first kind register number =
@@ -94,7 +95,7 @@ turns_first kind (suc count) register number below =
     turns_first kind count (turn kind register (number % 2)) (number / 2) (omega (arith, pow-suc 2 count))
     ∙ ap (λ r. fold (turn kind) r (replicate count 0)) (turn_first kind register number)
 
--- a byte may be exclusive-ored into the register first, and eight zero bits take their turns
+-- a byte may be exclusive-ored into the register before the turns of eight zero bits
 pub register_after-byte : (kind : CheckKind) (register byte : ℕ) → byte < 256
     → register_after kind register (byte ∷ []) ≡ zero_turns kind 8 (bit_xor register byte)
 unfolding register_after all_bits
@@ -120,7 +121,7 @@ register_after-zeros kind register (suc count) =
     ∙ sym (zero_turns-add kind 8 (8 * count) register)
     ∙ ap (λ turns. zero_turns kind turns register) eights
 
--- a byte taken into a register of zero, and zero bytes after it
+-- a byte and zero bytes after it, from a register of zero
 pub register_after-byte_zeros : (kind : CheckKind) (byte count : ℕ) → byte < 256
     → register_after kind 0 (byte ∷ replicate count 0) ≡ zero_turns kind (8 * (count + 1)) byte
 register_after-byte_zeros kind byte count below =

@@ -1,4 +1,4 @@
--- a piece that is stepped through byte by byte
+-- A piece that is consumed byte by byte.
 
 use Rattle.std.proofs.Common.{◌≡◌, ℕ, ◌+◌, ◌<◌, ◌≤◌, Bool, true, false, List, [], ◌∷◌, ◌++◌, length, take, drop, get_or, sym, ap, ◌∙◌, append_assoc, arith}
 use Rattle.std.proofs.lemmas.List.{append-nil, take_more, drop_more, length-take-le, drop_all}
@@ -6,12 +6,12 @@ use Rattle.link_cbor.proofs.Joins.{joined_more}
 use Rattle.link_cbor.specs.Pieces.{taken}
 use Rattle.link_cbor.specs.PieceLaws.{taken-cons, taken-nil, taken-idle}
 
--- after `count` bytes of the piece, what is taken is these and what is taken of the rest
+-- the bytes taken are the first `count` bytes of the piece and those taken of the rest
 pub record TakenSoFar (goes : List ℕ → Bool) (seen bytes : List ℕ) (count : ℕ) : Type 0 where
   pub splits : taken goes seen bytes ≡ take count bytes
       ++ taken goes (seen ++ take count bytes) (drop count bytes)
 
--- the same at the end, with how many they are
+-- the bytes taken at the end, and their number
 pub record TakenInAll (goes : List ℕ → Bool) (seen bytes : List ℕ) (count : ℕ) : Type 0 where
   pub front : taken goes seen bytes ≡ take count bytes
   pub size : count ≡ length (taken goes seen bytes)

@@ -1,4 +1,4 @@
--- the head that some bytes begin with, read at once
+-- The head that some bytes begin with, read at once.
 
 use Rattle.std.proofs.Common.{◌≡◌, ℕ, suc, ◌+◌, ◌-◌, ◌*◌, ◌/◌, ◌^◌, ◌<◌, ◌≤◌, true, false, List, [], ◌∷◌, ◌++◌, length, take, drop, get_or, sym, refl, ap, ◌∙◌, arith}
 use Rattle.std.specs.Prelude.{◌==◌, bit_and}
@@ -19,7 +19,7 @@ pub not_empty : (bytes : List ℕ) → (length bytes == 0) ≡ false → 0 < len
 not_empty [] some = cc
 not_empty (first ∷ rest) some = omega arith
 
--- by the first byte and the others
+-- a head by its first byte and the others
 pub by_first : (bytes : List ℕ) → 0 < length bytes
     → head_front bytes ≡ front_by (get_or bytes 0 0 / 32)
     (bit_and (get_or bytes 0 0) 31) (drop 1 bytes)
@@ -30,7 +30,7 @@ by_first (first ∷ rest) some = ap (λ (information : ℕ). front_by (first / 3
 others : (bytes : List ℕ) → take (length bytes - 1) (drop 1 bytes) ≡ drop 1 bytes
 others bytes = ap (λ (size : ℕ). take size (drop 1 bytes)) (sym (length-drop 1 bytes)) ∙ take-length (drop 1 bytes)
 
--- additional information 24 to 27
+-- a head with additional information 24 to 27
 pub by_argument : (bytes : List ℕ) (information : ℕ) → 0 < length bytes
     → bit_and (get_or bytes 0 0) 31 ≡ information → 24 ≤ information → information < 28
     → head_front bytes ≡ argument_front (get_or bytes 0 0 / 32) (2 ^ (information - 24))
@@ -44,7 +44,7 @@ shifted : (first rest place byte : ℕ)
     → first * (place * 256) + (rest * 256 + byte) ≡ (first * place + rest) * 256 + byte
 shifted first rest place byte = omega arith
 
--- a number of one byte more
+-- a number with one more byte
 pub big_endian-push : (bytes : List ℕ) (byte : ℕ)
     → big_endian (bytes ++ byte ∷ []) ≡ big_endian bytes * 256 + byte
 unfolding big_endian

@@ -1,4 +1,4 @@
--- What follows from the definition of a head, for scans of more than one.
+-- Consequences of the definition of a head, for scans of more than one head.
 
 use Rattle.std.proofs.Common.{◌≡◌, ℕ, ◌-◌, ◌/◌, ◌%◌, ◌^◌, ◌<◌, ◌≤◌, false, nat_lt, List, [], ◌∷◌, ◌++◌, length, take, Some, refl, sym, ap, ◌∙◌, ⊎_elim, arith}
 use Rattle.std.proofs.lemmas.List.{take-append-le, length-append}
@@ -45,7 +45,7 @@ front_by-none major information rest least =
     let second : 28 ≤ information = omega arith in
     rw (le-ltb information 24 first, le-ltb information 28 second, le-ltb information 31 least) refl
 
--- ---- what is known of a head stays
+-- ---- a head that is whole or ill-formed does not change
 
 argument_stays : (major size : ℕ) (rest more : List ℕ)
     → is_cut (argument_front major size rest) ≡ false
@@ -88,7 +88,7 @@ front_stays major information rest more (reserved least below) outcome =
 front_stays major information rest more (none least) outcome =
     front_by-none major information (rest ++ more) least ∙ sym (front_by-none major information rest least)
 
--- a head that is known to be complete or ill-formed is so whatever bytes follow
+-- a head that is known to be whole or ill-formed stays so whatever bytes follow
 pub uncut_stays : (seen more : List ℕ) → is_cut (head_front seen) ≡ false
     → head_front (seen ++ more) ≡ head_front seen
 unfolding head_front

@@ -1,4 +1,4 @@
--- a history and the bytes of a slice, with one more of them
+-- A history and the first bytes of a slice, with one more byte.
 
 use Rattle.std.proofs.Common.{◌≡◌, ℕ, ◌+◌, ◌<◌, List, ◌∷◌, [], ◌++◌, length, take, get_or, sym, ap, ◌∙◌}
 use Rattle.std.proofs.lemmas.List.{append_assoc, take_more}

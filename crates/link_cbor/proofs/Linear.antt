@@ -1,4 +1,4 @@
--- the register is linear: it is an exclusive or of what each byte alone makes of it
+-- The register is linear: it is the exclusive or of the registers that each byte leads to alone.
 
 use Rattle.std.proofs.Common.{◌≡◌, ℕ, zero, suc, ◌+◌, ◌*◌, ◌/◌, ◌%◌, ◌^◌, ◌<◌, List, [], ◌∷◌, length, replicate, refl, sym, ap, ap₂, ◌∙◌, ⊎_elim, arith}
 use Rattle.std.specs.Prelude.{fold}
@@ -12,7 +12,7 @@ use Rattle.link_cbor.specs.Crc.{polynomial, turn, register_after}
 use Rattle.link_cbor.specs.Head.{AreBytes}
 use Rattle.link_cbor.proofs.CrcLaws.{register_after-nil, register_after-cons, zero_turns, zero_turns-none, zero_turns-add, turn-same, turn-other, turn_first}
 
--- as many turns as a number has zeros in its lowest bits shift them out
+-- zeros in the lowest bits of a number are shifted out, one in each turn
 zero_turns-shift : (kind : CheckKind) (count number : ℕ)
     → zero_turns kind count (number * 2 ^ count) ≡ number
 unfolding zero_turns
@@ -25,7 +25,7 @@ zero_turns-shift kind (suc count) number =
     ap (λ r. fold (turn kind) r (replicate count 0)) (turn-same kind (number * 2 ^ suc count) 0 none ∙ half)
     ∙ zero_turns-shift kind count number
 
--- the other bit of the message differs by the polynomial
+-- the two bits of a message lead to registers that differ by the polynomial
 turn-one : (kind : CheckKind) (register : ℕ)
     → turn kind register 1 ≡ bit_xor (turn kind register 0) (polynomial kind)
 turn-one kind register =
@@ -55,7 +55,8 @@ turn-xor kind first second =
     ∙ ap (bit_xor (turn kind first 0)) (xor_comm (polynomial kind) (second / 2) ∙ sym (turn-other kind second 0 odd)))
     (cases_eq (second % 2) 0)
 
--- after zero bits, an exclusive or of two registers is that of the registers after them
+-- after zero bits, the exclusive or of two registers is the exclusive or of the registers after
+-- them
 zero_turns-xor : (kind : CheckKind) (count first second : ℕ)
     → zero_turns kind count (bit_xor first second)
     ≡ bit_xor (zero_turns kind count first) (zero_turns kind count second)
@@ -65,7 +66,8 @@ zero_turns-xor kind (suc count) first second =
     ap (λ r. fold (turn kind) r (replicate count 0)) (turn-xor kind first second)
     ∙ zero_turns-xor kind count (turn kind first 0) (turn kind second 0)
 
--- what is exclusive-ored into the register before some bytes is, after them, as after that many zero bytes
+-- A number is exclusive-ored into the register before some bytes. It has the same effect after them
+-- as after that many zero bytes.
 register_after-xor : (kind : CheckKind) (register number : ℕ) (bytes : List ℕ) → AreBytes bytes
     → register_after kind (bit_xor register number) bytes
     ≡ bit_xor (register_after kind register bytes) (zero_turns kind (8 * length bytes) number)
@@ -85,8 +87,8 @@ register_after-xor kind register number (byte ∷ bytes) all =
     ∙ ap₂ bit_xor (sym (register_after-cons kind register byte bytes below))
     (sym (zero_turns-add kind 8 (8 * length bytes) number) ∙ ap (λ count. zero_turns kind count number) eights)
 
--- the first byte of a message makes its part alone, with the register's lowest byte exclusive-ored in and a zero byte for
--- each that follows; the other bytes go on from what is left of the register
+-- The first byte of a message and the lowest byte of the register are exclusive-ored, and one zero
+-- byte follows for each other byte. The other bytes are taken into the rest of the register.
 pub register_after-split : (kind : CheckKind) (register byte : ℕ) (bytes : List ℕ)
     → byte < 256 → AreBytes bytes
     → register_after kind register (byte ∷ bytes)

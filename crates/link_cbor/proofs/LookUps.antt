@@ -1,4 +1,4 @@
--- a message by look-ups in tables
+-- A message by look-ups in tables.
 
 use Rattle.std.proofs.Common.{◌≡◌, ℕ, ◌+◌, ◌-◌, ◌*◌, ◌/◌, ◌%◌, ◌^◌, ◌<◌, List, [], ◌∷◌, length, get_or, drop, sym, ap, ap₂, ◌∙◌, arith, length-drop}
 use Rattle.std.specs.Int.Bits.{bit_xor}
@@ -12,7 +12,7 @@ use Rattle.link_cbor.specs.Head.{AreBytes}
 use Rattle.link_cbor.proofs.CrcLaws.{register_after-byte_zeros}
 use Rattle.link_cbor.proofs.Linear.{register_after-split}
 
--- a byte of a message is looked up in the table of as many zero bytes as the message has after it
+-- the first byte of a message is looked up in the table whose number is that of the bytes after it
 pub looked_up : (kind : CheckKind) (tables : List (List ℕ)) (register byte : ℕ) (bytes : List ℕ)
     → AreTables kind tables → byte < 256 → AreBytes bytes → length bytes < 16
     → register_after kind register (byte ∷ bytes)
@@ -25,8 +25,8 @@ looked_up kind tables register byte bytes rule below all few =
     (sym (rule (length bytes) (bit_xor (register % 256) byte) few index
     ∙ register_after-byte_zeros kind (bit_xor (register % 256) byte) (length bytes) index))
 
--- the same for a message of sixteen bytes from its end: `sum` is the register after the last `zeros` bytes, from what is
--- left of the register before them
+-- The same for a message of sixteen bytes, from its end. `sum` is the register after the last
+-- `zeros` bytes, from the rest of the register before them.
 pub looked_up-before : (kind : CheckKind) (tables : List (List ℕ)) (register : ℕ)
     (bytes : List ℕ) (sum zeros : ℕ)
     → AreTables kind tables → AreBytes bytes → length bytes ≡ 16 → zeros < 16

@@ -1,4 +1,4 @@
--- what a check holds after more bytes
+-- The bytes of a check after more of them are pushed.
 
 use Rattle.std.proofs.Common.{◌≡◌, ℕ, zero, suc, ◌+◌, ◌*◌, ◌<◌, List, ◌++◌, take, drop, sym, ap, ap₂, ◌∙◌, arith}
 use Rattle.std.specs.List.{concat}
@@ -12,7 +12,7 @@ use Rattle.link_cbor.specs.Head.{AreBytes}
 use Rattle.link_cbor.specs.Pushed.{HasPushed}
 use Rattle.link_cbor.proofs.CrcLaws.{register_after-append}
 
--- a check whose register has gone on by more bytes
+-- the register of the check has consumed more bytes
 pub pushed_more : (kind : CheckKind) (old new : Check) (bytes more : List ℕ)
     → HasPushed kind old bytes → AreBytes more
     → new.kind ≡ old.kind → new.register ≡ register_after old.kind old.register more
@@ -24,7 +24,7 @@ pushed_more kind old new bytes more pushed all same went = record {
       ∙ sym (register_after-append kind (all_ones kind) bytes more);
 }
 
--- the blocks of a slice are its bytes, but for those after the last whole block
+-- the blocks of a slice are its bytes without those after the last whole block
 pub concat-first_chunks : (size count : ℕ) (bytes : List ℕ)
     → concat (first_chunks size count bytes) ≡ take (count * size) bytes
 concat-first_chunks size zero bytes =

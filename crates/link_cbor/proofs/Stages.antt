@@ -1,4 +1,4 @@
--- the stages of a scan, after one more byte
+-- The stages of a scan, after one more byte.
 
 use Rattle.std.proofs.Common.{◌≡◌, ℕ, zero, suc, ◌+◌, ◌-◌, ◌*◌, ◌/◌, ◌%◌, ◌^◌, ◌<◌, ◌≤◌, true, false, ◌&&◌, ◌||◌, ◌==◌, nat_lt, nat_le, List, [], ◌∷◌, ◌++◌, length, take, Some, None, refl, sym, ap, ◌∙◌, arith, ⊎_elim}
 use Rattle.std.proofs.lemmas.List.{append-nil, append_assoc, length-take-le}
@@ -15,7 +15,7 @@ use Rattle.link_cbor.specs.Head.{Cut, Whole, big_endian, head_front, front_of, s
 use Rattle.link_cbor.proofs.HeadLaws.{argument_front-cut, argument_front-there, front_by-small, front_by-argument, front_by-reserved, front_by-none}
 use Rattle.link_cbor.specs.Stage.{front_from, outcome_at, stage_fits, StandsAt}
 
--- what `stage_fits` says of an argument
+-- the bounds of an argument, from `stage_fits`
 pub record ArgumentFits (count left value : ℕ) : Type 0 where
   pub wanted : 0 < left
   pub most : left ≤ 8
@@ -42,7 +42,7 @@ unfolding stage_fits
 stage_fits-argument count major left value facts =
     rw (lt-ltb 0 left facts.wanted, le-leb left 8 facts.most, le-leb (count + left) 9 facts.room, lt-ltb value (256 ^ (8 - left)) facts.fits) refl
 
--- what a scan returns is what the bytes seen begin with
+-- the outcome of a scan is the head that the bytes seen begin with
 outcome_from : (count : ℕ) (stage : Stage) → stage_fits count stage ≡ true
     → front_from count stage [] ≡ front_of (outcome_at stage) count
 unfolding front_from head_front argument_front
@@ -63,7 +63,7 @@ pub outcome_front : (count : ℕ) (stage : Stage) (seen : List ℕ) → count �
 outcome_front count stage seen size stands =
     ap head_front (sym (append-nil seen)) ∙ stands.reads [] ∙ outcome_from count stage stands.fits ∙ ap (front_of (outcome_at stage)) size
 
--- what it returns is what a scan of these bytes returns
+-- the outcome at a stage is that of a scan of these bytes
 pub outcome_step : (stage : Stage) (seen : List ℕ)
     → head_front seen ≡ front_of (outcome_at stage) (length seen) → outcome_at stage ≡ step_of seen
 outcome_step stage seen front = sym (ap step_at front ∙ step_at_front (outcome_at stage) (length seen))
@@ -109,7 +109,7 @@ argument_more count major left value byte more =
     ∙ sym (from-there (count + 1) major left (value * 256 + byte) more there))
     (cases_lt (length more) left)
 
--- an argument of which no byte is left
+-- an argument whose bytes are all there
 argument_done : (count major value : ℕ) (more : List ℕ)
     → front_from count (Argument major 0 value) more
     ≡ front_from count (WholeHead (record { major = major; value = Some value })) more
@@ -134,7 +134,7 @@ argument_end : (count major left value byte : ℕ) (more : List ℕ) → left �
 argument_end count major left value byte more last =
     rw last (argument_more count major 0 value byte more ∙ argument_done (count + 1) major (value * 256 + byte) more)
 
--- the argument stays in 64 bits
+-- the argument fits in 64 bits
 pub value_fits : (count major left value byte : ℕ)
     → stage_fits count (Argument major left value) ≡ true → byte < 256
     → value * 256 + byte < 2 ^ 64
@@ -163,7 +163,7 @@ more_fits count left value byte facts below other =
       fits = rw (longer, pow-suc 256 (8 - left)) (omega arith);
     }
 
--- one more byte of an argument, and its last one
+-- one more byte of an argument, which may be its last
 pub stands-more : (count major left value byte : ℕ)
     → stage_fits count (Argument major left value) ≡ true → byte < 256
     → (left ≡ 1 → ⊥)
@@ -251,7 +251,7 @@ unfolding stage_fits front_from
 stands-simple major information seven simple =
     rw (seven, simple) (record { fits = refl; reads = λ more. front_by-argument 7 24 more (omega arith) (omega arith) })
 
--- an argument that no rule forbids
+-- an argument that is not a two-byte simple value
 plain_argument : (major size value : ℕ) → (major ≡ 7 → size ≡ 1 → ⊥)
     → with_argument major size value
     ≡ Whole (record { major = major; value = Some value }) (1 + size)
@@ -275,7 +275,7 @@ argument_begins major size more other =
     ∙ sym (from-there 1 major size 0 more there))
     (cases_lt (length more) size)
 
--- only information 24 says that one byte follows
+-- one byte follows only for additional information 24
 one_byte : (information : ℕ) → 24 ≤ information → 2 ^ (information - 24) ≡ 1 → information ≡ 24
 one_byte information least one =
     ⊎_elim
@@ -307,7 +307,7 @@ stands-argued major information left least below other is =
           ∙ rw same (argument_begins major (2 ^ (information - 24)) more (λ seven one. other seven (one_byte information least one)));
     }
 
--- the stage after the first byte is that of its major type and additional information
+-- the first byte's major type and additional information determine the stage after it
 first_reads : (first : ℕ) (stage : Stage)
     → StandsAt 1 stage (front_by (first / 32) (bit_and first 31))
     → StandsAt 1 stage (λ more. head_front (first ∷ more))

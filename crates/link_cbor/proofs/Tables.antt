@@ -1,4 +1,5 @@
--- the tables against the definition: one test of all entries, which is computed, and what it says of each entry
+-- The tables compared with their definition: one test of all entries is computed, and the facts
+-- about each entry follow from it.
 
 use Rattle.std.proofs.Common.{◌≡◌, ℕ, zero, suc, ◌+◌, ◌*◌, ◌<◌, Bool, true, false, ◌&&◌, ◌==◌, List, [], ◌∷◌, length, get_or, refl, sym, ap, ◌∙◌, zero-add, arith}
 use Rattle.std.specs.List.{range_with_len}
@@ -12,7 +13,7 @@ use Rattle.link_cbor.specs.Crc.{turn}
 use Rattle.link_cbor.specs.CrcTables.{AreTables}
 use Rattle.link_cbor.proofs.CrcLaws.{zero_turns, zero_turns-add, register_after-byte_zeros}
 
--- each entry is the register one zero byte after the register in its place of the list before
+-- each entry is the register in the same position of the first list, after one zero byte
 unfoldable pub is_next : CheckKind → List ℕ → List ℕ → Bool
 is_next kind [] [] = true
 is_next kind [] (entry ∷ entries) = false
@@ -20,7 +21,7 @@ is_next kind (register ∷ registers) [] = false
 is_next kind (register ∷ registers) (entry ∷ entries) =
     entry == zero_turns kind 8 register && is_next kind registers entries
 
--- the first table is next to these registers, and each later one to the table before it
+-- the first table follows from these registers, and each later table from the one before it
 unfoldable pub are_next : CheckKind → List ℕ → List (List ℕ) → Bool
 are_next kind registers [] = true
 are_next kind registers (table ∷ tables) = is_next kind registers table && are_next kind table tables

@@ -1,31 +1,32 @@
--- the check values of bundles (RFC 9171 section 4.2.1): CRC-16/X-25 and CRC-32C, as a fold over all bits
+-- The check values of bundles (RFC 9171 section 4.2.1): CRC-16/X-25 and CRC-32C, as a fold over all
+-- bits.
 
 use Rattle.std.specs.Prelude.{ℕ, zero, suc, ◌/◌, ◌%◌, ◌==◌, List, [], ◌∷◌, fold, if◌then◌else◌, bit_xor}
 use Rattle.std.specs.List.{flat_map}
 use Rattle.link_cbor.specs.declared.check.CheckKind.{CheckKind}
 use Rattle.link_cbor.specs.declared.check.CheckKind.TheVariants.{Crc16, Crc32}
 
--- the polynomial read in reverse: 1021 of 16 bits, 1edc6f41 of 32 bits
+-- the polynomial (1021 in 16 bits, 1edc6f41 in 32 bits) with its bits in reverse order
 abbrev pub polynomial : CheckKind → ℕ
 polynomial Crc16 = 0x8408
 polynomial Crc32 = 0x82f6_3b78
 
--- the register at the start, and what is exclusive-ored at the end
+-- the initial register, which is also exclusive-ored into the final one
 abbrev pub all_ones : CheckKind → ℕ
 all_ones Crc16 = 0xffff
 all_ones Crc32 = 0xffff_ffff
 
--- the lowest bits of a number, the least first
+-- the lowest bits of a number, the least significant first
 unfoldable pub low_bits : ℕ → ℕ → List ℕ
 low_bits zero number = []
 low_bits (suc count) number = (number % 2) ∷ low_bits count (number / 2)
 
--- all bits of the bytes, each byte's least bit first
+-- all bits of the bytes, with each byte's least significant bit first
 unfoldable pub all_bits : List ℕ → List ℕ
 all_bits bytes = flat_map (low_bits 8) bytes
 
--- one bit of the message: the register goes right by one, and takes the polynomial in where the bit that left it
--- differs from the message's
+-- One bit of the message shifts the register right by one. If the bit shifted out differs from the
+-- message's bit, the polynomial is exclusive-ored in.
 unfoldable pub turn : CheckKind → ℕ → ℕ → ℕ
 turn kind register bit =
     if register % 2 == bit then register / 2 else bit_xor (register / 2) (polynomial kind)

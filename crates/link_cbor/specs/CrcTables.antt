@@ -1,10 +1,11 @@
--- tables of registers, by which a check takes bytes
+-- The tables of registers that a check looks bytes up in.
 
 use Rattle.std.specs.Prelude.{◌≡◌, ℕ, ◌<◌, List, [], ◌∷◌, replicate, slice_index, slice_index_or}
 use Rattle.link_cbor.specs.declared.check.CheckKind.{CheckKind}
 use Rattle.link_cbor.specs.Crc.{register_after}
 
--- table k has, for each byte, the register after that byte and k zero bytes, from a register of zero
+-- table k has, for each byte, the register after that byte and k zero bytes, from a register of
+-- zero
 abbrev pub AreTables : CheckKind → List (List ℕ) → Type 0
 AreTables kind tables =
     (k byte : ℕ) → k < 16 → byte < 256

@@ -1,18 +1,19 @@
--- The laws of `taken`, over lists alone. They stand here since the trait `Piecewise` cites them in its own laws.
+-- The laws of `taken`, over lists alone. They are in this folder because the trait `Piecewise`
+-- cites them in its own laws.
 
 use Rattle.std.proofs.Common.{◌≡◌, ℕ, zero, suc, ◌<◌, Bool, true, false, List, [], ◌∷◌, ◌++◌, length, take, refl, sym, ap, ◌∙◌, ◌⊎◌, inl, inr, ⊎_elim, append_assoc, arith}
 use Rattle.std.proofs.lemmas.List.{append-nil, take-take, length-take}
 use Rattle.std.proofs.lemmas.Bool.{cases_Bool, cases_order, false≢true}
 use Rattle.link_cbor.specs.Pieces.{taken, IsShortestFront, JoinsPieces, TakesShortest}
 
--- nothing is taken where nothing is needed
+-- no byte is taken if none is needed
 pub taken-idle : (goes : List ℕ → Bool) (seen bytes : List ℕ) → goes seen ≡ false
     → taken goes seen bytes ≡ []
 unfolding taken
 taken-idle goes seen [] idle = refl
 taken-idle goes seen (byte ∷ bytes) idle = rw idle refl
 
--- a byte is taken where more are needed
+-- a byte is taken if more are needed
 pub taken-cons : (goes : List ℕ → Bool) (seen : List ℕ) (byte : ℕ)
     (bytes : List ℕ) → goes seen ≡ true
     → taken goes seen (byte ∷ bytes) ≡ byte ∷ taken goes (seen ++ byte ∷ []) bytes
@@ -93,7 +94,7 @@ taken_is_shortest goes seen (byte ∷ bytes) =
     (shortest-none goes seen (byte ∷ bytes) (inl idle)))
     (cases_Bool (goes seen))
 
--- no prefix that stops is shorter than one before whose end more bytes are needed
+-- a shortest prefix is not shorter than another shortest prefix of the same bytes
 not_shorter : (goes : List ℕ → Bool) (seen bytes short long : List ℕ)
     → IsShortestFront goes seen bytes short
     → IsShortestFront goes seen bytes long → length short < length long → ⊥

@@ -1,4 +1,4 @@
--- what a check has been given
+-- The bytes that were pushed to a check.
 
 use Rattle.std.specs.Prelude.{◌≡◌, ℕ, List}
 use Rattle.link_cbor.specs.declared.check.Check.{Check}
@@ -6,7 +6,7 @@ use Rattle.link_cbor.specs.declared.check.CheckKind.{CheckKind}
 use Rattle.link_cbor.specs.Crc.{all_ones, register_after}
 use Rattle.link_cbor.specs.Head.{AreBytes}
 
--- the check is of this kind, and was given exactly these bytes
+-- the check is of this kind, and exactly these bytes were pushed to it
 pub record HasPushed (kind : CheckKind) (check : Check) (bytes : List ℕ) : Type 0 where
   pub all_bytes : AreBytes bytes
   pub same_kind : check.kind ≡ kind

@@ -1,4 +1,4 @@
--- what a stage of a scan says of the head whose first bytes it has seen
+-- The head that a stage of a scan determines.
 
 use Rattle.std.specs.Prelude.{◌≡◌, IsTrue, ℕ, ◌+◌, ◌-◌, ◌*◌, ◌^◌, Bool, true, false, ◌&&◌, ◌==◌, nat_lt, nat_le, List, length, take, Some, if◌then◌else◌}
 use Rattle.link_cbor.specs.declared.head.HeadStep.{HeadStep}
@@ -7,7 +7,7 @@ use Rattle.link_cbor.specs.declared.head_scan.Stage.{Stage}
 use Rattle.link_cbor.specs.declared.head_scan.Stage.TheVariants.{Start, Argument, Simple, Whole as WholeHead, IllFormed as NoHead}
 use Rattle.link_cbor.specs.Head.{HeadFront, Cut, IllFormed, Whole, big_endian, head_front, argument_front}
 
--- what this stage makes of the bytes that follow, where `count` bytes were seen
+-- the head at this stage after `count` bytes, if the bytes `more` follow
 unfoldable pub front_from : ℕ → Stage → List ℕ → HeadFront
 front_from count Start more = head_front more
 front_from count (Argument major left value) more =
@@ -20,7 +20,7 @@ front_from count Simple more = argument_front 7 1 more
 front_from count (WholeHead head) more = Whole head count
 front_from count NoHead more = IllFormed
 
--- more bytes are needed
+-- whether more bytes are needed
 abbrev pub wants_more : Stage → Bool
 wants_more Start = true
 wants_more (Argument major left value) = true
@@ -28,7 +28,7 @@ wants_more Simple = true
 wants_more (WholeHead head) = false
 wants_more NoHead = false
 
--- what the bytes that were seen say of the head
+-- the outcome at this stage
 abbrev pub outcome_at : Stage → HeadStep
 outcome_at Start = More
 outcome_at (Argument major left value) = More
@@ -36,7 +36,8 @@ outcome_at Simple = More
 outcome_at (WholeHead head) = Done head
 outcome_at NoHead = Bad
 
--- what keeps the argument in 64 bits: its bytes are at most eight, of which those that were seen encode `value`
+-- The bounds that keep the argument in 64 bits. An argument has at most eight bytes, and those seen
+-- encode `value`.
 unfoldable pub stage_fits : ℕ → Stage → Bool
 stage_fits count Start = count == 0
 stage_fits count (Argument major left value) =
@@ -45,7 +46,8 @@ stage_fits count Simple = count == 1
 stage_fits count (WholeHead head) = nat_le count 9
 stage_fits count NoHead = nat_le count 9
 
--- a scan that has seen `count` bytes is at this stage, where `reading` is what the head is for the bytes that follow
+-- The stage is that of a scan which has seen `count` bytes. For all bytes that follow, `reading` is
+-- the head that the stage determines.
 pub record StandsAt (count : ℕ) (stage : Stage) (reading : List ℕ → HeadFront) : Type 0 where
   pub fits : IsTrue (stage_fits count stage)
   pub reads : (more : List ℕ) → reading more ≡ front_from count stage more

@@ -1,4 +1,4 @@
-//! The check values of bundles, RFC 9171 section 4.2.1.
+//! The check values of bundles (RFC 9171 section 4.2.1).
 ghost use Rattle.std.specs.Prelude.{◌≡◌, ℕ, ◌∷◌, [], ◌++◌, List};
 ghost use Rattle.link_cbor.specs.Crc.{all_ones, crc};
 ghost use Rattle.link_cbor.specs.CrcTables.{AreTables};
@@ -9,7 +9,7 @@ mod register;
 
 use self::register::{Tables, register_after, register_after_blocks};
 
-/// Which check field a block has, RFC 9171 section 4.2.1.
+/// The kind of a block's check (RFC 9171 section 4.2.1).
 #[derive(Clone, Copy, PartialEq, Eq, Debug)]
 pub enum CheckKind {
     /// CRC-16/X-25, two bytes.
@@ -19,7 +19,7 @@ pub enum CheckKind {
 }
 
 impl CheckKind {
-    /// The register at the start, and what is exclusive-ored into it at the end.
+    /// The initial register, which is also exclusive-ored into the final one.
     fn all_ones(self) -> u32
         ensures { result ≡ all_ones self }
     {
@@ -29,7 +29,7 @@ impl CheckKind {
         }
     }
 
-    /// The tables by which a register of this kind takes bytes.
+    /// The look-up tables for a register of this kind.
     #[inline(always)]
     fn tables(self) -> &'static Tables
         ensures { AreTables self result.now }
@@ -41,8 +41,9 @@ impl CheckKind {
     }
 }
 
-/// The check value of the bytes pushed so far. Of a block, these are its whole encoding with zeros in place of the check
-/// field's bytes.
+/// The check value of the bytes pushed so far.
+///
+/// For a block, push its whole encoding with zeros as the content of its check field.
 #[derive(Clone, Copy, PartialEq, Eq, Debug)]
 pub struct Check {
     kind: CheckKind,
@@ -53,7 +54,7 @@ impl Check {
     ghost use Rattle.link_cbor.specs.Pushed.{HasPushed};
     ghost use Rattle.link_cbor.specs.declared.check.CheckKind.{CheckKind};
 
-    /// The check of no bytes.
+    /// A check to which no byte was pushed.
     pub fn new(kind: CheckKind) -> Check
         ensures { HasPushed kind result [] }
     {
@@ -63,7 +64,7 @@ impl Check {
         }
     }
 
-    /// Takes one more byte.
+    /// Pushes one byte.
     pub fn push(&mut self, byte: u8)
         ensures { (kind : CheckKind) (before : List ℕ)
             → HasPushed kind self.old before → HasPushed kind self.new (before ++ byte ∷ []) }
@@ -71,7 +72,7 @@ impl Check {
         self.register = register_after(self.kind.tables(), self.register, byte);
     }
 
-    /// Takes the bytes of the slice, in order.
+    /// Pushes the bytes of the slice, in order.
     pub fn push_slice(&mut self, bytes: &[u8])
         ensures { (kind : CheckKind) (before : List ℕ)
             → HasPushed kind self.old before → HasPushed kind self.new (before ++ bytes.now) }
@@ -83,7 +84,9 @@ impl Check {
         }
     }
 
-    /// The check value of the bytes pushed so far, in the low 16 bits for CRC-16/X-25.
+    /// The check value of the bytes pushed so far.
+    ///
+    /// For CRC-16/X-25 it is in the low 16 bits.
     pub fn value(&self) -> u32
         ensures { (kind : CheckKind) (bytes : List ℕ) → HasPushed kind self.now bytes
             → result ≡ crc kind bytes }

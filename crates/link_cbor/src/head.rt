@@ -1,23 +1,27 @@
-//! The head of a CBOR data item, and what a scan knows of it.
+//! The head of a CBOR data item, and what a scan reports about it.
 ghost use Rattle.std.specs.Prelude.{◌≡◌, ◌+◌, ◌<◌, ◌≤◌, length, get_or, IfSome, bit_and};
 ghost use Rattle.link_cbor.specs.Head.{big_endian};
 
-/// The head of a CBOR data item, RFC 8949 section 3.
+/// The head of a CBOR data item (RFC 8949 section 3).
 #[derive(Clone, Copy, PartialEq, Eq, Debug)]
 pub struct Head {
     /// The major type, 0 to 7.
     pub major: u8,
-    /// The argument, however many bytes it was encoded in. `None` for additional information 31: an indefinite length
-    /// for major types 2 to 5, the break for major type 7.
+    /// The value of the argument, or `None` for additional information 31.
+    ///
+    /// The value does not depend on the number of bytes that encode it. Additional information 31
+    /// is an indefinite length (major types 2 to 5) or the break (major type 7).
     pub value: Option<u64>,
 }
 
 impl Head {
     ghost use Rattle.link_cbor.specs.Head.{head_front, argument_front, no_argument, whole_of};
 
-    /// The head that the bytes begin with, and how many of them it is. `None` where they end inside it, and where no
-    /// well-formed head begins like this.
-    // Most heads are one byte: where they are read, that is to be no call.
+    /// Reads the head at the start of the bytes, and returns it with its length in bytes.
+    ///
+    /// Returns `None` if the bytes end inside the head, and if no well-formed head begins with
+    /// them.
+    // Inlined: most heads are one byte, and reading such a head should cost no call.
     #[inline(always)]
     pub fn front(bytes: &[u8]) -> Option<(Head, usize)>
         ensures front { result ≡ whole_of (head_front bytes.now) }
@@ -36,7 +40,7 @@ impl Head {
         Head::longer(bytes)
     }
 
-    /// A head whose additional information is not its argument.
+    /// Reads a head whose additional information is at least 24, so it is not the argument itself.
     fn longer(bytes: &[u8]) -> Option<(Head, usize)>
         requires some { 0 < length bytes.now }
         requires information { 24 ≤ bit_and (get_or bytes.now 0 0) 31 }
@@ -55,7 +59,7 @@ impl Head {
         }
     }
 
-    /// A head whose argument stands in the first `size` of these bytes.
+    /// Reads a head whose argument is the first `size` bytes of `rest`.
     #[tactic(auto, unfolding(crate::specs::Head::argument_front, crate::specs::Head::with_argument))]
     fn with_argument(major: u8, size: usize, rest: &[u8]) -> Option<(Head, usize)>
         requires { size ≤ 8 }
@@ -71,7 +75,9 @@ impl Head {
         Some((Head { major, value }, 1 + size))
     }
 
-    /// Additional information 31: an indefinite length or the break, ill-formed for major types 0, 1 and 6.
+    /// The head with additional information 31: an indefinite length or the break.
+    ///
+    /// It is ill-formed for major types 0, 1 and 6.
     #[tactic(auto, unfolding(crate::specs::Head::no_argument))]
     fn without_argument(major: u8) -> Option<(Head, usize)>
         ensures front { result ≡ whole_of (no_argument major) }
@@ -84,7 +90,7 @@ impl Head {
     }
 }
 
-/// The number that these bytes encode.
+/// The number that the bytes encode, most significant byte first.
 fn big_endian(bytes: &[u8]) -> u64
     requires { length bytes.now ≤ 8 }
     ensures { result ≡ big_endian bytes.now }
@@ -96,13 +102,15 @@ fn big_endian(bytes: &[u8]) -> u64
     number
 }
 
-/// What the bytes seen so far say of the head that they begin.
+/// The state of a head after the bytes seen so far.
 #[derive(Clone, Copy, PartialEq, Eq, Debug)]
 pub enum HeadStep {
     /// The head is not complete: more bytes are needed.
     More,
     /// The head is complete.
     Done(Head),
-    /// No well-formed head begins like this, RFC 8949 section 3 and, for `f8` with a byte below `20`, section 3.3.
+    /// No well-formed head begins with these bytes (RFC 8949 section 3).
+    ///
+    /// One case is `f8` with a byte below `20`, in hexadecimal (section 3.3).
     Bad,
 }

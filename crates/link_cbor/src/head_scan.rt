@@ -10,7 +10,7 @@ use crate::piecewise::Piecewise;
 enum Stage {
     /// No byte has been seen.
     Start,
-    /// The bytes of the argument that were seen encode `value`, and `left` more are needed.
+    /// The argument bytes seen encode `value`, and `left` more are needed.
     Argument { major: u8, left: u8, value: u64 },
     /// `f8` was seen: a simple value of at least 32 has to follow.
     Simple,
@@ -18,17 +18,17 @@ enum Stage {
     IllFormed,
 }
 
-/// Major type 7 with additional information 24: a simple value in the next byte.
+/// Major type 7 with additional information 24: the next byte is a simple value.
 const SIMPLE_IN_NEXT_BYTE: u8 = 0xf8;
 
-/// A smaller simple value is ill-formed in two bytes, RFC 8949 section 3.3.
+/// The least simple value that two bytes may encode (RFC 8949 section 3.3).
 const LEAST_IN_NEXT_BYTE: u8 = 32;
 
 impl Stage {
     ghost use Rattle.link_cbor.specs.Head.{head_front, no_argument};
     ghost use Rattle.link_cbor.specs.Stage.{outcome_at, StandsAt};
 
-    /// What the bytes seen say of the head.
+    /// The state of the head after the bytes seen.
     fn outcome(self) -> HeadStep
         ensures { result ≡ outcome_at self }
     {
@@ -39,7 +39,9 @@ impl Stage {
         }
     }
 
-    /// The stage after the first byte: its top three bits are the major type, its low five the additional information.
+    /// The stage after the first byte of a head.
+    ///
+    /// The top three bits are the major type, and the low five bits are the additional information.
     fn begin(first: u8) -> Stage
         ensures { StandsAt 1 result (λ more. head_front (first ∷ more)) }
     {
@@ -61,7 +63,10 @@ impl Stage {
         }
     }
 
-    /// Additional information 31: an indefinite length or the break, ill-formed for major types 0, 1 and 6.
+    /// The stage after a first byte with additional information 31.
+    ///
+    /// The head has an indefinite length or is the break. For major types 0, 1 and 6 it is
+    /// ill-formed.
     fn without_argument(major: u8) -> Stage
         ensures { StandsAt 1 result (λ _. no_argument major) }
     {
@@ -73,7 +78,9 @@ impl Stage {
     }
 }
 
-/// Reads one head, byte by byte. It is going until the head is complete or known to be ill-formed, which takes at most
+/// Reads one head, byte by byte.
+///
+/// It needs more bytes until the head is complete or known to be ill-formed. That takes at most
 /// nine bytes.
 #[derive(Clone, Copy, Debug)]
 pub struct HeadScan {
@@ -100,7 +107,7 @@ impl HeadScan {
         }
     }
 
-    /// What the bytes seen so far say of the head.
+    /// The state of the head after the bytes seen so far.
     pub fn outcome(&self) -> HeadStep
         ensures seen { (seen : List ℕ) → HasScanned self.now seen → result ≡ step_of seen }
         ensures front { (seen : List ℕ) → HasScanned self.now seen
@@ -110,7 +117,6 @@ impl HeadScan {
         self.stage.outcome()
     }
 
-    /// The stage after one more byte.
     fn next_stage(&self, byte: u8) -> Stage
         requires { IsTrue (may_scan self.now) }
         ensures { StandsAt (self.now.count + 1) result

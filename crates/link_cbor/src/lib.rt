@@ -1,5 +1,6 @@
-//! The heads of CBOR data items (RFC 8949 section 3) and the check values of bundles (RFC 9171 section 4.2.1), of bytes
-//! that come one by one or in slices of any size.
+//! CBOR heads (RFC 8949 section 3) and the check values of bundles (RFC 9171 section 4.2.1).
+//!
+//! Both are computed from bytes that come one at a time or in slices of any size.
 //!
 //! ```text
 //! |<---------- first byte ---------->|
@@ -10,18 +11,19 @@
 //! |<------------------------------ head ----------------------------->|
 //! ```
 //!
-//! A [`HeadScan`] is fed bytes until its [`Head`] is complete, and gives the major type and the argument as a value. What
-//! follows the head, such as a string's bytes or an array's items, is left to the caller:
+//! A [`HeadScan`] is fed bytes until its [`Head`] is complete. The head has the major type and the
+//! value of the argument. The caller reads what follows the head, such as the bytes of a string or
+//! the items of an array:
 //!
 //! ```rust
 //! let mut scan = HeadScan::new();
 //! scan.feed(b"\x19\x03"); // 2: both bytes belong to the head
 //! scan.outcome(); // HeadStep::More
-//! scan.feed(b"\xe8\xff"); // 1: the head ends at the first of them
+//! scan.feed(b"\xe8\xff"); // 1: the head ends with the first of them
 //! scan.outcome(); // HeadStep::Done(Head { major: 0, value: Some(1000) })
 //! ```
 //!
-//! A [`Check`] is pushed the bytes of a block, and gives their check value:
+//! A [`Check`] is pushed the bytes of a block and returns their check value:
 //!
 //! ```rust
 //! let mut check = Check::new(CheckKind::Crc32);
@@ -30,8 +32,8 @@
 //! check.value(); // 0xe306_9283
 //! ```
 //!
-//! [`Piecewise`] is what a scan of a head and the scans built on it share: the same bytes are taken however they are cut
-//! into slices.
+//! [`Piecewise`] is the trait of [`HeadScan`] and of the scans that are built on it. Such a scan
+//! consumes the same bytes however they are cut into slices.
 #![tactic(auto)]
 
 mod check;

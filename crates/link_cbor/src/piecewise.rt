@@ -1,24 +1,25 @@
-//! What is read byte by byte, from slices of any size.
+//! The trait of scans that consume bytes one at a time or in slices of any size.
 ghost use Rattle.std.specs.Prelude.{◌≡◌, ℕ, ◌+◌, ◌-◌, ◌^◌, ◌<◌, ◌≤◌, Bool, List, ◌∷◌, [], ◌++◌, length, IsTrue};
 ghost use Rattle.std.specs.Bool.{OnTrue};
 ghost use Rattle.link_cbor.specs.Pieces.{taken, JoinsPieces, TakesShortest};
 ghost use Rattle.link_cbor.specs.PieceLaws.{joins_pieces, takes_shortest};
 
-/// Takes bytes one by one or in slices of any size, until it needs no more.
+/// Consumes bytes one at a time or in slices of any size, until it needs no more.
 ///
-/// The bytes that it has taken are its history. No value stores it: a clause speaks of every history that the value is
-/// related to.
+/// The bytes consumed so far are the history of the value. The value does not store it. A clause
+/// speaks of every history that `has_seen` relates to the value.
 pub trait Piecewise {
-    // the value has taken exactly these bytes
+    // whether the value has consumed exactly these bytes
     ghost has_seen: { Self → List ℕ → Type 0 };
 
-    // how many bytes it has taken
+    // the number of bytes that it has consumed
     ghost size: { Self → ℕ };
 
-    // after these bytes more are needed
+    // whether more bytes are needed after these
     ghost goes: { List ℕ → Bool };
 
-    // one more byte may be given, needed or not
+    // Whether `step` may be called. It is true while more bytes are needed, and may be true
+    // afterwards.
     ghost may_step: { Self → Bool };
 
     /// Whether more bytes are needed.
@@ -26,12 +27,15 @@ pub trait Piecewise {
         ensures seen { (seen : List ℕ) → has_seen self.now seen → result ≡ goes seen }
         ensures may_step { OnTrue result (IsTrue (may_step self.now)) };
 
-    /// How many bytes have been taken.
+    /// The number of bytes consumed so far.
     fn count(&self) -> u64
         ensures size { result ≡ size self.now }
         ensures seen { (seen : List ℕ) → has_seen self.now seen → result ≡ length seen };
 
-    /// Takes one more byte.
+    /// Consumes one byte.
+    ///
+    /// It may be called as long as `going` returns true. Whether it may be called later depends on
+    /// the type.
     fn step(&mut self, byte: u8)
         requires may_step { IsTrue (may_step self.old) }
         requires room { size self.old < 2 ^ 63 - 1 }
@@ -39,7 +43,7 @@ pub trait Piecewise {
         ensures seen { (seen : List ℕ) → has_seen self.old seen
             → has_seen self.new (seen ++ byte ∷ []) };
 
-    /// Takes bytes of the slice, in order, as long as more are needed, and returns how many it took.
+    /// Consumes bytes of the slice, in order, while more are needed, and returns how many.
     fn feed(&mut self, bytes: &[u8]) -> usize
         requires room { size self.old + length bytes.now ≤ 2 ^ 63 - 1 }
         ensures within { result ≤ length bytes.now }
@@ -58,9 +62,9 @@ pub trait Piecewise {
         bytes.len()
     }
 
-    // of two slices, one after the other, the same bytes are taken as of the two joined
+    // cutting a slice in two does not change the bytes that are consumed
     ghost pieces: { JoinsPieces goes } = { joins_pieces goes };
 
-    // what is taken is the shortest prefix after which no more are needed, or all
+    // the bytes consumed are the shortest prefix after which no more are needed, or the whole slice
     ghost shortest: { TakesShortest goes } = { takes_shortest goes };
 }

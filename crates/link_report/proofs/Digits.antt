@@ -7,7 +7,7 @@ use Rattle.link_report.specs.Text.{two_digits}
 pub number_of_two : (n : ℕ) → 10 ≤ n → n < 100 → decimal n ≡ two_digits n
 number_of_two n many few = decimal_two n many few
 
--- the last two digits stand after the others
+-- the last two digits follow the others
 pub last_two : (text : List ℕ) (n : ℕ) → 100 ≤ n → n < 10000
     → text ++ decimal (n / 100) ++ two_digits (n % 100) ≡ text ++ decimal n
 last_two text n many few = append_assoc text (decimal (n / 100)) (two_digits (n % 100)) ∙ ap (λ digits. text ++ digits) (sym (decimal_pair n many (omega arith)))

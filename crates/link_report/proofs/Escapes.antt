@@ -9,12 +9,12 @@ use Rattle.std.proofs.lemmas.List.Sums.{fails_before_first}
 use Rattle.std.proofs.lemmas.Grind.{flat_map-append}
 use Rattle.link_report.specs.Text.{escaped, escaped_byte, is_plain, hex2}
 
--- a plain byte stands
+-- a plain byte stays as it is
 pub escaped_byte-plain : (byte : ℕ) → is_plain byte ≡ true → escaped_byte byte ≡ byte ∷ []
 unfolding escaped_byte
 escaped_byte-plain byte plain = rw plain
 
--- any other byte is four
+-- any other byte becomes four bytes
 pub escaped_byte-other : (byte : ℕ) → is_plain byte ≡ false
     → escaped_byte byte ≡ codes "\\x" ++ hex2 byte
 unfolding escaped_byte
@@ -36,7 +36,7 @@ length-escaped-le (byte ∷ bytes) =
     let rest = length-escaped-le bytes in
     omega (arith, here, rest, length-append (escaped_byte byte) (escaped bytes))
 
--- plain bytes stand
+-- plain bytes stay as they are
 pub escaped-plain : (bytes : List ℕ)
     → ((k : ℕ) → k < length bytes → is_plain (get_or bytes k 0) ≡ true) →
     escaped bytes ≡ bytes
@@ -47,11 +47,11 @@ escaped-plain (byte ∷ bytes) plain =
     let rest = escaped-plain bytes (λ k below. plain (suc k) (omega arith)) in
     rw (here, rest)
 
--- whether a byte does not stand for itself
+-- whether a byte has to be escaped
 abbrev pub is_other : ℕ → Bool
 is_other byte = not (is_plain byte)
 
--- the first byte that does not stand for itself, after a run of bytes that do
+-- the first byte that has to be escaped, after a run of plain bytes
 pub escaped-at : (bytes : List ℕ) (run : ℕ) → position is_other bytes ≡ Some run →
     escaped bytes ≡ take run bytes ++ (codes "\\x" ++ hex2 (get_or bytes run 0)) ++ escaped (drop (run + 1) bytes)
 unfolding escaped
@@ -68,7 +68,7 @@ escaped-at bytes run first =
     ap escaped (sym whole) ∙ flat_map-append escaped_byte (take run bytes) (get_or bytes run 0 ∷ drop (run + 1) bytes)
     ∙ rw (stands, other) (simp append_assoc)
 
--- no such byte
+-- no byte has to be escaped
 pub escaped-none : (bytes : List ℕ) → position is_other bytes ≡ None → escaped bytes ≡ bytes
 escaped-none bytes none =
     let top = position_or_len is_other bytes in
@@ -81,7 +81,7 @@ escaped-none bytes none =
     escaped-plain bytes (λ k below.
     not-false (is_plain (get_or bytes k 0)) (fails_before_first is_other bytes k 0 (omega (arith, past, below))))
 
--- a line to which the escaped rest of a text is still to come, after the next escape
+-- a line that lacks the escaped rest of a text, after the next escape
 pub escaped-step : (line rest total : List ℕ) (run : ℕ) → position is_other rest ≡ Some run →
     line ++ escaped rest ≡ total →
     line ++ take run rest ++ codes "\\x" ++ hex2 (get_or rest run 0) ++ escaped (drop (run + 1) rest) ≡ total

@@ -1,4 +1,4 @@
--- How long the pieces of a line are.
+-- The lengths of the pieces of a line.
 use Rattle.std.proofs.Common.{ℕ, ◌^◌, ◌<◌, ◌≤◌, length, arith}
 use Rattle.std.specs.Fmt.{decimal}
 use Rattle.std.proofs.lemmas.Fmt.{length-decimal-le, decimal_digit}

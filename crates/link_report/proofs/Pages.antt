@@ -1,9 +1,9 @@
--- What stands in a page.
+-- The text in a page.
 use Rattle.std.proofs.Common.{◌≡◌, ℕ, ◌+◌, ◌≤◌, List, ◌++◌, length, take, drop, ap, sym, ◌∙◌, length-append, take-append-drop, arith}
 use Rattle.std.proofs.Math.Seq.{take-append-add}
 use Rattle.std.proofs.lemmas.List.{length-take-le, take-append-le}
 
--- the first bytes of a text that stands there
+-- the first bytes of a text in a page
 pub front_behind : (old new text : List ℕ) (at end count : ℕ) → at ≤ length old
     → count ≤ length text → take end new ≡ take at old ++ text →
     take (at + count) new ≡ take at old ++ take count text

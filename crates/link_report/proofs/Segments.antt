@@ -1,4 +1,4 @@
--- The items of a segment in place.
+-- The items of a segment in a buffer.
 use Rattle.std.proofs.Common.{◌≡◌, ℕ, List, [], ◌∷◌, length, true, false, cond, codes, refl, arith}
 use Rattle.std.proofs.lemmas.Fmt.{decimal_digit}
 use Rattle.arrayvec.specs.ArrayVec.{ArrayVec}
@@ -14,7 +14,7 @@ unfolding items_text number_text
 no_items [] none = rw (decimal_digit 0 (omega arith)) refl
 no_items (item ∷ items) none = absurd (omega (arith, none))
 
--- the line shows the items of a segment with START alone, which are all that a message keeps
+-- The line shows items only for a segment with START. A message keeps only those items.
 pub start_items_text-segment_items : (flags : ℕ) (items : ArrayVec Item) →
     start_items_text flags (segment_items flags items).items ≡ start_items_text flags items.items
 unfolding start_items_text

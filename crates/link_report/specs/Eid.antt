@@ -4,7 +4,7 @@ use Rattle.link_bundle_types.specs.declared.eid.Eid.{Eid}
 use Rattle.link_bundle_types.specs.declared.eid.Eid.TheVariants.{DtnNone, Dtn, Ipn, Ipn3}
 use Rattle.link_report.specs.Text.{escaped, number_text}
 
--- an ipn endpoint ID has two or three numbers, and shows those that it has
+-- an ipn endpoint ID has two or three numbers, and the text has the same
 unfoldable pub eid_text : Eid → List ℕ
 eid_text DtnNone = codes "dtn:none"
 eid_text (Dtn name) = codes "dtn:" ++ escaped name.items

@@ -28,16 +28,16 @@ order_text order.NoSuchOpenTransfer = codes "no such open transfer"
 order_text order.StartRepeatsOpenId = codes "start repeats the open transfer"
 order_text order.StartAfterSessTerm = codes "start after session termination"
 
--- the offset of the message in which a fault stands
+-- the offset of the message that has a fault
 unfoldable pub offset_text : ℕ → List ℕ
 offset_text offset = number_text (codes "byte ") offset ++ codes ": "
 
--- the number of the bundle in which a fault stands, and the fault's offset in it
+-- the number of the bundle that has a fault, and the fault's offset in it
 unfoldable pub bundle_offset_text : ℕ → ℕ → List ℕ
 bundle_offset_text number offset =
     number_text (codes "bundle ") number ++ number_text (codes " byte ") offset ++ codes ": "
 
--- where a fault stands, and what it is
+-- the position of a fault, and its text
 unfoldable pub place_text : Fault → List ℕ
 place_text (Wire offset fault) = offset_text offset ++ wire_text fault
 place_text (Order offset fault) = offset_text offset ++ order_text fault

@@ -1,12 +1,13 @@
--- What a line says of a bundle: its source and creation timestamp, and of a fragment its offset and the payload's length
--- (RFC 9171 section 4.3.1); and besides its destination.
+-- The text of a bundle in a line. A bundle is identified by its source and creation timestamp, and
+-- a fragment also by its offset and payload length (RFC 9171 section 4.3.1). The text has the
+-- destination too.
 use Rattle.std.specs.Prelude.{ℕ, Option, Some, None, List, [], ◌++◌, codes}
 use Rattle.link_bundle_types.specs.declared.eid.Eid.{Eid}
 use Rattle.link_bundle_types.specs.declared.info.BundleInfo.{BundleInfo}
 use Rattle.link_report.specs.Eid.{eid_text}
 use Rattle.link_report.specs.Text.{number_text}
 
--- a fragment's offset and the total length; nothing of a bundle that is no fragment
+-- the fragment offset and the total length, or nothing if the bundle is no fragment
 unfoldable pub fragment_text : Option (ℕ × ℕ) → List ℕ
 fragment_text None = []
 fragment_text (Some (offset, total)) =

@@ -1,4 +1,4 @@
--- What the line of a transfer says of its data.
+-- The judgement on a transfer's data, and its text in the line of the transfer.
 use Rattle.std.specs.Prelude.{ℕ, Bool, ◌==◌, if◌then◌else◌, Result, Ok, Err, List, ◌++◌, codes}
 use Rattle.link_bundle_types.specs.BundleView.{viewed_info}
 use Rattle.link_bundle_types.specs.ShortNames.{HasShortNames}
@@ -14,20 +14,21 @@ use Rattle.link_report.specs.BundleFault.{code_text}
 use Rattle.link_report.specs.Identity.{identity_text}
 use Rattle.link_report.specs.Text.{number_text}
 
--- the verdict on a transfer's data
+-- the judgement by the verdict on the data
 abbrev pub judged_data : Result BundleInfo (BundleFault × ℕ) → Judgement
 judged_data (Ok info) = Good info
 judged_data (Err (fault, offset)) = Bad fault offset
 
--- what the transfer's extension items announce, against the length of its data; and then the verdict (RFC 9174 section
--- 5.2.5.1)
+-- The announcement of the extension items is compared with the length of the data. The verdict
+-- comes after that (RFC 9174 section 5.2.5.1).
 abbrev pub judged_length : Announced → ℕ → Result BundleInfo (BundleFault × ℕ) → Judgement
 judged_length Absent size verdict = judged_data verdict
 judged_length (Total total) size verdict =
     if total == size then judged_data verdict else LengthDiffers total
 judged_length Malformed size verdict = BadLengthItem
 
--- the first that holds: another transfer began, the length item is bad, another length is announced, no bundle, a bundle
+-- The first that holds: another transfer began, the length item is bad, another length is
+-- announced, the data are no bundle, the data are a bundle.
 abbrev pub judged : Bool → Announced → ℕ → Result BundleInfo (BundleFault × ℕ) → Judgement
 judged abandoned announced size verdict =
     if abandoned then Abandoned else judged_length announced size verdict

@@ -16,34 +16,36 @@ flags_text flags = codes " flags=" ++ hex2 flags
 unfoldable pub reason_text : ℕ → List ℕ → List ℕ
 reason_text reason name = codes " reason=" ++ hex2 reason ++ codes "/" ++ name
 
--- an extension item: its flags, its type and how many bytes its value has (RFC 9174 section 4.8)
+-- an extension item: its flags, its type and the length of its value in bytes (RFC 9174 section
+-- 4.8)
 unfoldable pub item_text : Item → List ℕ
 item_text item =
     codes " item=" ++ hex2 item.flags ++ codes ":" ++ hex4 item.kind
     ++ number_text (codes ":") item.length
 
--- an extension list: how many items there are, and each of them
+-- an extension list: the number of items, and each of them
 unfoldable pub items_text : List Item → List ℕ
 items_text items = number_text (codes " items=") (length items) ++ flat_map item_text items
 
--- RFC 9174 section 4.6, before the session extension items
+-- the parameters of a SESS_INIT (RFC 9174 section 4.6), before its extension items
 unfoldable pub parameters_text : ℕ → ℕ → ℕ → List ℕ → List ℕ
 parameters_text keepalive segment_mru transfer_mru node =
     number_text (codes " sess-init keepalive=") keepalive
     ++ number_text (codes " segment-mru=") segment_mru
     ++ number_text (codes " transfer-mru=") transfer_mru ++ codes " node=" ++ escaped node
 
--- the items of a segment, where its flags say that it begins its transfer (RFC 9174 section 5.2.5)
+-- the items of a segment with START (RFC 9174 section 5.2.5), and nothing for other segments
 unfoldable pub start_items_text : ℕ → List Item → List ℕ
 start_items_text flags items = if is_start flags then items_text items else []
 
--- RFC 9174 section 5.2.2
+-- a segment (RFC 9174 section 5.2.2)
 unfoldable pub segment_text : ℕ → ℕ → List Item → ℕ → List ℕ
 segment_text flags id items size =
     codes " xfer-segment" ++ flags_text flags ++ number_text (codes " id=") id
     ++ start_items_text flags items ++ number_text (codes " length=") size
 
--- what the line of a message says after its offset (RFC 9174 sections 4.6 and 5.1.1 to 6.1)
+-- the part of a message's line between its offset and its newline (RFC 9174 sections 4.6 and 5.1.1
+-- to 6.1)
 unfoldable pub body_text : Message → List ℕ
 body_text (SessInit keepalive segment_mru transfer_mru node items) =
     parameters_text keepalive segment_mru transfer_mru node.items ++ items_text items.items
@@ -65,6 +67,6 @@ body_text (MsgReject reason header) =
 unfoldable pub contact_text : Contact → List ℕ
 contact_text contact = codes "0 contact version=4" ++ flags_text contact.flags ++ newline
 
--- the line of the message at an offset, that of its type byte
+-- the line of a message whose type byte is at this offset
 unfoldable pub message_text : ℕ → Message → List ℕ
 message_text offset message = decimal offset ++ body_text message ++ newline

@@ -1,4 +1,4 @@
--- The line of a bundle that was packed.
+-- The line of a packed bundle.
 use Rattle.std.specs.Prelude.{ℕ, List, ◌++◌, codes}
 use Rattle.link_bundle_types.specs.BundleView.{viewed_info}
 use Rattle.link_report.specs.declared.packed.PackedEntry.{PackedEntry}

@@ -5,7 +5,8 @@ use Rattle.link_report.specs.declared.transfer.TransferView.{TransferView}
 use Rattle.link_report.specs.Judgement.{judgement_text, viewed_judgement}
 use Rattle.link_report.specs.Text.{number_text, newline}
 
--- a transfer's ID, where its bytes begin in the output, how many of them are there, and how many data bytes it had
+-- a transfer's ID, the offset of its bytes in the output, their number there, and the number of its
+-- data bytes
 unfoldable pub extent_text : ℕ → ℕ → ℕ → ℕ → List ℕ
 extent_text id start written size =
     number_text (codes "transfer ") id ++ number_text (codes " start=") start

@@ -1,11 +1,11 @@
-//! The codes and the texts of a bundle's faults.
+//! The codes and the texts of the faults of bundles.
 
 ghost use Rattle.std.specs.Prelude.{◌≡◌, ◌≤◌, length};
 ghost use Rattle.link_report.specs.BundleFault.{code_text, bundle_fault_text};
 
 use link_bundle_types::BundleFault;
 
-/// The code of a bundle's fault.
+/// The code of a bundle's fault, B1 to B17.
 #[tactic(auto, unfolding(crate::specs::BundleFault::code_text))]
 pub(crate) fn code_of(fault: BundleFault) -> &'static str
     ensures code { result.now ≡ code_text fault }
@@ -32,7 +32,7 @@ pub(crate) fn code_of(fault: BundleFault) -> &'static str
     }
 }
 
-/// What a bundle's fault says.
+/// The text of a bundle's fault.
 #[tactic(auto, unfolding(crate::specs::BundleFault::bundle_fault_text))]
 pub(crate) fn words_of(fault: BundleFault) -> &'static str
     ensures words { result.now ≡ bundle_fault_text fault }

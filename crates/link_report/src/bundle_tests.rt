@@ -1,4 +1,4 @@
-//! The lines of transfers, of packed bundles and of bundles' faults.
+//! The lines of transfers, of packed bundles and of the faults of bundles.
 
 use crate::{
     Fault, Judgement, JudgementView, Line, PackedEntry, PackedView, TransferEntry, TransferView,
@@ -144,7 +144,7 @@ fn lines_of_packed_bundles(rt: HostRuntime) -> Result<(), Fail> {
     Ok(())
 }
 
-/// Each fault's code, and what it says, which is what its error type says.
+/// The code and the text of each fault, which is also the text of its error type.
 #[test]
 fn codes_of_faults(rt: HostRuntime) -> Result<(), Fail> {
     let rows = [
@@ -243,7 +243,9 @@ fn lines_by_reference(rt: HostRuntime) {
     assert_eq!(rt; line.as_slice(), want.as_bytes());
 }
 
-/// Whatever else holds, another transfer's beginning is reported first, then the items, then the length, then the fault.
+/// The first judgement that holds is reported.
+///
+/// The beginning of another transfer comes first, then the items, the length and the fault.
 #[test]
 fn first_judgement_that_holds(rt: HostRuntime) {
     let info = whole();
@@ -306,7 +308,7 @@ fn first_judgement_that_holds(rt: HostRuntime) {
     }
 }
 
-/// Each number with 20 digits, and names of 1,024 bytes that are all escaped.
+/// A bundle with 20 digits in each number, and with names of 1,024 bytes that are all escaped.
 fn longest_bundle() -> Result<BundleInfo, Fail> {
     Ok(BundleInfo {
         flags: u64::MAX,

@@ -10,21 +10,24 @@ use link_bundle_types::BundleFault;
 use link_transfer::OrderFault;
 use link_wire::WireFault;
 
-/// A fault that ends a run, and where it stands: the offset of the message, or the bundle's number and the offset in
-/// that bundle.
+/// A fault that ends a run, and its position.
+///
+/// The position is the offset of the message, or the number of the bundle and the offset in it.
 #[derive(Clone, Copy, Debug, PartialEq, Eq)]
 pub enum Fault {
-    /// The stream is no recorded session.
+    /// The stream is no recorded session: the offset, and the fault.
     Wire(u64, WireFault),
-    /// The message may not stand where it stands.
+    /// A message may not come where it does: its offset, and the fault.
     Order(u64, OrderFault),
-    /// The bytes are no bundle.
+    /// The bytes are no bundle: the bundle's number, the offset in it, and the fault.
     Bundle(u64, u64, BundleFault),
-    /// The bundle is longer than the transfer MRU of its receiver (RFC 9174 section 4.6).
+    /// The bundle is longer than the receiver's transfer MRU (RFC 9174 section 4.6).
+    ///
+    /// The numbers are the bundle's number and the offset in it.
     TooLong(u64, u64),
 }
 
-/// What a fault of the order says.
+/// The text of a fault in the order of messages.
 #[tactic(auto, unfolding(crate::specs::Fault::order_text))]
 fn order_words(fault: OrderFault) -> &'static str
     ensures words { result.now ≡ order_text fault }
@@ -39,7 +42,7 @@ fn order_words(fault: OrderFault) -> &'static str
     }
 }
 
-/// Appends what a fault of the wire says, after `tcpclkit: ` and an offset.
+/// Appends the text of a fault of the wire, after `tcpclkit: ` and an offset.
 #[tactic(auto, unfolding(crate::specs::Fault::wire_text))]
 fn put_wire(line: &mut Line, fault: WireFault)
     requires { array_vec_len line.old ≤ 37 }
@@ -92,7 +95,7 @@ fn put_bundle_offset(line: &mut Line, number: u64, offset: u64)
     put_text(line, ": ");
 }
 
-/// Appends where the fault stands and what it is, after `tcpclkit: `.
+/// Appends the position and the text of a fault, after `tcpclkit: `.
 #[tactic(auto, unfolding(crate::specs::Fault::place_text))]
 fn put_place(line: &mut Line, fault: &Fault)
     requires { array_vec_len line.old ≤ 10 }
@@ -121,7 +124,7 @@ fn put_place(line: &mut Line, fault: &Fault)
     }
 }
 
-/// Makes an empty line that of a fault.
+/// Writes the line of a fault into an empty line.
 #[tactic(auto, unfolding(crate::specs::Fault::fault_text))]
 pub fn fault_line(line: &mut Line, fault: &Fault)
     requires { line.old.items ≡ [] }

@@ -1,4 +1,4 @@
-//! What a line says of a bundle (RFC 9171 section 4.3.1), and the texts of endpoint IDs.
+//! The text of a bundle in a line (RFC 9171 section 4.3.1), and the texts of endpoint IDs.
 
 ghost use Rattle.std.specs.Prelude.{◌≡◌, ◌+◌, ◌≤◌, ◌++◌, length};
 ghost use Rattle.arrayvec.specs.ArrayVec.{array_vec_len};
@@ -11,7 +11,9 @@ ghost use Rattle.link_report.specs.Identity.{fragment_text, origin_text, identit
 use crate::put::{LINE_MAX, Line, put_escaped, put_number, put_text};
 use link_bundle_types::{BundleView, EidView};
 
-/// Appends an endpoint ID: 4 bytes and an escaped name, or 6 bytes and three numbers.
+/// Appends an endpoint ID.
+///
+/// It takes at most 4 bytes and an escaped name, or 6 bytes and three numbers.
 #[tactic(auto, using(crate::proofs::Escapes::length_of_escaped), unfolding(crate::specs::Eid::eid_text))]
 fn put_eid(line: &mut Line, eid: &EidView<'_>)
     requires short { IsShort (viewed_eid eid.now) }
@@ -37,8 +39,9 @@ fn put_eid(line: &mut Line, eid: &EidView<'_>)
     }
 }
 
-/// Appends what identifies a fragment within its bundle, and nothing of a bundle that is no fragment: 11 bytes and two
-/// numbers.
+/// Appends the fragment offset and the total length, or nothing if the bundle is no fragment.
+///
+/// It takes at most 11 bytes and two numbers.
 #[tactic(auto, unfolding(crate::specs::Identity::fragment_text))]
 fn put_fragment(line: &mut Line, fragment: Option<(u64, u64)>)
     requires { array_vec_len line.old + 51 ≤ LINE_MAX }
@@ -51,7 +54,9 @@ fn put_fragment(line: &mut Line, fragment: Option<(u64, u64)>)
     }
 }
 
-/// Appends a source and a creation timestamp: 23 bytes, an endpoint ID and two numbers.
+/// Appends a source and a creation timestamp.
+///
+/// It takes at most 23 bytes, an endpoint ID and two numbers.
 #[tactic(auto, unfolding(crate::specs::Identity::origin_text))]
 fn put_origin(line: &mut Line, source: &EidView<'_>, time: u64, sequence: u64)
     requires short { IsShort (viewed_eid source.now) }
@@ -66,8 +71,10 @@ fn put_origin(line: &mut Line, source: &EidView<'_>, time: u64, sequence: u64)
     put_number(line, " sequence=", sequence);
 }
 
-/// Appends what a line says of a bundle: a source and a creation timestamp, 22 bytes, an endpoint ID, a number and a
-/// fragment's numbers.
+/// Appends the text of a bundle.
+///
+/// It takes a source and a creation timestamp, and after them at most 22 bytes, an endpoint ID, a
+/// number and the text of a fragment.
 #[tactic(auto, unfolding(crate::specs::Identity::identity_text))]
 pub(crate) fn put_identity(line: &mut Line, info: &BundleView<'_>)
     requires short { HasShortNames (viewed_info info.now) }

@@ -1,4 +1,4 @@
-//! What the line of a transfer says of its data.
+//! The judgement on a transfer's data, and its text in the line of the transfer.
 
 ghost use Rattle.std.specs.Prelude.{IfOk, ◌≡◌, ◌+◌, ◌≤◌, ◌<◌, ◌++◌};
 ghost use Rattle.arrayvec.specs.ArrayVec.{array_vec_len};
@@ -12,18 +12,20 @@ use crate::put::{LINE_MAX, Line, put_number, put_text};
 use link_bundle_types::{BundleFault, BundleInfo, BundleView};
 use link_transfer::Announced;
 
-/// What the data of a transfer are.
+/// The judgement on the data of a transfer.
 #[derive(Debug, PartialEq, Eq, Drop)]
 pub enum Judgement {
     /// Another transfer began before the last segment of this one (RFC 9174 section 5.2.4).
     Abandoned,
-    /// More than one Transfer Length item, or one whose value has not 8 bytes (RFC 9174 section 5.2.5.1).
+    /// More than one Transfer Length item, or one whose value does not have 8 bytes.
+    ///
+    /// RFC 9174 section 5.2.5.1 defines the item.
     BadLengthItem,
-    /// The Transfer Length item announces this length, which is not that of the data.
+    /// The length that the Transfer Length item announces, which is not that of the data.
     LengthDiffers(u64),
-    /// No bundle: its fault, and the fault's offset in the data.
+    /// The data are no bundle: the fault, and its offset in the data.
     Bad(BundleFault, u64),
-    /// This bundle.
+    /// The data are this bundle.
     Good(BundleInfo),
 }
 
@@ -32,18 +34,18 @@ pub enum Judgement {
 pub enum JudgementView<'a> {
     /// Another transfer began before the last segment of this one.
     Abandoned,
-    /// More than one Transfer Length item, or one whose value has not 8 bytes.
+    /// More than one Transfer Length item, or one whose value does not have 8 bytes.
     BadLengthItem,
-    /// The Transfer Length item announces this length, which is not that of the data.
+    /// The length that the Transfer Length item announces, which is not that of the data.
     LengthDiffers(u64),
-    /// No bundle: its fault, and the fault's offset in the data.
+    /// The data are no bundle: the fault, and its offset in the data.
     Bad(BundleFault, u64),
-    /// This bundle.
+    /// The data are this bundle.
     Good(BundleView<'a>),
 }
 
 impl Judgement {
-    /// The same by reference.
+    /// The same judgement by reference.
     pub fn view(&self) -> JudgementView<'_>
         ensures view { viewed_judgement result ≡ self.now }
         ensures short { IsShortJudgement self.now }
@@ -58,8 +60,12 @@ impl Judgement {
     }
 }
 
-/// Judges a transfer: whether another began before its end, what its extension items announce, how many bytes of data it
-/// had, and the verdict on these.
+/// Judges a transfer and its data.
+///
+/// `abandoned` is whether another transfer began before the end of this one. `announced` is the
+/// announcement of its extension items, and `length` the number of its data bytes. `verdict` is the
+/// verdict on these bytes. An abandoned transfer is judged first, then the announced length, and
+/// then the verdict.
 pub fn judge<'a>(
     abandoned: bool,
     announced: Announced,
@@ -85,7 +91,9 @@ pub fn judge<'a>(
     }
 }
 
-/// Appends a judgement: 5 bytes and what is said of a bundle at most.
+/// Appends a judgement.
+///
+/// It takes at most 5 bytes and the text of a bundle.
 #[tactic(auto, unfolding(crate::specs::Judgement::judgement_text))]
 pub(crate) fn put_judgement(line: &mut Line, judgement: &JudgementView<'_>)
     requires short { IsShortJudgement (viewed_judgement judgement.now) }

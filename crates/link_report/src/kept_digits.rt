@@ -5,13 +5,14 @@ ghost use Rattle.std.specs.Prelude.{◌≡◌, ◌+◌, ◌<◌, ◌≤◌, ◌+
 use crate::page::{write_decimal, write_four_digits};
 use link_wire::copy_into;
 
-/// The digits of a number without its last four, kept for the next number: of numbers that grow slowly, as offsets do, most
-/// have the same.
+/// The digits of a number without its last four, kept for the next number.
+///
+/// Numbers that grow slowly, such as offsets, mostly have the same ones.
 #[derive(Drop)]
 pub struct KeptDigits {
     /// The number without its last four digits.
     front: u64,
-    /// Its text, and bytes that mean nothing.
+    /// Its text, and then bytes without a meaning.
     text: [u8; 20],
     len: usize,
     ghost some: { 0 < front },
@@ -20,7 +21,7 @@ pub struct KeptDigits {
 }
 
 impl KeptDigits {
-    /// The digit of a number of five.
+    /// Keeps the digit 1, that of a number from 10,000 to 19,999.
     pub fn new() -> KeptDigits {
         KeptDigits::of(1)
     }
@@ -34,7 +35,7 @@ impl KeptDigits {
         KeptDigits { front, text, len }
     }
 
-    /// Keeps the digits of a number of more than four.
+    /// Keeps the digits of a number, if it has more than four.
     #[inline(always)]
     pub fn keep(&mut self, number: u64) {
         if number / 10_000 != self.front {
@@ -42,7 +43,7 @@ impl KeptDigits {
         }
     }
 
-    /// Keeps these digits, which are others.
+    /// Keeps these digits in place of others.
     #[cold]
     #[inline(never)]
     fn set(&mut self, front: u64) {
@@ -51,7 +52,7 @@ impl KeptDigits {
         }
     }
 
-    /// Writes a number in decimal, by the digits that are kept if they are its own.
+    /// Writes a number in decimal, with the kept digits if they are its own.
     #[inline(always)]
     pub(crate) fn write(&self, page: &mut [u8], at: usize, number: u64) -> usize
         requires { at + 20 ≤ length page.old }

@@ -1,7 +1,10 @@
-//! The report lines of a recorded TCPCLv4 session: one for its contact header, for each message, for each transfer, for
-//! each packed bundle and for a fault.
+//! The report lines of a recorded TCPCLv4 session.
 //!
-//! A [`Line`] has room for every line, and one call makes it from empty. Clear it before the next:
+//! There are lines for its contact header, for each message, each transfer and each packed bundle,
+//! and for a fault.
+//!
+//! A [`Line`] has room for every line. Each call writes a whole line into an empty one. Clear the
+//! line before the next call:
 //!
 //! ```text
 //! let mut line = Line::new();
@@ -12,8 +15,9 @@
 //! // line: "tcpclkit: byte 6: truncated\n"
 //! ```
 //!
-//! [`transfer_view_line`] and [`packed_view_line`] make a line from references; [`transfer_line`] and [`packed_line`]
-//! make the same line from values. [`MessageText`] is the line that [`message_line`] makes, and is made where it is to stand.
+//! [`transfer_view_line`] and [`packed_view_line`] make a line from references. [`transfer_line`]
+//! and [`packed_line`] make the same line from values. [`MessageText`] is the line that
+//! [`message_line`] makes, and is written directly into the output.
 #![tactic(auto)]
 
 mod bundle_fault;

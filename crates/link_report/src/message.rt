@@ -19,14 +19,17 @@ use link_wire::{
     copy_into,
 };
 
-/// The most bytes of a list: 27, and 34 for each item.
+/// The greatest length of a list in bytes: 27, and 34 for each item.
 const ITEMS_MAX: usize = 27 + 34 * MAX_ITEMS;
 
-/// The most bytes that the line of a message with a reason has between its offset and its newline, and some.
+/// A bound on the line of a message with a reason, between its offset and its newline.
+///
+/// The longest of these lines is a little shorter.
 const REASON_MAX: usize = 80;
 
-/// The most bytes that a line has between its offset and its newline: those of a SESS_INIT, 114, the node ID with each byte
-/// escaped, and the list.
+/// The greatest length in bytes of a line between its offset and its newline.
+///
+/// A SESS_INIT can have this length: 114 bytes, the node ID with each byte escaped, and the list.
 const BODY_MAX: usize = 114 + 4 * MAX_NODE_ID + ITEMS_MAX;
 
 /// Appends ` flags=` and the flags.
@@ -55,8 +58,9 @@ fn write_reason(page: &mut [u8], at: usize, reason: u8, name: &str) -> usize
     write_text(page, at, name)
 }
 
-/// Appends ` item=`, the flags, the type and the length of an extension item: 14 bytes and a number
-/// of at most 20 digits.
+/// Appends ` item=`, the flags, the type and the length of an extension item.
+///
+/// It takes 14 bytes and a number of at most 20 digits.
 #[tactic(auto, unfolding(crate::specs::Message::item_text))]
 fn put_item(line: &mut Line, item: &Item)
     requires { array_vec_len line.old + 34 ≤ LINE_MAX }
@@ -70,7 +74,9 @@ fn put_item(line: &mut Line, item: &Item)
     put_number(line, ":", u64::from(item.length));
 }
 
-/// Appends ` items=`, how many there are, and each item: 7 bytes and a number, and the items.
+/// Appends ` items=`, the number of items, and each item.
+///
+/// It takes 7 bytes, a number and the items.
 #[tactic(auto, unfolding(crate::specs::Message::items_text))]
 fn put_items(line: &mut Line, items: &[Item])
     requires { array_vec_len line.old + 27 + 34 * length items.now ≤ LINE_MAX }
@@ -83,8 +89,9 @@ fn put_items(line: &mut Line, items: &[Item])
     }
 }
 
-/// Appends what the line of a SESS_INIT says of its parameters: 54 bytes, three numbers and the node
-/// ID.
+/// Appends the parameters of a SESS_INIT.
+///
+/// It takes 54 bytes, three numbers and the escaped node ID.
 #[tactic(auto, unfolding(crate::specs::Message::parameters_text))]
 fn put_parameters(line: &mut Line, keepalive: u16, segment_mru: u64, transfer_mru: u64, node: &[u8])
     requires { array_vec_len line.old + 114 + length (escaped node.now) ≤ LINE_MAX }
@@ -100,7 +107,7 @@ fn put_parameters(line: &mut Line, keepalive: u16, segment_mru: u64, transfer_mr
     put_escaped(line, node);
 }
 
-/// Writes what the line of a SESS_INIT says after its offset.
+/// Writes the part of a SESS_INIT's line between its offset and its newline.
 #[cold]
 #[inline(never)]
 #[tactic(auto, using(crate::proofs::Escapes::length_of_escaped))]
@@ -127,7 +134,7 @@ fn write_session(
     copy_into(page, at, &line)
 }
 
-/// Writes the items of a list that has some.
+/// Writes the items of a list that is not empty.
 #[cold]
 #[inline(never)]
 fn write_items(page: &mut [u8], at: usize, items: &[Item]) -> usize
@@ -142,7 +149,9 @@ fn write_items(page: &mut [u8], at: usize, items: &[Item]) -> usize
     copy_into(page, at, &line)
 }
 
-/// Writes the items of a segment that begins its transfer, and nothing of another. Most transfers begin without items.
+/// Writes the items of a segment with START, and nothing for other segments.
+///
+/// Most transfers begin without items.
 #[tactic(auto, unfolding(crate::specs::Message::start_items_text))]
 #[inline(always)]
 fn write_start_items(page: &mut [u8], at: usize, flags: u8, items: &[Item]) -> usize
@@ -161,7 +170,7 @@ fn write_start_items(page: &mut [u8], at: usize, flags: u8, items: &[Item]) -> u
     write_items(page, at, items)
 }
 
-/// Writes what the line of a segment says after its offset.
+/// Writes the part of a segment's line between its offset and its newline.
 #[tactic(auto, unfolding(crate::specs::Message::segment_text, crate::specs::Message::flags_text))]
 #[inline(always)]
 fn write_segment(page: &mut [u8], at: usize, flags: u8, id: u64, items: &[Item], size: u64) -> usize
@@ -178,7 +187,7 @@ fn write_segment(page: &mut [u8], at: usize, flags: u8, id: u64, items: &[Item],
     write_number(page, at, *b" length=", size)
 }
 
-/// Writes what the line of an XFER_REFUSE says after its offset.
+/// Writes the part of an XFER_REFUSE's line between its offset and its newline.
 #[tactic(auto, unfolding(crate::specs::Message::reason_text))]
 #[inline(never)]
 fn write_refuse(page: &mut [u8], at: usize, reason: u8, id: u64) -> usize
@@ -194,7 +203,7 @@ fn write_refuse(page: &mut [u8], at: usize, reason: u8, id: u64) -> usize
     write_number(page, at, *b" id=", id)
 }
 
-/// Writes what the line of a SESS_TERM says after its offset.
+/// Writes the part of a SESS_TERM's line between its offset and its newline.
 #[tactic(auto, unfolding(crate::specs::Message::flags_text))]
 #[cold]
 #[inline(never)]
@@ -211,7 +220,7 @@ fn write_sess_term(page: &mut [u8], at: usize, flags: u8, reason: u8) -> usize
     write_reason(page, at, reason, term_name(reason))
 }
 
-/// Writes what the line of a MSG_REJECT says after its offset.
+/// Writes the part of a MSG_REJECT's line between its offset and its newline.
 #[cold]
 #[inline(never)]
 fn write_msg_reject(page: &mut [u8], at: usize, reason: u8, header: u8) -> usize
@@ -228,8 +237,9 @@ fn write_msg_reject(page: &mut [u8], at: usize, reason: u8, header: u8) -> usize
     write_hex2(page, at, header)
 }
 
-/// Writes what the line of a message says after its offset. Only a SESS_INIT has a node ID, and only a SESS_INIT and a
-/// segment have items.
+/// Writes the part of a message's line between its offset and its newline.
+///
+/// Only a SESS_INIT has a node ID, and only a SESS_INIT and a segment have items.
 #[tactic(auto, unfolding(crate::specs::Message::body_text, crate::specs::Message::flags_text))]
 #[inline(always)]
 fn write_body(page: &mut [u8], at: usize, fields: &Fields, node: &[u8], items: &[Item]) -> usize
@@ -261,7 +271,7 @@ fn write_body(page: &mut [u8], at: usize, fields: &Fields, node: &[u8], items: &
     }
 }
 
-/// Writes the line of a message, whose type byte stands at `offset`.
+/// Writes the line of a message whose type byte is at `offset`.
 #[tactic(auto, unfolding(crate::specs::Message::message_text))]
 #[inline(always)]
 fn write_message(
@@ -289,11 +299,11 @@ fn write_message(
 /// The line of the message in a buffer.
 #[derive(Drop)]
 pub struct MessageText<'a> {
-    /// Where the type byte of the message stands.
+    /// The offset of the message's type byte.
     pub offset: u64,
     /// The message.
     pub message: &'a MessageBuffer,
-    /// Digits of the offset, if they were kept: they change no text.
+    /// Kept digits of the offset, which do not change the text.
     pub kept: &'a KeptDigits,
 }
 
@@ -318,7 +328,7 @@ impl<'a> Text for MessageText<'a> {
     }
 }
 
-/// Makes an empty line that of the contact header.
+/// Writes the line of the contact header into an empty line.
 #[tactic(auto, unfolding(crate::specs::Message::contact_text))]
 pub fn contact_line(line: &mut Line, contact: &Contact)
     requires { line.old.items ≡ [] }
@@ -329,7 +339,9 @@ pub fn contact_line(line: &mut Line, contact: &Contact)
     put_text(line, "\n");
 }
 
-/// Makes an empty line that of the message with these fields, whose type byte stands at `offset`.
+/// Writes the line of a message with these fields into an empty line.
+///
+/// The type byte of the message is at `offset`.
 fn put_fields(line: &mut Line, offset: u64, fields: &Fields, node: &[u8], items: &[Item])
     requires empty { line.old.items ≡ [] }
     requires node { length node.now ≤ MAX_NODE_ID }
@@ -350,7 +362,7 @@ fn put_fields(line: &mut Line, offset: u64, fields: &Fields, node: &[u8], items:
     put_bytes(line, &page[..end]);
 }
 
-/// Makes an empty line that of the message whose type byte stands at `offset`.
+/// Writes the line of a message into an empty line; its type byte is at `offset`.
 #[tactic(auto, using(crate::proofs::Segments::text_of_segment), unfolding(crate::specs::Message::message_text, crate::specs::Message::body_text))]
 pub fn message_line(line: &mut Line, offset: u64, message: &Message)
     requires { line.old.items ≡ [] }

@@ -1,4 +1,4 @@
-//! The lines of bundles that were packed.
+//! The lines of packed bundles.
 
 ghost use Rattle.std.specs.Prelude.{◌≡◌, []};
 ghost use Rattle.link_bundle_types.specs.BundleView.{viewed_info};
@@ -9,16 +9,16 @@ use crate::identity::put_identity;
 use crate::put::{Line, put_number, put_text};
 use link_bundle_types::{BundleInfo, BundleView};
 
-/// What the line of a packed bundle says.
+/// The values in the line of a packed bundle.
 #[derive(Debug, PartialEq, Eq, Drop)]
 pub struct PackedEntry {
     /// The bundle's number, which is its transfer ID too.
     pub number: u64,
-    /// How many segments it was cut into.
+    /// The number of segments that the bundle was cut into.
     pub segments: u64,
     /// The bundle's length in bytes.
     pub length: u64,
-    /// The bundle.
+    /// The fields of the bundle.
     pub info: BundleInfo,
 }
 
@@ -27,15 +27,17 @@ pub struct PackedEntry {
 pub struct PackedView<'a> {
     /// The bundle's number, which is its transfer ID too.
     pub number: u64,
-    /// How many segments it was cut into.
+    /// The number of segments that the bundle was cut into.
     pub segments: u64,
     /// The bundle's length in bytes.
     pub length: u64,
-    /// The bundle.
+    /// The fields of the bundle.
     pub info: BundleView<'a>,
 }
 
-/// Makes an empty line that of a packed bundle, by reference.
+/// Writes the line of a packed bundle into an empty line, from references.
+///
+/// The names in the bundle's source and destination have at most 1,024 bytes each.
 #[tactic(auto, unfolding(crate::specs::Packed::packed_text))]
 pub fn packed_view_line(line: &mut Line, entry: &PackedView<'_>)
     requires empty { line.old.items ≡ [] }
@@ -50,7 +52,7 @@ pub fn packed_view_line(line: &mut Line, entry: &PackedView<'_>)
     put_text(line, "\n");
 }
 
-/// Makes an empty line that of a packed bundle.
+/// Writes the line of a packed bundle into an empty line.
 pub fn packed_line(line: &mut Line, entry: &PackedEntry)
     requires { line.old.items ≡ [] }
     ensures { line.new.items ≡ packed_text entry.now }

@@ -1,4 +1,6 @@
-//! Pieces of text, each written into a page from an index on. Each call returns where its text ends.
+//! Pieces of text, each written into a page from an index on.
+//!
+//! Each call returns the index after its text.
 
 ghost use Rattle.std.specs.Prelude.{◌≡◌, ◌+◌, ◌/◌, ◌%◌, ◌<◌, ◌≤◌, [], ◌∷◌, ◌++◌, length, take, decimal};
 ghost use Rattle.link_report.specs.Text.{hex2, number_text, two_digits};
@@ -10,7 +12,6 @@ use link_wire::copy_into;
 static PAIRS: [u8; 200] =
     *b"00010203040506070809101112131415161718192021222324252627282930313233343536373839404142434445464748495051525354555657585960616263646566676869707172737475767778798081828384858687888990919293949596979899";
 
-/// Writes `text`.
 #[inline(always)]
 pub(crate) fn write_text(page: &mut [u8], at: usize, text: &str) -> usize
     requires { at + length text.now ≤ length page.old }
@@ -21,7 +22,7 @@ pub(crate) fn write_text(page: &mut [u8], at: usize, text: &str) -> usize
     copy_into(page, at, text.as_bytes())
 }
 
-/// Writes a text whose length the compiler knows: then it is stores alone.
+/// Writes a text of a constant length, which compiles to stores alone.
 #[inline(always)]
 pub(crate) fn write_bytes<const N: usize>(page: &mut [u8], at: usize, text: [u8; N]) -> usize
     requires { at + N ≤ length page.old }
@@ -32,7 +33,6 @@ pub(crate) fn write_bytes<const N: usize>(page: &mut [u8], at: usize, text: [u8;
     copy_into(page, at, &text)
 }
 
-/// Writes a byte.
 #[tactic(auto, using(std::proofs::lemmas::List::take_more_set))]
 #[inline(always)]
 fn write_byte(page: &mut [u8], at: usize, byte: u8) -> usize
@@ -45,7 +45,6 @@ fn write_byte(page: &mut [u8], at: usize, byte: u8) -> usize
     at + 1
 }
 
-/// Writes a digit.
 #[tactic(auto, using(crate::proofs::Lengths::one_digit))]
 #[inline(always)]
 fn write_digit(page: &mut [u8], at: usize, digit: u64) -> usize
@@ -58,7 +57,7 @@ fn write_digit(page: &mut [u8], at: usize, digit: u64) -> usize
     write_byte(page, at, b'0' + digit as u8)
 }
 
-/// Writes two digits.
+/// Writes a number below 100 as two digits.
 #[inline(always)]
 pub(crate) fn write_pair(page: &mut [u8], at: usize, pair: u32) -> usize
     requires pair { pair < 100 }
@@ -73,7 +72,9 @@ pub(crate) fn write_pair(page: &mut [u8], at: usize, pair: u32) -> usize
     write_byte(page, at, one)
 }
 
-/// Writes a number of at most three digits, as most numbers of a line are but its offset.
+/// Writes a number below 1,000.
+///
+/// Most numbers of a line are that small, except its offset.
 #[tactic(auto, using(crate::proofs::Digits::few_digits))]
 #[inline(always)]
 fn write_few_digits(page: &mut [u8], at: usize, number: u64) -> usize
@@ -93,7 +94,7 @@ fn write_few_digits(page: &mut [u8], at: usize, number: u64) -> usize
     }
 }
 
-/// Writes the four digits of a number below 10,000, zeros before it among them.
+/// Writes a number below 10,000 as four digits, with leading zeros.
 #[inline(always)]
 pub(crate) fn write_four_digits(page: &mut [u8], at: usize, number: u32) -> usize
     requires few { number < 10000 }
@@ -107,7 +108,9 @@ pub(crate) fn write_four_digits(page: &mut [u8], at: usize, number: u32) -> usiz
     write_pair(page, at, number % 100)
 }
 
-/// Writes a number of more than three digits, where there is room for the longest number.
+/// Writes a number of more than three digits.
+///
+/// There has to be room for 20 digits.
 #[tactic(auto, using(crate::proofs::Lengths::length_of_decimal, crate::proofs::Digits::four_digits))]
 #[inline(never)]
 fn write_many_digits(page: &mut [u8], at: usize, number: u64) -> usize
@@ -125,7 +128,9 @@ fn write_many_digits(page: &mut [u8], at: usize, number: u64) -> usize
     copy_into(page, at, &digits[start..])
 }
 
-/// Writes `number` in decimal, without leading zeros, where there is room for the longest number.
+/// Writes `number` in decimal, without leading zeros.
+///
+/// There has to be room for 20 digits.
 #[inline(always)]
 pub(crate) fn write_decimal(page: &mut [u8], at: usize, number: u64) -> usize
     requires { at + 20 ≤ length page.old }

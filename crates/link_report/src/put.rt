@@ -8,13 +8,15 @@ ghost use Rattle.link_report.specs.Text.{hex2, hex4, escaped, is_plain, number_t
 use crate::page::{hex_digits, write_decimal};
 use arrayvec::ArrayVec;
 
-/// The most bytes that a line holds, its newline among them.
+/// The greatest length of a line in bytes, with its newline.
+///
+/// Every line fits in it.
 pub const LINE_MAX: usize = 9216;
 
 /// A report line as it is written, in bytes.
 pub type Line = ArrayVec<u8, LINE_MAX>;
 
-/// Appends `bytes` as they stand.
+/// Appends `bytes` unchanged.
 #[inline(always)]
 pub(crate) fn put_bytes(line: &mut Line, bytes: &[u8])
     requires { array_vec_len line.old + length bytes.now ≤ LINE_MAX }
@@ -34,7 +36,9 @@ pub fn put_text(line: &mut Line, text: &str)
     put_bytes(line, text.as_bytes());
 }
 
-/// Appends `number` in decimal, without leading zeros. To copy a count of bytes that is known is no call.
+/// Appends `number` in decimal, without leading zeros.
+///
+/// Copying a constant number of bytes needs no call.
 #[tactic(auto, using(crate::proofs::Lengths::length_of_decimal))]
 #[inline(always)]
 pub fn put_decimal(line: &mut Line, number: u64)
@@ -75,7 +79,7 @@ pub fn put_hex4(line: &mut Line, number: u16)
     put_bytes(line, &digits);
 }
 
-/// Whether a byte of an escaped text stands for itself: 21 to 7e, but not the backslash.
+/// Whether a byte stays as it is in an escaped text: 21 to 7e, except the backslash.
 #[tactic(auto, unfolding(crate::specs::Text::is_plain))]
 fn is_plain(byte: u8) -> bool
     ensures { result ≡ is_plain byte }
@@ -83,14 +87,14 @@ fn is_plain(byte: u8) -> bool
     byte.is_ascii_graphic() && byte != b'\\'
 }
 
-/// Where the first byte of `bytes` stands that does not stand for itself.
+/// The index of the first byte that has to be escaped.
 fn first_escaped(bytes: &[u8]) -> Option<usize>
     ensures { result ≡ position (λ byte. not (is_plain byte)) bytes.now }
 {
     bytes.iter().position(|byte| !is_plain(*byte))
 }
 
-/// Appends a run of bytes that stand, and then `byte` as an escape.
+/// Appends a run of bytes as they are, and then `byte` as an escape.
 fn put_escape(line: &mut Line, run: &[u8], byte: u8)
     requires { array_vec_len line.old + length run.now + 4 ≤ LINE_MAX }
     ensures { line.new.items ≡ line.old.items ++ run.now ++ codes "\\x" ++ hex2 byte }
@@ -100,7 +104,7 @@ fn put_escape(line: &mut Line, run: &[u8], byte: u8)
     put_hex2(line, byte);
 }
 
-/// Appends `bytes` with each byte that is not plain as `\x` and its two hexadecimal digits.
+/// Appends `bytes`, with each byte that is not plain as `\x` and its two hexadecimal digits.
 pub fn put_escaped(line: &mut Line, bytes: &[u8])
     requires { array_vec_len line.old + length (escaped bytes.now) ≤ LINE_MAX }
     ensures items { line.new.items ≡ line.old.items ++ escaped bytes.now }

@@ -126,8 +126,9 @@ fn lines_of_messages(rt: HostRuntime) -> Result<(), Fail> {
     Ok(())
 }
 
-/// The node ID and the items of a SESS_INIT stay in the buffer: no other message shows that node ID,
-/// and of the others only a segment with START shows items.
+/// Messages in a buffer in which the node ID and the items of a SESS_INIT stay.
+///
+/// No other message shows that node ID. Of the others, only a segment with START shows items.
 #[test]
 fn lines_of_messages_in_place(rt: HostRuntime) -> Result<(), Fail> {
     let rows = [
@@ -213,8 +214,9 @@ fn longest_node(rt: HostRuntime) -> Result<(), Fail> {
     Ok(())
 }
 
-/// The codes of RFC 9174, tables 6 (XFER_REFUSE), 10 (SESS_TERM) and 4 (MSG_REJECT), and the first
-/// codes past them.
+/// The codes of RFC 9174, tables 6 (XFER_REFUSE), 10 (SESS_TERM) and 4 (MSG_REJECT).
+///
+/// The first codes past them follow.
 #[test]
 fn names_of_reasons(rt: HostRuntime) {
     let refuse = |reason| Message::Refuse { reason, id: 0 };
@@ -345,7 +347,7 @@ fn lines_of_faults(rt: HostRuntime) -> Result<(), Fail> {
         line.clear();
         fault_line(&mut line, fault);
         assert_eq!(rt; line.as_slice(), want.as_bytes(), "{want}");
-        // the error types say the same
+        // the error types have the same texts
         let shown = match fault {
             Fault::Wire(offset, fault) => format!(in rt.alloc(); "{offset}: {fault}\n")?,
             Fault::Order(offset, fault) => format!(in rt.alloc(); "{offset}: {fault}\n")?,

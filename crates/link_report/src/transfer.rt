@@ -8,18 +8,18 @@ ghost use Rattle.link_report.specs.Transfer.{extent_text, transfer_text, viewed_
 use crate::judgement::{Judgement, JudgementView, put_judgement};
 use crate::put::{Line, put_number, put_text};
 
-/// What the line of a transfer says.
+/// The values in the line of a transfer.
 #[derive(Debug, PartialEq, Eq, Drop)]
 pub struct TransferEntry {
     /// The transfer ID.
     pub id: u64,
-    /// The offset in the output where the transfer's bytes begin.
+    /// The offset in the output of the transfer's first byte.
     pub start: u64,
-    /// How many bytes of the transfer are in the output.
+    /// The number of the transfer's bytes in the output.
     pub written: u64,
-    /// How many bytes of data the transfer's segments had.
+    /// The number of data bytes in the transfer's segments.
     pub length: u64,
-    /// What these data are.
+    /// The judgement on these data.
     pub judgement: Judgement,
 }
 
@@ -28,17 +28,19 @@ pub struct TransferEntry {
 pub struct TransferView<'a> {
     /// The transfer ID.
     pub id: u64,
-    /// The offset in the output where the transfer's bytes begin.
+    /// The offset in the output of the transfer's first byte.
     pub start: u64,
-    /// How many bytes of the transfer are in the output.
+    /// The number of the transfer's bytes in the output.
     pub written: u64,
-    /// How many bytes of data the transfer's segments had.
+    /// The number of data bytes in the transfer's segments.
     pub length: u64,
-    /// What these data are.
+    /// The judgement on these data.
     pub judgement: JudgementView<'a>,
 }
 
-/// Appends a transfer's ID, and where its bytes are: 33 bytes and four numbers.
+/// Appends a transfer's ID, and the position of its bytes.
+///
+/// It takes at most 33 bytes and four numbers.
 #[tactic(auto, unfolding(crate::specs::Transfer::extent_text))]
 fn put_extent(line: &mut Line, id: u64, start: u64, written: u64, size: u64)
     requires { line.old.items ≡ [] }
@@ -51,7 +53,9 @@ fn put_extent(line: &mut Line, id: u64, start: u64, written: u64, size: u64)
     put_number(line, " length=", size);
 }
 
-/// Makes an empty line that of a transfer, by reference.
+/// Writes the line of a transfer into an empty line, from references.
+///
+/// The names in the source and destination of a good bundle have at most 1,024 bytes each.
 #[tactic(auto, unfolding(crate::specs::Transfer::transfer_text))]
 pub fn transfer_view_line(line: &mut Line, entry: &TransferView<'_>)
     requires empty { line.old.items ≡ [] }
@@ -64,7 +68,7 @@ pub fn transfer_view_line(line: &mut Line, entry: &TransferView<'_>)
     put_text(line, "\n");
 }
 
-/// Makes an empty line that of a transfer.
+/// Writes the line of a transfer into an empty line.
 pub fn transfer_line(line: &mut Line, entry: &TransferEntry)
     requires { line.old.items ≡ [] }
     ensures { line.new.items ≡ transfer_text entry.now }

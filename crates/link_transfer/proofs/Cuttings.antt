@@ -1,4 +1,4 @@
--- The list of a bundle's chunks is the one that has their sizes.
+-- The chunks of a bundle are the only list with their sizes.
 use Rattle.std.proofs.Common.{◌≡◌, ℕ, zero, suc, ◌+◌, ◌-◌, ◌*◌, ◌<◌, ◌≤◌, List, [], ◌∷◌, ◌++◌, length, take, drop, refl, ap, ap₂, subst, sym, ◌∙◌, arith, ⊎_elim, ◌/◌}
 use Rattle.std.specs.List.{flat_map}
 use Rattle.std.proofs.lemmas.Bool.{cases_lt}
@@ -22,7 +22,7 @@ first_chunks-suc segment (suc count) bundle =
     sym (drop-drop (count * segment) segment bundle ∙ ap (λ n. drop n bundle) next) in
     ap₂ (λ chunks rest. chunks ++ take segment rest ∷ []) (first_chunks-suc segment count bundle) same
 
--- a quotient, by its two bounds
+-- two bounds determine a quotient
 below_next : (segment count size : ℕ) → 0 < segment → count ≡ size / segment
     → size < count * segment + segment
 below_next segment count size some is =
@@ -37,7 +37,8 @@ from_bounds segment count size some least most =
     let high = div_below size segment (count + 1) some (omega arith) in
     omega arith
 
--- counts of chunks: none of no bytes; one of at most a segment; and one more with each segment
+-- Numbers of chunks: no bytes have none, at most a segment has one, and each further segment adds
+-- one.
 count_none : (segment size : ℕ) → 0 < segment → 0 ≡ chunk_count segment size → size ≡ 0
 count_none segment size some is = omega (arith, below_next segment 0 (size + (segment - 1)) some is)
 
@@ -70,7 +71,7 @@ count_rest segment count size some is =
     let over : segment < size = omega arith in
     (over, from_bounds segment (suc count) (size - segment + (segment - 1)) some (omega arith) (omega arith))
 
--- chunks have the sizes of segments
+-- the chunks have the sizes of segments
 sizes_more : (segment : ℕ) (chunk next : List ℕ) (more : List (List ℕ)) → length chunk ≡ segment
     → AreSegments segment (next ∷ more) → AreSegments segment (chunk ∷ next ∷ more)
 sizes_more segment chunk next more size rest = (size, rest)
@@ -104,7 +105,7 @@ rest_count segment (suc count) size some is = (count_rest segment count size som
 abbrev joined : List (List ℕ) → List ℕ
 joined list = flat_map (λ (chunk : List ℕ). chunk) list
 
--- and joined they are the bundle
+-- joined, the chunks are the bundle
 joined_of : (segment count : ℕ) (bundle : List ℕ) → 0 < segment
     → count ≡ chunk_count segment (length bundle)
     → joined (first_chunks segment count bundle) ≡ bundle
@@ -116,7 +117,7 @@ joined_of segment (suc count) bundle some is =
     ∙ ap (λ more. take segment bundle ++ more) (joined_of segment count (drop segment bundle) some rest)
     ∙ take-append-drop segment bundle
 
--- a list with the sizes of segments is that of the chunks
+-- a list with the sizes of segments is the list of chunks
 only_chunks : (segment : ℕ) (list : List (List ℕ)) → 0 < segment → AreSegments segment list
     → list ≡ chunks segment (joined list)
 unfolding chunks

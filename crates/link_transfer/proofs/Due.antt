@@ -1,4 +1,4 @@
--- How many chunks are due, in numbers.
+-- The number of chunks that are due.
 use Rattle.std.proofs.Common.{◌≡◌, ℕ, ◌+◌, ◌-◌, ◌*◌, ◌/◌, ◌<◌, ◌≤◌, Bool, true, false, ltb, leb, eqb, refl, arith}
 use Rattle.std.proofs.Math.Nat.{le-div_iff_mul-le}
 use Rattle.std.proofs.lemmas.Bool.Decides.{nat_tests}
@@ -6,7 +6,7 @@ use Rattle.link_transfer.specs.Chunks.{chunk_count}
 use Rattle.link_transfer.specs.Cutting.{due_of}
 use Rattle.link_transfer.specs.Held.{waits, wanted_of}
 
--- that many segments fit into the size
+-- that many segments fit in the size
 pub fits : (segment count size : ℕ) → 0 < segment → count ≤ size / segment → count * segment ≤ size
 fits segment count size some few = (le-div_iff_mul-le some).0 few
 
@@ -14,13 +14,13 @@ pub fits_back : (segment count size : ℕ) → 0 < segment → count * segment �
     → count ≤ size / segment
 fits_back segment count size some few = (le-div_iff_mul-le some).1 few
 
--- what is given of a bundle that goes on is in it
+-- the chunks cut of an incomplete bundle lie within it
 pub given_within : (segment hold count size : ℕ) → 0 < segment
     → count ≤ due_of false segment hold size → count * segment ≤ size
 given_within segment hold count size some few =
     grind (arith, nat_tests, fits segment count size some)
 
--- whether a cut waits
+-- whether a chunk is ready
 pub waits_as_due : (whole : Bool) (segment hold count size : ℕ) → 0 < segment
     → count ≤ due_of whole segment hold size
     → (whole ≡ true → count < due_of whole segment hold size)
@@ -30,7 +30,7 @@ waits_as_due true segment hold count size some few left = grind (arith, nat_test
 waits_as_due false segment hold count size some few left =
     grind (arith, nat_tests, fits segment count size some, fits segment (count + 1) size some, fits_back segment (count + 1) size some)
 
--- more may be given when more has come
+-- at least as many chunks are due after more bytes
 pub due_more : (last : Bool) (segment hold count size more : ℕ) → 0 < segment → 0 < more
     → count ≤ due_of false segment hold size → count ≤ due_of last segment hold (size + more)
 due_more true segment hold count size more some next few =
@@ -38,7 +38,7 @@ due_more true segment hold count size more some next few =
 due_more false segment hold count size more some next few =
     grind (arith, nat_tests, given_within segment hold count size some few, fits_back segment count (size + more) some)
 
--- of a whole bundle a chunk is left while a byte is
+-- a chunk of a whole bundle is left while a byte is left
 pub chunk_left : (segment count size : ℕ) → 0 < segment → count * segment < size
     → count < chunk_count segment size
 chunk_left segment count size some within =
@@ -49,20 +49,20 @@ pub byte_left : (segment count size : ℕ) → 0 < segment → count < chunk_cou
 byte_left segment count size some within =
     omega (arith, fits segment (count + 1) (size + (segment - 1)) some (omega arith))
 
--- the last chunk is the one with which no byte is left
+-- the last chunk is the one after which no byte is left
 pub last_of : (segment count size : ℕ) → 0 < segment → count < chunk_count segment size
     → leb (size - count * segment) segment ≡ eqb (count + 1) (chunk_count segment size)
 last_of segment count size some within =
     grind (arith, nat_tests, fits segment (count + 2) (size + (segment - 1)) some, fits_back segment (count + 2) (size + (segment - 1)) some, fits segment (count + 1) (size + (segment - 1)) some)
 
--- where no cut waits at least one byte is wanted
+-- at least one byte is needed if no chunk is ready
 pub wanted_some : (begun : Bool) (segment hold size : ℕ)
     → waits begun false segment hold size ≡ false → 0 < segment
     → 0 < wanted_of begun segment hold size
 wanted_some true segment hold size quiet some = grind (arith, nat_tests)
 wanted_some false segment hold size quiet some = grind (arith, nat_tests)
 
--- after the last byte that is wanted a cut waits, and not before
+-- a chunk is ready after the last byte that is needed, and not before
 pub waits_when_wanted : (begun : Bool) (segment hold size : ℕ)
     → waits begun false segment hold (size + 1) ≡ leb (wanted_of begun segment hold size) 1
 waits_when_wanted true segment hold size = grind (arith, nat_tests)

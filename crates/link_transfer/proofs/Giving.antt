@@ -1,4 +1,4 @@
--- A cutter and its history, one cut further.
+-- A cutter and its history, after one more cut.
 use Rattle.std.proofs.Common.{◌≡◌, ℕ, zero, suc, ◌+◌, ◌-◌, ◌*◌, ◌<◌, ◌≤◌, Bool, true, false, not, ltb, leb, eqb, cond, ◌&&◌, [], ◌∷◌, ◌++◌, length, take, drop, min, Option, Some, None, is_some, refl, ap, ap₂, subst, sym, ◌∙◌, arith}
 use Rattle.std.specs.Bool.{OnTrue}
 use Rattle.std.proofs.lemmas.List.{length-drop, length-take, length_push, take_min, drop_min, drop-drop, drop_all}
@@ -16,7 +16,7 @@ use Rattle.link_transfer.proofs.Chunking.{first_chunks-zero, first_chunks-push}
 use Rattle.link_transfer.proofs.Due.{fits, byte_left, last_of}
 use Rattle.link_transfer.proofs.Steps.{waits-at, next_cut-is, size_of}
 
--- the same in numbers
+-- the parts of the next cut, in numbers
 last_is : (whole : Bool) (segment hold count size : ℕ) → 0 < segment
     → (whole ≡ true → count < due_of whole segment hold size)
     → is_last_of whole segment (size - count * segment)
@@ -83,7 +83,7 @@ pub next_cut-none : (cutter : Cutter) (so_far : Cutting) → IsCutterAt cutter s
 unfolding next_cut
 next_cut-none cutter so_far at quiet = rw (waiting_test cutter so_far false at quiet) refl
 
--- a cut that was asked for where none waits
+-- a cut while no chunk is ready
 pub IsCutterAt-forget : (old new : Cutter) (so_far : Cutting) → cut_waits old ≡ false
     → new.segment ≡ old.segment → new.hold ≡ old.hold
     → new.held.given ≡ [] → new.held.bytes ≡ old.held.bytes → new.begun ≡ old.begun
@@ -113,7 +113,7 @@ left_some true segment hold count size some few = byte_left segment count size s
 left_some false segment hold count size some few =
     grind (arith, nat_tests, fits segment (count + 1) size some)
 
--- what a cut that gives a chunk changes
+-- the changes by a cut that returns a chunk
 pub record Gives (old new : Cutter) (last : Bool) : Type 0 where
   pub segment : new.segment ≡ old.segment
   pub hold : new.hold ≡ old.hold
@@ -122,7 +122,7 @@ pub record Gives (old new : Cutter) (last : Bool) : Type 0 where
   pub begun : new.begun ≡ not last
   pub ended : new.ended ≡ (old.ended && not last)
 
--- the run given is the next chunk
+-- the bytes given last are the next chunk
 chunk_given : (old new : Cutter) (so_far : Cutting) (last : Bool) → Gives old new last
     → IsCutterAt old so_far
     → length so_far.given < due so_far → IsGiven (Some (next_chunk so_far)) new.held.given
@@ -141,7 +141,7 @@ rest_is : (old new : Cutter) (so_far : Cutting) (last : Bool) → Gives old new 
 rest_is old new so_far last gives at =
     gives.bytes ∙ ap₂ (λ segment bytes. drop (min segment (length bytes)) bytes) at.segment at.held ∙ drop_min so_far.segment (left_of so_far)
 
--- the next chunk is the last where the bundle is whole and its count is that of all chunks
+-- the next chunk is the last if the bundle is whole and has that many chunks
 whole_last : (so_far : Cutting) → is_last so_far ≡ true → so_far.whole ≡ true
 whole_last so_far is = both so_far.whole _ is
   where
@@ -162,7 +162,7 @@ not_last : (so_far : Cutting) → is_last so_far ≡ false → so_far.whole ≡ 
     → eqb (length so_far.given + 1) (chunk_count so_far.segment (length so_far.bundle)) ≡ false
 not_last so_far is whole = rw whole at is
 
--- and a whole bundle has a further one after any other
+-- a whole bundle has another chunk after each that is not the last
 next_left : (so_far : Cutting) → is_last so_far ≡ false → so_far.whole ≡ true
     → length so_far.given < chunk_count so_far.segment (length so_far.bundle)
     → length (so_far.given ++ next_chunk so_far ∷ [])
@@ -238,7 +238,7 @@ IsCutterAt-cut old new so_far waiting gives at =
     let few : length so_far.given < due so_far = grind (arith, nat_tests) in
     rw some (with_next old new so_far (is_last so_far) refl gives at few)
 
--- with the last chunk all are given
+-- after the last chunk all chunks were cut
 pub all_chunks : (cutter : Cutter) (so_far : Cutting) (last : Bool) → is_last so_far ≡ last
     → IsCutterAt cutter so_far
     → OnTrue last (so_far.given ++ next_chunk so_far ∷ [] ≡ chunks so_far.segment so_far.bundle)

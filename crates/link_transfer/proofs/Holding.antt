@@ -1,4 +1,4 @@
--- What a buffer holds after a step.
+-- The bytes of a buffer after a step.
 use Rattle.std.proofs.Common.{◌≡◌, ℕ, ◌+◌, ◌-◌, ◌<◌, ◌≤◌, List, [], ◌∷◌, ◌++◌, length, take, drop, set, ap, ap₂, sym, ◌∙◌, arith}
 use Rattle.std.specs.List.{slice_range}
 use Rattle.std.proofs.Math.Seq.{take-add}
@@ -6,7 +6,7 @@ use Rattle.std.proofs.lemmas.List.{take-take, drop-take, drop-drop, drop-set-add
 use Rattle.std.proofs.lemmas.Slice.{between_is}
 use Rattle.link_transfer.specs.Held.{HeldBytes}
 
--- a record of the same parts
+-- records with equal parts are equal
 pub same_held : (r s : ℕ) (g h a b : List ℕ) → r ≡ s → g ≡ h → a ≡ b
     → ◌≡◌ {A = HeldBytes} (record { room = r; given = g; bytes = a })
     (record { room = s; given = h; bytes = b })
@@ -20,7 +20,7 @@ length_range buffer start end order within =
 pub range_empty : (buffer : List ℕ) (at : ℕ) → slice_range buffer at at ≡ []
 range_empty buffer at = ap (λ n. take n (drop at buffer)) {y = 0} (omega arith)
 
--- two ranges, one after the other
+-- two ranges in a row
 pub range_add : (buffer : List ℕ) (start mid end : ℕ) → start ≤ mid → mid ≤ end
     → slice_range buffer start end ≡ slice_range buffer start mid ++ slice_range buffer mid end
 range_add buffer start mid end first second =
@@ -29,7 +29,7 @@ range_add buffer start mid end first second =
     ∙ ap (λ rest. take (mid - start) (drop start buffer) ++ take (end - mid) rest)
     (drop-drop (mid - start) start buffer ∙ ap (λ n. drop n buffer) (omega arith))
 
--- the first `count` of a range, and the others
+-- the first `count` bytes of a range, and the others
 pub range_front : (buffer : List ℕ) (start end count : ℕ) → start + count ≤ end
     → slice_range buffer start (start + count) ≡ take count (slice_range buffer start end)
 range_front buffer start end count within =

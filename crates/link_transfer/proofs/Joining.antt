@@ -1,4 +1,4 @@
--- One message more in the list of those that a joiner has accepted.
+-- The messages that a joiner has accepted, with one more.
 use Rattle.std.proofs.Common.{◌≡◌, ℕ, Bool, true, false, ◌||◌, cond, List, [], ◌∷◌, ◌++◌, reverse, Some, None, refl, ap, sym, ◌∙◌}
 use Rattle.std.proofs.lemmas.List.{map_push, reverse-append}
 use Rattle.std.proofs.lemmas.List.Folds.{list_any-append}
@@ -24,7 +24,7 @@ any-push test before message =
     or_false true = refl
     or_false false = refl
 
--- the last segment of one message more
+-- the last segment after one more message
 last-push : (before : List Message) (message : Message)
     → find is_segment (reverse (events_of (before ++ message ∷ [])))
     ≡ cond (is_segment (event_of message)) (Some (event_of message)) (find is_segment (reverse (events_of before)))
@@ -52,7 +52,7 @@ open_of-push : (before : List Message) (message : Message)
 unfolding open_of
 open_of-push before message = ap (option_and_then open_after) (last-push before message)
 
--- what each event makes of the last segment
+-- the open transfer after each event
 pub after-segment : (before : List Message) (message : Message) (flags id : ℕ)
     → event_of message ≡ Segment flags id
     → open_of (before ++ message ∷ []) ≡ open_after (Segment flags id)
@@ -64,7 +64,7 @@ pub after-other : (before : List Message) (message : Message)
 unfolding open_of
 after-other before message is = rw (open_of-push before message, is) refl
 
--- a flag that an event raises, and one that it leaves
+-- a flag that an event sets, and one that it leaves
 raised : (flag before test : Bool) → flag ≡ (before || test) → test ≡ true → true ≡ flag
 raised flag true test same is = sym same
 raised flag false test same is = sym (same ∙ is)
@@ -102,7 +102,7 @@ IsJoinerAt-then joiner before message Other is at = record {
   transfer = at.transfer ∙ sym (after-other before message (ap is_segment is));
 }
 
--- what is refused and what is done, from what a joiner knows
+-- the judgement of an event, by the fields of a joiner
 pub judged-at : (joiner : Joiner) (before : List Message) (event : Event) → IsJoinerAt joiner before
     → judged_by (refusal_by joiner.initiated joiner.terminated joiner.transfer event)
     (turn_by joiner.transfer event) ≡ judged before event

@@ -18,7 +18,7 @@ pub IsCutterAt-pushed : (old new : Cutter) (so_far : Cutting) (pushed : List ℕ
 IsCutterAt-pushed old new so_far [] last some are quiet pushes at = absurd (omega arith)
 IsCutterAt-pushed old new so_far (byte ∷ bytes) last some are quiet pushes at = IsCutterAt-push old new so_far byte bytes last are quiet pushes at
 
--- the bundle goes on, and no cut waits
+-- the bundle is incomplete, and no chunk is ready
 pub record Quiet (so_far : Cutting) : Type 0 where
   pub some : 0 < so_far.segment
   pub going : so_far.whole ≡ false
@@ -26,7 +26,7 @@ pub record Quiet (so_far : Cutting) : Type 0 where
   pub none : ltb (length so_far.given)
       (due_of false so_far.segment so_far.hold (length so_far.bundle)) ≡ false
 
--- how many bytes are held, and how many are wanted
+-- the number of bytes held, and the number of bytes needed
 abbrev held : Cutting → ℕ
 held so_far = length so_far.bundle - length so_far.given * so_far.segment
 
@@ -40,7 +40,7 @@ wanted_first so_far quiet =
     ∙ quiet.none)
     quiet.some
 
--- one byte more, which is not the last
+-- one more byte of the bundle
 abbrev after_byte : ℕ → Bool → Cutting → Cutting
 after_byte byte flag so_far = with_bytes (byte ∷ []) flag so_far
 
@@ -57,7 +57,7 @@ few_after : (byte : ℕ) (flag : Bool) (so_far : Cutting) → Quiet so_far
 few_after byte flag so_far quiet =
     rw length_push (due_more false so_far.segment so_far.hold (length so_far.given) (length so_far.bundle) 1 quiet.some (omega arith) quiet.few)
 
--- whether a cut waits then
+-- whether a chunk is ready after it
 due_after : (byte : ℕ) (flag : Bool) (so_far : Cutting) → Quiet so_far
     → ltb (length so_far.given)
     (due_of false so_far.segment so_far.hold (length (after_byte byte flag so_far).bundle))
@@ -94,7 +94,7 @@ wanted_after byte flag so_far quiet =
     by_full : (full : ℕ) → full - held (after_byte byte flag so_far) ≡ (full - held so_far) - 1
     by_full full = omega (arith, held_after byte flag so_far quiet)
 
--- byte by byte: the next one is the last that goes in, or it is not
+-- byte by byte: the next byte is the last that is taken, or it is not
 each_stop : (byte : ℕ) (bytes : List ℕ) (last : Bool) (so_far : Cutting)
     → is_some (next_cut (after_byte byte (last && is_empty bytes) so_far)) ≡ true
     → with_each (byte ∷ bytes) last so_far ≡ after_byte byte (last && is_empty bytes) so_far
@@ -131,7 +131,7 @@ with_bytes-cons : (byte next : ℕ) (bytes : List ℕ) (flag last : Bool) (so_fa
 with_bytes-cons byte next bytes flag last so_far =
     ap (λ (bundle : List ℕ). record so_far { bundle = bundle; whole = last; chunk = None }) (append_assoc so_far.bundle (byte ∷ []) (next ∷ bytes))
 
--- As many bytes as are wanted, or all, pushed at once, are these bytes pushed one at a time.
+-- Pushing as many bytes as are needed, or all, is pushing these bytes one at a time.
 pub with_each-is : (byte : ℕ) (bytes : List ℕ) (last : Bool) (so_far : Cutting) (count : ℕ)
     → Quiet so_far
     → count ≡ min (wanted so_far) (length (byte ∷ bytes))
@@ -169,7 +169,7 @@ unfolding with_each
 with_each-none [] last so_far none = refl
 with_each-none (byte ∷ bytes) last so_far none = absurd (omega arith)
 
--- what a cutter of which no cut waits knows
+-- the history of a cutter with no chunk ready
 pub Quiet-at : (cutter : Cutter) (so_far : Cutting) → IsCutterAt cutter so_far
     → cut_waits cutter ≡ false → Quiet so_far
 unfolding due

@@ -1,4 +1,4 @@
--- A cutter and its history, one step further.
+-- A cutter and its history, after one more step.
 use Rattle.std.proofs.Common.{◌≡◌, ℕ, ◌+◌, ◌-◌, ◌*◌, ◌<◌, ◌≤◌, Bool, true, false, ltb, cond, List, [], ◌∷◌, ◌++◌, length, Option, Some, None, is_some, ◌||◌, refl, ap, subst, sym, ◌∙◌, arith}
 use Rattle.std.proofs.lemmas.List.Elements.{All-nil, All-append}
 use Rattle.std.proofs.lemmas.Bool.{false≢true}
@@ -12,7 +12,7 @@ use Rattle.link_transfer.specs.declared.cutter.Cutter.{Cutter}
 use Rattle.link_transfer.proofs.Chunking.{first_chunks-zero, first_chunks-append}
 use Rattle.link_transfer.proofs.Due.{waits_as_due, given_within, due_more, chunk_left}
 
--- a cut is there where fewer chunks are given than may be
+-- a chunk is ready if fewer chunks were cut than are due
 pub next_cut-is : (so_far : Cutting)
     → is_some (next_cut so_far) ≡ ltb (length so_far.given) (due so_far)
 unfolding next_cut
@@ -22,7 +22,7 @@ next_cut-is so_far = by_test (ltb (length so_far.given) (due so_far)) _
     by_test true x = refl
     by_test false x = refl
 
--- the bytes held are the bundle's less those of the chunks given
+-- the bytes held are those of the bundle without those of the chunks that were cut
 pub size_of : (cutter : Cutter) (so_far : Cutting) → IsCutterAt cutter so_far
     → length cutter.held.bytes ≡ length so_far.bundle - length so_far.given * so_far.segment
 size_of cutter so_far at = ap length at.held ∙ length-drop (length so_far.given * so_far.segment) so_far.bundle
@@ -34,7 +34,7 @@ waits-at cutter so_far at =
     rw (at.begun, at.ended, at.segment, at.hold, size_of cutter so_far at)
     (sym (next_cut-is so_far ∙ waits_as_due so_far.whole so_far.segment so_far.hold (length so_far.given) (length so_far.bundle) at.some at.few at.left))
 
--- where none waits, all are given that may be
+-- if no chunk is ready, all chunks that are due were cut
 pub all_given : (waiting : Bool) (cutter : Cutter) (so_far : Cutting) → IsCutterAt cutter so_far
     → waiting ≡ cut_waits cutter
     → OnFalse waiting (length so_far.given ≡ due so_far)
@@ -44,7 +44,7 @@ all_given false cutter so_far at is =
     let few = at.few in
     grind (arith, nat_tests)
 
--- what is shown: the chunk given last, which is not empty, or else what is held
+-- the bytes shown are the chunk of the last cut, which is not empty, or else the bytes held
 pub shown_left : (chunk : Option (List ℕ)) (given left : List ℕ) → IsGiven chunk given
     → length given ≡ 0 → left ≡ shown_by chunk left
 shown_left None given left is none = refl
@@ -55,7 +55,7 @@ pub shown_chunk : (chunk : Option (List ℕ)) (given left : List ℕ) → IsGive
 shown_chunk None given left is some = absurd (omega (arith, ap length is))
 shown_chunk (Some chunk) given left is some = is.0
 
--- a cutter of which no cut waits is in a bundle that goes on
+-- a cutter with no chunk ready has an incomplete bundle
 pub goes_on : (cutter : Cutter) (so_far : Cutting) → IsCutterAt cutter so_far
     → cut_waits cutter ≡ false → so_far.whole ≡ false
 goes_on cutter so_far at quiet = sym at.ended ∙ not_ended cutter.ended _ quiet
@@ -64,7 +64,7 @@ goes_on cutter so_far at quiet = sym at.ended ∙ not_ended cutter.ended _ quiet
     not_ended true other is = is
     not_ended false other is = refl
 
--- a cutter that holds nothing stands at the beginning
+-- a cutter that holds nothing is at the beginning
 pub IsCutterAt-new : (cutter : Cutter) (segment hold : ℕ) → 0 < segment → cutter.segment ≡ segment
     → cutter.hold ≡ hold
     → cutter.held.given ≡ [] → cutter.held.bytes ≡ [] → cutter.begun ≡ false → cutter.ended ≡ false
@@ -83,7 +83,7 @@ IsCutterAt-new cutter segment hold some same_segment same_hold given bytes begun
   ended = ended;
 }
 
--- what a push changes
+-- the changes by a push
 pub record Pushes (old new : Cutter) (pushed : List ℕ) (last : Bool) : Type 0 where
   pub segment : new.segment ≡ old.segment
   pub hold : new.hold ≡ old.hold

@@ -1,4 +1,4 @@
--- What a cutter knows of the bundle that is pushed into it.
+-- The history of a cutter, and what follows from its fields.
 use Rattle.std.specs.Prelude.{◌≡◌, ℕ, ◌<◌, ◌≤◌, Bool, true, nat_lt, List, [], length, Option, Some, None}
 use Rattle.link_wire.specs.Bytes.{AreBytes}
 use Rattle.link_transfer.specs.Chunks.{first_chunks}
@@ -6,35 +6,36 @@ use Rattle.link_transfer.specs.Cutting.{Cutting, due, left_of}
 use Rattle.link_transfer.specs.Held.{waits, wanted_of}
 use Rattle.link_transfer.specs.declared.cutter.Cutter.{Cutter}
 
--- a cut waits
+-- whether a chunk is ready
 abbrev pub cut_waits : Cutter → Bool
 cut_waits cutter =
     waits cutter.begun cutter.ended cutter.segment cutter.hold (length cutter.held.bytes)
 
--- after how many further bytes of a bundle that goes on a cut waits
+-- the number of further bytes after which a chunk is ready, if none of them is the bundle's last
 abbrev pub wanted_by : Cutter → ℕ
 wanted_by cutter = wanted_of cutter.begun cutter.segment cutter.hold (length cutter.held.bytes)
 
--- how many bytes are held that no cut has given
+-- the number of bytes that were not cut
 abbrev pub held_size : Cutter → ℕ
 held_size cutter = length cutter.held.bytes
 
--- the chunk given last is this, and has a byte; or there is none
+-- the chunk of the last cut is this and has a byte, or there is none
 abbrev pub IsGiven : Option (List ℕ) → List ℕ → Type 0
 IsGiven None given = given ≡ []
 IsGiven (Some chunk) given = (given ≡ chunk) × (0 < length chunk)
 
--- the cutter stands where this history ends
+-- the cutter has this history
 pub record IsCutterAt (cutter : Cutter) (so_far : Cutting) : Type 0 where
   pub some : 0 < so_far.segment
   pub segment : cutter.segment ≡ so_far.segment
   pub hold : cutter.hold ≡ so_far.hold
   pub bytes : AreBytes so_far.bundle
-  -- what was given are the first chunks of the bundle, and no more than may be given; of a whole bundle not all
+  -- The chunks that were cut are the first chunks of the bundle. They are all due. At least one
+  -- chunk of a whole bundle is left.
   pub given : so_far.given ≡ first_chunks so_far.segment (length so_far.given) so_far.bundle
   pub few : length so_far.given ≤ due so_far
   pub left : so_far.whole ≡ true → length so_far.given < due so_far
-  -- the rest is held, and the chunk given last
+  -- the rest is held, and the chunk of the last cut is kept
   pub held : cutter.held.bytes ≡ left_of so_far
   pub chunk : IsGiven so_far.chunk cutter.held.given
   pub begun : cutter.begun ≡ nat_lt 0 (length so_far.given)

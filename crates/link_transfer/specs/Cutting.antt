@@ -1,33 +1,35 @@
--- What a bundle is cut into while its bytes come, and when each chunk is given.
+-- How a bundle is cut while its bytes come, and when each chunk is cut.
 use Rattle.std.specs.Prelude.{ℕ, ◌+◌, ◌*◌, ◌/◌, Bool, true, false, ◌&&◌, ◌==◌, nat_lt, nat_le, List, [], ◌∷◌, ◌++◌, length, drop, Option, Some, None, is_some, if◌then◌else◌}
 use Rattle.link_transfer.specs.Chunks.{chunk_at, chunk_count}
 use Rattle.link_transfer.specs.declared.cut.Cut.{Cut}
 
--- the history of a cutter for segments of at most `segment` bytes that may announce up to `hold` bytes
+-- The history of a cutter for segments of at most `segment` bytes. The cutter may announce lengths
+-- of at most `hold` bytes.
 pub record Cutting : Type 0 where
   pub segment : ℕ
   pub hold : ℕ
-  -- the bytes of the present bundle that were pushed, and whether its last byte was among them
+  -- the bytes of the current bundle that were pushed, and whether its last byte was among them
   pub bundle : List ℕ
   pub whole : Bool
-  -- its chunks that cuts have given
+  -- the chunks of it that were cut
   pub given : List (List ℕ)
-  -- the chunk that the last cut gave, until the next push or cut
+  -- the chunk of the last cut, until the next push or cut
   pub chunk : Option (List ℕ)
 
--- nothing was pushed yet
+-- no byte was pushed yet
 abbrev pub beginning : (segment hold : ℕ) → Cutting
 beginning segment hold =
     record { segment = segment; hold = hold; bundle = []; whole = false; given = []; chunk = None }
 
--- These bytes were pushed. `last` says that they end with the bundle's last byte.
+-- These bytes were pushed; `last` is whether they end with the bundle's last byte.
 abbrev pub with_bytes : List ℕ → (last : Bool) → Cutting → Cutting
 with_bytes [] last so_far = so_far
 with_bytes (byte ∷ bytes) last so_far =
     record so_far { bundle = so_far.bundle ++ byte ∷ bytes; whole = last; chunk = None }
 
--- How many chunks may be given, where `size` bytes of a bundle have come: all of a whole bundle. Of one that goes on none, as
--- long as its length may yet be announced; then each that is full.
+-- The number of chunks that are due after `size` bytes of a bundle. All chunks of a whole bundle
+-- are due. No chunk of an incomplete bundle is due while its length may still be announced. After
+-- that each full chunk is due.
 abbrev pub due_of : (whole : Bool) (segment hold size : ℕ) → ℕ
 due_of whole segment hold size =
     if whole then chunk_count segment size
@@ -37,7 +39,8 @@ due_of whole segment hold size =
 unfoldable pub due : Cutting → ℕ
 due so_far = due_of so_far.whole so_far.segment so_far.hold (length so_far.bundle)
 
--- The length that is announced (RFC 9174 section 5.2.5.1): that of a whole bundle of more than one segment that was held.
+-- The length that is announced (RFC 9174 section 5.2.5.1). It is that of a whole bundle of more
+-- than one segment and at most `hold` bytes.
 unfoldable pub announcement : Cutting → Option ℕ
 announcement so_far =
     if so_far.whole && (nat_lt so_far.segment (length so_far.bundle)
@@ -45,11 +48,11 @@ announcement so_far =
     then Some (length so_far.bundle)
     else None
 
--- the chunk that the next cut gives
+-- the chunk that the next cut returns
 abbrev pub next_chunk : Cutting → List ℕ
 next_chunk so_far = chunk_at so_far.segment (length so_far.given) so_far.bundle
 
--- it is the last
+-- whether it is the last
 abbrev pub is_last : Cutting → Bool
 is_last so_far =
     so_far.whole && (length so_far.given + 1 == chunk_count so_far.segment (length so_far.bundle))
@@ -57,7 +60,7 @@ is_last so_far =
 abbrev pub is_first : Cutting → Bool
 is_first so_far = length so_far.given == 0
 
--- what the next cut is, if one waits
+-- the description of the next chunk, if one is ready
 unfoldable pub next_cut : Cutting → Option Cut
 next_cut so_far =
     if nat_lt (length so_far.given) (due so_far)
@@ -68,7 +71,7 @@ next_cut so_far =
     })
     else None
 
--- The chunk was given. After the last one another bundle begins.
+-- The chunk was cut. After the last one another bundle begins.
 abbrev pub with_chunk : Cutting → Cutting
 with_chunk so_far =
     if is_last so_far
@@ -78,16 +81,16 @@ with_chunk so_far =
       chunk = Some (next_chunk so_far);
     }
 
--- a cut was asked for
+-- `cut` was called
 unfoldable pub after_cut : Cutting → Cutting
 after_cut so_far =
     if is_some (next_cut so_far) then with_chunk so_far else record so_far { chunk = None }
 
--- the bytes of the bundle that no cut has given
+-- the bytes of the bundle that were not cut
 abbrev pub left_of : Cutting → List ℕ
 left_of so_far = drop (length so_far.given * so_far.segment) so_far.bundle
 
--- what is shown: the chunk that the last cut gave, or else the bytes that no cut has given
+-- the bytes that are shown: the chunk of the last cut, or else the bytes that were not cut
 abbrev pub shown_by : Option (List ℕ) → List ℕ → List ℕ
 shown_by (Some chunk) left = chunk
 shown_by None left = left
@@ -99,7 +102,8 @@ abbrev pub is_empty : List ℕ → Bool
 is_empty [] = true
 is_empty (byte ∷ bytes) = false
 
--- these bytes were pushed one at a time until a cut waits, the last of them as the bundle's last if `last` says so
+-- These bytes were pushed one at a time until a chunk was ready. If `last` is true, the last of
+-- them is the bundle's last.
 unfoldable pub with_each : List ℕ → (last : Bool) → Cutting → Cutting
 with_each [] last so_far = so_far
 with_each (byte ∷ bytes) last so_far =

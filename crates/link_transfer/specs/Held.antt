@@ -1,22 +1,23 @@
--- What a cutter does with the bytes that it holds.
+-- The bytes that a cutter holds, and what follows from their number.
 use Rattle.std.specs.Prelude.{ℕ, ◌+◌, ◌-◌, max, Bool, not, ◌||◌, ◌&&◌, nat_lt, nat_le, List, Option, Some, None, if◌then◌else◌}
 use Rattle.link_transfer.specs.declared.cut.Cut.{Cut}
 
--- how many bytes there is room for, the run of bytes that was given last, and the bytes that were not given
+-- the size of the buffer, the bytes that were given last, and the bytes that were not given
 pub record HeldBytes : Type 0 where
   pub room : ℕ
   pub given : List ℕ
   pub bytes : List ℕ
 
--- a cut waits: the bundle has ended, or a chunk is full and the length is announced no more
+-- whether a chunk is ready: the bundle has ended, or a chunk is full and the length can no longer
+-- be announced
 abbrev pub waits : (begun ended : Bool) (segment hold size : ℕ) → Bool
 waits begun ended segment hold size = ended || (nat_le segment size && (begun || nat_lt hold size))
 
--- after how many further bytes of a bundle that goes on a cut waits
+-- the number of further bytes after which a chunk is ready, if none of them is the bundle's last
 abbrev pub wanted_of : (begun : Bool) (segment hold size : ℕ) → ℕ
 wanted_of begun segment hold size = (if begun then segment else max segment (hold + 1)) - size
 
--- the bytes held are the bundle's last chunk
+-- whether the bytes held are the bundle's last chunk
 abbrev pub is_last_of : (ended : Bool) (segment size : ℕ) → Bool
 is_last_of ended segment size = ended && nat_le size segment
 
@@ -25,7 +26,7 @@ abbrev pub announced_by : (begun ended : Bool) (segment hold size : ℕ) → Opt
 announced_by begun ended segment hold size =
     if not begun && (ended && (nat_lt segment size && nat_le size hold)) then Some size else None
 
--- the next cut, where one waits
+-- the description of the next chunk, if one is ready
 abbrev pub cut_of : (begun ended : Bool) (segment hold size : ℕ) → Cut
 cut_of begun ended segment hold size =
     record {

@@ -1,4 +1,4 @@
--- What a joiner knows of the messages that it has accepted.
+-- The messages that a joiner has accepted.
 use Rattle.std.specs.Prelude.{◌≡◌, true, List}
 use Rattle.link_wire.specs.declared.message.Message.{Message}
 use Rattle.link_transfer.specs.Order.{has_sess_init, has_sess_term, open_of, open_after}
@@ -12,7 +12,7 @@ pub record IsJoinerAt (joiner : Joiner) (messages : List Message) : Type 0 where
   pub terminated : joiner.terminated ≡ has_sess_term messages
   pub transfer : joiner.transfer ≡ open_of messages
 
--- the joiner once an event is accepted
+-- the joiner after it has accepted an event
 abbrev pub joiner_after : Joiner → Event → Joiner
 joiner_after joiner SessInit = record joiner { initiated = true }
 joiner_after joiner SessTerm = record joiner { terminated = true }

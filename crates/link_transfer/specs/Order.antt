@@ -1,5 +1,5 @@
--- The order of the messages that one entity sends in a session (RFC 9174): what may follow the messages that were
--- accepted before, over the whole list of them.
+-- The order of the messages that one entity sends in a session (RFC 9174). Which message may come
+-- next depends on the whole list of messages that were accepted before.
 use Rattle.std.specs.Prelude.{ℕ, Bool, true, false, not, ◌&&◌, ◌==◌, List, map, reverse, find, Option, Some, None, Result, Ok, Err, if◌then◌else◌}
 use Rattle.std.specs.List.{list_any}
 use Rattle.std.specs.Option.{option_and_then, option_eq}
@@ -31,7 +31,7 @@ is_segment SessTerm = false
 is_segment (Segment flags id) = true
 is_segment Other = false
 
--- a segment with START, and one without
+-- whether an event is a segment with START, and whether it is one without
 abbrev pub begins : Event → Bool
 begins SessInit = false
 begins SessTerm = false
@@ -41,45 +41,47 @@ begins Other = false
 abbrev pub continues : Event → Bool
 continues event = is_segment event && not (begins event)
 
--- of the messages before, what the order depends on
+-- the events of the messages before
 abbrev pub events_of : List Message → List Event
 events_of before = map event_of before
 
--- SESS_INIT has come, and SESS_TERM
+-- whether a SESS_INIT was accepted, and whether a SESS_TERM was
 unfoldable pub has_sess_init : List Message → Bool
 has_sess_init before = list_any is_sess_init (events_of before)
 
 unfoldable pub has_sess_term : List Message → Bool
 has_sess_term before = list_any is_sess_term (events_of before)
 
--- The transfer that is open after a segment: its own, unless it has END. Segments of two transfers are never interleaved
--- (section 5.2.2), so no other is.
+-- The transfer that is open after a segment: its own, unless it has END. No other is open, since
+-- segments of two transfers are never interleaved (section 5.2.2).
 abbrev pub open_after : Event → Option ℕ
 open_after (Segment flags id) = if is_end flags then None else Some id
 open_after SessInit = None
 open_after SessTerm = None
 open_after Other = None
 
--- the open transfer's ID: that of the last segment, if it lacks END
+-- the ID of the open transfer, which is that of the last segment unless it has END
 unfoldable pub open_of : List Message → Option ℕ
 open_of before = option_and_then open_after (find is_segment (reverse (events_of before)))
 
--- the event is a segment of this transfer
+-- whether the event is a segment of this transfer
 abbrev pub is_of : Option ℕ → Event → Bool
 is_of transfer SessInit = false
 is_of transfer SessTerm = false
 is_of transfer (Segment flags id) = option_eq ◌==◌ transfer (Some id)
 is_of transfer Other = false
 
--- Why a message may not come, where a SESS_INIT and a SESS_TERM have come or not, and this transfer is open: the first
--- reason that holds.
--- 1. SESS_INIT gives the parameters of the whole session (section 4.6), so a second is refused.
--- 2. No bundle is transferred before the parameters are there (section 4.6).
--- 3. A segment without START goes on with the transfer of the segments before it (section 5.2.2), so that is open.
--- 4. A segment with START is the first of its transfer (section 5.2.2), so that is not open yet.
--- 5. After SESS_TERM no transfer begins; the open one may be finished (section 6.1).
--- A START of another ID than the open one is no fault: the sender of a transfer that was refused leaves it without END
--- (section 5.2.4).
+-- The first reason why a message may not come. `initiated` is whether a SESS_INIT was accepted
+-- before, and `terminated` is whether a SESS_TERM was. `transfer` is the open transfer.
+-- 1. SESS_INIT sets the parameters of the whole session (section 4.6), so a second one is refused.
+-- 2. No bundle is transferred before the parameters are set (section 4.6).
+-- 3. A segment without START continues the transfer of the segments before it (section 5.2.2), so
+--    that transfer has to be open.
+-- 4. A segment with START is the first of its transfer (section 5.2.2), so the transfer may not be
+--    open yet.
+-- 5. No transfer begins after SESS_TERM, but the open one may be finished (section 6.1).
+-- A START with another ID than that of the open transfer is no fault. The sender of a transfer that
+-- was refused leaves it without END (section 5.2.4).
 abbrev pub refusal_by : (initiated terminated : Bool) (transfer : Option ℕ) → Event
     → Option OrderFault
 refusal_by initiated terminated transfer event =
@@ -90,13 +92,13 @@ refusal_by initiated terminated transfer event =
     else if begins event && terminated then Some StartAfterSessTerm
     else None
 
--- why a message may not follow those before it
+-- the reason why a message may not follow those before it
 unfoldable pub refusal : List Message → Event → Option OrderFault
 refusal before event =
     refusal_by (has_sess_init before) (has_sess_term before) (open_of before) event
 
--- What an accepted message does to the transfers, of which this one is open: a segment with START begins a transfer, and
--- abandons the open one; without START it goes on with the open one.
+-- The effect of an accepted message, while this transfer is open. A segment with START begins a
+-- transfer and abandons the open one. A segment without START continues the open one.
 abbrev pub turn_by : Option ℕ → Event → Turn
 turn_by transfer SessInit = turn.Other
 turn_by transfer SessTerm = turn.Other
@@ -107,7 +109,7 @@ turn_by transfer Other = turn.Other
 unfoldable pub turn_of : List Message → Event → Turn
 turn_of before event = turn_by (open_of before) event
 
--- a message is refused, or does this
+-- a message is refused, or has this effect
 abbrev pub judged_by : Option OrderFault → Turn → Result Turn OrderFault
 judged_by (Some fault) done = Err fault
 judged_by None done = Ok done

@@ -1,4 +1,4 @@
-//! Bundles cut into the chunks that become the data of segments.
+//! Cutting bundles into the chunks that become the data of segments.
 
 ghost use Rattle.std.specs.Prelude.{◌≡◌, ◌+◌, ◌<◌, ◌≤◌, Bool, true, false, ◌&&◌, ◌==◌, max, List, [], ◌∷◌, ◌++◌, length, take, is_some, is_ok, IfOk, IfSome, IfNone, OnSome, vec_len};
 ghost use Rattle.std.specs.Bool.{OnTrue, OnFalse};
@@ -7,19 +7,20 @@ use crate::cut::Cut;
 use crate::held::Held;
 use std::alloc::{AllocError, Global};
 
-/// Cuts bundles, one after another, into the chunks that become the data of their segments (RFC 9174 section 5.2.2).
+/// Cuts bundles, one after another, into the data of their segments (RFC 9174 section 5.2.2).
 ///
-/// A chunk has the size of a segment, but for a bundle's last, which has what is left. It waits for `cut` as soon as it
-/// is full or the bundle has ended. But while a bundle goes on and has at most `hold` bytes no chunk waits, so that the
-/// first can announce the length of the whole bundle.
+/// Each chunk has the size of a segment, except a bundle's last chunk, which has the rest. A chunk
+/// is ready as soon as it is full or the bundle has ended. But while a bundle is incomplete and has
+/// at most `hold` bytes, no chunk is ready. So the first chunk can announce the length of the whole
+/// bundle.
 #[derive(Drop)]
 pub struct Cutter {
     held: Held,
     segment: usize,
     hold: usize,
-    /// Whether a chunk of the present bundle has been given.
+    /// Whether a chunk of the current bundle was cut.
     begun: bool,
-    /// Whether the last byte of the present bundle has been pushed.
+    /// Whether the last byte of the current bundle was pushed.
     ended: bool,
     ghost room: { held.room ≡ max segment (hold + 1) },
     ghost some: { 0 < segment },
@@ -33,8 +34,10 @@ impl Cutter {
     ghost use Rattle.link_transfer.specs.Cutter.{IsCutterAt, cut_waits, wanted_by, held_size};
     ghost use Rattle.link_transfer.specs.Held.{cut_of, is_last_of, announced_by};
 
-    /// A cutter for segments of at most `segment` bytes, 1 to 65,536, which announces the lengths of bundles of at most
-    /// `hold` bytes, 0 to 1,048,576. It takes memory once, for the greater of `segment` and `hold + 1` bytes.
+    /// A cutter for segments of at most `segment` bytes, that announces up to `hold` bytes.
+    ///
+    /// `segment` is 1 to 65,536, and `hold` is 0 to 1,048,576. The cutter allocates once, for the
+    /// greater of `segment` and `hold + 1` bytes. `AllocError` means that the allocation failed.
     pub fn new(alloc: Global, segment: usize, hold: usize) -> Result<Cutter, AllocError>
         requires positive { 0 < segment }
         requires segment_within { segment ≤ 65536 }
@@ -45,7 +48,7 @@ impl Cutter {
         Cutter::over(vec![in alloc; 0; segment.max(hold + 1)], segment, hold)
     }
 
-    /// A cutter over this memory, where it was given.
+    /// A cutter in this memory, or the error that there is none.
     fn over(
         memory: Result<Vec<u8>, AllocError>,
         segment: usize,
@@ -67,7 +70,9 @@ impl Cutter {
         })
     }
 
-    /// Whether a cut waits. Where none does, every chunk that may be given yet has been given.
+    /// Whether a chunk is ready for `cut`.
+    ///
+    /// If none is, every chunk that is due so far was cut.
     #[inline]
     pub fn waiting(&self) -> bool
         ensures waits { result ≡ cut_waits self.now }
@@ -79,7 +84,10 @@ impl Cutter {
         self.waits()
     }
 
-    /// Whether a cut waits: the bundle has ended, or a chunk is full and the length is announced no more.
+    /// Whether a chunk is ready.
+    ///
+    /// A chunk is ready if the bundle has ended, or if a chunk is full and the length can no longer
+    /// be announced.
     #[inline]
     fn waits(&self) -> bool
         ensures { result ≡ cut_waits self.now }
@@ -88,7 +96,7 @@ impl Cutter {
         self.ended || size >= self.segment && (self.begun || size > self.hold)
     }
 
-    /// The chunk that the last cut gave, until the next push or cut; else the bytes that no cut has given.
+    /// The chunk of the last cut, until the next push or cut, or else the bytes that were not cut.
     pub fn bytes(&self) -> &[u8]
         ensures { (so_far : Cutting) → IsCutterAt self.now so_far → result.now ≡ shown so_far }
     {
@@ -100,8 +108,9 @@ impl Cutter {
         }
     }
 
-    /// Takes the next byte of the present bundle; `last` says that it is the bundle's last. It is called only where no
-    /// cut waits.
+    /// Takes the next byte of the current bundle; `last` is whether it is the bundle's last.
+    ///
+    /// It may be called only if no chunk is ready.
     #[inline]
     pub fn push(&mut self, byte: u8, last: bool)
         requires { cut_waits self.old ≡ false }
@@ -112,9 +121,10 @@ impl Cutter {
         self.ended = last;
     }
 
-    /// Takes the next bytes of the present bundle up to the first after which a cut waits, or all, and returns how many;
-    /// `last` says that the last byte of the slice is the bundle's last. It is called only where no cut waits. The same
-    /// bytes pushed one at a time give the same.
+    /// Takes bytes of the current bundle until a chunk is ready, or all, and returns how many.
+    ///
+    /// `last` is whether the last byte of the slice is the bundle's last. It may be called only if
+    /// no chunk is ready. Pushing the same bytes one at a time has the same effect.
     #[inline]
     pub fn push_slice(&mut self, bytes: &[u8], last: bool) -> usize
         requires { cut_waits self.old ≡ false }
@@ -137,7 +147,9 @@ impl Cutter {
         count
     }
 
-    /// After how many further bytes a cut waits, if none of them is the bundle's last.
+    /// The number of bytes after which a chunk is ready, if none of them is the bundle's last.
+    ///
+    /// It may be called only if no chunk is ready.
     #[inline]
     pub fn wanted(&self) -> usize
         requires { cut_waits self.now ≡ false }
@@ -153,8 +165,9 @@ impl Cutter {
         full - self.held.len()
     }
 
-    /// Gives the next chunk, if a cut waits: `bytes` is that chunk then. After the bundle's last chunk the next push
-    /// begins another bundle.
+    /// Cuts the next chunk, if one is ready; `bytes` is then that chunk.
+    ///
+    /// After the last chunk of a bundle, the next push begins another bundle.
     pub fn cut(&mut self) -> Option<Cut>
         ensures cut { (so_far : Cutting) → IsCutterAt self.old so_far → result ≡ next_cut so_far }
         ensures after { (so_far : Cutting) → IsCutterAt self.old so_far
@@ -162,7 +175,7 @@ impl Cutter {
         ensures waits { is_some result ≡ cut_waits self.old }
         ensures quiet { IfNone result (cut_waits self.new ≡ false) }
         ensures shrinks { OnSome result (held_size self.new < held_size self.old) }
-        // With the last chunk all are given.
+        // After the last chunk, all chunks of the bundle were cut.
         ensures all { (so_far : Cutting) → IsCutterAt self.old so_far
             → IfSome result (λ cut. OnTrue cut.last
             (so_far.given ++ next_chunk so_far ∷ [] ≡ chunks so_far.segment so_far.bundle)) }
@@ -178,7 +191,7 @@ impl Cutter {
         Some(cut)
     }
 
-    /// The cut that waits.
+    /// The description of the chunk that is ready.
     fn next_cut(&self) -> Cut
         ensures { result
             ≡ cut_of self.now.begun self.now.ended self.now.segment self.now.hold
@@ -198,7 +211,7 @@ impl Cutter {
         self.ended && self.held.len() <= self.segment
     }
 
-    /// The length to be announced with the next chunk.
+    /// The length that the next chunk announces.
     fn announcement(&self) -> Option<u64>
         ensures { result
             ≡ announced_by self.now.begun self.now.ended self.now.segment self.now.hold

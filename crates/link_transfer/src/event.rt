@@ -1,11 +1,11 @@
-//! What the order of messages depends on in a message.
+//! The part of a message that the order of messages depends on.
 
 ghost use Rattle.std.specs.Prelude.{◌≡◌};
 ghost use Rattle.link_wire.specs.Codes.{is_start, is_end};
 
 use link_wire::{END, Fields, Message, START};
 
-/// What the order of messages depends on in a message.
+/// The part of a message that the order of messages depends on.
 #[derive(Clone, Copy, Debug, PartialEq, Eq)]
 pub enum Event {
     /// A SESS_INIT.
@@ -14,7 +14,9 @@ pub enum Event {
     SessTerm,
     /// An XFER_SEGMENT: its flags and its transfer ID.
     Segment { flags: u8, id: u64 },
-    /// Any other message. It may stand anywhere, and changes nothing for those after it.
+    /// Any other message.
+    ///
+    /// It may come anywhere, and changes nothing for the messages after it.
     Other,
 }
 
@@ -25,7 +27,7 @@ impl Event {
     ghost use Rattle.link_wire.specs.declared.message.Item.{Item};
     ghost use Rattle.link_transfer.specs.Event.{event_of};
 
-    /// What the order depends on in this message.
+    /// The event of this message.
     pub fn of(message: &Message) -> Event
         ensures { result ≡ event_of message.now }
     {
@@ -40,7 +42,7 @@ impl Event {
         }
     }
 
-    /// The same of a message of these numbers.
+    /// The event of a message with these fields.
     pub fn of_fields(fields: Fields) -> Event
         ensures { (node : ArrayVec ℕ) (items : ArrayVec Item)
             → result ≡ event_of (message_with fields node items) }

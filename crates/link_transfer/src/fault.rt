@@ -1,8 +1,8 @@
-//! What is wrong with the order of a session's messages.
+//! The faults in the order of a session's messages.
 
 use thiserror::Error;
 
-/// The first message that may not stand where it stands (RFC 9174 sections 4.6, 5.2 and 6.1).
+/// The reason why a message may not come where it does (RFC 9174 sections 4.6, 5.2 and 6.1).
 #[derive(Clone, Copy, Debug, PartialEq, Eq, Error)]
 pub enum OrderFault {
     /// A SESS_INIT after a SESS_INIT.

@@ -4,7 +4,9 @@ ghost use Rattle.std.specs.Prelude.{◌≡◌, ℕ, ◌+◌, ◌-◌, ◌<◌, �
 
 use std::marker::Model;
 
-/// Bytes in the order in which they came, in a buffer of a fixed size, and the run of bytes that was given last.
+/// Bytes in the order in which they came, in a buffer of a fixed size.
+///
+/// The bytes that were given last stay readable before those held.
 ///
 /// ```text
 ///               given        start           end
@@ -37,8 +39,11 @@ impl Model for Held {
         × (held.end ≤ length held.buffer.items) };
 }
 
-/// Moves the bytes from `start` to `end` to the beginning of the buffer if there are none, or fewer than `count` bytes
-/// after them, and returns where they stand then. So short bundles are held in the same few bytes, one after another.
+/// Makes room for `count` bytes after the held ones, and returns the range of the held bytes.
+///
+/// The held bytes are those from `start` to `end`. If there are none, or there is too little room
+/// after them, they are moved to the beginning of the buffer. So short bundles use the same few
+/// bytes of the buffer, one after another.
 #[inline]
 fn with_room(buffer: &mut Vec<u8>, start: usize, end: usize, count: usize) -> (usize, usize)
     requires order { start ≤ end }
@@ -58,7 +63,7 @@ fn with_room(buffer: &mut Vec<u8>, start: usize, end: usize, count: usize) -> (u
 }
 
 impl Held {
-    /// No bytes, in this buffer.
+    /// A buffer that holds no bytes.
     pub fn new(buffer: Vec<u8>) -> Held
         ensures { result ≡ record { room = length buffer.items; given = []; bytes = [] } }
     {
@@ -70,7 +75,7 @@ impl Held {
         }
     }
 
-    /// How many bytes are held.
+    /// The number of bytes held.
     #[inline]
     pub fn len(&self) -> usize
         ensures { result ≡ length self.now.bytes }
@@ -85,14 +90,14 @@ impl Held {
         &self.buffer[self.start..self.end]
     }
 
-    /// The run given last.
+    /// The bytes given last.
     pub fn given(&self) -> &[u8]
         ensures { result.now ≡ self.now.given }
     {
         &self.buffer[self.given..self.start]
     }
 
-    /// Adds a byte after those held, and forgets the run given last.
+    /// Appends a byte to those held, and forgets the bytes given last.
     #[inline]
     pub fn push(&mut self, byte: u8)
         requires { length self.old.bytes < self.old.room }
@@ -105,7 +110,7 @@ impl Held {
         self.end = end + 1;
     }
 
-    /// Adds bytes after those held, and forgets the run given last.
+    /// Appends bytes to those held, and forgets the bytes given last.
     #[inline]
     pub fn append(&mut self, bytes: &[u8])
         requires { length self.old.bytes + length bytes.now ≤ self.old.room }
@@ -118,7 +123,7 @@ impl Held {
         self.end = end + bytes.len();
     }
 
-    /// Gives the first `count` bytes held as a run.
+    /// Gives the first `count` bytes held: they are held no longer, and `given` returns them.
     #[inline]
     pub fn give(&mut self, count: usize)
         requires { count ≤ length self.old.bytes }
@@ -131,7 +136,7 @@ impl Held {
         self.start += count;
     }
 
-    /// Forgets the run given last.
+    /// Forgets the bytes given last.
     pub fn forget(&mut self)
         ensures { self.new ≡ record self.old { given = [] } }
     {
@@ -139,7 +144,7 @@ impl Held {
     }
 }
 
-/// Copies bytes into the buffer, from an index on.
+/// Copies bytes into the buffer, from the index `at` on.
 #[inline]
 fn copy_at(buffer: &mut Vec<u8>, at: usize, bytes: &[u8])
     requires { at + length bytes.now ≤ length buffer.old.items }

@@ -8,34 +8,38 @@ use crate::fault::OrderFault;
 use link_wire::Message;
 use std::mem;
 
-/// What an accepted message does to the transfers of its session.
+/// The effect of an accepted message on the transfers of its session.
 #[derive(Clone, Copy, Debug, PartialEq, Eq)]
 pub enum Turn {
-    /// Nothing: it is no segment.
+    /// The message is no segment and has no effect.
     Other,
-    /// It is the first segment of a transfer.
+    /// The message is the first segment of a transfer.
     Begin {
-        /// The transfer that was open until then. It has no END and gets no more segments, as one that was refused
-        /// (RFC 9174 section 5.2.4).
+        /// The transfer that was open until then.
+        ///
+        /// It has no END and gets no more segments, like a transfer that was refused (RFC 9174
+        /// section 5.2.4).
         abandoned: Option<u64>,
-        /// Whether it is the last segment of its transfer too.
+        /// Whether the message is the last segment of its transfer too.
         last: bool,
     },
-    /// It is a further segment of the open transfer.
+    /// The message is a further segment of the open transfer.
     Continue {
-        /// Whether it is the last.
+        /// Whether the message is the last segment of its transfer.
         last: bool,
     },
 }
 
-/// Judges the order of the messages that one entity sends in a session (RFC 9174 sections 4.6, 5.2 and 6.1).
+/// Judges the order of the messages that one entity sends in a session.
+///
+/// The rules are those of RFC 9174 sections 4.6, 5.2 and 6.1.
 #[derive(Clone, Copy, Debug)]
 pub struct Joiner {
-    /// Whether a SESS_INIT has come.
+    /// Whether a SESS_INIT was accepted.
     initiated: bool,
-    /// Whether a SESS_TERM has come.
+    /// Whether a SESS_TERM was accepted.
     terminated: bool,
-    /// The ID of the transfer that is open.
+    /// The ID of the open transfer.
     transfer: Option<u64>,
 }
 
@@ -45,7 +49,7 @@ impl Joiner {
     ghost use Rattle.link_transfer.specs.Order.{judged, open_of, refusal_by, turn_by};
     ghost use Rattle.link_transfer.specs.Joiner.{IsJoinerAt, joiner_after};
 
-    /// A joiner that has accepted nothing.
+    /// A joiner that has accepted no message.
     pub fn new() -> Joiner
         ensures { IsJoinerAt result [] }
     {
@@ -56,14 +60,16 @@ impl Joiner {
         }
     }
 
-    /// The ID of the open transfer: that of the last segment accepted, unless it had END.
+    /// The ID of the open transfer.
+    ///
+    /// It is the ID of the last segment accepted, unless that segment had END.
     pub fn open(&self) -> Option<u64>
         ensures { (before : List Message) → IsJoinerAt self.now before → result ≡ open_of before }
     {
         self.transfer
     }
 
-    /// Why the event may not come now: the first reason that holds.
+    /// The first reason why the event may not come now.
     fn refusal(&self, event: Event) -> Option<OrderFault>
         ensures { result ≡ refusal_by self.now.initiated self.now.terminated
             self.now.transfer event }
@@ -77,7 +83,7 @@ impl Joiner {
         }
     }
 
-    /// Why a segment without START may not come now, once a SESS_INIT has come.
+    /// The reason why a segment without START may not come now, after a SESS_INIT.
     fn continuation_refusal(&self, id: u64) -> Option<OrderFault>
         ensures { result ≡ (if option_eq ◌==◌ self.now.transfer (Some id) then None
             else Some OrderFault.NoSuchOpenTransfer) }
@@ -89,7 +95,7 @@ impl Joiner {
         }
     }
 
-    /// Why a segment with START may not come now, once a SESS_INIT has come.
+    /// The reason why a segment with START may not come now, after a SESS_INIT.
     fn start_refusal(&self, id: u64) -> Option<OrderFault>
         ensures { result ≡ (if option_eq ◌==◌ self.now.transfer (Some id)
             then Some OrderFault.StartRepeatsOpenId
@@ -104,7 +110,7 @@ impl Joiner {
         }
     }
 
-    /// Takes in an event that may come, and returns what it does to the transfers.
+    /// Accepts an event that may come, and returns its effect on the transfers.
     fn accept(&mut self, event: Event) -> Turn
         ensures turn { result ≡ turn_by self.old.transfer event }
         ensures after { self.new ≡ joiner_after self.old event }
@@ -118,7 +124,7 @@ impl Joiner {
         Turn::Other
     }
 
-    /// The same of a segment.
+    /// Accepts a segment that may come, and returns its effect on the transfers.
     fn accept_segment(&mut self, flags: u8, id: u64) -> Turn
         ensures turn { result ≡ turn_by self.old.transfer (Event.Segment flags id) }
         ensures after { self.new ≡ joiner_after self.old (Event.Segment flags id) }
@@ -133,8 +139,9 @@ impl Joiner {
         }
     }
 
-    /// Accepts the message, and returns what it does to the transfers; or refuses it for the first reason that holds,
-    /// and is unchanged.
+    /// Accepts the message and returns its effect on the transfers, or refuses it.
+    ///
+    /// The error is the first reason that holds. A refused message changes nothing.
     pub fn message(&mut self, message: &Message) -> Result<Turn, OrderFault>
         ensures judged { (before : List Message) → IsJoinerAt self.old before
             → result ≡ judged before (event_of message.now) }
@@ -145,7 +152,7 @@ impl Joiner {
         self.event(Event::of(message))
     }
 
-    /// As `message`, of any message in which the order depends on this event.
+    /// Judges any message with this event, as `message` does.
     pub fn event(&mut self, event: Event) -> Result<Turn, OrderFault>
         ensures judged { (before : List Message) → IsJoinerAt self.old before
             → result ≡ judged before event }

@@ -1,4 +1,4 @@
-//! The length of a transfer that its extension items announce.
+//! The length that the extension items of a transfer announce.
 
 ghost use Rattle.std.specs.Prelude.{◌≡◌};
 ghost use Rattle.link_transfer.specs.Announced.{announced_by, announced_with, announced_of};
@@ -10,10 +10,10 @@ use link_wire::{Item, Items};
 /// The type of a Transfer Length item (RFC 9174 section 5.2.5.1).
 const TRANSFER_LENGTH: u16 = 0x0001;
 
-/// How many bytes its value has.
+/// The length of its value in bytes.
 const TOTAL_LENGTH: u16 = 8;
 
-/// What one item of that type announces.
+/// The announcement of one Transfer Length item.
 fn announced_by(item: &Item) -> Announced
     ensures { result ≡ announced_by item.now }
 {
@@ -23,7 +23,7 @@ fn announced_by(item: &Item) -> Announced
     }
 }
 
-/// What items announce after which this one comes.
+/// The announcement of the items before, with this item after them.
 fn announced_with(announced: Announced, item: &Item) -> Announced
     ensures { result ≡ announced_with announced item.now }
 {
@@ -36,7 +36,9 @@ fn announced_with(announced: Announced, item: &Item) -> Announced
     }
 }
 
-/// What the extension items of a transfer announce. A Transfer Length item of 8 bytes has the number that they spell.
+/// The announcement of a transfer's extension items.
+///
+/// For a Transfer Length item of 8 bytes, `total` has to be the number that they spell.
 pub fn announced(items: &Items) -> Announced
     requires { HasTotals items.now.items }
     ensures { result ≡ announced_of items.now.items }

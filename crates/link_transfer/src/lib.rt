@@ -1,8 +1,10 @@
-//! The transfers of a TCPCLv4 session (RFC 9174 section 5.2), in both directions: how the messages of a recorded session
-//! follow each other, and how bundles are cut into the data of segments.
+//! The transfers of a TCPCLv4 session (RFC 9174 section 5.2), in both directions.
 //!
-//! A [`Joiner`] judges the order of the messages that one entity sent. It keeps two flags and one transfer ID.
-//! [`announced`] is the length that a transfer's first segment announces.
+//! For a recorded session it judges how the messages follow each other. For bundles that are sent
+//! it cuts them into the data of segments.
+//!
+//! A [`Joiner`] judges the order of the messages that one entity sent. It keeps two flags and one
+//! transfer ID. [`announced`] returns the length that the first segment of a transfer announces.
 //!
 //! ```ignore
 //! let mut joiner = Joiner::new();
@@ -13,7 +15,7 @@
 //! }
 //! ```
 //!
-//! A [`Cutter`] holds the bytes of a bundle until they are a chunk, in a buffer that it takes once.
+//! A [`Cutter`] holds the bytes of a bundle until they make a chunk. It allocates its buffer once.
 //!
 //! ```ignore
 //! let mut cutter = Cutter::new(alloc, 65_536, 0)?;

@@ -111,7 +111,7 @@ pub const BUNDLES: [Expected; 13] = [
     },
 ];
 
-/// What stands before a payload of 70,000 times a5, and after it.
+/// The bytes before a payload of 70,000 times a5, and the bytes after it.
 pub const LARGE_FRONT: &[u8] =
     b"\x9f\x89\x07\x00\x01\x82\x02\x82\x02\x01\x82\x02\x82\x01\x01\x82\x01\x00\x82\x00\x00\x00\x42\x19\x2a\x86\x01\x01\x00\x02\x5a\x00\x01\x11\x70";
 

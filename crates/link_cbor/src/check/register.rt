@@ -1,18 +1,22 @@
-//! A register takes bytes by look-ups in tables, sixteen bytes at a time.
+//! A register that consumes bytes by look-ups in tables, sixteen bytes at a time.
 //!
-//! The register is linear (exclusive or goes through it), so a block of bytes may be taken byte by byte, each into a
-//! register of zero and followed by zero bytes, and the registers be exclusive-ored. Tables have those registers. The
-//! register that the block begins with is exclusive-ored into the block's first bytes.
+//! The register is linear: it commutes with exclusive or. So each byte of a block may go into a
+//! register of zero of its own, followed by one zero byte for each later byte of the block. The
+//! exclusive or of these registers is the register after the block. The tables contain them. The
+//! register before the block is exclusive-ored into the first bytes of the block.
 ghost use Rattle.std.specs.Prelude.{◌≡◌, ◌*◌, ◌/◌, ◌%◌, ◌^◌, ◌∷◌, []};
 ghost use Rattle.std.specs.List.{concat};
 ghost use Rattle.link_cbor.specs.Crc.{register_after};
 ghost use Rattle.link_cbor.specs.CrcTables.{AreTables};
 ghost use Rattle.link_cbor.specs.declared.check.CheckKind.{CheckKind};
 
-/// The tables of one kind: table `k` has, for each byte, the register after that byte and `k` zero bytes, from zero.
+/// The tables of one kind of check.
+///
+/// Table `k` has, for each byte, the register after that byte and `k` zero bytes, from a register
+/// of zero.
 pub(super) type Tables = [[u32; 256]; 16];
 
-/// How many bytes a register has.
+/// The number of bytes in a register.
 const REGISTER_BYTES: usize = 4;
 
 /// The register after one more byte.
@@ -25,7 +29,7 @@ pub(super) fn register_after(tables: &Tables, register: u32, byte: u8) -> u32
 }
 
 /// The register after more blocks of sixteen bytes.
-// inlined, it would keep sixteen addresses of tables in place of one
+// Not inlined: an inlined body would keep the addresses of sixteen tables in place of one.
 #[inline(never)]
 pub(super) fn register_after_blocks(tables: &Tables, mut register: u32, blocks: &[[u8; 16]]) -> u32
     ensures { (kind : CheckKind) → AreTables kind tables.now
@@ -37,7 +41,9 @@ pub(super) fn register_after_blocks(tables: &Tables, mut register: u32, blocks: 
     register
 }
 
-/// The register after sixteen more bytes. The last byte is looked up first, so that few look-ups wait for the register.
+/// The register after sixteen more bytes.
+///
+/// The last byte is looked up first, since only the first four bytes depend on the register.
 #[inline(always)]
 fn register_after_block(tables: &Tables, register: u32, block: &[u8; 16]) -> u32
     ensures { (kind : CheckKind) → AreTables kind tables.now
@@ -51,7 +57,7 @@ fn register_after_block(tables: &Tables, register: u32, block: &[u8; 16]) -> u32
     sum
 }
 
-/// The byte of the register at this position, the lowest at 0; zero past the highest.
+/// The byte of the register at this position, counted from the lowest, or 0 past the highest.
 #[inline(always)]
 fn byte_of(register: u32, position: usize) -> u8
     ensures { result ≡ register / 2 ^ (8 * position) % 256 }

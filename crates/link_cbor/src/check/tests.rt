@@ -1,8 +1,8 @@
-//! Check values against another implementation, in slices and byte by byte.
+//! Check values compared with another implementation, in slices and byte by byte.
 
 use super::*;
 
-/// Two blocks and half a block.
+/// Two blocks of sixteen bytes, and half a block.
 const BYTES: &[u8; 40] = b"Sixteen bytes at a time, then one by one";
 
 fn bytewise(kind: CheckKind, bytes: &[u8]) -> Check {
@@ -21,7 +21,7 @@ fn in_slices(kind: CheckKind, slices: &[&[u8]]) -> Check {
     check
 }
 
-/// The values are those of the Debian package python3-crcmod 1.7, functions `x-25` and `crc-32c`.
+/// The expected values are those of the Debian package python3-crcmod 1.7 (`x-25` and `crc-32c`).
 #[test]
 fn equals_outside_values(rt: HostRuntime) {
     for (bytes, crc16, crc32) in [
@@ -57,7 +57,9 @@ fn equals_outside_values(rt: HostRuntime) {
     }
 }
 
-/// A register of zero after the byte 01, and after the byte 80, which leaves the polynomial in it.
+/// Entries of the first tables are the registers after one byte, from a register of zero.
+///
+/// After the byte 80, the register is the polynomial.
 #[test]
 fn first_tables_begin_right(rt: HostRuntime) {
     for (kind, byte, entry) in [
@@ -70,7 +72,7 @@ fn first_tables_begin_right(rt: HostRuntime) {
     }
 }
 
-/// At each length, the slice at once and cut in two at every position.
+/// Slices of each length up to 40 are pushed at once, and cut in two at every position.
 #[test]
 fn slices_of_every_length(rt: HostRuntime) {
     for kind in [CheckKind::Crc16, CheckKind::Crc32] {

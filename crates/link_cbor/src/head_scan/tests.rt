@@ -18,8 +18,10 @@ fn without_value(major: u8) -> HeadStep {
     HeadStep::Done(Head { major, value: None })
 }
 
-/// Feeds the bytes to a new scan, at once and byte by byte, and compares how many it took and its outcome, and the head that
-/// is read at once. Fed again, a scan that is not going takes none.
+/// Compares the outcome of the bytes with the expected one, and the number of bytes consumed.
+///
+/// The bytes are fed to a new scan at once, and to another byte by byte. `Head::front` reads them
+/// too. A scan that needs no more bytes consumes none when it is fed again.
 fn compare(rt: &impl Abort, bytes: &[u8], taken: usize, outcome: HeadStep) {
     assert!(rt; bytes.len() < 16);
     let mut whole = HeadScan::new();
@@ -43,7 +45,7 @@ fn compare(rt: &impl Abort, bytes: &[u8], taken: usize, outcome: HeadStep) {
     assert_eq!(rt; bytewise.outcome(), outcome, "{bytes:?}");
 }
 
-/// Bytes after the head, heads that are cut, arguments in more bytes than needed, simple values in two bytes.
+/// Bytes after the head, cut heads, arguments in more bytes than needed, two-byte simple values.
 #[test]
 fn takes_one_head(rt: HostRuntime) {
     for (bytes, taken, outcome) in [
@@ -73,8 +75,10 @@ fn takes_one_head(rt: HostRuntime) {
     }
 }
 
-/// The heads of RFC 8949 appendix A; then the number 2 in one, two, four and eight bytes, longer than needed, for each
-/// major type; then the additional informations that no head has.
+/// The heads of RFC 8949 appendix A, arguments longer than needed, and ill-formed heads.
+///
+/// The number 2 is encoded in one, two, four and eight bytes for each major type. The last rows
+/// have additional information that no head has.
 #[test]
 fn reads_single_heads(rt: HostRuntime) {
     for (bytes, outcome) in [

@@ -7,21 +7,23 @@ use super::*;
 use std::process::Abort;
 use std::test::Fail;
 
-/// A bundle's bytes: they need not be one.
+/// The bytes to be cut; they need not be a bundle.
 const BUNDLE: &[u8] = b"abcdefghijklm";
 
-/// The size of a segment.
+/// The size of a segment in bytes.
 const SEGMENT: usize = 4;
 
-/// A chunk that was given: what its cut says, and its bytes.
+/// A chunk that was cut: its description, and its bytes.
 #[derive(Debug, PartialEq, Drop)]
 struct Given {
     cut: Cut,
     bytes: Vec<u8>,
 }
 
-/// What a cutter has to give for a bundle: std's chunks of it, the first and the last marked, and the length announced
-/// where the bundle is longer than a segment and not longer than what may be held.
+/// The chunks that a cutter has to cut a bundle into.
+///
+/// They are the chunks of std, with the first and the last marked. The length is announced if the
+/// bundle is longer than a segment and not longer than the hold.
 fn wanted(alloc: Global, bundle: &[u8], hold: usize) -> Result<Vec<Given>, AllocError> {
     let mut wanted = Vec::new(alloc);
     let is_announced = SEGMENT < bundle.len() && bundle.len() <= hold;
@@ -40,7 +42,7 @@ fn wanted(alloc: Global, bundle: &[u8], hold: usize) -> Result<Vec<Given>, Alloc
     Ok(wanted)
 }
 
-/// Takes the chunks that wait.
+/// Takes the chunks that are ready.
 fn take_all(alloc: Global, cutter: &mut Cutter, given: &mut Vec<Given>) -> Result<(), AllocError>
     ensures { OnOk result (cut_waits cutter.new ≡ false) }
 {
@@ -53,7 +55,7 @@ fn take_all(alloc: Global, cutter: &mut Cutter, given: &mut Vec<Given>) -> Resul
     Ok(())
 }
 
-/// Pushes a piece of a bundle, and takes each chunk as soon as it waits.
+/// Pushes a piece of a bundle, and takes each chunk as soon as it is ready.
 fn push_piece(
     alloc: Global,
     cutter: &mut Cutter,
@@ -72,7 +74,7 @@ fn push_piece(
     Ok(())
 }
 
-/// The chunks of the bundle, and of the same bundle after it, where it is pushed in two pieces.
+/// The chunks of the bundle and of the same bundle again, each pushed in two pieces.
 fn in_two(alloc: Global, hold: usize, bundle: &[u8], at: usize) -> Result<Vec<Given>, AllocError>
     requires hold { hold ≤ 1048576 }
     requires at { at ≤ length bundle.now }
@@ -86,8 +88,10 @@ fn in_two(alloc: Global, hold: usize, bundle: &[u8], at: usize) -> Result<Vec<Gi
     Ok(given)
 }
 
-/// The same byte by byte. As long as the bundle goes on, each full chunk has been given once more than `hold` bytes have
-/// come, and none before; the others are shown.
+/// The chunks of the bundle and of the same bundle again, each pushed byte by byte.
+///
+/// While the bundle is incomplete and has at most `hold` bytes, no chunk was cut. After more bytes
+/// each full chunk was cut. The other bytes are shown.
 fn in_bytes(rt: &(impl Abort + AllocGlobal), hold: usize, bundle: &[u8]) -> Result<Vec<Given>, Fail>
     requires { hold ≤ 1048576 }
 {
@@ -116,8 +120,9 @@ fn in_bytes(rt: &(impl Abort + AllocGlobal), hold: usize, bundle: &[u8]) -> Resu
     Ok(given)
 }
 
-/// Bundles of lengths around each multiple of a segment, with holds around the segment and the length, pushed byte by
-/// byte, whole, and in two pieces cut at every place.
+/// Bundles with lengths around multiples of a segment, and holds around the segment and the length.
+///
+/// Each is pushed byte by byte, whole, and in two pieces cut at every position.
 #[test]
 fn gives_the_chunks(rt: HostRuntime) -> Result<(), Fail> {
     for length in [1, 3, 4, 5, 7, 8, 9, 12, 13] {
@@ -144,7 +149,7 @@ fn gives_the_chunks(rt: HostRuntime) -> Result<(), Fail> {
     Ok(())
 }
 
-/// Where no memory is given there is no cutter, and where it is there is one.
+/// Without memory there is no cutter, and with memory there is one.
 #[test]
 fn reports_want_of_memory(rt: HostRuntime) -> Result<(), Fail> {
     assert!(rt; Cutter::over(Err(AllocError), SEGMENT, 0).is_err());

@@ -56,7 +56,7 @@ fn message_of(sent: Sent) -> Message {
     }
 }
 
-/// A message, what it gets, and the transfer that is open then.
+/// A message, its expected result, and the transfer that is open afterwards.
 type Judged = (Sent, Result<Turn, OrderFault>, Option<u64>);
 
 const OTHER: Result<Turn, OrderFault> = Ok(Turn::Other);
@@ -69,7 +69,7 @@ const NOT_OPEN: Result<Turn, OrderFault> = Err(OrderFault::NoSuchOpenTransfer);
 
 const AFTER_TERM: Result<Turn, OrderFault> = Err(OrderFault::StartAfterSessTerm);
 
-/// A START after which this transfer is abandoned.
+/// A START that abandons this transfer.
 fn begin(abandoned: Option<u64>) -> Result<Turn, OrderFault> {
     Ok(Turn::Begin {
         abandoned,
@@ -77,7 +77,7 @@ fn begin(abandoned: Option<u64>) -> Result<Turn, OrderFault> {
     })
 }
 
-/// A START that is its transfer's END too.
+/// A START and END in one segment that abandons this transfer.
 fn whole(abandoned: Option<u64>) -> Result<Turn, OrderFault> {
     Ok(Turn::Begin {
         abandoned,
@@ -85,7 +85,7 @@ fn whole(abandoned: Option<u64>) -> Result<Turn, OrderFault> {
     })
 }
 
-/// Judges the messages one after another, each as a message and as the event that the order sees.
+/// Judges the messages one after another, each as a message and as its event.
 fn judge(rt: &impl Abort, name: &str, messages: &[Judged]) {
     let mut joiner = Joiner::new();
     let mut core = Joiner::new();
@@ -98,7 +98,9 @@ fn judge(rt: &impl Abort, name: &str, messages: &[Judged]) {
     }
 }
 
-/// Each fault where it alone holds. What is refused changes nothing.
+/// Each fault, with no other fault beside it.
+///
+/// A refused message changes nothing.
 #[test]
 fn refuses_each_fault(rt: HostRuntime) {
     judge(
@@ -162,7 +164,7 @@ fn refuses_each_fault(rt: HostRuntime) {
     );
 }
 
-/// Where two faults hold, the first is reported.
+/// Of two faults, the first is reported.
 #[test]
 fn reports_the_first_of_two(rt: HostRuntime) {
     judge(
@@ -202,8 +204,10 @@ fn reports_the_first_of_two(rt: HostRuntime) {
     );
 }
 
-/// A transfer is abandoned by another START; an ID may be used again once its transfer is closed, and is not open again
-/// before. The least and the greatest ID are IDs like others.
+/// Transfers that are abandoned, and IDs that are used again.
+///
+/// A START abandons the open transfer. After a transfer is closed, a START may use its ID again,
+/// and a segment without START may not. The least and the greatest ID are like others.
 #[test]
 fn follows_transfers(rt: HostRuntime) {
     judge(
@@ -244,8 +248,9 @@ fn follows_transfers(rt: HostRuntime) {
     );
 }
 
-/// After a SESS_TERM the open transfer goes on to its END; other messages may stand anywhere, and reserved flags are
-/// ignored.
+/// Segments after a SESS_TERM, and messages that may come anywhere.
+///
+/// The open transfer goes on to its END after a SESS_TERM. Reserved flags are ignored.
 #[test]
 fn lets_others_through(rt: HostRuntime) {
     judge(

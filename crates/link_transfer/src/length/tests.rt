@@ -5,7 +5,7 @@ ghost use Rattle.link_wire.specs.Message.{HasTotal, HasTotals};
 use super::*;
 use std::process::Abort;
 
-/// The list of items of these types and lengths. A Transfer Length item has the total 35.
+/// The list of items of these types and lengths, with a total of 35 in Transfer Length items.
 fn items_of(kinds: &[(u16, u16)]) -> Items
     ensures { HasTotals result.items }
 {

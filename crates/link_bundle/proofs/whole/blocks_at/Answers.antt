@@ -13,7 +13,7 @@ use Rattle.link_bundle.proofs.whole.blocks_at.Goals.{In_ok-heads}
 below : (c : In_ok-heads) → length c.loop-numbers.numbers < 64
 below c = grind (arith, nat_tests, c.is_full.ensures.value, c.is_full.ensures.fits, c.loop-numbers-test.true)
 
--- the blocks from the present one on, by its heads
+-- the reading from the current block on, by its heads
 turned : (c : In_ok-heads) (primary : Primary)
     → blocks_at 64 [] primary c.args.bytes.now c.args.place
     ≡ after_heads c.in_ok-heads.heads (63 - length c.loop-numbers.numbers) c.loop-numbers.numbers primary c.loop-numbers.start c.args.bytes.now c.in_ok-heads.place

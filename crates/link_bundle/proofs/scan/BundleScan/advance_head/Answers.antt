@@ -9,7 +9,7 @@ use Rattle.link_bundle.proofs.HeadEnds.{head_alone}
 use Rattle.link_bundle.proofs.scan.BundleScan.advance_head.Goals as goal
 use Rattle.link_bundle.proofs.scan.BundleScan.advance_head.Goals.{In-Some}
 
--- the head lies whole in its run
+-- the run is exactly the head
 whole : (c : In-Some)
     → head_front (take c.in-Some.size c.args.piece.now)
     ≡ Whole c.in-Some.head (length (take c.in-Some.size c.args.piece.now))

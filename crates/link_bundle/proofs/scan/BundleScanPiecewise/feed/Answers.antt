@@ -20,7 +20,7 @@ loop-taken-preserved c =
           (c.loop-taken.invariant.split seen related);
     }
 
--- where no more is needed, these are the bytes taken
+-- the bytes taken, if no more are needed
 stopped : (c : Else-going) (seen : List ℕ) → HasScanned c.args.self.now seen
     → TakenInAll seen c.args.bytes.now c.loop-taken.taken
 stopped c seen related =
@@ -34,7 +34,7 @@ returns-else-going-clause-seen c = λ seen related. rw (stopped c seen related).
 pub returns-else-going-clause-count : goal.returns-else-going-clause-count
 returns-else-going-clause-count c = λ seen related. (stopped c seen related).size
 
--- where every byte was given, so were they taken
+-- the bytes taken, if all were consumed
 ended : (c : After-loop-taken) (seen : List ℕ) → HasScanned c.args.self.now seen
     → TakenInAll seen c.args.bytes.now c.loop-taken.taken
 ended c seen related =

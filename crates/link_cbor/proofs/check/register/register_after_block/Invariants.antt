@@ -4,7 +4,7 @@ use Rattle.link_cbor.specs.CrcTables.{AreTables}
 use Rattle.link_cbor.specs.declared.check.CheckKind.{CheckKind}
 use Rattle.link_cbor.proofs.check.register.register_after_block.Given as goal
 
--- the sum is the register after the last bytes, from what is left of the register before them
+-- the sum is the register after the last bytes, from the rest of the register before them
 abbrev pub invariant-loop-zeros : goal.invariant-loop-zeros
 invariant-loop-zeros l =
     (kind : CheckKind) → AreTables kind l.tables

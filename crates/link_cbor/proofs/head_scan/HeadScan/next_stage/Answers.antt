@@ -5,7 +5,7 @@ use Rattle.link_cbor.proofs.Stages.{value_fits, argument_fits, begins-start, sta
 use Rattle.link_cbor.proofs.head_scan.HeadScan.next_stage.Goals as goal
 use Rattle.link_cbor.proofs.head_scan.HeadScan.next_stage.Goals.{In-Argument}
 
--- what the scan keeps of its stage, at an argument
+-- the bounds of an argument, which the scan keeps with its stage
 kept : (c : In-Argument)
     → stage_fits c.args.self.now.count
     (Argument c.in-Argument.major c.in-Argument.left c.in-Argument.value) ≡ true

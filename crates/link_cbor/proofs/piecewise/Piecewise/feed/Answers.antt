@@ -13,7 +13,7 @@ loop-taken-init g c = record {
   split = λ seen related. none_taken g.Self.Piecewise.goes seen c.args.bytes.now;
 }
 
--- where no more is wanted, these are the bytes taken
+-- the bytes taken, if no more are needed
 stopped : (g : Over) (c : Then-not-going g) (seen : List ℕ)
     → g.Self.Piecewise.has_seen c.args.self.now seen
     → TakenInAll g.Self.Piecewise.goes seen c.args.bytes.now c.loop-taken.taken
@@ -43,7 +43,7 @@ loop-taken-preserved g c = record {
       (c.loop-taken.invariant.split seen related);
 }
 
--- where every byte was given, so were they taken
+-- the bytes taken, if all were consumed
 ended : (g : Over) (c : After-loop-taken g) (seen : List ℕ)
     → g.Self.Piecewise.has_seen c.args.self.now seen
     → TakenInAll g.Self.Piecewise.goes seen c.args.bytes.now c.loop-taken.taken

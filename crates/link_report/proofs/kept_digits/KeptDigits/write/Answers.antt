@@ -6,7 +6,7 @@ use Rattle.link_report.proofs.Lengths.{length-decimal-le_20}
 use Rattle.link_report.proofs.Pages.{front_behind}
 use Rattle.link_report.proofs.kept_digits.KeptDigits.write.Goals as goal
 
--- the digits that are kept leave room for the last four
+-- the kept digits leave room for the last four
 short : (number len : ℕ) (text : List ℕ) → 10000 ≤ number → number < 2 ^ 64 → len ≤ length text
     → take len text ≡ decimal (number / 10000) → len + 4 ≤ 20
 short number len text many fits within kept =
