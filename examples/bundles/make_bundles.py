@@ -127,7 +127,7 @@ def rust():
         print("        fragment: %s," % ("None" if fragment is None else "Some((%d, %d))" % fragment))
         print("    },")
     print("];\n")
-    print("/// What stands before a payload of 70,000 times a5, and behind it.")
+    print("/// The bytes before a payload of 70,000 times a5, and the bytes after it.")
     print("pub const LARGE_FRONT: &[u8] = %s;" % rust_bytes(LARGE_FRONT))
     print("pub const LARGE_REST: &[u8] = %s;" % rust_bytes(LARGE_REST))
 

@@ -1,4 +1,4 @@
--- What is given in turn is given in one.
+-- The bytes of successive calls of a source, joined, are the bytes given by all these calls.
 use Rattle.std.proofs.Common.{◌≡◌, ℕ, zero, suc, ◌+◌, ◌<◌, ◌≤◌, List, [], ◌∷◌, ◌++◌, length, take, drop, Option, Some, None, ap, sym, ◌∙◌, Bool, true, false, ◌&&◌, eqb, eqb-true, add_assoc, length-append, append_assoc, append-nil, add-zero, refl, arith, length-take, length-drop, take-append-drop}
 use Rattle.std.specs.Io.KnownBytes.{Consumes, prepend_known}
 use Rattle.std.proofs.KnownBytes.{Consumes-nil, Consumes-trans}
@@ -19,26 +19,26 @@ more_given : (a b c : ℕ) (xs ys : List ℕ) → b ≡ a + length xs → c ≡ 
 more_given a b c xs ys p q =
     q ∙ ap (λ n. n + length ys) p ∙ add_assoc a (length xs) (length ys) ∙ ap (λ n. a + n) (sym (length-append xs ys))
 
--- the first bytes of a window are the next of what is ahead
+-- the first bytes of a window are the next bytes ahead
 pub Consumes-window : (window : List ℕ) (left : Option (List ℕ)) (n : ℕ)
     → Consumes (prepend_known window left) (prepend_known (drop n window) left) (take n window)
 Consumes-window window None n = tt
 Consumes-window window (Some xs) n = ap (λ w. w ++ xs) (sym (take-append-drop n window)) ∙ append_assoc (take n window) (drop n window) xs
 
--- an empty window is nothing before what is left
+-- with an empty window, the bytes ahead are those that the reader has left
 pub Consumes-empty : (old new : Option (List ℕ)) (bytes : List ℕ) → Consumes old new bytes
     → Consumes (prepend_known [] old) new bytes
 Consumes-empty None new bytes read = tt
 Consumes-empty (Some xs) new bytes read = read
 
--- what a read into an empty window gives is ahead as it was before
+-- a read into an empty window does not change the bytes ahead
 pub Consumes-read : (old new : Option (List ℕ)) (window : List ℕ) → Consumes old new window
     → Consumes (prepend_known [] old) (prepend_known window new) []
 Consumes-read None new window read = tt
 Consumes-read (Some xs) None window read = absurd read
 Consumes-read (Some xs) (Some ys) window read = read
 
--- both of two tests
+-- if both tests hold, each of them holds
 pub and_true : (first second : Bool) → (first && second) ≡ true → (first ≡ true) × (second ≡ true)
 and_true true second is = (refl, is)
 and_true false second is = absurd (cc)
@@ -60,13 +60,13 @@ module _ {R : Type 0} (s : Source R) where
   ended_window ended = ap length (range_none s.window s.start s.end ended.1)
 
 module _ {R : Type 0} (look : R → Input) (s : Source R) (fresh : is_fresh s ≡ true) where
-  -- and more may come
+  -- more bytes may come from a fresh source
   pub fresh_live : IsLive look s
   fresh_live =
       let rest = (and_true (eqb s.given 0) _ fresh).1 in
       live_open s.flow (look s.reader).left s.start s.end (and_true (is_open s.flow) _ rest).0
 
--- a window from which nothing was given, and what lay in it is empty now, was empty
+-- a window that keeps its bytes, if it has some, and is empty afterwards was empty before
 emptied : (old new : List ℕ) → (0 < length old → new ≡ old) → new ≡ [] → new ≡ old
 emptied [] new kept none = none
 emptied (b ∷ old) new kept none = kept (omega arith)
@@ -81,7 +81,7 @@ drop_less : (n bound : ℕ) (xs : List ℕ) → length xs ≤ bound → 0 < leng
 drop_less n bound xs room some = omega (arith, length-take n xs, length-drop n xs)
 
 module _ {R : Type 0} where
-  -- the first bytes of a window were given
+  -- the window after its first `n` bytes were given
   pub WindowAfter-drop : (old new : Source R) (n : ℕ) → window_of new ≡ drop n (window_of old)
       → length (window_of old) ≤ window_size → WindowAfter old new (take n (window_of old))
   WindowAfter-drop old new n rest room = record {
@@ -124,7 +124,7 @@ module _ {R : Type 0} (look : R → Input) where
     window = WindowAfter-then old mid new xs ys p.window q.window;
   }
 
-  -- a window was made ready, and some of it was given
+  -- the window was made ready, and then some of its bytes were given
   pub Readies-takes : (old mid new : Source R) (bytes : List ℕ) → Readies look old mid
       → Takes look mid new bytes → 0 < length bytes → Takes look old new bytes
   Readies-takes old mid new bytes p q some = record {
@@ -135,7 +135,7 @@ module _ {R : Type 0} (look : R → Input) where
     window = record { kept = λ none. absurd (omega arith); less = q.window.less };
   }
 
-  -- nothing could be made ready, since the input is over
+  -- no byte could be made ready, because the input is over
   pub Readies-over : (old new : Source R) → Readies look old new
       → IsOver look new → Takes look old new []
   Readies-over old new p over = record {
@@ -161,7 +161,7 @@ module _ {R : Type 0} (look : R → Input) where
     failed = q.failed;
   }
 
-  -- a history goes on by what is given
+  -- a history grows by the bytes that are given
   pub IsSourceAt-then : (old new : Source R) (history bytes : List ℕ) → Takes look old new bytes
       → IsSourceAt old history → IsSourceAt new (history ++ bytes)
   IsSourceAt-then old new history bytes p at = record {

@@ -1,4 +1,4 @@
--- The window of a source: the part of an array between two indices, and what comes after it.
+-- The window of a source: the part of an array between two indices, and the bytes after it.
 use Rattle.std.proofs.Common.{◌≡◌, ℕ, ◌+◌, ◌-◌, ◌≤◌, List, [], ◌++◌, take, drop, slice_range, Option, None, Some, arith, refl, ap, sym, ◌∙◌, append_assoc}
 use Rattle.std.proofs.lemmas.List.{drop-drop, drop-take, take-append-drop}
 use Rattle.std.specs.Io.KnownBytes.{prepend_known}
@@ -9,7 +9,7 @@ range_none window start end same =
     let none : end - start ≡ 0 = omega arith in
     rw none refl
 
--- after some bytes of it were given
+-- the window after its first `count` bytes were given
 pub range_rest : (window : List ℕ) (start end count : ℕ) → count ≤ end - start
     → slice_range window (start + count) end ≡ drop count (slice_range window start end)
 range_rest window start end count within =
@@ -19,14 +19,14 @@ range_rest window start end count within =
     ∙ sym (drop-take count rest (drop start window))
     ∙ ap (λ n. drop count (take n (drop start window))) (sym parts)
 
--- the bytes of the window come next
+-- the bytes of the window are the next of the input
 pub window_next : (left : Option (List ℕ)) (window : List ℕ) (count : ℕ)
     → BeginsWith (prepend_known window left) (take count window)
 window_next None window count = tt
 window_next (Some all) window count =
     (drop count window ++ all, ap (λ bytes. bytes ++ all) (sym (take-append-drop count window)) ∙ append_assoc (take count window) (drop count window) all)
 
--- and then those that the reader holds
+-- the bytes of the window, and then those that the reader holds, are the next of the input
 pub held_next : (left : Option (List ℕ)) (window held : List ℕ) (count : ℕ) → BeginsWith left held
     → BeginsWith (prepend_known window left) (window ++ take count held)
 held_next None window held count next = tt

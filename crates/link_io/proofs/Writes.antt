@@ -1,4 +1,4 @@
--- What is written in turn is written in one.
+-- Successive writes are one write of their bytes, joined.
 use Rattle.std.proofs.Common.{◌≡◌, ℕ, ◌+◌, ◌-◌, ◌≤◌, List, length, arith, ◌++◌, take, drop, ◌∙◌, length-drop}
 use Rattle.std.proofs.Math.Seq.{take-add}
 use Rattle.std.proofs.lemmas.Grind.{common_steps}
@@ -7,7 +7,7 @@ use Rattle.link_io.specs.Device.{Output}
 use Rattle.link_io.specs.Writing.{WritesWhole, WritesFront}
 use Rattle.link_io.specs.declared.fault.IoFault.{IoFault}
 
--- all that stands after an index
+-- taking the number of elements after an index takes all of them
 pub take-all_after : (at : ℕ) (xs : List ℕ) → take (length xs - at) (drop at xs) ≡ drop at xs
 take-all_after at xs = grind (arith, common_steps)
 
@@ -19,13 +19,13 @@ module _ {W : Type 0} (look : W → Output) where
     device = q.device ∙ p.device;
   }
 
-  -- a prefix that was written, and the next n bytes
+  -- a prefix was written, and then the next `n` bytes
   pub WritesWhole-more : (old mid new : W) (bytes : List ℕ) (at n : ℕ)
       → WritesWhole look old mid (take at bytes) → WritesWhole look mid new (take n (drop at bytes))
       → WritesWhole look old new (take (at + n) bytes)
   WritesWhole-more old mid new bytes at n p q = rw take-add (WritesWhole-then old mid new _ _ p q)
 
-  -- a prefix was written, and then a device that fails took a part of the rest
+  -- a prefix was written, and then a part of the rest before the device failed
   pub WritesFront-after : (old mid new : W) (bytes : List ℕ) (n : ℕ) (fault : IoFault)
       → n ≤ length bytes → WritesWhole look old mid (take n bytes)
       → WritesFront look mid new (drop n bytes) fault → WritesFront look old new bytes fault

@@ -1,7 +1,9 @@
--- The limits of an input. Each has its number here, so that no change of a constant of the code changes what is meant.
+-- The limits of an input. The numbers are written here again, so a change of a constant of the code
+-- changes no definition.
 use Rattle.std.specs.Prelude.{ℕ, ◌-◌, ◌^◌}
 
--- the most bytes of an input: an offset, and the sum of an offset and a length that was read, fit 64 bits
+-- The most bytes of an input. With this limit an offset fits in 64 bits, and so does the sum of an
+-- offset and a length that was read.
 abbrev pub longest_input : ℕ
 longest_input = 2 ^ 63 - 1
 

@@ -1,4 +1,5 @@
--- What a `Source` has given of its reader's bytes. It reads ahead: the bytes that were read and not given are its window.
+-- Which bytes of its reader a `Source` has given. It reads ahead: the bytes that were taken and not
+-- given are its window.
 use Rattle.std.specs.Prelude.{◌≡◌, ℕ, ◌+◌, ◌-◌, ◌<◌, ◌≤◌, Bool, true, false, ◌&&◌, ◌==◌, List, [], ◌∷◌, ◌++◌, length, take, slice_range, Option, Result, Ok, Err}
 use Rattle.std.specs.Io.KnownBytes.{Consumes, IsAtEnd, prepend_known}
 use Rattle.link_io.specs.Bytes.{AreBytes}
@@ -12,7 +13,7 @@ use Rattle.link_io.specs.declared.source.Flow.{Flow}
 use Rattle.link_io.specs.declared.source.Flow.TheVariants as flow
 use Rattle.link_io.specs.declared.source.Source.{Source}
 
--- what a `fill` returns after the end: an empty slice is full
+-- the result of a `fill` after the end: an empty slice counts as full
 abbrev pub filled_at_end : List ℕ → Filled
 filled_at_end [] = filled.Whole
 filled_at_end (b ∷ buffer) = filled.Ended 0
@@ -28,44 +29,44 @@ IsLiveBy flow.Ended left start end = IsAtEnd left × (start ≡ end)
 IsLiveBy (flow.Failed fault) left start end = ⊥
 
 module _ {R : Type 0} where
-  -- the reader, as it stands
+  -- the reader, in its present state
   abbrev pub reader_of : Source R → R
   reader_of s = s.reader
 
-  -- how many bytes were given
+  -- the number of bytes given
   abbrev pub given_by : Source R → ℕ
   given_by s = s.given
 
-  -- the bytes that were read and not given
+  -- the window: the bytes that were taken and not given
   abbrev pub window_of : Source R → List ℕ
   window_of s = slice_range s.window s.start s.end
 
-  -- how many bytes were taken from the reader
+  -- the number of bytes taken from the reader
   abbrev pub taken_by : Source R → ℕ
   taken_by s = s.given + (s.end - s.start)
 
-  -- the bytes that are still to be given: the window, and what the reader has left, where that is known
+  -- the bytes still to be given, if they are known: the window, and then what the reader has left
   abbrev pub ahead : (R → Input) → Source R → Option (List ℕ)
   ahead look s = prepend_known (window_of s) (look s.reader).left
 
-  -- the source has given exactly these bytes, since it was made
+  -- the source has given exactly these bytes since it was made
   pub record IsSourceAt (s : Source R) (history : List ℕ) : Type 0 where
     pub bytes : AreBytes history
     pub given : given_by s ≡ length history
 
-  -- nothing was given or read, and more may come
+  -- nothing was given or taken, and more bytes may come
   abbrev pub is_fresh : Source R → Bool
   is_fresh s = (s.given == 0) && (is_open s.flow && (s.start == s.end))
 
-  -- the input has ended, and all was given: nothing more is read
+  -- the input has ended and the window is empty: no call reads any more
   abbrev pub HasEnded : Source R → Type 0
   HasEnded s = (s.flow ≡ flow.Ended) × (s.start ≡ s.end)
 
-  -- the source has stopped at this fault, and all was given: nothing more is read
+  -- the source has stopped at this fault and the window is empty: no call reads any more
   abbrev pub HasFailed : Source R → IoFault → Type 0
   HasFailed s fault = (s.flow ≡ flow.Failed fault) × (s.start ≡ s.end)
 
-  -- more bytes may come, or none is left
+  -- the source has not failed: more bytes may come, or none is left
   abbrev pub IsLive : (R → Input) → Source R → Type 0
   IsLive look s = IsLiveBy s.flow (look s.reader).left s.start s.end
 
@@ -74,13 +75,13 @@ module _ {R : Type 0} where
     pub ended : HasEnded s
     pub empty : IsAtEnd (look s.reader).left
 
-  -- What lies in the window after these bytes were given. Only an empty window is read into, so where a byte was given
-  -- less than a whole window is left; where none was, nothing was read.
+  -- The window after these bytes were given. Only an empty window is read into. So if a byte was
+  -- given, less than a whole window is left. If none was given, the window has not changed.
   pub record WindowAfter (old new : Source R) (bytes : List ℕ) : Type 0 where
     pub kept : length bytes ≡ 0 → window_of new ≡ window_of old
     pub less : 0 < length bytes → length (window_of new) < window_size
 
-  -- from old to new these bytes were given, the next ones, and the reader did not fail
+  -- from `old` to `new` these bytes, the next of the input, were given, and the reader did not fail
   pub record Takes (look : R → Input) (old new : Source R) (bytes : List ℕ) : Type 0 where
     pub bytes_fit : AreBytes bytes
     pub next : Consumes (ahead look old) (ahead look new) bytes
@@ -88,15 +89,16 @@ module _ {R : Type 0} where
     pub device : (look new.reader).failed ≡ (look old.reader).failed
     pub window : WindowAfter old new bytes
 
-  -- from old to new nothing was given, and the reader did not fail; what lay in the window lies in it
+  -- From `old` to `new` nothing was given, and the reader did not fail. A window that had bytes has
+  -- not changed.
   pub record Readies (look : R → Input) (old new : Source R) : Type 0 where
     pub next : Consumes (ahead look old) (ahead look new) []
     pub count : given_by new ≡ given_by old
     pub device : (look new.reader).failed ≡ (look old.reader).failed
     pub kept : 0 < length (window_of old) → window_of new ≡ window_of old
 
-  -- Why the source stopped: the reader failed, and all that was taken before was given; or the last read brought bytes,
-  -- which were not given, of which one is past the limit.
+  -- Why the source stopped. Either the reader failed, and all bytes taken before were given. Or one
+  -- of the bytes `past` of the last read is past the limit, and none of these was given.
   abbrev pub HasCause : (R → Input) → Source R → IoFault → List ℕ → Type 0
   HasCause look new io.Read past = (past ≡ []) × ((look new.reader).failed ≡ true)
   HasCause look new io.InputTooLong past =
@@ -104,7 +106,8 @@ module _ {R : Type 0} where
   HasCause look new io.Write past = ⊥
   HasCause look new io.Memory past = ⊥
 
-  -- from old to new these bytes were given, the next ones; then the source stopped at this fault
+  -- from `old` to `new` these bytes, the next of the input, were given; then the source stopped at
+  -- this fault
   pub record StopsAfter (look : R → Input) (old new : Source R) (bytes : List ℕ)
       (fault : IoFault) : Type 0 where
     pub bytes_fit : AreBytes bytes
@@ -114,7 +117,7 @@ module _ {R : Type 0} where
     pub cause : HasCause look new fault past
     pub failed : HasFailed new fault
 
-  -- What a call gives that makes the window ready: some bytes lie in it, or the input has ended.
+  -- The result of `ready`: the window has some bytes, or the input is over.
   pub record ReadyWindow (look : R → Input) (old new : Source R) (n : ℕ) : Type 0 where
     pub readies : Readies look old new
     pub live : IsLive look new
@@ -125,7 +128,7 @@ module _ {R : Type 0} where
   GivesReady look old new (Ok n) = ReadyWindow look old new n
   GivesReady look old new (Err fault) = StopsAfter look old new [] fault
 
-  -- What one call of `some` gives.
+  -- The result of one call of `some`.
   pub record SomeBytes (look : R → Input) (old new : Source R)
       (buffer : List ℕ) (n : ℕ) : Type 0 where
     pub room : n ≤ length buffer
@@ -137,7 +140,8 @@ module _ {R : Type 0} where
   GivesSome look old new buffer (Ok n) = SomeBytes look old new buffer n
   GivesSome look old new buffer (Err fault) = StopsAfter look old new [] fault
 
-  -- What a `fill` gives: the whole slice, or what the input still had, or what came before a fault.
+  -- The result of a `fill`: the whole slice, what the input still had, or what was given before a
+  -- fault.
   pub record WholeSlice (look : R → Input) (old new : Source R) (buffer : List ℕ) : Type 0 where
     pub takes : Takes look old new buffer
     pub live : IsLive look new

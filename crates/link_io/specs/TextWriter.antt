@@ -1,17 +1,17 @@
--- What a `TextWriter` has written.
+-- The output of a `TextWriter`.
 use Rattle.std.specs.Prelude.{ℕ, ◌<◌, List, length, take, Option}
 use Rattle.std.specs.Io.KnownBytes.{Appends, append_known}
 use Rattle.link_io.specs.Device.{Output}
 use Rattle.link_io.specs.declared.text_writer.TextWriter.{TextWriter}
 
--- a prefix of these bytes was written, and not all
+-- a proper prefix of these bytes was written
 pub record GivesPart (old new : Option (List ℕ)) (bytes : List ℕ) : Type 0 where
   pub count : ℕ
   pub part : count < length bytes
   pub written : Appends old new (take count bytes)
 
 module _ {D : Type 0} where
-  -- the device below, as it stands
+  -- the device below, in its present state
   abbrev pub device_of : TextWriter D → D
   device_of writer = writer.device
 
@@ -19,7 +19,7 @@ module _ {D : Type 0} where
   abbrev pub waiting : TextWriter D → List ℕ
   waiting writer = take writer.end writer.page.items
 
-  -- what was handed on was written, and so is what waits
+  -- bytes that were handed on count as written, and so do those that wait
   abbrev pub output_of : (D → Output) → TextWriter D → Output
   output_of look writer = record {
     written = append_known (look writer.device).written (waiting writer);

@@ -1,4 +1,4 @@
--- What a whole write leaves on a device.
+-- The output of a device after a whole write.
 use Rattle.std.specs.Prelude.{◌≡◌, ℕ, ◌<◌, true, List, length, take}
 use Rattle.std.specs.Io.KnownBytes.{Appends}
 use Rattle.link_io.specs.Device.{Output}
@@ -11,7 +11,7 @@ module _ {W : Type 0} where
     pub written : Appends (look old).written (look new).written bytes
     pub device : (look new).failed ≡ (look old).failed
 
-  -- the first bytes were written, and then the device failed
+  -- a proper prefix of the bytes was written, and then the device failed
   pub record WritesFront (look : W → Output) (old new : W) (bytes : List ℕ)
       (fault : IoFault) : Type 0 where
     pub kind : fault ≡ io.Write

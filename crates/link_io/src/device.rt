@@ -1,4 +1,4 @@
-//! Where bytes come from and go to: two traits, and devices made of std's readers and writers.
+//! Input and output devices: two traits, and devices made of std's readers and writers.
 
 ghost use Rattle.std.specs.Prelude.{◌≡◌, ℕ, ◌<◌, ◌≤◌, true, false, List, length, Option, OnOk, IfOk, IfErr, MatchResult};
 ghost use Rattle.std.specs.Io.KnownBytes.{Keeps, ReadConsumes, WriteAppends};
@@ -10,18 +10,22 @@ use crate::text::{TEXT_MAX, Text};
 use std::io::{BufReader, Read, Write};
 use thiserror::Error;
 
-/// A device has failed. What it has read or written before stays as it was.
+/// The failure of a device.
+///
+/// What the device read or wrote before it failed is not undone.
 #[derive(Clone, Copy, Debug, PartialEq, Eq, Error)]
 #[error("device failed")]
 pub struct DeviceFault;
 
-/// Where bytes come from.
+/// A device that bytes are read from.
 pub trait InDevice {
-    /// The bytes left, where they are known, and whether the device has failed.
+    /// The bytes left, if they are known, and whether the device has failed.
     ghost state: { Self → Input };
 
-    /// Reads the next bytes to the start of the buffer, and returns how many. On a buffer with room,
-    /// 0 is the end of the input.
+    /// Reads the next bytes into the start of the buffer, and returns how many.
+    ///
+    /// If the buffer has room, 0 means the end of the input. After a fault, [`InDevice::failed`]
+    /// returns true.
     fn read(&mut self, buffer: &mut [u8]) -> Result<usize, DeviceFault>
         ensures bound { IfOk result (λ n. n ≤ length buffer.new) }
         ensures bytes { ReadConsumes (state self.old).left (state self.new).left result buffer.new }
@@ -33,7 +37,9 @@ pub trait InDevice {
     fn failed(&self) -> bool
         ensures { result ≡ (state self.now).failed };
 
-    /// The bytes that the device holds: where there are some, the next read gives of them, and does not have to wait.
+    /// The next bytes, as many as the device already holds.
+    ///
+    /// If there are some, the next read gives some of them, and does not have to wait.
     fn held(&self) -> &[u8]
         ensures { BeginsWith (state self.now).left result.now }
     {
@@ -41,16 +47,17 @@ pub trait InDevice {
     }
 }
 
-/// Where bytes go to.
+/// A device that bytes are written to.
 pub trait OutDevice {
-    /// The bytes written, where they are known, and whether the device has failed.
+    /// The bytes written, if they are known, and whether the device has failed.
     ghost state: { Self → Output };
 
-    /// Those of the bytes written that the device holds back no more.
+    /// The written bytes that the device no longer holds back, if they are known.
     ghost handed: { Self → Option (List ℕ) };
 
-    /// Writes a prefix of the bytes, and returns how many: at least one of a nonempty slice. A fault
-    /// writes none.
+    /// Writes a prefix of the bytes, and returns its length, at least 1 for a nonempty slice.
+    ///
+    /// After a fault, none of the bytes was written, and [`OutDevice::failed`] returns true.
     fn write(&mut self, bytes: &[u8]) -> Result<usize, DeviceFault>
         ensures bound { IfOk result (λ n. n ≤ length bytes.now) }
         ensures some { IfOk result (λ n. 0 < length bytes.now → 0 < n) }
@@ -60,12 +67,14 @@ pub trait OutDevice {
             (λ _. (state self.new).failed ≡ (state self.old).failed)
             (λ _. (state self.new).failed ≡ true) };
 
-    /// Whether a write has failed.
+    /// Whether a write, or a call of [`OutDevice::settle`], has failed.
     fn failed(&self) -> bool
         ensures { result ≡ (state self.now).failed };
 
-    /// Writes all of a text. It is made in `page`, or where the device itself has room for it. After a fault a prefix of it
-    /// was written.
+    /// Writes all of a text.
+    ///
+    /// The text is made in `page`, or in memory of the device if that has room for it. The fault is
+    /// [`IoFault::Write`], and then a proper prefix of the text was written.
     fn write_text<T: Text>(&mut self, text: &T, page: &mut [u8]) -> Result<(), IoFault>
         requires page { TEXT_MAX ≤ length page.old }
         ensures ok { OnOk result (WritesWhole state self.old self.new (T.text text.now)) }
@@ -84,7 +93,7 @@ pub trait OutDevice {
         Ok(())
     }
 
-    /// Hands on what the device holds back of the bytes written.
+    /// Hands on the written bytes that the device still holds back.
     fn settle(&mut self) -> Result<(), DeviceFault>
         ensures bytes { Keeps (state self.old).written (state self.new).written }
         ensures handed { OnOk result (handed self.new ≡ (state self.new).written) }
@@ -93,7 +102,9 @@ pub trait OutDevice {
             (λ _. (state self.new).failed ≡ true) };
 }
 
-/// A device made of a reader of std. Each of its errors, `Interrupted` too, is a fault.
+/// An input device made of a reader of std.
+///
+/// Each error of the reader is a fault, `Interrupted` too.
 #[derive(Drop)]
 pub struct Reader<R: Read> {
     inner: R,
@@ -103,7 +114,7 @@ pub struct Reader<R: Read> {
 impl<R: Read> Reader<R> {
     ghost use Rattle.link_io.specs.Device.{Input};
 
-    /// A device that has not failed.
+    /// Makes a device that has not failed.
     pub fn new(inner: R) -> Self
         ensures { ⟦<Reader<R> as InDevice>⟧.state result
             ≡ record { left = R.remaining inner; failed = false } }
@@ -151,7 +162,7 @@ impl<R: Read> BufferedReader<R> {
     ghost use Rattle.link_io.specs.Device.{Input};
     ghost use Rattle.std.specs.Io.Buffered.{reader_remaining};
 
-    /// A device that has not failed.
+    /// Makes a device that has not failed.
     pub fn new(inner: BufReader<R>) -> Self
         ensures { ⟦<BufferedReader<R> as InDevice>⟧.state result
             ≡ record { left = reader_remaining R.remaining inner; failed = false } }
@@ -179,8 +190,9 @@ impl<R: Read> InDevice for BufferedReader<R> {
     }
 }
 
-/// A device made of a writer of std. Each of its errors, and a write of no byte of a nonempty slice,
-/// is a fault.
+/// An output device made of a writer of std.
+///
+/// Each error of the writer is a fault. So is a write that takes no byte of a nonempty slice.
 #[derive(Drop)]
 pub struct Writer<W: Write> {
     inner: W,
@@ -188,7 +200,7 @@ pub struct Writer<W: Write> {
 }
 
 impl<W: Write> Writer<W> {
-    /// A device that has not failed.
+    /// Makes a device that has not failed.
     pub fn new(inner: W) -> Self
         ensures { ⟦<Writer<W> as OutDevice>⟧.state result
             ≡ record { written = W.contents inner; failed = false } }
@@ -211,7 +223,7 @@ impl<W: Write> Writer<W> {
 impl<W: Write> OutDevice for Writer<W> {
     ghost state = { λ w. record { written = W.contents w.inner; failed = w.failed } };
 
-    // what std's writer itself holds back, nothing says
+    // All that std's writer was given counts as handed on: nothing says what it holds back.
     ghost handed = { λ w. W.contents w.inner };
 
     fn write(&mut self, bytes: &[u8]) -> Result<usize, DeviceFault> {

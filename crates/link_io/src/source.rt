@@ -1,7 +1,8 @@
-//! The input of a session: the bytes of a reader, in order, up to the end or the first fault.
+//! The input of a session: the bytes of a reader in order, up to the end or the first fault.
 //!
-//! A source reads ahead, [`WINDOW`] bytes at a time. What it *took* from the reader it *gives* on, each byte once: copied
-//! by [`Source::some`] and [`Source::fill`], or where the bytes lie, by [`Source::window`] and [`Source::give`].
+//! A source *takes* bytes from its reader into its window, up to [`WINDOW`] of them with each read.
+//! It *gives* each byte once. [`Source::some`] and [`Source::fill`] copy the bytes that they give.
+//! [`Source::window`] shows the bytes of the window in place, and [`Source::give`] gives them.
 
 ghost use Rattle.std.specs.Prelude.{◌≡◌, ◌+◌, ◌-◌, ◌^◌, ◌<◌, ◌≤◌, true, length, take, slice_range, IfOk, MatchResult};
 ghost use Rattle.link_io.specs.Bytes.{AreBytes};
@@ -12,22 +13,24 @@ use crate::device::{DeviceFault, InDevice};
 use crate::fault::IoFault;
 use crate::text::copy_into;
 
-/// The most bytes that a source takes: offsets are counted in 63 bits.
+/// The most bytes that a source takes from its reader: offsets are counted in 63 bits.
 pub const INPUT_LIMIT: u64 = (1 << 63) - 1;
 
-/// How many bytes each read asks for.
+/// The number of bytes that each read asks for.
 pub const WINDOW: usize = 8192;
 
-/// How far a `fill` came.
+/// How much of its buffer a [`Source::fill`] has filled.
 #[derive(Clone, Copy, Debug, PartialEq, Eq)]
 pub enum Filled {
-    /// The slice is full of the next bytes.
+    /// The whole buffer, with the next bytes.
     Whole,
-    /// The input ended after this many bytes, fewer than the slice has room for. They stand at its start.
+    /// The input ended after this many bytes, fewer than the buffer has room for.
+    ///
+    /// They are at the start of the buffer.
     Ended(usize),
 }
 
-/// Whether more bytes may come.
+/// Whether the reader may have more bytes.
 #[derive(Clone, Copy, Debug, PartialEq, Eq)]
 enum Flow {
     Open,
@@ -35,15 +38,15 @@ enum Flow {
     Failed(IoFault),
 }
 
-/// The bytes of a reader, each given once and in order.
+/// A reader that is read ahead; each of its bytes is given once and in order.
 #[derive(Drop)]
 pub struct Source<R> {
     reader: R,
-    /// From `start` to `end` it has the bytes that were taken and not given.
+    /// The bytes from `start` to `end` were taken and not given.
     window: [u8; WINDOW],
     start: usize,
     end: usize,
-    /// How many bytes were given.
+    /// The number of bytes given.
     given: u64,
     flow: Flow,
     ghost ordered: { start ≤ end },
@@ -56,7 +59,7 @@ impl<R: InDevice> Source<R> {
     ghost use Rattle.link_io.specs.Limits.{window_size};
     ghost use Rattle.link_io.specs.Source.{IsSourceAt, is_fresh, reader_of, given_by, taken_by, window_of, ahead, IsLive, IsOver, HasEnded, HasFailed, Takes, StopsAfter, GivesReady, GivesSome, GivesFill, filled_at_end};
 
-    /// A source that has taken nothing.
+    /// Makes a source that has taken nothing.
     pub fn new(reader: R) -> Source<R>
         requires { (R.state reader).failed ≡ false }
         ensures reader { reader_of result ≡ reader }
@@ -73,7 +76,9 @@ impl<R: InDevice> Source<R> {
         }
     }
 
-    /// The reader, as it stands. Bytes that were taken and not given are lost.
+    /// Returns the reader.
+    ///
+    /// Bytes that were taken and not given are lost.
     pub fn into_reader(self) -> R
         ensures { result ≡ reader_of self }
     {
@@ -88,7 +93,7 @@ impl<R: InDevice> Source<R> {
         reader
     }
 
-    /// How many bytes were given. Offsets go by it.
+    /// The number of bytes given, which is the offset of the next byte.
     #[inline(always)]
     pub fn given(&self) -> u64
         ensures { result ≡ given_by self.now }
@@ -96,7 +101,7 @@ impl<R: InDevice> Source<R> {
         self.given
     }
 
-    /// How many bytes were taken from the reader: at most [`WINDOW`] more than were given.
+    /// The number of bytes taken from the reader, at most [`WINDOW`] more than were given.
     pub fn taken(&self) -> u64
         ensures taken { result ≡ taken_by self.now }
         ensures lag { result ≤ given_by self.now + WINDOW }
@@ -108,15 +113,17 @@ impl<R: InDevice> Source<R> {
     #[inline(always)]
     pub fn may_wait(&self) -> bool
         ensures few { IsTrue result → length (window_of self.now) < window_size }
-        // Where a read need not wait, the reader has bytes left.
+        // If a read need not wait, the reader has bytes left.
         ensures held { result ≡ false → length (window_of self.now) < window_size
             → HasBytes (R.state (reader_of self.now)).left }
     {
         self.reader.held().is_empty() && self.end - self.start < WINDOW
     }
 
-    /// Copies the next bytes that are here, in the window and then with the reader, as many as there is room for, and returns
-    /// how many.
+    /// Copies the next available bytes without giving them, and returns how many it copied.
+    ///
+    /// These are the bytes of the window, and then those that the reader holds. It copies as many
+    /// as there is room for.
     pub fn peek(&self, bytes: &mut [u8]) -> usize
         ensures fits { result ≤ length bytes.old }
         ensures size { length bytes.new ≡ length bytes.old }
@@ -132,7 +139,7 @@ impl<R: InDevice> Source<R> {
         copy_into(bytes, at, &held[..count])
     }
 
-    /// The bytes that were taken and not given.
+    /// The window: the bytes that were taken and not given.
     #[inline(always)]
     pub fn window(&self) -> &[u8]
         ensures window { result.now ≡ window_of self.now }
@@ -141,7 +148,7 @@ impl<R: InDevice> Source<R> {
         part(&self.window, self.start, self.end)
     }
 
-    /// Gives the next `count` bytes of the window, which the caller has looked at where they lie.
+    /// Gives the first `count` bytes of the window, which the caller has looked at in place.
     #[inline(always)]
     pub fn give(&mut self, count: usize)
         requires { count ≤ length (window_of self.old) }
@@ -151,14 +158,16 @@ impl<R: InDevice> Source<R> {
         ensures reader { reader_of self.new ≡ reader_of self.old }
         ensures none { count ≡ 0 → self.new ≡ self.old }
     {
-        // What is given is bytes, since the window's are.
+        // This call is for the proof: by its contract, the elements of the window are bytes.
         let _window = self.window();
         self.start += count;
         self.given += count as u64;
     }
 
-    /// Reads where the window is empty, once, and returns how many bytes the window has then: 0 only at the end. After a
-    /// fault it returns that fault again, and after the end 0, and does not read.
+    /// Reads once if the window is empty, and returns how many bytes the window then has.
+    ///
+    /// It returns 0 only at the end of the input. After the end it returns 0 again, and after a
+    /// fault it returns that fault again. In both cases it does not read.
     #[inline(always)]
     pub fn ready(&mut self) -> Result<usize, IoFault>
         ensures size { IfOk result (λ n. n ≡ length (window_of self.new)) }
@@ -175,7 +184,7 @@ impl<R: InDevice> Source<R> {
         self.read_on()
     }
 
-    /// `ready` where the window is empty.
+    /// `ready` for an empty window.
     #[cold]
     #[inline(never)]
     fn read_on(&mut self) -> Result<usize, IoFault>
@@ -193,7 +202,7 @@ impl<R: InDevice> Source<R> {
         }
     }
 
-    /// One read into an empty window.
+    /// Reads once, into an empty window.
     fn read(&mut self) -> Result<usize, IoFault>
         requires open { self.old.flow ≡ Flow.Open }
         requires empty { self.old.start ≡ self.old.end }
@@ -223,13 +232,15 @@ impl<R: InDevice> Source<R> {
     }
 }
 
-/// Copies.
+/// The calls that copy bytes.
 impl<R: InDevice> Source<R> {
     ghost use Rattle.std.specs.Prelude.{◌≡◌, ◌+◌, ◌-◌, ◌<◌, ◌≤◌, [], length, take, drop, IfOk};
     ghost use Rattle.link_io.specs.Source.{reader_of, window_of, IsLive, HasEnded, HasFailed, Takes, GivesSome, GivesFill, filled_at_end};
 
-    /// Gives the next bytes, after at most one read, and returns how many: 0 only at the end, or for an empty slice. After
-    /// a fault it returns that fault again, and after the end 0, and does not read.
+    /// Gives the next bytes, after at most one read, and returns how many.
+    ///
+    /// It returns 0 only at the end of the input, or for an empty buffer. After the end it returns
+    /// 0 again, and after a fault it returns that fault again. In both cases it does not read.
     #[inline]
     pub fn some(&mut self, buffer: &mut [u8]) -> Result<usize, IoFault>
         ensures bound { IfOk result (λ n. n ≤ length buffer.new) }
@@ -256,7 +267,7 @@ impl<R: InDevice> Source<R> {
         Ok(count)
     }
 
-    /// Fills the slice with the next bytes of the window.
+    /// Fills the slice with the first bytes of the window, and gives them.
     #[inline(always)]
     fn copy(&mut self, part: &mut [u8])
         requires { length part.old ≤ length (window_of self.old) }
@@ -269,8 +280,10 @@ impl<R: InDevice> Source<R> {
         self.give(count);
     }
 
-    /// Fills the slice with the next bytes, or as much of it as the input still has. It may read several times. After a
-    /// fault it returns that fault again, and after the end it gives nothing, and does not read.
+    /// Fills the buffer with the next bytes, or the start of it with all that the input still has.
+    ///
+    /// It may read several times. After the end it gives nothing, and after a fault it returns that
+    /// fault again. In both cases it does not read.
     #[inline(always)]
     pub fn fill(&mut self, buffer: &mut [u8]) -> Result<Filled, IoFault>
         ensures gives { IsLive R.state self.old
@@ -287,7 +300,7 @@ impl<R: InDevice> Source<R> {
         self.fill_on(buffer)
     }
 
-    /// `fill` past the window's end.
+    /// `fill` for an empty buffer, or for more bytes than the window has.
     #[inline(never)]
     fn fill_on(&mut self, buffer: &mut [u8]) -> Result<Filled, IoFault>
         ensures gives { IsLive R.state self.old
@@ -311,7 +324,7 @@ impl<R: InDevice> Source<R> {
         Ok(Filled::Whole)
     }
 
-    /// `some` on the part of the buffer from an index on.
+    /// `some` for the part of the buffer from index `at` on.
     #[inline]
     fn some_from(&mut self, buffer: &mut [u8], at: usize) -> Result<usize, IoFault>
         requires { at < length buffer.old }
@@ -327,7 +340,7 @@ impl<R: InDevice> Source<R> {
     }
 }
 
-/// The bytes of a window from one index up to another.
+/// `window[start..end]`, with the clause that its elements are bytes.
 #[inline(always)]
 fn part(window: &[u8], start: usize, end: usize) -> &[u8]
     requires ordered { start ≤ end }

@@ -1,16 +1,18 @@
-//! Texts that are made where they are to stand.
+//! Texts that are made in the page from which they are written.
 
 ghost use Rattle.std.specs.Prelude.{◌≡◌, ℕ, ◌+◌, ◌≤◌, List, ◌++◌, length, take, drop};
 
-/// The most bytes that a text has.
+/// The greatest length of a text, in bytes.
 pub const TEXT_MAX: usize = 8192;
 
-/// A text that is made in a page, where it is to stand.
+/// A text that can be made in a page.
 pub trait Text {
-    // the text, in bytes
+    // the bytes of the text
     ghost text: { Self → List ℕ };
 
-    /// Writes the text into the page from an index on, and returns where it ends. The bytes after it mean nothing.
+    /// Writes the text into the page from index `at` on, and returns the index after it.
+    ///
+    /// The bytes of the page from that index on have no meaning.
     fn put(&self, page: &mut [u8], at: usize) -> usize
         requires room { at + TEXT_MAX ≤ length page.old }
         ensures text { take result page.new ≡ take at page.old ++ text self.now }
@@ -18,7 +20,7 @@ pub trait Text {
         ensures size { length page.new ≡ length page.old };
 }
 
-/// Copies bytes into a page from an index on, and returns where they end.
+/// Copies bytes into the page from index `at` on, and returns the index after them.
 #[inline(always)]
 pub fn copy_into(page: &mut [u8], at: usize, bytes: &[u8]) -> usize
     requires { at + length bytes.now ≤ length page.old }

@@ -1,4 +1,4 @@
-//! A device that makes texts in a page of its own.
+//! An output device that makes texts in a page of its own.
 
 ghost use Rattle.std.specs.Prelude.{◌≡◌, ◌+◌, ◌≤◌, ◌++◌, length, take, slice_range, IfOk};
 
@@ -8,15 +8,18 @@ use crate::text::{TEXT_MAX, Text, copy_into};
 use crate::writing::write_out;
 use std::alloc::{AllocError, Global};
 
-/// How many bytes the page of a [`TextWriter`] has.
+/// The size of the page of a [`TextWriter`], in bytes.
 const PAGE: usize = 64 << 10;
 
-/// A device that makes texts in a page of its own, so that none is copied, and hands a full page on to the device below. It
-/// counts as written what waits in the page. So it cannot be let go: [`TextWriter::into_device`] hands on what waits.
+/// An output device that makes texts in a page of its own, without copying them.
+///
+/// A text is copied only if the page has less room than [`TEXT_MAX`]. When the page has no room for
+/// more, it is handed on to the device below. Bytes that wait in the page count as written. So a
+/// writer cannot be dropped: [`TextWriter::into_device`] hands on what waits.
 pub struct TextWriter<D> {
     device: D,
     page: Vec<u8>,
-    /// How many bytes of the page wait to be handed on.
+    /// The number of bytes of the page that wait to be handed on.
     end: usize,
     ghost room: { 8192 ≤ length page.items },
     ghost within: { end ≤ length page.items },
@@ -26,7 +29,9 @@ impl<D: OutDevice + Drop> TextWriter<D> {
     ghost use Rattle.std.specs.Prelude.{◌≡◌, IfOk};
     ghost use Rattle.link_io.specs.TextWriter.{output_of};
 
-    /// A writer over the device. Its page is the only memory that it takes.
+    /// Makes a writer over the device.
+    ///
+    /// Its page is the only memory that it allocates.
     pub fn new(alloc: Global, device: D) -> Result<TextWriter<D>, AllocError>
         ensures { IfOk result (λ writer. output_of D.state writer ≡ D.state device) }
     {
@@ -35,7 +40,7 @@ impl<D: OutDevice + Drop> TextWriter<D> {
 }
 
 impl<D: OutDevice> TextWriter<D> {
-    /// A writer with this page, over the device.
+    /// Makes a writer over the device, with this page.
     fn over(device: D, page: Vec<u8>) -> TextWriter<D>
         requires { TEXT_MAX ≤ length page.items }
         ensures { output_of D.state result ≡ D.state device }
@@ -52,7 +57,9 @@ impl<D: OutDevice> TextWriter<D> {
     ghost use Rattle.link_io.specs.Writing.{WritesWhole, WritesFront};
     ghost use Rattle.link_io.specs.TextWriter.{device_of, waiting, output_of, GivesPart};
 
-    /// Hands on all that waits, and returns the device below. After a fault a prefix of what waits was handed on.
+    /// Hands on all that waits, and returns the device below.
+    ///
+    /// After a fault, a proper prefix of what waits was handed on.
     pub fn into_device(self) -> (D, Result<(), DeviceFault>)
         ensures ok { OnOk result.1
             (Keeps (output_of D.state self).written (D.state result.0).written) }
@@ -72,7 +79,7 @@ impl<D: OutDevice> TextWriter<D> {
         (device, answer)
     }
 
-    /// Appends bytes for which the page has room.
+    /// Appends bytes to the page, which has room for them.
     #[inline(always)]
     fn append(&mut self, bytes: &[u8])
         requires { length (waiting self.old) + length bytes.now ≤ length self.old.page.items }
@@ -82,7 +89,9 @@ impl<D: OutDevice> TextWriter<D> {
         self.end = copy_into(&mut self.page, self.end, bytes);
     }
 
-    /// Hands on what waits. After a fault that waits which was not written.
+    /// Hands on what waits.
+    ///
+    /// After a fault, the bytes that were not written still wait.
     fn pass(&mut self) -> Result<(), DeviceFault>
         ensures empty { OnOk result (waiting self.new ≡ []) }
         ensures size { length self.new.page.items ≡ length self.old.page.items }
@@ -97,7 +106,7 @@ impl<D: OutDevice> TextWriter<D> {
         answer
     }
 
-    /// Appends bytes for which the page has no room.
+    /// `write` for bytes that the page has no room for.
     #[cold]
     #[inline(never)]
     fn write_on(&mut self, bytes: &[u8]) -> Result<usize, DeviceFault>
@@ -117,7 +126,7 @@ impl<D: OutDevice> TextWriter<D> {
         Ok(bytes.len())
     }
 
-    /// Appends a text that was made elsewhere, since the page had no room for it.
+    /// Appends a text that was made elsewhere, because the page had less room than [`TEXT_MAX`].
     #[cold]
     #[inline(never)]
     fn write_made(&mut self, text: &[u8]) -> Result<(), IoFault>
@@ -178,7 +187,7 @@ impl<D: OutDevice> OutDevice for TextWriter<D> {
         ensures failed { MatchResult result
             (λ _. (output_of D.state self.new).failed ≡ (output_of D.state self.old).failed)
             (λ _. (output_of D.state self.new).failed ≡ true) }
-        // What waited was handed on.
+        // On success, nothing waits any more.
         ensures empty { OnOk result (waiting self.new ≡ []) }
     {
         self.pass()?;
@@ -186,14 +195,14 @@ impl<D: OutDevice> OutDevice for TextWriter<D> {
     }
 }
 
-/// That many zeros.
+/// A vector of `size` zeros.
 fn zeros(alloc: Global, size: usize) -> Result<Vec<u8>, AllocError>
     ensures { IfOk result (λ page. length page.items ≡ size) }
 {
     Ok(vec![in alloc; 0; size]?)
 }
 
-/// Moves the bytes from `start` to `end` to the beginning of the page, and returns where they end then.
+/// Moves the bytes from `start` to `end` to the start of the page, and returns how many they are.
 fn keep_from(page: &mut Vec<u8>, start: usize, end: usize) -> usize
     requires order { start ≤ end }
     requires within { end ≤ length page.old.items }

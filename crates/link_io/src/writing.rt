@@ -1,4 +1,4 @@
-//! Whole writes.
+//! Writing all bytes of a slice.
 
 ghost use Rattle.std.specs.Prelude.{◌≡◌, ◌<◌, ◌≤◌, true, length, take, drop, ℕ, OnOk, OnErr, IfErr, MatchResult};
 ghost use Rattle.std.specs.Io.KnownBytes.{Appends};
@@ -7,7 +7,9 @@ ghost use Rattle.link_io.specs.Writing.{WritesWhole, WritesFront};
 use crate::device::{DeviceFault, OutDevice};
 use crate::fault::IoFault;
 
-/// Writes all of the bytes, by repeated writes. After a fault a prefix of them was written.
+/// Writes all of the bytes, with as many writes as are needed.
+///
+/// The fault is [`IoFault::Write`], and then a proper prefix of the bytes was written.
 #[inline(always)]
 pub fn write_whole<W: OutDevice>(out: &mut W, bytes: &[u8]) -> Result<(), IoFault>
     ensures ok { OnOk result (WritesWhole W.state out.old out.new bytes.now) }
@@ -23,7 +25,7 @@ pub fn write_whole<W: OutDevice>(out: &mut W, bytes: &[u8]) -> Result<(), IoFaul
     }
 }
 
-/// Writes the bytes that the first write left.
+/// Writes the bytes that the first write of `write_whole` left.
 #[cold]
 #[inline(never)]
 fn write_rest<W: OutDevice>(out: &mut W, bytes: &[u8]) -> Result<(), IoFault>
@@ -36,7 +38,7 @@ fn write_rest<W: OutDevice>(out: &mut W, bytes: &[u8]) -> Result<(), IoFault>
     }
 }
 
-/// Writes the bytes by repeated writes until all are written or a write fails, and returns how many were written.
+/// Writes the bytes until all are written or a write fails, and returns how many were written.
 pub(crate) fn write_out<W: OutDevice>(out: &mut W, bytes: &[u8]) -> (usize, Result<(), DeviceFault>)
     ensures bound { result.0 ≤ length bytes.now }
     ensures all { OnOk result.1 (result.0 ≡ length bytes.now) }

@@ -1,4 +1,4 @@
--- What is appended in turn is appended in one.
+-- Successive appends are one append of their bytes, joined.
 use Rattle.std.proofs.Common.{◌≡◌, ℕ, List, ◌++◌, ap, ◌∙◌, append_assoc}
 
 pub then_append : (old mid new first second : List ℕ) → mid ≡ old ++ first → new ≡ mid ++ second

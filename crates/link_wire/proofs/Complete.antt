@@ -1,4 +1,4 @@
--- What is read was spelled.
+-- Whatever is read from bytes is spelled in them.
 use Rattle.std.proofs.Common.{◌≡◌, ℕ, zero, suc, ◌+◌, ◌-◌, ◌*◌, ◌%◌, ◌^◌, ◌<◌, ◌≤◌, Bool, true, false, eqb, List, [], ◌∷◌, ◌++◌, slice_index, length, take, drop, Some, None, Ok, Err, nat_lt, if◌then◌else◌, arith, refl, ap, sym, ◌∙◌, subst, append_assoc, append-nil, length-append, ⊎_elim}
 use Rattle.std.proofs.Math.Nat.{add-mul, mul_assoc, pow-succ'}
 use Rattle.std.proofs.lemmas.Nat.{div-mul-add}
@@ -41,7 +41,7 @@ byte_at-pow : (k top low : ℕ) → low < 256 ^ k → byte_at k (top * 256 ^ k +
 byte_at-pow zero top low fits = let none : top * 1 + low ≡ top = omega arith in rw none refl
 byte_at-pow (suc k) top low fits = ap (λ (n : ℕ). n % 256) (div-mul-add top (256 ^ suc k) low fits)
 
--- the bytes of a number are those that it was read from, whatever stands above them
+-- the bytes of a number are those that it was read from, whatever is above them
 bytes_of_number : (xs : List ℕ) (top : ℕ) → AreBytes xs
     → bytes_high_first (length xs) (top * 256 ^ length xs + big_from 0 (length xs) xs) ≡ xs
 bytes_of_number [] top are = refl
@@ -55,13 +55,13 @@ bytes_of_number (x ∷ xs) top are =
     byte_at-pow k (top * 256 + x) (big_from 0 k xs) low ∙ omega (arith, All-head IsByte x xs are) in
     ap (λ n. byte_at k n ∷ bytes_high_first k n) split ∙ ap (λ b. b ∷ bytes_high_first k ((top * 256 + x) * 256 ^ k + big_from 0 k xs)) byte ∙ ap (λ bytes. x ∷ bytes) (bytes_of_number xs (top * 256 + x) (All-tail IsByte x xs are))
 
--- the k bytes of the number in k bytes
+-- `k` bytes are the bytes of the number that is read from them
 pub be-number : (k : ℕ) (xs : List ℕ) → AreBytes xs → length xs ≡ k → xs ≡ be k (big_number k xs)
 be-number k xs are size =
     let bare : 0 * 256 ^ length xs + big_from 0 (length xs) xs ≡ big_from 0 (length xs) xs = omega arith in
     sym (ap (λ n. be n (big_number n xs)) (sym size) ∙ ap (bytes_high_first (length xs)) (sym bare) ∙ bytes_of_number xs 0 are)
 
--- what was read stands spelled in before of what is after it
+-- what was read is spelled in a prefix of the bytes, and the rest follows this prefix
 pub record Found {A : Type 0} (part : List ℕ → Part A) (spelled : A → Spelling) : Type 0 where
   pub by : (bytes : List ℕ) (value : A) (rest : List ℕ) → AreBytes bytes
       → part bytes ≡ Ok (value, rest) → FollowedBy (spelled value) (λ after. after ≡ rest) bytes
@@ -79,7 +79,8 @@ pub found_err : {A : Type 0} (fault : WireFault) {spelled : A → Spelling}
     → Found (λ bytes. let part : Part A = Err fault in part) spelled
 found_err fault = record { by = λ bytes other rest are read. absurd (cc) }
 
--- what is found after a before
+-- a spelling that begins with `before`, and whose rest was found after it, is found in all the
+-- bytes
 after_prefix : (spelled : Spelling) (rest bytes before after : List ℕ) → bytes ≡ before ++ after
     → FollowedBy (λ more. spelled (before ++ more)) (λ more. more ≡ rest) after
     → FollowedBy spelled (λ more. more ≡ rest) bytes
@@ -113,7 +114,7 @@ module _ {A : Type 0} (part other : List ℕ → Part A) {spelled : A → Spelli
   found_if true first second = first refl
   found_if false first second = second refl
 
--- n bytes
+-- these `n` bytes
 abbrev pub ManyBytes : ℕ → List ℕ → Spelling
 ManyBytes n content bytes = AreBytes content × (bytes ≡ content) × (length content ≡ n)
 
@@ -200,7 +201,7 @@ found_skipped n =
     let same : before ++ [] ≡ content = append-nil before ∙ is.1 in
     found_pure tt (subst AreBytes (sym same) is.0, ap length same ∙ is.2))
 
--- a number, and the bytes that it was read from
+-- `n` bytes that this number is read from
 abbrev NumberOf : ℕ → ℕ → Spelling
 NumberOf n number bytes = AreBytes bytes × (length bytes ≡ n) × (number ≡ big_number n bytes)
 
@@ -226,7 +227,7 @@ module _ (of : ListOf) (kind size : ℕ) where
       (λ known. found_then _ _ (found_skipped size) (λ nothing before is.
       found_pure None (last (ValueSpelled of kind size None) before (is.0, is.1, known_by false before known))))
 
--- the items of a list, no more of them than there is room
+-- the items of `left` bytes of a list, at most `room` of them
 abbrev ItemsWithin : ListOf → ℕ → ℕ → List Item → Spelling
 ItemsWithin of room left items bytes = ItemsFilling of items left bytes × (length items ≤ room)
 
@@ -291,7 +292,7 @@ found_segment_items flags =
     (λ known. let P : Bool → Type 0 = λ start. Found (list_at Transfer) (SegmentItemsSpelled start) in subst P (sym known) (found_list Transfer))
     (λ known. found_pure (record { items = [] }) (let P : Bool → Type 0 = λ start. SegmentItemsSpelled start (record { items = [] }) [] in subst P (sym known) (refl, refl)))
 
--- what follows the type byte of a message, in before of which that byte stands
+-- the fields of a message after its type byte, which is all of `before`
 module _ (before : List ℕ) where
   found_segment : U8 1 before
       → Found segment_at (λ message after. HeadSpelled message (before ++ after))
@@ -365,7 +366,7 @@ module _ (before : List ℕ) where
       found_if _ _ (eqb kind 7) (λ known. found_sess_init (is_kind kind 7 known is)) (λ _.
       found_err (UnknownType kind))))))))
 
--- the head of a message that is read was spelled in before of what is after it
+-- the head of a message that was read is spelled in a prefix of the bytes
 pub found_message : Found message_at HeadSpelled
 unfolding message_at
 found_message = found_then _ _ found_u8 (λ kind before is. found_fields before kind is)
@@ -386,7 +387,7 @@ six_bytes (a ∷ b ∷ c ∷ d ∷ e ∷ f ∷ []) are size magic version =
     (are 5 0 (omega arith), ap (λ (xs : List ℕ). xs ++ (e ∷ f ∷ [])) four ∙ ap (λ (v : ℕ). 0x64 ∷ 0x74 ∷ 0x6e ∷ 0x21 ∷ v ∷ f ∷ []) version)
 six_bytes (a ∷ b ∷ c ∷ d ∷ e ∷ f ∷ g ∷ more) are size magic version = absurd (omega arith)
 
--- the contact header that is read was spelled in before of what is after it
+-- the contact header that was read is spelled in a prefix of the bytes
 pub found_contact : Found contact_at ContactSpelled
 unfolding contact_at
 found_contact =

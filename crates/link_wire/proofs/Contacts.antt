@@ -11,7 +11,7 @@ use Rattle.link_wire.specs.declared.fault.WireFault.{WireFault}
 use Rattle.link_wire.specs.declared.fault.WireFault.TheVariants.{Truncated}
 use Rattle.link_wire.specs.declared.message.Contact.{Contact}
 
--- both tests were passed
+-- if a value was read, both tests were passed
 passed : {A : Type 0} (first second : Bool) (x y : A) (e f : WireFault)
     → (if first then (if second then Ok x else Err e) else Err f) ≡ Ok y → x ≡ y
 passed true true x y e f is = cc
@@ -58,6 +58,6 @@ no_contact : contact_at [] ≡ Err Truncated
 unfolding contact_at bytes_at
 no_contact = refl
 
--- no byte is no contact header
+-- a stream of no bytes has no contact header
 pub reading-none : reading_of [] ≡ record { contact = None; entries = []; end = Fault 0 Truncated }
 reading-none = reading-refused [] Truncated no_contact

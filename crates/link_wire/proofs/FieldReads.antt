@@ -24,21 +24,21 @@ bytes_at-there field more =
     let there : length field ≤ length (field ++ more) = omega (arith, length-append field more) in
     rw (le-ltb (length (field ++ more)) (length field) there, take-append_seam, drop-append_seam) refl
 
--- a vector is the list of its elements
+-- a vector is determined by its elements
 pub array_vec_of : {T : Type 0} (v : ArrayVec T) (xs : List T) → v.items ≡ xs
     → v ≡ record { items = xs }
 array_vec_of {T} v xs same =
     let from : List T → ArrayVec T = λ ys. record { items = ys } in
     ap from same
 
--- a byte, as a number
+-- one byte is read as the number that it is
 pub number_at-byte : (b : ℕ) (rest : List ℕ) → number_at 1 (b ∷ rest) ≡ Ok (b, rest)
 unfolding number_at
 number_at-byte b rest =
     let one : b * 1 + 0 ≡ b = omega arith in
     ap (λ read. read >>= λ field. Ok (big_number 1 field.0, field.1)) (bytes_at-there (b ∷ []) rest) ∙ ap (λ n. Ok (n, rest)) one
 
--- what was read is one
+-- two results of one reading are equal
 pub same_part : {A : Type 0} {value other : A} {bytes more : List ℕ}
     → (let read : Part A = Ok (value, bytes) in read) ≡ Ok (other, more)
     → (value ≡ other) × (bytes ≡ more)
@@ -46,7 +46,7 @@ same_part {A} {value} {other} {bytes} {more} is =
     let both : (value, bytes) ≡ (other, more) = cc in
     (ap (λ (p : A × List ℕ). p.0) both, ap (λ (p : A × List ℕ). p.1) both)
 
--- a byte is a number, and is needed
+-- a byte is a number of one byte, and is needed
 pub IsPart-byte : (b : ℕ) → IsPart (number_at 1) (b ∷ []) b
 unfolding number_at bytes_at
 IsPart-byte b = record {

@@ -1,4 +1,4 @@
--- A part that was read, and then what depends on it.
+-- Reading a part, and then what depends on its value.
 use Rattle.std.proofs.Common.{◌≡◌, ◌≢◌, ◌+◌, ◌-◌, ◌≤◌, ℕ, Bool, true, false, List, [], ◌++◌, length, take, Result, Ok, Err, if◌then◌else◌, ap, sym, ◌∙◌, subst, refl, append_assoc, length-append, slice_index, arith, ⊎_elim}
 use mathlib.Core.Path.{fun_ext}
 use Rattle.std.specs.Prelude.{IsErrAnd}
@@ -22,11 +22,11 @@ use Rattle.link_io.specs.declared.source.Source.{Source}
 -- ---- over lists
 
 module _ {A B : Type 0} (part : List ℕ → Part A) (next : A × List ℕ → Part B) where
-  -- what is needed of a part is needed of what goes on from it
+  -- bytes that a part needs are also needed if more is read after the part
   needs_exit : (bytes : List ℕ) → Needs part bytes → Needs (λ bytes. part bytes >>= next) bytes
   needs_exit bytes needs count fewer = ap (λ r. r >>= next) (needs count fewer)
 
-  -- what shows a fault of a part shows it of what goes on from it
+  -- bytes that show a fault of a part also show it if more would be read after the part
   pub IsFault-exit : (bytes : List ℕ) (fault : WireFault) → IsFault part bytes fault
       → IsFault (λ bytes. part bytes >>= next) bytes fault
   IsFault-exit bytes fault is = record {
@@ -78,7 +78,7 @@ module _ {A B : Type 0} (part : List ℕ → Part A) (next : A × List ℕ → P
 
 module _ {R A B : Type 0} {look : R → Input} {part : List ℕ → Part A}
     (next : A × List ℕ → Part B) where
-  -- a part that was not read: nothing that goes on from it was
+  -- the part was not read, so nothing after it was read
   pub exit : {old new : Source R} {stop : Halt} → Gets look part old new (Err stop)
       → Gets look (λ bytes. part bytes >>= next) old new (Err stop)
   exit {stop = halt.Wire fault} met = record {
@@ -97,7 +97,7 @@ module _ {R A B : Type 0} {look : R → Input} {part : List ℕ → Part A}
     };
   }
 
-  -- a part that was read, and what goes on from it
+  -- the part was read, and then what depends on its value
   pub after : {old mid new : Source R} {value : A} {outcome : Result B Halt}
       → Gets look part old mid (Ok value) → Gets look (λ bytes. next (value, bytes)) mid new outcome
       → Gets look (λ bytes. part bytes >>= next) old new outcome
@@ -126,12 +126,12 @@ module _ {R A B : Type 0} {look : R → Input} {part : List ℕ → Part A}
   }
 
 module _ {R A : Type 0} {look : R → Input} where
-  -- a part that was read leaves the source as it was before
+  -- the source is live after a part was read
   pub is_live : {part : List ℕ → Part A} {old new : Source R} {value : A}
       → Gets look part old new (Ok value) → IsLive look new
   is_live got = got.by.live
 
-  -- the same part, in other words
+  -- a part that is defined in another way
   pub same_part : {part other : List ℕ → Part A} {old new : Source R} {outcome : Result A Halt}
       → ((bytes : List ℕ) → part bytes ≡ other bytes) → Gets look part old new outcome
       → Gets look other old new outcome
@@ -139,28 +139,28 @@ module _ {R A : Type 0} {look : R → Input} where
       let P : (List ℕ → Part A) → Type 0 = λ p. Gets look p old new outcome in
       subst P (fun_ext same) got
 
-  -- the exit of a `?`
+  -- a `?` that returns its error
   pub exiting : {part : List ℕ → Part A} {old new : Source R} {stop : Halt}
       (outcome : Result A Halt) → IsErrAnd outcome (λ e. e ≡ stop)
       → Gets look part old new (Err stop) → Gets look part old new outcome
   exiting (Ok value) is met = absurd is
   exiting (Err e) is met = rw is met
 
-  -- the same in a function that leaves what it reads with its caller
+  -- a `?` that returns its error, in a function that leaves the value with its caller
   pub leaving : {part : List ℕ → Part A} {old new : Source R} {stop : Halt} (value : A)
       (outcome : Result (Unit {0}) Halt) → IsErrAnd outcome (λ e. e ≡ stop)
       → Gets look part old new (Err stop) → Gets look part old new (with_value value outcome)
   leaving value (Ok done) is met = absurd is
   leaving value (Err e) is met = rw is met
 
-  -- no byte is needed
+  -- a value that needs no byte
   pub pure : {source : Source R} {value : A} → IsLive look source
       → Gets look (λ bytes. Ok (value, bytes)) source source (Ok value)
   pure {source} live = record {
     by = record { given = []; takes = Takes-none look source; live = live; is = record { is_part = λ more. refl; needs = λ count fewer. absurd (omega arith) } };
   }
 
-  -- a value that what was read before refuses
+  -- a fault that needs no byte: what was read before breaks a rule
   pub refuse : {source : Source R} {fault : WireFault} → fault ≢ Truncated
       → Gets look (λ bytes. let outcome : Part A = Err fault in
       outcome) source source (Err (halt.Wire fault))
@@ -173,7 +173,7 @@ module _ {R A : Type 0} {look : R → Input} where
     };
   }
 
-  -- the part is chosen by what was read before
+  -- what was read before decides which part comes
   module _ (part other : List ℕ → Part A) {old new : Source R} {test : Bool}
       {outcome : Result A Halt} where
     pub if_true : test ≡ true → Gets look part old new outcome
@@ -189,7 +189,7 @@ module _ {R A : Type 0} {look : R → Input} where
         subst P (sym is) h
 
 module _ {R : Type 0} {look : R → Input} {old new : Source R} where
-  -- a number is its field's bytes
+  -- a number is read from the bytes of its field
   pub number_read : (n : ℕ) (field : List ℕ) → Gets look (bytes_at n) old new (Ok field)
       → Gets look (number_at n) old new (Ok (big_number n field))
   unfolding number_at
@@ -207,7 +207,7 @@ module _ {R : Type 0} {look : R → Input} {old new : Source R} where
   number_exit n got = exit _ got
 
 module _ {R : Type 0} {look : R → Input} where
-  -- bytes that were passed over
+  -- no bytes are skipped
   pub skip_none : {source : Source R} → IsLive look source
       → Gets look (skipped_at 0) source source (Ok tt)
   skip_none {source} live = record {

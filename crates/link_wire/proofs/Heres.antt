@@ -1,4 +1,4 @@
--- Heads that are whole in bytes that are here: no field of theirs is missing.
+-- Heads that are whole in the bytes that are here, so that no field is missing.
 use Rattle.std.proofs.Common.{◌≡◌, ℕ, ◌+◌, ◌-◌, ◌<◌, ◌≤◌, ◌⊎◌, Bool, true, false, List, [], length, take, drop, slice_index, slice_range, Option, Some, None, IfSome, is_some, Ok, Err, nat_lt, if◌then◌else◌, arith, refl, ap, sym, ◌∙◌, subst, length-drop, take-append-drop, take_all, ⊎_elim}
 use Rattle.std.proofs.lemmas.Bool.{ne_eqb}
 use Rattle.std.proofs.lemmas.List.{drop-drop}
@@ -32,7 +32,7 @@ pub here_err : {A : Type 0} (after : ℕ) (fault : WireFault) → (fault ≡ Tru
     → IsHere after (let read : Part A = Err fault in read)
 here_err after fault other = record { whole = λ is. absurd (other (cc)); follow = λ value rest is. absurd (cc) }
 
--- a part that `most` bytes decide
+-- a part that at most `most` bytes decide, in bytes that are enough for it and for `after` more
 here_within : {A : Type 0} (most after : ℕ) (part : List ℕ → Part A) (bytes : List ℕ)
     → Within most part → most + after ≤ length bytes → IsHere after (part bytes)
 here_within most after part bytes within enough = record {
@@ -41,7 +41,7 @@ here_within most after part bytes within enough = record {
 }
 
 module _ {A B : Type 0} where
-  -- a part, and what goes on from it
+  -- a part, and then what depends on its value
   here_then : (before after : ℕ) (read : Part A) (next : A × List ℕ → Part B) → IsHere before read
       → ((value : A) (rest : List ℕ) → before ≤ length rest → IsHere after (next (value, rest)))
       → IsHere after (read >>= next)
@@ -58,7 +58,7 @@ unfolding number_at
 number_enough k bytes enough = rw (bytes_at-enough k bytes enough) refl
 
 module _ {B : Type 0} where
-  -- a number that is there, and what goes on from it
+  -- a number that is here, and then what depends on it
   here_number : (k after : ℕ) (bytes : List ℕ) (next : ℕ × List ℕ → Part B) → k ≤ length bytes
       → IsHere after (next (big_number k (take k bytes), drop k bytes))
       → IsHere after (number_at k bytes >>= next)
@@ -72,7 +72,7 @@ module _ {A : Type 0} where
   here_if after true fault read other is = here_err after fault other
   here_if after false fault read other is = is
 
--- a list whose length and items are there
+-- a list whose length and items are here
 pub here_list : (of : ListOf) (after : ℕ) (bytes : List ℕ) → 4 ≤ length bytes
     → 4 + big_number 4 (take 4 bytes) + after ≤ length bytes → IsHere after (list_at of bytes)
 unfolding list_at
@@ -90,7 +90,7 @@ here_contact bytes enough = here_within 6 0 contact_at bytes within_contact (ome
 to_end : (at : ℕ) (bytes : List ℕ) → slice_range bytes at (length bytes) ≡ drop at bytes
 to_end at bytes = take_all (length bytes - at) (drop at bytes) (omega (arith, length-drop at bytes))
 
--- a message whose type byte is there
+-- a message whose type byte is here
 module _ (bytes : List ℕ) (kind : ℕ) where
   here_message : 0 < length bytes → slice_index bytes 0 ≡ kind
       → IsHere 0 (fields_at kind (drop 1 bytes)) → IsHere 0 (message_at bytes)
@@ -100,7 +100,7 @@ module _ (bytes : List ℕ) (kind : ℕ) where
       here_number 1 0 bytes _ (omega arith) (subst P (sym (byte_of bytes 0 some ∙ is)) fields)
 
 module _ (bytes : List ℕ) (enough : 18 ≤ length bytes) (is : slice_index bytes 0 ≡ 1) where
-  -- the items and the data's length, after type, flags and ID
+  -- a segment: its items and the length of its data come after type, flags and ID
   after_id : IsHere 8 (segment_items_at (slice_index bytes 1) (drop 10 bytes))
       → IsHere 0 (message_at bytes)
   unfolding fields_at segment_at
@@ -126,7 +126,7 @@ module _ (bytes : List ℕ) (enough : 18 ≤ length bytes) (is : slice_index byt
       let P : List ℕ → Type 0 = λ xs. IsHere 8 (list_at Transfer xs) in
       after_id (rw first (subst P (to_end 10 bytes) list))
 
--- a node ID that is there, and what goes on from it
+-- a node ID that is here, and then what depends on it
 module _ {B : Type 0} (bytes : List ℕ) (next : ArrayVec ℕ × List ℕ → Part B) where
   node_there : (size : ℕ) → big_number 2 (take 2 bytes) ≡ size → 2 + size ≤ length bytes
       → node_at bytes ≡ (if nat_lt longest_node size then Err (NodeIdTooLong size)
@@ -150,7 +150,7 @@ module _ {B : Type 0} (bytes : List ℕ) (next : ArrayVec ℕ × List ℕ → Pa
       subst P (sym (node_there size is enough)) (here_node_by after size (nat_lt longest_node size) node (drop size (drop 2 bytes)) (more node))
 
 module _ (bytes : List ℕ) (enough : 21 ≤ length bytes) (is : slice_index bytes 0 ≡ 7) where
-  -- the list, after a node ID that is there
+  -- the list after a node ID that is here
   pub sess_init_here : (size : ℕ) → big_number 2 (slice_range bytes 19 21) ≡ size
       → 21 + size ≤ length bytes
       → IsHere 0 (list_at Session (slice_range bytes (21 + size) (length bytes)))
@@ -170,7 +170,7 @@ module _ (bytes : List ℕ) (enough : 21 ≤ length bytes) (is : slice_index byt
       (here_node rest _ 0 size (ap (λ xs. big_number 2 (take 2 xs)) there ∙ size_is) (omega (arith, long))
       (λ node. here_then 0 0 _ _ (subst P (sym end) list) (λ items more any. here_pure 0 _ _ (omega arith)))))))
 
--- a head that lies whole in a window
+-- a head that is whole in a window
 pub plain_here : (window : List ℕ) (found : Option (Fields × ℕ))
     → IfSome found (λ head. IsHead window head.0 head.1) → is_some found ≡ true
     → IsHere 0 (message_at window)
@@ -181,7 +181,7 @@ plain_here window (Some (fields, size)) is some =
     let whole = (is.is (record { items = [] })).is_part (drop size window) in
     subst P (take-append-drop size window) (subst Q (sym whole) (here_pure 0 _ _ (omega arith)))
 
--- a type byte that is none of a message is enough to tell
+-- a type byte that no message has is a fault, whatever follows it
 unknown : (kind : ℕ) (rest : List ℕ) → (kind ≡ 0) ⊎ (7 < kind)
     → fields_at kind rest ≡ Err (UnknownType kind)
 unfolding fields_at

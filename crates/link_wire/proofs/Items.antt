@@ -14,7 +14,7 @@ use Rattle.link_wire.specs.declared.list.ItemHead.{ItemHead}
 use Rattle.link_wire.specs.declared.message.Item.{Item}
 use Rattle.link_io.specs.declared.source.Source.{Source}
 
--- items before those that were read
+-- puts items before those that were read
 abbrev pub with_before : List Item → Result (List Item) Halt → Result (List Item) Halt
 with_before before (Ok items) = Ok (before ++ items)
 with_before before (Err stop) = Err stop
@@ -31,7 +31,7 @@ some_left : (left : ℕ) → 0 < left → eqb left 0 ≡ false
 some_left left some = ne_eqb left 0 (λ none. omega arith)
 
 module _ {R : Type 0} {look : R → Input} (of : ListOf) where
-  -- the list is done
+  -- no bytes of the list are left
   none_left : (room : ℕ) {source : Source R} → IsLive look source
       → Gets look (items_at of room 0) source source (Ok [])
   unfolding items_at

@@ -18,7 +18,7 @@ use Rattle.link_wire.specs.declared.fault.WireFault.{WireFault}
 use Rattle.link_wire.specs.declared.message.Contact.{Contact}
 use Rattle.link_wire.specs.declared.message.Message.{Message}
 
--- whole data after a head
+-- the data after a head is whole
 with_data-whole : (offset : ℕ) (message : Message) (content more : List ℕ)
     (rest : ℕ → List ℕ → Stream) → length content ≡ data_length message
     → with_data_of offset message (content ++ more)
@@ -65,23 +65,23 @@ only_by (Some contact) entries end bytes is =
 only_by None entries end bytes is =
     ap reading_by is.2.2 ∙ rw (is.0, is.2.1) refl
 
--- a reading of these bytes is the reading of them
+-- any reading of the bytes is the reading that is defined
 pub only_reading : (bytes : List ℕ) (reading : Reading) → IsReading bytes reading
     → reading ≡ reading_of bytes
 only_reading bytes reading is = sym (only_by reading.contact reading.entries reading.end bytes is)
 
--- where the head of a part is read as a fault, no spelling of the part begins the bytes
+-- if reading a part gives a fault, the bytes begin with no spelling of the part
 none_begins : {A : Type 0} (part : List ℕ → Part A) (value : A) (spelled : Spelling)
     (bytes : List ℕ) (fault : WireFault) → Only part value spelled → part bytes ≡ Err fault
     → NoneBegins spelled bytes
 none_begins part value spelled bytes fault only is = λ before more spells same.
     let never = sym is ∙ ap part same ∙ only.by before spells more in absurd (cc)
 
--- the stream that these bytes are read as stands in them
+-- the bytes from an offset on spell this stream
 abbrev StandsIn : ℕ → List ℕ → Stream → Type 0
 StandsIn offset bytes stream = IsStream stream.entries stream.end offset bytes
 
--- a message whose head was read, with the data after it
+-- a head that was read, and the bytes after it
 module _ (offset : ℕ) (message : Message) (head rest : List ℕ) (spells : HeadSpelled message head)
     (are : AreBytes rest) where
   with_data-stands : (later : ℕ → List ℕ → Stream)
@@ -143,7 +143,7 @@ module _ (offset : ℕ) (bytes : List ℕ) where
       subst P (sym whole) (subst Q (sym (stream_at-head offset found.before message known rest))
       (with_data-stands offset message found.before rest found.is_first after stream_at (λ at. next at (drop size rest) (omega (arith, length-drop size rest)) last)))
 
--- the reading of bytes, of which there are `count` at most, stands in them
+-- at most `count` bytes spell the stream that is read from them
 stream_stands : (count offset : ℕ) (bytes : List ℕ) → length bytes ≤ count → AreBytes bytes
     → StandsIn offset bytes (stream_at offset bytes)
 stream_stands count offset [] few are = stands_by offset [] (stream_at-nil offset) refl
@@ -166,7 +166,7 @@ reading_by-stands bytes are (Ok (contact, rest)) is =
       parts = whole;
     }
 
--- every list of bytes has its reading
+-- the reading that is defined is a reading of the bytes
 pub some_reading : (bytes : List ℕ) → AreBytes bytes → IsReading bytes (reading_of bytes)
 unfolding reading_of
 some_reading bytes are = reading_by-stands bytes are (contact_at bytes) refl

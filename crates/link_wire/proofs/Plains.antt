@@ -1,4 +1,4 @@
--- Heads that are read where they lie: the fields at their indices of a window are the parts of a message.
+-- Heads that are read in place: the fields at their indices in a window are the parts of a message.
 use Rattle.std.proofs.Common.{◌≡◌, ℕ, zero, suc, ◌+◌, ◌*◌, ◌<◌, ◌≤◌, Bool, true, false, List, [], ◌∷◌, ◌++◌, length, take, drop, slice_index, slice_range, Ok, Err, nat_lt, if◌then◌else◌, arith, refl, ap, sym, ◌∙◌, subst, append-nil, length-take, length-drop}
 use Rattle.std.proofs.lemmas.List.{drop-drop}
 use Rattle.std.proofs.Math.Seq.{take-add}
@@ -17,11 +17,11 @@ use Rattle.link_wire.specs.declared.message.ListOf.TheVariants.{Transfer}
 use Rattle.link_wire.specs.declared.message.Message.{Message}
 use Rattle.link_wire.specs.declared.message.Message.TheVariants.{Segment, Ack, Refuse, Keepalive, SessTerm, MsgReject}
 
--- no byte is a part
+-- a value that needs no byte
 pure_is : {A : Type 0} (value : A) → IsPart (λ bytes. Ok (value, bytes)) [] value
 pure_is value = record { is_part = λ more. refl; needs = λ count fewer. absurd (omega arith) }
 
--- a field is a number
+-- a field of `k` bytes is a number
 field_is : (k : ℕ) (field : List ℕ) → length field ≡ k
     → IsPart (number_at k) field (big_number k field)
 unfolding number_at
@@ -32,7 +32,7 @@ field_is k field size =
       needs = λ count fewer. ap (λ read. read >>= next) (bytes_at-short k (take count field) (omega (arith, length-take count field)));
     }
 
--- a byte of a window, as a number
+-- a field of one byte, as the byte of the window
 pub byte_of : (window : List ℕ) (at : ℕ) → at < length window
     → big_number 1 (take 1 (drop at window)) ≡ slice_index window at
 byte_of [] at within = absurd (omega arith)
@@ -40,7 +40,7 @@ byte_of (b ∷ window) zero within = let one : b * 1 + 0 ≡ b = omega arith in 
 byte_of (b ∷ window) (suc at) within = byte_of window at (omega arith)
 
 module _ {A B : Type 0} (window : List ℕ) (at k m : ℕ) where
-  -- a part at an index, and what goes on from it after its bytes
+  -- a part at an index, and then what depends on its value
   part_then : (part : List ℕ → Part A) (value : A) (next : A × List ℕ → Part B) (other : B)
       → IsPart part (take k (drop at window)) value
       → IsPart (λ bytes. next (value, bytes)) (take m (drop (at + k) window)) other
@@ -52,7 +52,7 @@ module _ {A B : Type 0} (window : List ℕ) (at k m : ℕ) where
       subst P (sym parts) (IsPart-then part next value (take k (drop at window)) (take m (drop (at + k) window)) is other more)
 
 module _ {B : Type 0} (window : List ℕ) (at k m : ℕ) where
-  -- the same of a number
+  -- a number at an index, and then what depends on it
   field_then : (next : ℕ × List ℕ → Part B) (other : B) → at + k ≤ length window
       → IsPart (λ bytes. next (big_number k (take k (drop at window)), bytes))
       (take m (drop (at + k) window)) other
@@ -62,7 +62,7 @@ module _ {B : Type 0} (window : List ℕ) (at k m : ℕ) where
       let size : length field ≡ k = omega (arith, length-take k (drop at window), length-drop at window) in
       part_then window at k m (number_at k) (big_number k field) next other (field_is k field size) more
 
--- the type byte, and what follows it
+-- the type byte, and then the fields after it
 module _ (window : List ℕ) (kind m : ℕ) (message : Message) where
   typed : 0 < length window → slice_index window 0 ≡ kind
       → IsPart (fields_at kind) (take m (drop 1 window)) message
@@ -80,7 +80,7 @@ module _ (window : List ℕ) (some : 0 < length window) where
   keepalive_head is = typed window 4 0 Keepalive some is (pure_is Keepalive)
 
 module _ (window : List ℕ) (enough : 3 ≤ length window) where
-  -- a message of two bytes, as they stand in the window
+  -- a message of two numbers, as bytes of the window
   of_two_bytes : (message : ℕ → ℕ → Message)
       → IsPart message_at (take 3 window)
       (message (big_number 1 (take 1 (drop 1 window))) (big_number 1 (take 1 (drop 2 window))))
@@ -171,7 +171,7 @@ with_empty_list flags field start size is =
 
 module _ (window : List ℕ) (k at : ℕ) (enough : at + 8 ≤ length window) (parts : 10 + k ≡ at)
     (is : slice_index window 0 ≡ 1) where
-  -- a segment whose list has k bytes and no items
+  -- a segment whose list has `k` bytes and no items
   segment_head : IsPart (segment_items_at (slice_index window 1)) (take k (drop 10 window)) none
       → IsPart message_at (take (1 + (1 + (8 + (k + 8)))) window)
       (Segment (record { flags = slice_index window 1; id = big_number 8 (take 8 (drop 2 window)); items = none; length = big_number 8 (take 8 (drop at window)) }))

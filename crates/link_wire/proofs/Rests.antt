@@ -1,4 +1,4 @@
--- A session's reading goes on by the head of a message, and by data.
+-- How the reading of a session goes on with the head of a message, and with data.
 use Rattle.std.proofs.Common.{◌≡◌, ℕ, zero, suc, ◌+◌, true, false, List, [], ◌++◌, length, drop, nat_lt, if◌then◌else◌, arith, refl, ap, sym, ◌∙◌, append_assoc, append-nil, length-append, add-zero, add_assoc, ⊎_elim}
 use Rattle.std.proofs.lemmas.Bool.{cases_lt, lt-ltb, le-ltb}
 use Rattle.std.proofs.Math.Seq.{take-append_seam, drop-append_seam, take-append-add, drop-append-add}
@@ -8,7 +8,7 @@ use Rattle.link_wire.proofs.Streams.{stream_at-nil}
 use Rattle.link_wire.specs.Session.{joined, data_after, rest_after, IsLeft}
 use Rattle.link_wire.specs.declared.message.Message.{Message}
 
--- one stream after another
+-- one stream followed by another
 abbrev pub appended : Stream → Stream → Stream
 appended first second = record { entries = first.entries ++ second.entries; end = second.end }
 
@@ -16,7 +16,7 @@ pub joined-joined : (reading : Reading) (first second : Stream)
     → joined (joined reading first) second ≡ joined reading (appended first second)
 joined-joined reading first second = ap (λ entries. joined (record { contact = reading.contact; entries = []; end = Clean }) (record { entries = entries; end = second.end })) (append_assoc reading.entries first.entries second.entries)
 
--- what the head of a message begins
+-- the stream of a head, before any data of its message
 abbrev pub begun : ℕ → Message → Stream
 begun offset message = if nat_lt 0 (data_length message) then ended (Cut offset message []) else with_entry (record { offset = offset; message = message; content = [] }) (ended Clean)
 
@@ -34,7 +34,7 @@ begun_by (suc size) offset place message more is =
     (λ enough. let whole : nat_lt (length more) (suc size) ≡ false = le-ltb (length more) (suc size) enough in rw (is, some, whole) refl)
     (cases_lt (length more) (suc size))
 
--- what data of the open segment leaves to read
+-- the rest of the stream after data of the open segment
 module _ (place n offset : ℕ) (message : Message) (content bytes more : List ℕ) where
   pub data_by : (left : ℕ) → n ≡ length bytes + left
       → rest_after place n (Cut offset message content) (bytes ++ more)
@@ -56,7 +56,7 @@ module _ (place n offset : ℕ) (message : Message) (content bytes more : List �
       rw (before, some, whole, is, take-append-add, drop-append-add, append_assoc, add_assoc) refl)
       (cases_lt (length more) (suc left))
 
--- nothing more to read
+-- no bytes are left
 rest_none : (place offset left : ℕ) (end : End) → IsLeft offset left end
     → rest_after place left end [] ≡ ended end
 rest_none place offset left Clean is = stream_at-nil place
@@ -65,7 +65,7 @@ rest_none place offset left (Cut from message content) is =
     rw (some, append-nil) refl
 rest_none place offset left (Fault from fault) is = absurd is
 
--- what is read after a history that has gone on by a part of what is left
+-- how the reading goes on after a part of the stream has been added to it
 module _ (reading : Reading) (history : List ℕ) (part : Stream) (offset left place : ℕ)
     (is : IsLeft offset left part.end)
     (reads : (more : List ℕ) → reading_of (history ++ more) ≡ joined reading (appended part (rest_after place left part.end more))) where
@@ -82,7 +82,7 @@ module _ (reading : Reading) (history : List ℕ) (part : Stream) (offset left p
       reads more ∙ sym (joined-joined reading part (rest_after place left part.end more))
       ∙ ap (λ r. joined r (rest_after place left r.end more)) (sym settled)
 
--- between two messages a stream ends clean
+-- if no data is to come, the end is clean
 pub clean_end : (offset left : ℕ) (end : End) → IsLeft offset left end → left ≡ 0 → end ≡ Clean
 clean_end offset left Clean is none = refl
 clean_end offset left (Cut from message content) is none = let some = is.0 in absurd (omega arith)

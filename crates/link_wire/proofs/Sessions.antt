@@ -1,4 +1,4 @@
--- What each call of a session does to where it stands.
+-- How each call of a session changes its state.
 use Rattle.std.proofs.Common.{⊎_elim, ◌≡◌, ℕ, ◌+◌, ◌<◌, true, eqb, eqb-true, List, [], ◌∷◌, ◌++◌, length, take, Some, Result, Ok, Err, arith, refl, ap, sym, ◌∙◌, subst, append_assoc, append-nil, length-append}
 use Rattle.std.specs.Prelude.{IsErrAnd}
 use Rattle.std.proofs.lemmas.Bool.{cases_lt}
@@ -39,7 +39,7 @@ unopened_by phase.Reading is = absurd (cc)
 unopened_by (phase.Stopped why) is = absurd (cc)
 
 module _ {R : Type 0} (look : R → Input) (s : Session R) (fresh : may_open s ≡ true) where
-  -- the facts of a session that may be opened
+  -- the three properties of a session that may be opened
   parts : (is_unopened s.phase ≡ true) × (left_of s ≡ 0) × (is_fresh s.source ≡ true)
   parts =
       let first = and_true (is_unopened s.phase) _ fresh in
@@ -58,14 +58,14 @@ module _ {R : Type 0} (look : R → Input) (s : Session R) (fresh : may_open s �
   pub opens_left : left_of s ≡ 0
   opens_left = parts.1
 
--- where the next message may be read and the session has not stopped, no data is to come
+-- if the next message may be read and the session has not stopped, no data is to come
 pub none_left : {R : Type 0} (s : Session R) → s.phase ≡ phase.Reading
     → may_read s ≡ true → left_of s ≡ 0
 none_left s reading may = eqb-true s.left 0 (ap (λ p. reads_next p s.left) (sym reading) ∙ may)
 
 -- ---- the contact header
 
--- no byte of the contact header's shows a fault but the last
+-- no proper prefix of the bytes that a contact header needs shows a fault
 contact_shown : (given : List ℕ) → Needs contact_at given → ShownLast [] given
 contact_shown given needs = λ count fewer.
     let read = reading-refused (take count given) wire.Truncated (needs count fewer) in
@@ -73,7 +73,7 @@ contact_shown given needs = λ count fewer.
     subst P (sym (ap (λ (r : Reading). r.end) read)) refl
 
 module _ {R : Type 0} {look : R → Input} where
-  -- a session stands where a part of what was left has been read
+  -- the state of a session after a part of the stream has been added to the reading
   stands : (s : Session R) (history : List ℕ) (reading : Reading)
       (part : Stream) (contact : Contact)
       → IsSourceAt s.source history → IsLive look s.source → s.phase ≡ phase.Reading
@@ -144,7 +144,7 @@ module _ {R : Type 0} {look : R → Input} where
       let P : Source R → Type 0 = λ s. Gets look contact_at old.source s (Err why) in
       rw is (refused old new why (subst P (sym same) met) (stopped ∙ ap phase.Stopped is))
 
-  -- ---- messages: between two of them, what follows is read from there
+  -- ---- messages, in a session between two of them
   module _ (old : Session R) (history : List ℕ) (at : IsSessionAt look old history)
       (between : old.left ≡ 0) where
     clean : (reading_of history).end ≡ Clean
@@ -184,7 +184,7 @@ module _ {R : Type 0} {look : R → Input} where
           at = stands new (history ++ given) (reading_of history) (begun here message) at.contact (IsSourceAt-then look old.source new.source history given got.takes at.at) got.live going at.has_contact is (λ _. got.takes.window.less some) reads;
         }
 
-    -- bytes that make no message leave the messages as they were, and more bytes may mend them
+    -- bytes that end inside a head do not change the messages, and more bytes may mend the end
     cut_here : (given : List ℕ) → message_at given ≡ Err wire.Truncated
         → SameMessages (reading_of history) (reading_of (history ++ given))
         × IsUndecided (reading_of (history ++ given)).end
@@ -209,7 +209,7 @@ module _ {R : Type 0} {look : R → Input} where
         ∙ from_here (kind ∷ (given ++ more))
         ∙ ap (joined (reading_of history)) (stream_at-fault (length history) kind (given ++ more) fault is)
 
-    -- what the type byte and what follows it let the next message be
+    -- the next message, by its type byte and the fields after it
     module _ {mid : Source R} {kind : ℕ} (first : OneKind look old.source mid kind) where
       typed : Gets look (number_at 1) old.source mid (Ok kind)
       typed = record { by = record { given = kind ∷ []; takes = first.takes; live = first.live; is = IsPart-byte kind } }
@@ -285,13 +285,13 @@ module _ {R : Type 0} {look : R → Input} where
         )
     read_by (Fault from fault) is = absurd is
 
-    -- where the last of it was given, or none, less than a window is here
+    -- if no data is to come, less than a whole window is unread
     few_after : new.left ≡ 0 → length (window_of new.source) < window_size
     few_after none =
         ⊎_elim (λ few. let empty : length bytes ≡ 0 = omega (arith, few) in rw (takes.window.kept empty) (at.few (omega (arith, left, none, empty))))
         (λ some. takes.window.less (omega (arith, some))) (cases_lt (length bytes) 1)
 
-    -- the session stands after it
+    -- the reading and the state after the data
     pub data_stands : (reading_of (history ++ bytes)
         ≡ with_data new.left bytes (reading_of history))
         × IsSessionAt look new (history ++ bytes)
@@ -311,7 +311,7 @@ module _ {R : Type 0} {look : R → Input} where
     data_given = let stood = data_stands in record { takes = takes; left = left; reading = stood.0; at = stood.1 }
 
 module _ {R : Type 0} {look : R → Input} where
-  -- data was made ready: the session stands where it stood
+  -- making data ready does not change the reading
   pub loaded_stands : (old new : Session R) (history : List ℕ) → IsSessionAt look old history
       → Readies look old.source new.source → IsLive look new.source
       → new.phase ≡ old.phase → new.offset ≡ old.offset → new.left ≡ old.left → 0 < old.left
@@ -327,7 +327,7 @@ module _ {R : Type 0} {look : R → Input} where
     goes_on = λ more. rw left (at.goes_on more);
   }
 
-  -- data was ready, and some of it was given
+  -- data was made ready, and then some of it was given
   pub gave_then : (old mid new : Session R) (history bytes : List ℕ) (n : ℕ)
       → LoadedData look old mid history n → PassedBytes look mid new history bytes
       → 0 < length bytes → PassedBytes look old new history bytes
@@ -340,7 +340,7 @@ module _ {R : Type 0} (look : R → Input) where
   stopped_load old new history buffer (stop.Wire offset fault) gives = gives
   stopped_load old new history buffer (stop.Io fault) gives = gives
 
-  -- what stops data from being ready stops it from being copied
+  -- a stop while data is made ready is also the stop of copying it
   pub data_stopped : (old new : Session R) (history buffer : List ℕ) (result : Result ℕ Stop)
       (why : Stop) → IsErrAnd result (λ e. e ≡ why) → GivesLoad look old new history (Err why)
       → GivesData look old new history buffer result

@@ -1,4 +1,4 @@
--- What follows a part is shorter than the bytes that begin with the part, or as long.
+-- After a part, no more bytes are left than there were before it.
 use Rattle.std.proofs.Common.{◌≡◌, ℕ, zero, suc, ◌+◌, ◌-◌, ◌≤◌, Bool, true, false, eqb, List, length, drop, Result, Ok, Err, nat_lt, if◌then◌else◌, arith, refl, ap, sym, ◌∙◌, length-drop, ⊎_elim}
 use Rattle.std.proofs.lemmas.Bool.{cases_lt}
 use Rattle.link_wire.specs.Part.{Part, ◌>>=◌, bytes_at, number_at}
@@ -17,7 +17,7 @@ pub both_read : {A B : Type 0} (read : Result A WireFault) (next : A → Result 
 both_read (Ok first) next value is = (first, refl, is)
 both_read (Err fault) next value is = absurd (cc)
 
--- what follows the part has at least `less` bytes fewer
+-- the part takes at least `less` bytes
 pub record Shrinks {A : Type 0} (less : ℕ) (part : List ℕ → Part A) : Type 0 where
   pub by : (bytes : List ℕ) (value : A) (rest : List ℕ) → part bytes ≡ Ok (value, rest)
       → length rest + less ≤ length bytes

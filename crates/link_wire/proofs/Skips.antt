@@ -1,4 +1,4 @@
--- Bytes that are passed over in pieces, and the items of a list one after another.
+-- Bytes that are skipped in pieces.
 use Rattle.std.proofs.Common.{◌≡◌, ℕ, ◌+◌, ◌<◌, ◌≤◌, List, length, drop, Ok, Err, arith, refl, ap, sym, ◌∙◌, ⊎_elim, length-drop}
 use Rattle.std.proofs.lemmas.Bool.{le-ltb, cases_lt}
 use Rattle.std.proofs.lemmas.List.{drop-drop}
@@ -17,7 +17,7 @@ pub skipped_at-there : (n : ℕ) (bytes : List ℕ) → n ≤ length bytes
 unfolding skipped_at bytes_at
 skipped_at-there n bytes there = rw (le-ltb (length bytes) n there) refl
 
--- passing over bytes in two pieces
+-- skipping bytes in two pieces
 skipped_at-first : (a b : ℕ) (bytes : List ℕ) → a ≤ length bytes
     → (skipped_at a bytes >>= λ v. skipped_at b v.1) ≡ skipped_at b (drop a bytes)
 skipped_at-first a b bytes there = ap (λ r. r >>= λ v. skipped_at b v.1) (skipped_at-there a bytes there)

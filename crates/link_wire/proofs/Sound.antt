@@ -1,4 +1,4 @@
--- What is spelled is read as what it spells, whatever follows.
+-- A spelling is read as what it spells, whatever follows it.
 use Rattle.std.proofs.Common.{◌≡◌, ℕ, zero, suc, ◌+◌, ◌-◌, ◌^◌, ◌<◌, ◌≤◌, Bool, true, false, eqb, List, [], ◌∷◌, ◌++◌, length, Option, Some, None, Ok, nat_lt, if◌then◌else◌, arith, refl, ap, sym, ◌∙◌, subst, append_assoc, append-nil, length-append}
 use Rattle.std.proofs.lemmas.List.{nil_from_length}
 use Rattle.std.proofs.lemmas.Bool.{le-ltb, ne_eqb}
@@ -20,22 +20,22 @@ use Rattle.link_wire.specs.declared.message.SegmentHead.{SegmentHead}
 use Rattle.link_wire.specs.declared.message.Message.{Message}
 use Rattle.link_wire.specs.declared.message.Message.TheVariants.{SessInit, Segment, Ack, Refuse, Keepalive, SessTerm, MsgReject}
 
--- how long a spelling is
+-- the length of a spelling that has two parts
 pub length_parts : {first second : Spelling} (bytes : List ℕ) (is : (first ⨾ second) bytes)
     → length bytes ≡ length is.before + length is.after
 length_parts bytes is = ap length is.parts ∙ length-append is.before is.after
 
 module _ {first second : Spelling} where
-  -- two spellings, one after the other
+  -- two spellings, one after another
   pub both : (before after : List ℕ) → first before → second after
       → (first ⨾ second) (before ++ after)
   both before after one two = record { before = before; after = after; is_first = one; is_second = two; parts = refl }
 
--- the last spelling of a part
+-- the last spelling of a part, with nothing after it
 pub last : (spelled : Spelling) (before : List ℕ) → spelled before → spelled (before ++ [])
 last spelled before is = subst spelled (sym (append-nil before)) is
 
--- three spellings one after the other
+-- three spellings, one after another
 pub then_assoc : {first second third : Spelling} (bytes : List ℕ) → ((first ⨾ second) ⨾ third) bytes
     → (first ⨾ (second ⨾ third)) bytes
 then_assoc bytes is = record {
@@ -46,7 +46,7 @@ then_assoc bytes is = record {
   parts = is.parts ∙ ap (λ before. before ++ is.after) is.is_first.parts ∙ append_assoc is.is_first.before is.is_first.after is.after;
 }
 
--- a spelling is read as this value, whatever follows
+-- a spelling is read as this value, whatever follows it
 pub record Only {A : Type 0} (part : List ℕ → Part A) (value : A)
     (spelled : Spelling) : Type 0 where
   pub by : (bytes : List ℕ) → spelled bytes → (more : List ℕ)
@@ -136,7 +136,7 @@ only_node node = record {
       (only_then _ _ (only_u16 (length node.items)) (only_else _ _ (nat_lt longest_node (length node.items)) (le-ltb longest_node (length node.items) is.0) (only_node_bytes node))).by bytes is.1 more;
 }
 
--- an item's head that ends within its list
+-- the head of an item that ends within its list
 pub only_item_head : (left flags kind size : ℕ) → 5 + size ≤ left
     → Only (item_head_at left) (record { flags = flags; kind = kind; length = size })
     (ItemHeadSpelled flags kind size)
@@ -179,7 +179,7 @@ module _ (of : ListOf) (kind size : ℕ) (total : Option ℕ) where
   pub only_value : Only (total_at of kind size) total (ValueSpelled of kind size total)
   only_value = value_by (gives_total of kind size) refl
 
--- an item is five bytes and its value
+-- the head of an item has five bytes
 pub length_item_head : (flags kind size : ℕ) (bytes : List ℕ)
     → ItemHeadSpelled flags kind size bytes → length bytes ≡ 5
 length_item_head flags kind size bytes is =
@@ -190,7 +190,7 @@ length_item_head flags kind size bytes is =
     let three : length is.is_second.after ≡ 2 = ap length is.is_second.is_second.1 in
     omega arith
 
--- the items of a list of `left` bytes
+-- items that fill `left` bytes of a list
 abbrev pub ItemsFilling : ListOf → List Item → ℕ → Spelling
 ItemsFilling of items left bytes = ItemsSpelled of items bytes × (length bytes ≡ left)
 
@@ -285,7 +285,7 @@ only_sess_init keepalive segment_mru transfer_mru node items =
     (only_then _ _ (only_node node)
     (only_last _ _ (only_list Session items) (λ more. refl)))))
 
--- the head of a message is read as that message, whatever follows
+-- the head of a message is read as that message, whatever follows it
 pub only_message : (message : Message) → Only message_at message (HeadSpelled message)
 unfolding message_at fields_at
 only_message (Segment head) = only_then _ _ (only_u8 1) (only_segment head)
@@ -296,7 +296,7 @@ only_message (SessTerm flags reason) = only_then _ _ (only_u8 5) (only_sess_term
 only_message (MsgReject reason header) = only_then _ _ (only_u8 6) (only_msg_reject reason header)
 only_message (SessInit keepalive segment_mru transfer_mru node items) = only_then _ _ (only_u8 7) (only_sess_init keepalive segment_mru transfer_mru node items)
 
--- a message and its data, in before of anything
+-- a message and its data, before any other bytes
 pub only_spelled : (message : Message) (content bytes : List ℕ) → Spelled message content bytes
     → (more : List ℕ) → message_at (bytes ++ more) ≡ Ok (message, content ++ more)
 only_spelled message content bytes is more =

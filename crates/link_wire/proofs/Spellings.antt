@@ -1,4 +1,4 @@
--- What the `put_` calls append is a spelling of its message.
+-- The bytes that the `put_` calls append are a spelling of their message.
 use Rattle.std.proofs.Common.{◌≡◌, ℕ, zero, suc, ◌^◌, ◌<◌, ◌≤◌, Bool, true, false, List, [], ◌∷◌, ◌++◌, length, Option, Some, None, arith, refl, ap, sym, subst, append-nil}
 use Rattle.std.specs.Prelude.{IfSome, IsSome, IsTrue}
 use Rattle.std.proofs.lemmas.List.Elements.{All-nil, All-cons, All-append}
@@ -78,7 +78,7 @@ length-total : (total : ℕ) → length (total_bytes total) ≡ 13
 unfolding total_bytes
 length-total total = refl
 
--- the one item of a list that announces
+-- the one item of a list that announces a total
 one_item : (total : ℕ) → total < 2 ^ 64
     → ItemsSpelled Transfer (record { flags = 0; kind = 1; length = 8; total = Some total } ∷ [])
     (total_bytes total)
@@ -86,7 +86,7 @@ one_item total fits =
     let P : List ℕ → Type 0 = ItemsSpelled Transfer (record { flags = 0; kind = 1; length = 8; total = Some total } ∷ []) in
     subst P (append-nil (total_bytes total)) (both (total_bytes total) [] (total_spelled total fits) refl)
 
--- a list that announces, or is empty
+-- a list that is empty or announces a total
 announce_spelled : (announce : Option ℕ) → IfSome announce (λ total. total < 2 ^ 64)
     → ListSpelled Transfer (record { items = announced announce }) (announce_bytes announce)
 unfolding announce_bytes
@@ -103,7 +103,7 @@ announce_spelled (Some total) fits =
       is_list = subst P (sym prefix) (both (be 4 (length (total_bytes total))) (total_bytes total) (omega arith, refl) (AreBytes-total total, refl));
     }
 
--- where nothing is announced, what is announced fits
+-- if nothing is announced, no total is too large
 pub none_fits : (announce : Option ℕ) → (IsSome announce → ⊥)
     → IfSome announce (λ total. total < 2 ^ 64)
 none_fits None none = tt

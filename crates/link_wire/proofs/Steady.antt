@@ -1,4 +1,4 @@
--- What is read of some bytes stays as it is when more come after them, unless a field is missing.
+-- The reading of bytes does not change when more bytes follow, unless a field is missing.
 use Rattle.std.proofs.Common.{◌≡◌, ℕ, zero, suc, ◌+◌, ◌-◌, ◌<◌, Bool, true, false, eqb, List, ◌++◌, length, take, drop, slice_index, Option, Some, None, Ok, Err, nat_lt, if◌then◌else◌, refl, ap, sym, ◌∙◌, subst, length-append, length-take, arith, ⊎_elim}
 use Rattle.std.proofs.lemmas.Bool.{cases_lt}
 use Rattle.std.proofs.lemmas.List.{take-append-le, drop-append-le}
@@ -202,7 +202,7 @@ steady_contact =
     (steady_if (eqb (slice_index header 4) version) _ _ (steady_pure _) (steady_err _))
     (steady_err _))
 
--- where no field is missing in some bytes, none is in them and more
+-- if no field is missing in some bytes, none is missing when more follow
 module _ {A : Type 0} (part : List ℕ → Part A) (steady : Steady part) (bytes more : List ℕ) where
   stays_whole : (read : Part A) → part bytes ≡ read → (read ≡ Err Truncated → ⊥)
       → part (bytes ++ more) ≡ Err Truncated → ⊥
@@ -212,7 +212,7 @@ module _ {A : Type 0} (part : List ℕ → Part A) (steady : Steady part) (bytes
       let lasting : fault ≡ Truncated → ⊥ = λ e. whole (ap (λ f. let read : Part A = Err f in read) e) in
       whole (sym (steady.faulty bytes more fault lasting is) ∙ cut)
 
--- bytes in which no field of a part is missing come next: so the input has enough for it
+-- if no field of a part is missing in the next bytes, the input has enough for the part
 module _ {A : Type 0} (part : List ℕ → Part A) (steady : Steady part) where
   enough_here : (left : Option (List ℕ)) (bytes : List ℕ) → BeginsWith left bytes
       → IsHere 0 (part bytes) → IsEnoughFor part left
@@ -242,12 +242,12 @@ enough_data (suc left) None window some = tt
 enough_data zero (Some all) window some = absurd (omega arith)
 enough_data (suc left) (Some all) window some = omega (arith, length-take (suc left) window, length-append window all)
 
--- data that lies in the window comes next
+-- if data is in the window, the input has enough for what comes next
 pub data_next : {R : Type 0} (look : R → Input) (s : Session R)
     → 0 < length (data_in s) → HasNext look s
 data_next look s some = enough_data s.left (look s.source.reader).left (window_of s.source) some
 
--- a contact header that is here comes next
+-- if a contact header is here, the input has enough for it
 pub contact_next : {R : Type 0} (look : R → Input) (s : Session R) (bytes : List ℕ)
     → BeginsWith (ahead look s.source) bytes → IsHere 0 (contact_at bytes) → HasContact look s
 contact_next look s bytes next here =

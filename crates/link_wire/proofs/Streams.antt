@@ -1,4 +1,4 @@
--- The reading of a stream goes on message by message.
+-- A stream is read message by message.
 use Rattle.std.proofs.Common.{◌≡◌, ℕ, zero, suc, ◌+◌, ◌-◌, ◌≤◌, List, [], ◌∷◌, ◌++◌, length, drop, Result, Ok, Err, arith, refl, ap, ◌∙◌, length-drop, length-append}
 use Rattle.link_wire.proofs.Shrinks.{shrinks_message}
 use Rattle.link_wire.specs.Message.{message_at, data_length}
@@ -6,7 +6,7 @@ use Rattle.link_wire.specs.Stream.{Clean, Fault, Stream, ended, with_data_of, st
 use Rattle.link_wire.specs.declared.fault.WireFault.{WireFault}
 use Rattle.link_wire.specs.declared.message.Message.{Message}
 
--- two readers of what follows that agree there
+-- two readers that agree on what follows a message
 stream_by-same : (f g : ℕ → List ℕ → Stream) (offset size : ℕ)
     (read : Result (Message × List ℕ) WireFault)
     → ((message : Message) (rest : List ℕ) → read ≡ Ok (message, rest) → (at : ℕ)
@@ -36,7 +36,7 @@ pub stream_at-nil : (offset : ℕ) → stream_at offset [] ≡ ended Clean
 unfolding stream_at messages_at
 stream_at-nil offset = refl
 
--- a message, its data, and what follows
+-- a message, its data, and the stream after it
 pub stream_at-message : (offset : ℕ) (bytes : List ℕ) (message : Message) (rest : List ℕ)
     → message_at bytes ≡ Ok (message, rest)
     → stream_at offset bytes
@@ -57,7 +57,7 @@ pub stream_at-fault : (offset : ℕ) (b : ℕ) (bytes : List ℕ) (fault : WireF
 unfolding stream_at messages_at
 stream_at-fault offset b bytes fault is = ap (stream_by (messages_at (length bytes)) offset (length (b ∷ bytes))) is
 
--- the same of bytes that begin with a head, whatever follows
+-- a head at the start of the bytes, its data, and the stream after it
 pub stream_at-head : (offset : ℕ) (head : List ℕ) (message : Message)
     → ((more : List ℕ) → message_at (head ++ more) ≡ Ok (message, more)) → (more : List ℕ)
     → stream_at offset (head ++ more)

@@ -1,4 +1,4 @@
--- What has been read stays so, whatever the reader has left.
+-- A reading does not change, whatever bytes the reader has left.
 use Rattle.std.proofs.Common.{◌≡◌, ℕ, List, [], ◌++◌, Option, Some, None, refl, ap, sym, ◌∙◌, append-nil}
 use Rattle.std.specs.Io.KnownBytes.{IsAtEnd}
 use Rattle.link_io.specs.Device.{Input}
@@ -8,7 +8,7 @@ use Rattle.link_wire.specs.Session.{IsRead}
 use Rattle.link_wire.specs.declared.fault.WireFault.{WireFault}
 use Rattle.link_io.specs.declared.source.Source.{Source}
 
--- the reading of all the bytes of an input is that of these
+-- the reading of all bytes of the input is that of the bytes given
 pub record IsWhole (left : Option (List ℕ)) (history : List ℕ) (reading : Reading) : Type 0 where
   pub is : reading_of history ≡ reading
   pub all : (rest : List ℕ) → left ≡ Some rest → reading_of (history ++ rest) ≡ reading_of history

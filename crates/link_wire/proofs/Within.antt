@@ -1,4 +1,5 @@
--- How many bytes decide a part at most: a part that was read has no more, and where that many are there no field is missing.
+-- How many bytes decide a part at most. A part that was read has no more bytes, and if that many
+-- are there, no field is missing.
 use Rattle.std.proofs.Common.{◌≡◌, ℕ, zero, suc, ◌+◌, ◌-◌, ◌<◌, ◌≤◌, ◌⊎◌, inl, inr, Bool, true, false, eqb, List, [], ◌++◌, length, drop, take, slice_index, Result, Ok, Err, nat_lt, if◌then◌else◌, arith, refl, ap, sym, ◌∙◌, length-drop, length-take, append-nil, ⊎_elim}
 use Rattle.std.proofs.lemmas.Bool.{cases_lt, ltb-false}
 use Rattle.byteorder.specs.Endian.{big_number}
@@ -22,7 +23,7 @@ pub record Within {A : Type 0} (most : ℕ) (part : List ℕ → Part A) : Type 
       → length bytes ≤ length rest + most
   pub cut : (bytes : List ℕ) → part bytes ≡ Err Truncated → length bytes < most
 
--- what was cut was cut in its first step, or in what goes on from it
+-- a fault of two steps is one of the first step, or one of the second
 pub both_cut : {A B : Type 0} (read : Result A WireFault) (next : A → Result B WireFault)
     (fault : WireFault) → read >>= next ≡ Err fault
     → (read ≡ Err fault) ⊎ ((first : A) × (read ≡ Ok first) × (next first ≡ Err fault))
@@ -131,7 +132,7 @@ within_item_head left enough =
     within_then 2 0 _ _ (within_number 2) (λ size.
     within_if 0 (nat_lt (left - 5) size) _ _ (λ is. within_err _ (λ e. cc)) (λ is. within_pure _))))))
 
--- a test that was passed on the way to a value
+-- a value was read, so a test on the way to it was passed
 taken_else : {A : Type 0} (test : Bool) (read : Result A WireFault) (value : A) (fault : WireFault)
     → (if test then Err fault else read) ≡ Ok value → (test ≡ false) × (read ≡ Ok value)
 taken_else true read value fault is = absurd (cc)
@@ -150,13 +151,13 @@ item_fits left bytes head rest is =
     let same = (same_part fits.1).0 in
     omega (arith, ltb-false left 5 some.0, ltb-false (left - 5) size.0.0 fits.0, ap (λ (h : ItemHead). h.length) same)
 
--- the head of an item, where its list has no room for one
+-- the head of an item, if the list has no room for one
 within_no_head : (left : ℕ) → left < 5 → Within 0 (item_head_at left)
 unfolding item_head_at
 within_no_head left short =
     within_if 0 (nat_lt left 5) _ _ (λ is. within_err _ (λ e. cc)) (λ is. absurd (omega (arith, ltb-false left 5 is)))
 
--- the head of an item, and what goes on from it within its list
+-- the head of an item, and then what depends on it within the list
 module _ {B : Type 0} (left : ℕ) (next : ItemHead × List ℕ → Part B) where
   within_headed : ((head : ItemHead) → 5 + head.length ≤ left
       → Within (left - 5) (λ bytes. next (head, bytes)))
@@ -272,7 +273,7 @@ pub within_message : Within longest_head message_at
 unfolding message_at
 within_message = within_then 1 66584 _ _ (within_number 1) (λ kind. within_fields kind)
 
--- what was read, and what shows a fault, has no more bytes than that; what is cut has fewer
+-- the bytes of a part, and those that show a fault, are at most `most`; cut bytes are fewer
 module _ {A : Type 0} {most : ℕ} {part : List ℕ → Part A}
     (within : Within most part) (bytes : List ℕ) where
   pub part_size : (value : A) → IsPart part bytes value → length bytes ≤ most

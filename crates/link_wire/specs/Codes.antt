@@ -1,5 +1,5 @@
--- The numbers of the wire (RFC 9174). Each stands here by itself, so that no change of a constant of the code changes what
--- is meant.
+-- The constants of the wire format (RFC 9174). They are written here again, so a change of a
+-- constant of the code changes no definition.
 use Rattle.std.specs.Prelude.{ℕ, Bool, ◌==◌, bit_and}
 
 -- the contact header (section 4.2): `dtn!`, and the version
@@ -38,11 +38,11 @@ is_end flags = bit_and flags 1 == 1
 abbrev pub is_start : ℕ → Bool
 is_start flags = bit_and flags 2 == 2
 
--- the bytes of an extension item before its value (section 4.8)
+-- the number of bytes of an extension item before its value (section 4.8)
 abbrev pub item_head : ℕ
 item_head = 5
 
--- the type of a Transfer Length item, and the bytes of its value (section 5.2.5.1)
+-- the type of a Transfer Length item, and the number of bytes of its value (section 5.2.5.1)
 abbrev pub transfer_length : ℕ
 transfer_length = 1
 

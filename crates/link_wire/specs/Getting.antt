@@ -1,4 +1,4 @@
--- A part that is read from a source, against its definition over lists.
+-- A part that is read from a source, compared with its definition over lists.
 use Rattle.std.specs.Prelude.{◌≡◌, ℕ, ◌<◌, List, [], ◌∷◌, ◌++◌, length, take, Option, Some, None, Result, Ok, Err}
 use Rattle.link_io.specs.Device.{Input}
 use Rattle.link_wire.specs.Part.{Part}
@@ -10,21 +10,22 @@ use Rattle.link_wire.specs.declared.halt.Halt.{Halt}
 use Rattle.link_wire.specs.declared.halt.Halt.TheVariants as halt
 use Rattle.link_io.specs.declared.source.Source.{Source}
 
--- what may follow bytes that show a fault: nothing where a field is missing, and anything else
+-- what may follow bytes that show a fault: nothing after a missing field, anything after other
+-- faults
 abbrev pub MayFollow : WireFault → List ℕ → Type 0
 MayFollow fault more = fault ≡ Truncated → more ≡ []
 
 module _ {A : Type 0} where
-  -- these bytes are needed to the last: any fewer of them are cut
+  -- all of these bytes are needed: in a proper prefix of them a field is missing
   abbrev pub Needs : (List ℕ → Part A) → List ℕ → Type 0
   Needs part bytes = (count : ℕ) → count < length bytes → part (take count bytes) ≡ Err Truncated
 
-  -- these bytes are the part, whatever follows them
+  -- these bytes are the part with this value, whatever follows them
   pub record IsPart (part : List ℕ → Part A) (bytes : List ℕ) (value : A) : Type 0 where
     pub is_part : (more : List ℕ) → part (bytes ++ more) ≡ Ok (value, more)
     pub needs : Needs part bytes
 
-  -- these bytes show the fault, and their last byte is the first that does
+  -- these bytes show the fault, and their last byte is the first that shows it
   pub record IsFault (part : List ℕ → Part A) (bytes : List ℕ) (fault : WireFault) : Type 0 where
     pub is_fault : (more : List ℕ) → MayFollow fault more → part (bytes ++ more) ≡ Err fault
     pub needs : Needs part bytes
@@ -38,7 +39,7 @@ module _ {R A : Type 0} where
     pub live : IsLive look new
     pub is : IsPart part given value
 
-  -- the bytes given show the fault; where a field is missing the input is over
+  -- the bytes given show the fault; if it is a missing field, the input is over
   pub record MetFault (look : R → Input) (part : List ℕ → Part A) (old new : Source R)
       (fault : WireFault) : Type 0 where
     pub given : List ℕ
@@ -59,17 +60,17 @@ module _ {R A : Type 0} where
   AnswersPart look part old new (Err (halt.Wire fault)) = MetFault look part old new fault
   AnswersPart look part old new (Err (halt.Io fault)) = MetStop look part old new fault
 
-  -- what a function that reads the part returns
+  -- the outcome of a function that reads the part
   pub record Gets (look : R → Input) (part : List ℕ → Part A) (old new : Source R)
       (outcome : Result A Halt) : Type 0 where
     pub by : AnswersPart look part old new outcome
 
--- the result of a function that leaves what it read with its caller, and that value
+-- the outcome of a function that leaves the value with its caller, joined with that value
 abbrev pub with_value : {A : Type 0} → A → Result (Unit {0}) Halt → Result A Halt
 with_value value (Ok done) = Ok value
 with_value value (Err stop) = Err stop
 
--- What reading the type byte gives: nothing where the input has ended, or the byte.
+-- The result of reading the type byte: the byte, or nothing if the input has ended.
 module _ {R : Type 0} where
   pub record NoKind (look : R → Input) (old new : Source R) : Type 0 where
     pub takes : Takes look old new []

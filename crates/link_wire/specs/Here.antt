@@ -1,4 +1,4 @@
--- What is read of bytes that are here, with no field missing.
+-- The reading of bytes in which no field is missing.
 use Rattle.std.specs.Prelude.{◌≡◌, ℕ, ◌≤◌, List, length, Ok, Err}
 use Rattle.link_wire.specs.Part.{Part}
 use Rattle.link_wire.specs.declared.fault.WireFault.TheVariants.{Truncated}

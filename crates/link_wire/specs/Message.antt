@@ -1,5 +1,5 @@
--- The messages of TCPCLv4 (RFC 9174), read from a list of bytes field by field, in written order: the first field that
--- is missing or breaks its rule gives the fault.
+-- The messages of TCPCLv4 (RFC 9174), read from a list of bytes field by field, in written order.
+-- The first field that is missing or breaks its rule gives the fault.
 use Rattle.std.specs.Prelude.{◌≡◌, ℕ, zero, suc, ◌+◌, ◌-◌, Bool, false, ◌&&◌, List, [], ◌∷◌, All, slice_index, Option, Some, None, IsSome, Ok, Err, nat_lt, ◌==◌, if◌then◌else◌}
 use Rattle.arrayvec.specs.ArrayVec.{ArrayVec}
 use Rattle.byteorder.specs.Endian.{big_number}
@@ -15,7 +15,7 @@ use Rattle.link_wire.specs.declared.list.ItemHead.{ItemHead}
 use Rattle.link_wire.specs.declared.message.Message.{Message}
 use Rattle.link_wire.specs.declared.message.Message.TheVariants.{SessInit, Segment, Ack, Refuse, Keepalive, SessTerm, MsgReject}
 
--- the contact header (section 4.2): six bytes, of which the first four are `dtn!` and the next is the version
+-- the contact header (section 4.2), of six bytes: `dtn!`, the version, and the flags
 unfoldable pub contact_at : List ℕ → Part Contact
 contact_at bytes = do
   (header, bytes) ← bytes_at 6 bytes
@@ -37,18 +37,19 @@ node_at bytes = do
   (size, bytes) ← number_at 2 bytes
   if nat_lt longest_node size then Err (NodeIdTooLong size) else node_bytes_at size bytes
 
--- the next n bytes, whatever they are
+-- the next `n` bytes, which are skipped
 unfoldable pub skipped_at : ℕ → List ℕ → Part (Unit {0})
 skipped_at n bytes = do
   (skipped, bytes) ← bytes_at n bytes
   Ok (tt, bytes)
 
--- a Transfer Length item (section 5.2.5.1) stands in a transfer's list, and has this type and this size
+-- whether the value of an item is a total length: the item is in a transfer's list, and has the
+-- type and the size of a Transfer Length item (section 5.2.5.1)
 abbrev pub gives_total : ListOf → ℕ → ℕ → Bool
 gives_total Session kind size = false
 gives_total Transfer kind size = kind == transfer_length && size == total_size
 
--- an extension item's value: the total length, of a Transfer Length item
+-- the value of an extension item, which is kept only if it is a total length
 unfoldable pub total_at : ListOf → ℕ → ℕ → List ℕ → Part (Option ℕ)
 total_at of kind size bytes =
     if gives_total of kind size
@@ -63,12 +64,12 @@ total_at of kind size bytes =
 abbrev pub HasTotal : Item → Type 0
 HasTotal item = item.kind ≡ transfer_length → item.length ≡ total_size → IsSome item.total
 
--- each item of a list has the total that belongs to it
+-- each Transfer Length item of 8 bytes in a list has its total
 abbrev pub HasTotals : List Item → Type 0
 HasTotals items = All HasTotal items
 
--- The head of the next extension item (section 4.8), where `left` bytes of its list are not covered yet: its flags,
--- type and length. The item has to end within the list.
+-- The head of the next extension item (section 4.8): its flags, type and length. The list has
+-- `left` more bytes, and the item has to end within them.
 unfoldable pub item_head_at : ℕ → List ℕ → Part ItemHead
 item_head_at left bytes =
     if nat_lt left item_head
@@ -81,7 +82,7 @@ item_head_at left bytes =
           then Err ItemsOverrun
           else Ok (record { flags = flags; kind = kind; length = size }, bytes))
 
--- The items of a list, where `left` bytes of it are not covered yet, and at most `room` items may come. They fill those
+-- The items of a list that has `left` more bytes; at most `room` items may come. They fill these
 -- bytes exactly.
 unfoldable pub items_at : ListOf → ℕ → ℕ → List ℕ → Part (List Item)
 items_at of zero left bytes =
@@ -119,12 +120,12 @@ list_at of bytes = do
   (size, bytes) ← number_at 4 bytes
   if nat_lt longest_list size then Err (ListTooLong size) else items_of of size bytes
 
--- the extension list of a segment (section 5.2.2), which stands there only with START
+-- the extension list of a segment (section 5.2.2), which has one only with START
 unfoldable pub segment_items_at : ℕ → List ℕ → Part (ArrayVec Item)
 segment_items_at flags bytes =
     if is_start flags then list_at Transfer bytes else Ok (record { items = [] }, bytes)
 
--- XFER_SEGMENT less its data (section 5.2.2)
+-- XFER_SEGMENT without its data (section 5.2.2)
 unfoldable pub segment_at : List ℕ → Part Message
 segment_at bytes = do
   (flags, bytes) ← number_at 1 bytes
@@ -172,7 +173,7 @@ sess_init_at bytes = do
   (items, bytes) ← list_at Session bytes
   Ok (SessInit interval segment_mru transfer_mru node items, bytes)
 
--- what follows a message's type byte (section 4.5)
+-- the fields after a message's type byte (section 4.5)
 unfoldable pub fields_at : ℕ → List ℕ → Part Message
 fields_at kind bytes =
     if kind == xfer_segment then segment_at bytes
@@ -184,13 +185,13 @@ fields_at kind bytes =
     else if kind == sess_init then sess_init_at bytes
     else Err (UnknownType kind)
 
--- a message, of a segment its head alone
+-- a message, without the data of a segment
 unfoldable pub message_at : List ℕ → Part Message
 message_at bytes = do
   (kind, bytes) ← number_at 1 bytes
   fields_at kind bytes
 
--- how many bytes of data follow the message's head
+-- the number of data bytes after the message's head
 abbrev pub data_length : Message → ℕ
 data_length (Segment head) = head.length
 data_length message = 0

@@ -14,7 +14,7 @@ use Rattle.link_wire.specs.declared.message.MessageBuffer.{MessageBuffer}
 abbrev pub segment_items : ℕ → ArrayVec Item → ArrayVec Item
 segment_items flags items = if is_start flags then items else record { items = [] }
 
--- a message of its numbers, a node ID and items
+-- the message with these numbers, this node ID and these items
 abbrev pub message_with : Fields → ArrayVec ℕ → ArrayVec Item → Message
 message_with (fields.SessInit interval segment_mru transfer_mru) node items =
     SessInit interval segment_mru transfer_mru node items
@@ -29,7 +29,8 @@ message_with (fields.MsgReject reason header) node items = MsgReject reason head
 abbrev pub message_of : MessageBuffer → Message
 message_of buffer = message_with buffer.fields buffer.node buffer.items
 
--- The items of a segment have their totals as they stand in the buffer, also without START, where the segment shows none.
+-- The items in the buffer have their totals if the message is a segment. This holds without START
+-- too, where the segment shows no items.
 abbrev pub SegmentHasTotalsWith : Fields → ArrayVec Item → Type 0
 SegmentHasTotalsWith (fields.Segment flags id size) items = HasTotals items.items
 SegmentHasTotalsWith others items = Unit {0}

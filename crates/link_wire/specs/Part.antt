@@ -8,19 +8,19 @@ use Rattle.link_wire.specs.declared.fault.WireFault.TheVariants.{Truncated}
 abbrev pub Part : Type 0 → Type 0
 Part A = Result (A × List ℕ) WireFault
 
--- one part, and then what depends on it
+-- one part, and then what depends on its value
 infixl 10 ◌>>=◌
 abbrev pub ◌>>=◌ : {A B : Type 0} → Result A WireFault
     → (A → Result B WireFault) → Result B WireFault
 (Ok x) >>= f = f x
 (Err fault) >>= f = Err fault
 
--- the next n bytes
+-- the next `n` bytes
 unfoldable pub bytes_at : ℕ → List ℕ → Part (List ℕ)
 bytes_at n bytes =
     if nat_lt (length bytes) n then Err Truncated else Ok (take n bytes, drop n bytes)
 
--- the next n bytes as an unsigned number, the most significant byte first
+-- the next `n` bytes as an unsigned number, the most significant byte first
 unfoldable pub number_at : ℕ → List ℕ → Part ℕ
 number_at n bytes = do
   (field, bytes) ← bytes_at n bytes

@@ -1,4 +1,4 @@
--- Heads of messages that lie whole in a window.
+-- Heads of messages that are whole in a window.
 use Rattle.std.specs.Prelude.{ℕ, ◌<◌, ◌≤◌, List, [], length, take}
 use Rattle.arrayvec.specs.ArrayVec.{ArrayVec}
 use Rattle.link_wire.specs.Getting.{IsPart}
@@ -6,8 +6,8 @@ use Rattle.link_wire.specs.Message.{message_at}
 use Rattle.link_wire.specs.MessageBuffer.{message_with}
 use Rattle.link_wire.specs.declared.message.Fields.{Fields}
 
--- The window begins with `size` bytes that are the head of a message, with these numbers and no items. The message has no
--- node ID either, so it is the same whatever stands in its place.
+-- The first `size` bytes of the window are the head of a message with these numbers and no items.
+-- The message has no node ID either, so it is the same for every `node`.
 pub record IsHead (window : List ℕ) (fields : Fields) (size : ℕ) : Type 0 where
   pub some : 0 < size
   pub within : size ≤ length window

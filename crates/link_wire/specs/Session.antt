@@ -1,4 +1,4 @@
--- Where a session stands in the reading of the bytes that it was given.
+-- The state of a session in the reading of the bytes that it was given.
 use Rattle.std.specs.Prelude.{◌≡◌, ℕ, zero, suc, ◌+◌, ◌<◌, ◌≤◌, Bool, true, false, ◌&&◌, ◌==◌, List, [], ◌++◌, length, take, drop, Option, Some, None, Result, Ok, Err, nat_lt, if◌then◌else◌, ⊤}
 use Rattle.link_io.specs.Device.{Input, HasBytes}
 use Rattle.link_wire.specs.Getting.{MayFollow}
@@ -19,19 +19,19 @@ use Rattle.link_wire.specs.declared.session.Phase.TheVariants as phase
 use Rattle.link_wire.specs.declared.session.Session.{Session}
 use Rattle.link_io.specs.declared.source.Source.{Source}
 
--- a reading that goes on
+-- a reading that goes on with a stream
 abbrev pub joined : Reading → Stream → Reading
 joined reading rest =
     record { contact = reading.contact; entries = reading.entries ++ rest.entries; end = rest.end }
 
--- the head of a message has come: a message without data is whole with it
+-- the reading after the head of one more message, which is whole if it has no data
 abbrev pub with_message : ℕ → Message → Reading → Reading
 with_message offset message reading =
     joined reading (if nat_lt 0 (data_length message)
     then ended (Cut offset message [])
     else with_entry (record { offset = offset; message = message; content = [] }) (ended Clean))
 
--- data of the open segment has come, and `left` bytes of it are to come
+-- the stream after data of the open segment: these bytes of it came, and `left` bytes are to come
 abbrev pub data_after : ℕ → List ℕ → End → Stream
 data_after left bytes Clean = ended Clean
 data_after left bytes (Cut offset message content) =
@@ -41,12 +41,13 @@ data_after left bytes (Cut offset message content) =
     (ended Clean)
 data_after left bytes (Fault offset fault) = ended (Fault offset fault)
 
--- the same, joined to the reading
+-- the reading after data of the open segment
 abbrev pub with_data : ℕ → List ℕ → Reading → Reading
 with_data left bytes reading = joined reading (data_after left bytes reading.end)
 
--- What the bytes after those given are read as, from the offset `place` on: messages; or the last `left` bytes of the open segment's data,
--- and then messages. After a fault nothing is.
+-- The stream that the bytes after those given are read as, from the offset `place` on. Between two
+-- messages, it is messages. Inside a segment, it is the last `left` bytes of the segment's data,
+-- and then messages. After a fault, nothing more is read.
 abbrev pub rest_after : ℕ → ℕ → End → List ℕ → Stream
 rest_after place left Clean bytes = stream_at place bytes
 rest_after place left (Cut offset message content) bytes =
@@ -59,25 +60,29 @@ rest_after place left (Cut offset message content) bytes =
     }) (stream_at (place + left) (drop left bytes))
 rest_after place left (Fault offset fault) bytes = ended (Fault offset fault)
 
--- between two messages no data is to come, and inside the segment at `offset` its last `left` bytes are
+-- between two messages no data is to come; inside the segment at `offset`, its last `left` bytes
+-- are to come
 abbrev pub IsLeft : ℕ → ℕ → End → Type 0
 IsLeft offset left Clean = left ≡ 0
 IsLeft offset left (Cut from message content) =
     (0 < left) × (from ≡ offset) × (data_length message ≡ length content + left)
 IsLeft offset left (Fault from fault) = ⊥
 
--- between two messages, or within the contact header or the head of one, of which a field is missing: more bytes may mend it
+-- The reading ends between two messages, or a field of the contact header or of a head is missing.
+-- More bytes may mend a missing field.
 abbrev pub IsUndecided : End → Type 0
 IsUndecided Clean = Unit {0}
 IsUndecided (Cut offset message content) = ⊥
 IsUndecided (Fault offset fault) = fault ≡ wire.Truncated
 
--- What is left, where it is known, is enough for this part: no field of it is missing, or it shows a fault.
+-- The bytes left, if they are known, are enough for this part: no field of it is missing, or it
+-- shows a fault.
 abbrev pub IsEnoughFor : {A : Type 0} → (List ℕ → Part A) → Option (List ℕ) → Type 0
 IsEnoughFor part None = ⊤
 IsEnoughFor part (Some bytes) = part bytes ≡ Err wire.Truncated → ⊥
 
--- What is left is enough for what comes next: the head of a message, or, where `left` bytes of data are to come, one of them.
+-- The bytes left are enough for what comes next. If `left` bytes of data are to come, that is one
+-- of them. Otherwise it is the head of a message.
 abbrev pub IsEnough : (left : ℕ) → Option (List ℕ) → Type 0
 IsEnough zero rest = IsEnoughFor message_at rest
 IsEnough (suc left) rest = HasBytes rest
@@ -87,7 +92,7 @@ pub record SameMessages (first second : Reading) : Type 0 where
   pub contact : second.contact ≡ first.contact
   pub entries : second.entries ≡ first.entries
 
--- no proper prefix of the bytes after the history shows a fault, or ends in data
+-- after the history, no proper prefix of the bytes shows a fault or ends in data
 abbrev pub ShownLast : (history bytes : List ℕ) → Type 0
 ShownLast history bytes =
     (count : ℕ) → count < length bytes → IsUndecided (reading_of (history ++ take count bytes)).end
@@ -97,7 +102,7 @@ is_unopened phase.Unopened = true
 is_unopened phase.Reading = false
 is_unopened (phase.Stopped why) = false
 
--- the contact header was asked for
+-- `open` was called
 abbrev pub past_opening : Phase → Bool
 past_opening phase.Unopened = false
 past_opening phase.Reading = true
@@ -110,28 +115,28 @@ reads_next phase.Reading left = left == 0
 reads_next (phase.Stopped why) left = true
 
 module _ {R : Type 0} where
-  -- the source that it reads
+  -- the source that the session reads
   abbrev pub source_of : Session R → Source R
   source_of s = s.source
 
-  -- how many bytes of data are to come
+  -- the number of bytes of data that are to come
   abbrev pub left_of : Session R → ℕ
   left_of s = s.left
 
-  -- The contact header may be read: once, first.
+  -- The contact header may be read: it is read once, before all else.
   abbrev pub may_open : Session R → Bool
   may_open s = is_unopened s.phase && (s.left == 0 && is_fresh s.source)
 
-  -- The next message may be read: after the contact header, where no data is to come; and after a stop, which is
-  -- then returned again.
+  -- The next message may be read: the contact header was read and no data is to come, or the
+  -- session has stopped. In the second case that stop is returned again.
   abbrev pub may_read : Session R → Bool
   may_read s = reads_next s.phase s.left
 
-  -- the contact header was asked for
+  -- `open` was called
   abbrev pub is_opened : Session R → Bool
   is_opened s = past_opening s.phase
 
-  -- the session has stopped
+  -- the session has stopped for this reason
   abbrev pub HasStopped : Session R → Stop → Type 0
   HasStopped s why = s.phase ≡ phase.Stopped why
 
@@ -139,12 +144,13 @@ module _ {R : Type 0} where
   abbrev pub HasEndedBetween : Session R → Type 0
   HasEndedBetween s = (s.phase ≡ phase.Reading) × HasEnded s.source
 
-  -- the data of the open segment that lies in the window
+  -- the data of the open segment that is in the window
   abbrev pub data_in : Session R → List ℕ
   data_in s = take s.left (window_of s.source)
 
-  -- The session was given exactly these bytes, and met no fault: it stands where their reading ends, and however the bytes
-  -- go on, what follows is read from there. Where no data is to come, less than a whole window lies unread.
+  -- The session was given exactly these bytes, and met no fault. It is at the end of their reading:
+  -- however the bytes go on, what follows is read from there. If no data is to come, less than a
+  -- whole window is unread.
   pub record IsSessionAt (look : R → Input) (s : Session R) (history : List ℕ) : Type 0 where
     pub at : IsSourceAt s.source history
     pub live : IsLive look s.source
@@ -166,23 +172,23 @@ module _ {R : Type 0} where
   abbrev pub HasNext : (R → Input) → Session R → Type 0
   HasNext look s = IsEnough s.left (ahead look s.source)
 
-  -- The whole input is read as `reading`: so are these bytes, whatever may follow them (`MayFollow`); and where the fault is a missing
-  -- field, no byte of the input is left.
+  -- The whole input is read as `reading`: so are these bytes, with any bytes that may follow them
+  -- (`MayFollow`). If the fault is a missing field, no byte of the input is left.
   pub record IsRead (look : R → Input) (source : Source R) (history : List ℕ) (fault : WireFault)
       (reading : Reading) : Type 0 where
     pub over : fault ≡ wire.Truncated → IsOver look source
     pub all : (more : List ℕ) → MayFollow fault more → reading_of (history ++ more) ≡ reading
 
--- what is returned of a message that the caller keeps
+-- the result of a call that leaves the message with its caller, joined with that message
 abbrev pub with_message_read : Message → Result (Option ℕ) Stop → Result (Option (ℕ × Message)) Stop
 with_message_read message (Ok None) = Ok None
 with_message_read message (Ok (Some offset)) = Ok (Some (offset, message))
 with_message_read message (Err why) = Err why
 
 module _ {R : Type 0} where
-  -- What a session gives, with the history that it was given.
+  -- The results of the calls of a session that was given this history.
 
-  -- the contact header
+  -- the contact header was read
   pub record ReadContact (look : R → Input) (old new : Session R) (contact : Contact) : Type 0 where
     pub given : List ℕ
     pub takes : Takes look old.source new.source given
@@ -191,7 +197,7 @@ module _ {R : Type 0} where
     pub at : IsSessionAt look new given
     pub between : left_of new ≡ 0
 
-  -- a fault of the contact header
+  -- the contact header has a fault
   pub record RefusedContact (look : R → Input) (old new : Session R) (offset : ℕ)
       (fault : WireFault) : Type 0 where
     pub given : List ℕ
@@ -203,7 +209,7 @@ module _ {R : Type 0} where
     pub shown_last : ShownLast [] given
     pub stopped : HasStopped new (stop.Wire offset fault)
 
-  -- a failure inside the contact header
+  -- a device failed inside the contact header, or the input passed its limit there
   pub record StoppedContact (look : R → Input) (old new : Session R)
       (fault : IoFault) : Type 0 where
     pub given : List ℕ
@@ -219,7 +225,7 @@ module _ {R : Type 0} where
       RefusedContact look old new offset fault
   GivesContact look old new (Err (stop.Io fault)) = StoppedContact look old new fault
 
-  -- the head of a message
+  -- the head of a message was read
   pub record ReadMessage (look : R → Input) (old new : Session R) (history : List ℕ) (offset : ℕ)
       (message : Message) : Type 0 where
     pub given : List ℕ
@@ -231,14 +237,14 @@ module _ {R : Type 0} where
     pub reading : reading_of (history ++ given) ≡ with_message offset message (reading_of history)
     pub at : IsSessionAt look new (history ++ given)
 
-  -- nothing: the stream ends between two messages
+  -- no message: the stream ends between two messages
   pub record CleanEnd (look : R → Input) (old new : Session R) (history : List ℕ) : Type 0 where
     pub takes : Takes look old.source new.source []
     pub over : IsOver look new.source
     pub clean : (reading_of history).end ≡ Clean
     pub at : IsSessionAt look new history
 
-  -- the first fault, which stands in the message after the history; no byte is given after the one that shows it
+  -- the first fault, in the message after the history; no byte is given after the one that shows it
   pub record RefusedMessage (look : R → Input) (old new : Session R) (history : List ℕ) (offset : ℕ)
       (fault : WireFault) : Type 0 where
     pub given : List ℕ
@@ -250,7 +256,8 @@ module _ {R : Type 0} where
     pub shown_last : ShownLast history given
     pub stopped : HasStopped new (stop.Wire offset fault)
 
-  -- a failure before or inside a message: what was given of it makes no message, and shows no fault
+  -- A failure before or inside a message. The bytes given of that message make no message, and show
+  -- no fault.
   pub record StoppedMessage (look : R → Input) (old new : Session R) (history : List ℕ)
       (fault : IoFault) : Type 0 where
     pub given : List ℕ
@@ -269,7 +276,7 @@ module _ {R : Type 0} where
       RefusedMessage look old new history offset fault
   GivesNext look old new history (Err (stop.Io fault)) = StoppedMessage look old new history fault
 
-  -- these bytes of the open segment's data
+  -- these bytes of the open segment's data were given
   pub record PassedBytes (look : R → Input) (old new : Session R)
       (history bytes : List ℕ) : Type 0 where
     pub takes : Takes look old.source new.source bytes
@@ -277,14 +284,15 @@ module _ {R : Type 0} where
     pub reading : reading_of (history ++ bytes) ≡ with_data (left_of new) bytes (reading_of history)
     pub at : IsSessionAt look new (history ++ bytes)
 
-  -- `n` bytes of data, copied: some, where some are to come and there is room
+  -- `n` bytes of data were copied, at least one if some are to come and there is room
   pub record ReadData (look : R → Input) (old new : Session R)
       (history buffer : List ℕ) (n : ℕ) : Type 0 where
     pub room : n ≤ length buffer
     pub gave : PassedBytes look old new history (take n buffer)
     pub some : 0 < left_of old → 0 < length buffer → 0 < n
 
-  -- `n` bytes of the open segment's data lie in the window, some where some are to come; nothing was given
+  -- `n` bytes of the open segment's data are in the window, at least one if some are to come;
+  -- nothing was given
   pub record LoadedData (look : R → Input) (old new : Session R)
       (history : List ℕ) (n : ℕ) : Type 0 where
     pub readies : Readies look old.source new.source

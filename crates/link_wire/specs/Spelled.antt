@@ -1,5 +1,5 @@
--- How the contact header and the messages of TCPCLv4 are spelled as bytes (RFC 9174), field by field in written order.
--- Nothing here reads: a list of bytes is a spelling, or it is not.
+-- How the contact header and the messages of TCPCLv4 are spelled as bytes (RFC 9174), field by
+-- field in written order. Nothing here reads: a list of bytes is a spelling, or it is not.
 use Rattle.std.specs.Prelude.{◌≡◌, ℕ, ◌^◌, ◌<◌, ◌≤◌, Bool, true, false, List, [], ◌∷◌, ◌++◌, length, Option, Some, None, if◌then◌else◌}
 use Rattle.arrayvec.specs.ArrayVec.{ArrayVec}
 use Rattle.byteorder.specs.Endian.{big_bytes, big_number}
@@ -14,11 +14,11 @@ use Rattle.link_wire.specs.declared.message.ListOf.TheVariants.{Session, Transfe
 use Rattle.link_wire.specs.declared.message.Message.{Message}
 use Rattle.link_wire.specs.declared.message.Message.TheVariants.{SessInit, Segment, Ack, Refuse, Keepalive, SessTerm, MsgReject}
 
--- what the lists of bytes are that spell something
+-- a property of lists of bytes: that they spell something
 abbrev pub Spelling : Type 1
 Spelling = List ℕ → Type 0
 
--- one spelling, and after it another
+-- one spelling, followed by another
 pub record FollowedBy (first second : Spelling) (bytes : List ℕ) : Type 0 where
   pub before : List ℕ
   pub after : List ℕ
@@ -30,7 +30,7 @@ infixr 30 ◌⨾◌
 abbrev pub ◌⨾◌ : Spelling → Spelling → Spelling
 (first ⨾ second) bytes = FollowedBy first second bytes
 
--- the k bytes whose value is n, the most significant first
+-- the `k` bytes whose value is `n`, the most significant first
 abbrev pub be : ℕ → ℕ → List ℕ
 be k n = big_bytes k n
 
@@ -61,16 +61,16 @@ abbrev pub NodeSpelled : ArrayVec ℕ → Spelling
 NodeSpelled node bytes =
     (length node.items ≤ longest_node) × (U16 (length node.items) ⨾ These node.items) bytes
 
--- what stands before an extension item's value (sections 4.8 and 5.2.5): flags, type and length
+-- the fields of an extension item before its value (sections 4.8 and 5.2.5): flags, type and length
 abbrev pub ItemHeadSpelled : (flags kind size : ℕ) → Spelling
 ItemHeadSpelled flags kind size = U8 flags ⨾ U16 kind ⨾ U16 size
 
--- the number in a value: that of a Transfer Length item (section 5.2.5.1), and of no other
+-- the number in the value of a Transfer Length item (section 5.2.5.1); no other item has one
 abbrev pub total_of : (of : ListOf) (kind size : ℕ) → List ℕ → Option ℕ
 total_of of kind size value =
     if gives_total of kind size then Some (big_number total_size value) else None
 
--- an extension item's value: any bytes, as many as the item's length says
+-- an extension item's value: any bytes, as many as the item's length
 abbrev pub ValueSpelled : (of : ListOf) (kind size : ℕ) → Option ℕ → Spelling
 ValueSpelled of kind size total value =
     AreBytes value × (length value ≡ size) × (total ≡ total_of of kind size value)
@@ -94,14 +94,14 @@ pub record ListSpelled (of : ListOf) (items : ArrayVec Item) (bytes : List ℕ) 
   pub short : length body ≤ longest_list
   pub is_list : (U32 (length body) ⨾ These body) bytes
 
--- the extension list of a segment, which stands there only with START
+-- the extension list of a segment, which has one only with START
 abbrev pub SegmentItemsSpelled : (start : Bool) → ArrayVec Item → Spelling
 SegmentItemsSpelled true items bytes = ListSpelled Transfer items bytes
 SegmentItemsSpelled false items bytes = (items.items ≡ []) × (bytes ≡ [])
 
--- The head of a message: its type byte (section 4.5) and its fields, of a segment all but its data. The rows are
--- XFER_SEGMENT (section 5.2.2), XFER_ACK (5.2.3), XFER_REFUSE (5.2.4), KEEPALIVE (5.1.1), SESS_TERM (6.1), MSG_REJECT
--- (5.1.2) and SESS_INIT (4.6).
+-- The head of a message: its type byte (section 4.5) and its fields, without the data of a segment.
+-- The cases are XFER_SEGMENT (section 5.2.2), XFER_ACK (5.2.3), XFER_REFUSE (5.2.4), KEEPALIVE
+-- (5.1.1), SESS_TERM (6.1), MSG_REJECT (5.1.2) and SESS_INIT (4.6).
 abbrev pub HeadSpelled : Message → Spelling
 HeadSpelled (Segment head) =
     U8 xfer_segment ⨾ U8 head.flags ⨾ U64 head.id ⨾ SegmentItemsSpelled (is_start head.flags)
@@ -115,7 +115,8 @@ HeadSpelled (SessInit interval segment_mru transfer_mru node items) =
     U8 sess_init ⨾ U16 interval ⨾ U64 segment_mru ⨾ U64 transfer_mru ⨾ NodeSpelled node ⨾
     ListSpelled Session items
 
--- a message and its data: of a segment as many bytes as its head says, of every other message none
+-- A message and its data. A segment has as many bytes of data as its head says, and every other
+-- message has none.
 abbrev pub Spelled : Message → (content : List ℕ) → Spelling
 Spelled message content bytes =
     (length content ≡ data_length message) × (HeadSpelled message ⨾ These content) bytes

@@ -1,5 +1,5 @@
--- The reading of a whole recorded stream (RFC 9174 section 4), as what is spelled in it: a contact header, messages one
--- after another, and an end.
+-- The reading of a whole recorded stream (RFC 9174 section 4), by what is spelled in it: a contact
+-- header, messages one after another, and an end.
 use Rattle.std.specs.Prelude.{◌≡◌, ◌≢◌, ℕ, ◌+◌, ◌<◌, List, [], ◌∷◌, ◌++◌, length, Option, Some, None, Err}
 use Rattle.link_wire.specs.Message.{contact_at, message_at, data_length}
 use Rattle.link_wire.specs.Spelled.{Spelling, These, ◌⨾◌, ContactSpelled, HeadSpelled, Spelled}
@@ -8,12 +8,13 @@ use Rattle.link_wire.specs.declared.fault.WireFault.{WireFault}
 use Rattle.link_wire.specs.declared.message.Contact.{Contact}
 use Rattle.link_wire.specs.declared.message.Message.{Message}
 
--- nothing that is spelled so begins the bytes
+-- the bytes begin with no such spelling
 abbrev pub NoneBegins : Spelling → List ℕ → Type 0
 NoneBegins spelled bytes = (first more : List ℕ) → spelled first → bytes ≢ first ++ more
 
--- What is left at an offset: nothing; the whole head of a segment, and less data after it than its length; or bytes that
--- begin with no whole head, and the fault in them.
+-- The bytes that are left at an offset. There are none at a clean end. At a cut, they are the whole
+-- head of a segment and less data than its length. At a fault, there are some, they begin with no
+-- whole head, and they show the fault.
 abbrev pub IsEnd : End → ℕ → Spelling
 IsEnd Clean offset bytes = bytes ≡ []
 IsEnd (Cut at message content) offset bytes =
@@ -23,7 +24,7 @@ IsEnd (Fault at fault) offset bytes =
     (at ≡ offset) × (bytes ≢ []) × ((message : Message) → NoneBegins (HeadSpelled message) bytes)
     × (message_at bytes ≡ Err fault)
 
--- a message that stands at an offset with its data, and what stands after it
+-- a message at an offset with its data, and the rest after it
 pub record EntrySpelled (entry : Entry) (rest : ℕ → Spelling) (offset : ℕ)
     (bytes : List ℕ) : Type 0 where
   pub place : entry.offset ≡ offset
@@ -46,6 +47,6 @@ IsReadingBy None entries end bytes =
     (entries ≡ []) × ((contact : Contact) → NoneBegins (ContactSpelled contact) bytes)
     × ((fault : WireFault) × (end ≡ Fault 0 fault) × (contact_at bytes ≡ Err fault))
 
--- these bytes are read so
+-- these bytes have this reading
 abbrev pub IsReading : List ℕ → Reading → Type 0
 IsReading bytes reading = IsReadingBy reading.contact reading.entries reading.end bytes

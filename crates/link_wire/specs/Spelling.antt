@@ -1,4 +1,5 @@
--- The bytes that the `put_` calls append (RFC 9174): of each message one spelling, without reserved flags or unknown items.
+-- The bytes that the `put_` calls append (RFC 9174), one spelling for each message. The only
+-- extension item that they append is a Transfer Length item without flags.
 use Rattle.std.specs.Prelude.{ℕ, ◌+◌, Bool, true, false, List, [], ◌∷◌, ◌++◌, length, Option, Some, None}
 use Rattle.link_wire.specs.Codes.{version, xfer_segment, sess_term, sess_init, is_start, transfer_length, total_size}
 use Rattle.link_wire.specs.Spelled.{be}
@@ -16,21 +17,21 @@ sess_init_bytes interval segment_mru transfer_mru node =
     be 1 sess_init ++ be 2 interval ++ be 8 segment_mru ++ be 8 transfer_mru
     ++ (be 2 (length node) ++ node) ++ be 4 0
 
--- a Transfer Length item (section 5.2.5.1): no flag, its type, the length of its value, and the total
+-- a Transfer Length item (section 5.2.5.1): no flag, its type, its value's length, and the total
 unfoldable pub total_bytes : (total : ℕ) → List ℕ
 total_bytes total = be 1 0 ++ be 2 transfer_length ++ be 2 total_size ++ be 8 total
 
--- the list of transfer extension items (section 5.2.5): empty, or the one item that announces the total
+-- the list of transfer extension items (section 5.2.5): empty, or one item that announces the total
 unfoldable pub announce_bytes : Option ℕ → List ℕ
 announce_bytes None = be 4 0
 announce_bytes (Some total) = be 4 13 ++ total_bytes total
 
--- which stands in a segment with START alone (section 5.2.2)
+-- the extension list of a segment, which has one only with START (section 5.2.2)
 abbrev pub list_bytes : (start : Bool) → Option ℕ → List ℕ
 list_bytes true announce = announce_bytes announce
 list_bytes false announce = []
 
--- an XFER_SEGMENT less its data (section 5.2.2)
+-- an XFER_SEGMENT without its data (section 5.2.2)
 unfoldable pub segment_head_bytes : (flags id size : ℕ) (announce : Option ℕ) → List ℕ
 segment_head_bytes flags id size announce =
     be 1 xfer_segment ++ be 1 flags ++ be 8 id ++ list_bytes (is_start flags) announce ++ be 8 size
@@ -39,7 +40,7 @@ segment_head_bytes flags id size announce =
 unfoldable pub sess_term_bytes : (flags reason : ℕ) → List ℕ
 sess_term_bytes flags reason = be 1 sess_term ++ be 1 flags ++ be 1 reason
 
--- how many bytes the head of a segment has
+-- the lengths of an extension list, and of the head of a segment, in bytes
 abbrev pub announce_size : Option ℕ → ℕ
 announce_size None = 4
 announce_size (Some total) = 17
@@ -51,7 +52,7 @@ list_size false announce = 0
 abbrev pub segment_head_size : (flags : ℕ) (announce : Option ℕ) → ℕ
 segment_head_size flags announce = 18 + list_size (is_start flags) announce
 
--- the messages that these bytes are
+-- the messages that these bytes spell
 abbrev pub announced : Option ℕ → List Item
 announced None = []
 announced (Some total) =

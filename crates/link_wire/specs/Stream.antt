@@ -1,18 +1,19 @@
--- The reading of a whole recorded stream (RFC 9174 section 4): a contact header, and then messages one after another.
+-- The reading of a whole recorded stream (RFC 9174 section 4): a contact header, and then messages
+-- one after another.
 use Rattle.std.specs.Prelude.{ℕ, zero, suc, ◌+◌, ◌-◌, List, [], ◌∷◌, length, take, drop, Option, Some, None, Result, Ok, Err, nat_lt, if◌then◌else◌}
 use Rattle.link_wire.specs.Message.{contact_at, message_at, data_length}
 use Rattle.link_wire.specs.declared.fault.WireFault.{WireFault}
 use Rattle.link_wire.specs.declared.message.Contact.{Contact}
 use Rattle.link_wire.specs.declared.message.Message.{Message}
 
--- a whole message: the offset of its type byte, and its data, none but in a segment
+-- a whole message: the offset of its type byte, and its data, which only a segment has
 pub record Entry : Type 0 where
   pub offset : ℕ
   pub message : Message
   pub content : List ℕ
 
--- how a stream ends: between two messages, inside the data of the segment at an offset, or at the first fault, which
--- stands in the message at an offset
+-- how a stream ends: between two messages, inside the data of the segment at `offset`, or at the
+-- first fault, in the message at `offset`
 pub data End : Type 0 where
   Clean : End
   Cut : (offset : ℕ) (message : Message) (content : List ℕ) → End
@@ -28,7 +29,7 @@ ended end = record { entries = []; end = end }
 abbrev pub with_entry : Entry → Stream → Stream
 with_entry entry rest = record { entries = entry ∷ rest.entries; end = rest.end }
 
--- a message whose data begins the bytes, and what the bytes after its data are read as
+-- the stream of a message whose data begins the bytes; `rest` is the stream after the data
 abbrev pub with_data_of : ℕ → Message → List ℕ → Stream → Stream
 with_data_of offset message bytes rest =
     if nat_lt (length bytes) (data_length message)
@@ -39,8 +40,9 @@ with_data_of offset message bytes rest =
       content = take (data_length message) bytes;
     }) rest
 
--- The stream that begins with a message that was read, or with its fault. `size` bytes stand at the offset: the head is
--- `size` less the bytes after it long. `next` reads what stands at a later offset.
+-- The stream that begins with a message that was read, or with its fault. `size` is the number of
+-- bytes from the offset on. So the length of the head is `size` less the number of bytes after it.
+-- `next` reads what is at a later offset.
 abbrev pub stream_by : (ℕ → List ℕ → Stream) → ℕ → ℕ → Result (Message × List ℕ) WireFault → Stream
 stream_by next offset size (Err fault) = ended (Fault offset fault)
 stream_by next offset size (Ok (message, bytes)) =
@@ -48,8 +50,9 @@ stream_by next offset size (Ok (message, bytes)) =
     (next (offset + (size - length bytes) + data_length message)
     (drop (data_length message) bytes))
 
--- The messages from an offset on, `count` at most. The second case, bytes left and no message more, is never met where
--- `count` is the number of the bytes, since each message has a byte at least.
+-- The messages from an offset on, at most `count` of them. The second case has bytes left, but no
+-- more messages may come. It is never met if `count` is the number of the bytes, since each message
+-- has at least one byte.
 unfoldable pub messages_at : ℕ → ℕ → List ℕ → Stream
 messages_at count offset [] = ended Clean
 messages_at zero offset (b ∷ bytes) = ended Clean
@@ -60,7 +63,7 @@ messages_at (suc count) offset (b ∷ bytes) =
 unfoldable pub stream_at : ℕ → List ℕ → Stream
 stream_at offset bytes = messages_at (length bytes) offset bytes
 
--- what a recorded stream is read as
+-- the reading of a recorded stream
 pub record Reading : Type 0 where
   pub contact : Option Contact
   pub entries : List Entry

@@ -1,9 +1,9 @@
-//! What stops the reading of a part of a message.
+//! The reason why the reading of a part of a message stops.
 
 use crate::fault::{Stop, WireFault};
 use link_io::IoFault;
 
-/// A `Stop` without the offset of its message.
+/// A [`Stop`] without the offset of its message.
 #[derive(Clone, Copy, Debug, PartialEq, Eq)]
 pub enum Halt {
     Io(IoFault),
@@ -14,7 +14,7 @@ impl Halt {
     ghost use Rattle.std.specs.Prelude.{◌≡◌};
     ghost use Rattle.link_wire.specs.Halt.{stop_at};
 
-    /// The stop of the message that begins at the offset.
+    /// The stop with this reason, in the message that begins at `offset`.
     pub fn at(self, offset: u64) -> Stop
         ensures { result ≡ stop_at offset self }
     {

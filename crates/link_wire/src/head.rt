@@ -1,4 +1,4 @@
-//! The contact header and the heads of messages, field by field (RFC 9174 sections 4.2 to 6.1).
+//! Reading the contact header and heads of messages, field by field (RFC 9174 sections 4.2 to 6.1).
 
 ghost use Rattle.std.specs.Prelude.{◌≡◌, ◌≤◌, Ok, None, OnOk};
 ghost use Rattle.link_io.specs.Source.{HasEnded, IsLive};
@@ -19,7 +19,7 @@ use crate::parts::{bytes, field, number8, number16, number64};
 use byteorder::{BigEndian, ByteOrder};
 use link_io::{Filled, InDevice, IoFault, Source};
 
-/// The contact header: six bytes, of which the first four are `dtn!` and the next is the version.
+/// Reads a contact header of six bytes: `dtn!`, the version and the flags (RFC 9174 section 4.2).
 pub fn contact<R: InDevice>(source: &mut Source<R>) -> Result<Contact, Halt>
     ensures { IsLive R.state source.old → Gets R.state contact_at source.old source.new result }
 {
@@ -33,7 +33,7 @@ pub fn contact<R: InDevice>(source: &mut Source<R>) -> Result<Contact, Halt>
     Ok(Contact { flags: header[5] })
 }
 
-/// A node ID: its length, and its bytes, which are left with the caller.
+/// Reads a node ID into `node`: its length, and then its bytes (RFC 9174 section 4.6).
 fn node<R: InDevice>(source: &mut Source<R>, node: &mut NodeId) -> Result<(), Halt>
     ensures { IsLive R.state source.old
         → Gets R.state node_at source.old source.new (with_value node.new result) }
@@ -45,7 +45,7 @@ fn node<R: InDevice>(source: &mut Source<R>, node: &mut NodeId) -> Result<(), Ha
     node_bytes(source, length, node)
 }
 
-/// The bytes of a node ID.
+/// Reads the bytes of a node ID into `node`.
 fn node_bytes<R: InDevice>(
     source: &mut Source<R>,
     length: u16,
@@ -61,7 +61,7 @@ fn node_bytes<R: InDevice>(
     Ok(())
 }
 
-/// The items of a segment: those of its extension list, which stands there only with START.
+/// Reads the extension list of a segment into `items`; without START there is no list.
 #[inline]
 fn segment_items<R: InDevice>(
     source: &mut Source<R>,
@@ -76,13 +76,13 @@ fn segment_items<R: InDevice>(
     if flags & START == START {
         list(source, ListOf::Transfer, items)
     } else {
-        // Those of the message before may lack their totals.
+        // The items of the message before may lack their totals.
         items.clear();
         Ok(())
     }
 }
 
-/// XFER_SEGMENT, less its data.
+/// Reads an XFER_SEGMENT after its type byte, without its data (RFC 9174 section 5.2.2).
 #[inline]
 fn segment<R: InDevice>(source: &mut Source<R>, message: &mut MessageBuffer) -> Result<(), Halt>
     ensures gets { IsLive R.state source.old
@@ -98,7 +98,7 @@ fn segment<R: InDevice>(source: &mut Source<R>, message: &mut MessageBuffer) -> 
     Ok(())
 }
 
-/// XFER_ACK.
+/// Reads an XFER_ACK after its type byte (RFC 9174 section 5.2.3).
 fn ack<R: InDevice>(source: &mut Source<R>, message: &mut MessageBuffer) -> Result<(), Halt>
     ensures gets { IsLive R.state source.old
         → Gets R.state ack_at source.old source.new (with_value (message_of message.new) result) }
@@ -111,7 +111,7 @@ fn ack<R: InDevice>(source: &mut Source<R>, message: &mut MessageBuffer) -> Resu
     Ok(())
 }
 
-/// XFER_REFUSE.
+/// Reads an XFER_REFUSE after its type byte (RFC 9174 section 5.2.4).
 fn refuse<R: InDevice>(source: &mut Source<R>, message: &mut MessageBuffer) -> Result<(), Halt>
     ensures gets { IsLive R.state source.old
         → Gets R.state refuse_at source.old source.new
@@ -124,7 +124,7 @@ fn refuse<R: InDevice>(source: &mut Source<R>, message: &mut MessageBuffer) -> R
     Ok(())
 }
 
-/// SESS_TERM.
+/// Reads a SESS_TERM after its type byte (RFC 9174 section 6.1).
 fn sess_term<R: InDevice>(source: &mut Source<R>, message: &mut MessageBuffer) -> Result<(), Halt>
     ensures gets { IsLive R.state source.old
         → Gets R.state sess_term_at source.old source.new
@@ -137,7 +137,7 @@ fn sess_term<R: InDevice>(source: &mut Source<R>, message: &mut MessageBuffer) -
     Ok(())
 }
 
-/// MSG_REJECT.
+/// Reads a MSG_REJECT after its type byte (RFC 9174 section 5.1.2).
 fn msg_reject<R: InDevice>(source: &mut Source<R>, message: &mut MessageBuffer) -> Result<(), Halt>
     ensures gets { IsLive R.state source.old
         → Gets R.state msg_reject_at source.old source.new
@@ -150,7 +150,7 @@ fn msg_reject<R: InDevice>(source: &mut Source<R>, message: &mut MessageBuffer) 
     Ok(())
 }
 
-/// SESS_INIT.
+/// Reads a SESS_INIT after its type byte (RFC 9174 section 4.6).
 fn sess_init<R: InDevice>(source: &mut Source<R>, message: &mut MessageBuffer) -> Result<(), Halt>
     ensures gets { IsLive R.state source.old
         → Gets R.state sess_init_at source.old source.new
@@ -170,7 +170,7 @@ fn sess_init<R: InDevice>(source: &mut Source<R>, message: &mut MessageBuffer) -
     Ok(())
 }
 
-/// What follows a message's type byte: the message, which is left with the caller.
+/// Reads a message after its type byte `kind`, without the data of a segment.
 #[inline]
 pub fn fields<R: InDevice>(
     source: &mut Source<R>,
@@ -197,7 +197,7 @@ pub fn fields<R: InDevice>(
     }
 }
 
-/// The type byte of the next message, or `None` where the input ends before it.
+/// Reads the type byte of the next message; `None` means that the input ends before it.
 #[inline]
 pub fn kind<R: InDevice>(source: &mut Source<R>) -> Result<Option<u8>, IoFault>
     ensures ended { HasEnded source.old → (source.new ≡ source.old) × (result ≡ Ok None) }

@@ -1,5 +1,6 @@
-//! Whether the contact header or the head of the next message is here, so that reading it need not wait (RFC 9174 sections 4.2, 4.6 and
-//! 5.1 to 6.1).
+//! Tests whether the available bytes are enough for the contact header or for the next head.
+//!
+//! If they are, a call that reads it need not wait (RFC 9174 sections 4.2, 4.6 and 5.1 to 6.1).
 
 ghost use Rattle.std.specs.Prelude.{◌≡◌, ◌<◌, length, slice_index, IsTrue};
 ghost use Rattle.link_wire.specs.Here.{IsHere};
@@ -11,7 +12,9 @@ use crate::codes::{
 use crate::plain::plain;
 use byteorder::{BigEndian, ByteOrder};
 
-/// How many bytes are looked at to tell: more than a head with a few items has.
+/// The most bytes that the test for a head looks at.
+///
+/// A head with a few items has fewer.
 pub const FRONT: usize = 128;
 
 /// Whether these bytes are enough for a contact header.
@@ -22,7 +25,9 @@ pub fn has_contact(bytes: &[u8]) -> bool
     bytes.len() >= 6
 }
 
-/// Whether these bytes begin with a whole extension list, its length and that many bytes, and `after` bytes follow it.
+/// Whether these bytes begin with a whole extension list, and `after` bytes follow it.
+///
+/// The list is its length, in four bytes, and that many bytes.
 fn has_list(bytes: &[u8], after: usize) -> bool
     ensures { (of : _) → IsTrue result → IsHere after (list_at of bytes.now) }
 {
@@ -33,7 +38,9 @@ fn has_list(bytes: &[u8], after: usize) -> bool
     bytes.len() - 4 - after >= length
 }
 
-/// Whether the head of a segment is whole in these bytes, with its items if it has some: the data's length has 8 bytes.
+/// Whether the head of a segment is whole in these bytes, with its items if it has some.
+///
+/// The last 8 bytes of the head are the length of the data.
 fn has_segment(bytes: &[u8]) -> bool
     requires some { 0 < length bytes.now }
     requires kind { slice_index bytes.now 0 ≡ XFER_SEGMENT }
@@ -45,7 +52,9 @@ fn has_segment(bytes: &[u8]) -> bool
     bytes[1] & START != START || has_list(&bytes[10..], 8)
 }
 
-/// Whether a SESS_INIT is whole in these bytes: 21 bytes, the last two of them the length of the node ID, then the node ID and a list.
+/// Whether a SESS_INIT is whole in these bytes.
+///
+/// The last two of its first 21 bytes are the length of the node ID. The node ID and a list follow.
 fn has_sess_init(bytes: &[u8]) -> bool
     requires some { 0 < length bytes.now }
     requires kind { slice_index bytes.now 0 ≡ SESS_INIT }
@@ -61,7 +70,9 @@ fn has_sess_init(bytes: &[u8]) -> bool
     has_list(&bytes[21 + node..], 0)
 }
 
-/// Whether these bytes are enough for the head that they begin with: it is whole, or they show a fault that more bytes do not mend.
+/// Returns true only if these bytes are enough for the head that they begin with.
+///
+/// They are if the head is whole, or if they show a fault that more bytes do not mend.
 pub fn has_head(bytes: &[u8]) -> bool
     ensures { IsTrue result → IsHere 0 (message_at bytes.now) }
 {

@@ -1,5 +1,6 @@
-//! Laws of the wire (RFC 9174): the contract of each function is a law over the definitions alone,
-//! and the function does nothing.
+//! Laws of the wire format (RFC 9174), over the definitions alone.
+//!
+//! The functions do nothing when they run. Their contracts are the laws.
 
 ghost use Rattle.std.specs.Prelude.{◌≡◌, ℕ, List, [], ◌++◌};
 ghost use Rattle.link_io.specs.Bytes.{AreBytes};
@@ -9,9 +10,10 @@ ghost use Rattle.link_wire.specs.Stream.{Reading, reading_of};
 
 use crate::message::Message;
 
-/// No bytes spell two messages, and no spelling of a message begins another: where `a` spells the
-/// message `m` with the data `d`, and `a` followed by `x` spells `n` with `e`, both are one, and `x`
-/// is empty.
+/// No bytes spell two messages, and no spelling of a message begins another.
+///
+/// Let `a` spell the message `m` with the data `d`, and let `a` followed by `x` spell `n` with `e`.
+/// Then `x` is empty, `m` equals `n`, and `d` equals `e`.
 pub fn one_reading(a: &[u8], x: &[u8], m: &Message, d: &[u8], n: &Message, e: &[u8])
     ensures { Spelled m.now d.now a.now → Spelled n.now e.now (a.now ++ x.now)
         → (x.now ≡ []) × (m.now ≡ n.now) × (d.now ≡ e.now) }

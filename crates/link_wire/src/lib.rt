@@ -1,5 +1,7 @@
-//! The wire of a recorded TCPCLv4 session (RFC 9174, without TLS): the messages of one entity's byte
-//! stream, read one after another, and the spellings of those that are written.
+//! The wire format of recorded TCPCLv4 sessions (RFC 9174, without TLS).
+//!
+//! A [`Session`] reads the byte stream of one entity, message by message. The `put_` functions
+//! append a contact header, a SESS_INIT, the head of an XFER_SEGMENT or a SESS_TERM to a buffer.
 //!
 //! ```
 //! let mut session = Session::new(Source::new(Reader::new(stdin)));

@@ -1,4 +1,4 @@
-//! Extension lists (RFC 9174 sections 4.8 and 5.2.5), item by item.
+//! Reading extension lists, item by item (RFC 9174 sections 4.8 and 5.2.5).
 
 ghost use Rattle.std.specs.Prelude.{◌≡◌, ◌≤◌, ◌<◌, ◌+◌, length, IsSome, IsTrue, IfOk, OnOk};
 ghost use Rattle.link_io.specs.Source.{IsLive};
@@ -12,10 +12,10 @@ use crate::message::{Item, Items, ListOf, MAX_LIST_LENGTH};
 use crate::parts::{bytes, number8, number16, number32, number64};
 use link_io::{InDevice, Source};
 
-/// Values that are not kept are passed over in pieces of this many bytes.
+/// Values that are not kept are skipped in pieces of this many bytes.
 const PIECE: usize = 256;
 
-/// What stands before an extension item's value.
+/// The fields of an extension item before its value (RFC 9174 section 4.8).
 #[derive(Clone, Copy, Debug, PartialEq, Eq)]
 pub struct ItemHead {
     flags: u8,
@@ -24,7 +24,7 @@ pub struct ItemHead {
 }
 
 impl ItemHead {
-    /// Whether the item is a Transfer Length item.
+    /// Whether the value is a total length: the item is a Transfer Length item of 8 bytes.
     fn has_total(&self, of: ListOf) -> bool
         ensures { result ≡ gives_total of self.now.kind self.now.length }
     {
@@ -35,7 +35,7 @@ impl ItemHead {
     }
 }
 
-/// Passes over the next bytes.
+/// Skips the next `count` bytes.
 fn skip<R: InDevice>(source: &mut Source<R>, count: u16) -> Result<(), Halt>
     ensures { IsLive R.state source.old
         → Gets R.state (skipped_at count) source.old source.new result }
@@ -50,8 +50,10 @@ fn skip<R: InDevice>(source: &mut Source<R>, count: u16) -> Result<(), Halt>
     Ok(())
 }
 
-/// The value of an item: the total length, of a Transfer Length item, which stands in a transfer's
-/// list and has 8 bytes.
+/// Reads the value of an item, and returns it if it is a total length.
+///
+/// It is one in a Transfer Length item of 8 bytes, in the list of a transfer. Another value is
+/// skipped.
 fn total<R: InDevice>(
     source: &mut Source<R>,
     of: ListOf,
@@ -69,7 +71,9 @@ fn total<R: InDevice>(
     }
 }
 
-/// The head of the next item, where that many bytes of the list are left.
+/// Reads the head of the next item of a list that has `left` more bytes.
+///
+/// The item has to end within the list.
 fn item_head<R: InDevice>(source: &mut Source<R>, left: u32) -> Result<ItemHead, Halt>
     ensures gets { IsLive R.state source.old
         → Gets R.state (item_head_at left) source.old source.new result }
@@ -91,7 +95,7 @@ fn item_head<R: InDevice>(source: &mut Source<R>, left: u32) -> Result<ItemHead,
     })
 }
 
-/// The items of a list of that many bytes, which are left with the caller.
+/// Reads the items of a list of `length` bytes into `items`.
 fn items_of<R: InDevice>(
     source: &mut Source<R>,
     of: ListOf,
@@ -121,7 +125,7 @@ fn items_of<R: InDevice>(
     Ok(())
 }
 
-/// An extension list: its length, and its items, which are left with the caller.
+/// Reads an extension list into `items`: its length, and then its items.
 pub fn list<R: InDevice>(source: &mut Source<R>, of: ListOf, items: &mut Items) -> Result<(), Halt>
     ensures gets { IsLive R.state source.old
         → Gets R.state (list_at of) source.old source.new (with_value items.new result) }

@@ -1,54 +1,58 @@
-//! The contact header and the messages of TCPCLv4 (RFC 9174 sections 4.1 to 5.2).
+//! The contact header and the messages of TCPCLv4 (RFC 9174 sections 4.2 to 6.1).
 
 use crate::codes::START;
 use arrayvec::ArrayVec;
 
-/// The longest node ID that is read, in bytes: the longest that a report line shows.
+/// The greatest length of a node ID that is read, in bytes: no report line shows a longer one.
 pub const MAX_NODE_ID: usize = 1024;
 
-/// The longest extension list that is read, in bytes. No list is held whole.
+/// The greatest length of an extension list that is read, in bytes.
+///
+/// No list is kept whole in memory.
 pub const MAX_LIST_LENGTH: u32 = 65_536;
 
-/// The most items that one extension list may have.
+/// The greatest number of items in one extension list.
 pub const MAX_ITEMS: usize = 64;
 
 /// The items of one extension list, in order.
 pub type Items = ArrayVec<Item, MAX_ITEMS>;
 
-/// A node ID: the bytes of its text, none where no node ID is given.
+/// The bytes of a node ID's text; there are none if no node ID is given.
 pub type NodeId = ArrayVec<u8, MAX_NODE_ID>;
 
 /// A contact header of version 4 (RFC 9174 section 4.2).
 #[derive(Clone, Copy, Debug, PartialEq, Eq)]
 pub struct Contact {
-    /// CAN_TLS is 01. Reserved flags are kept as they stand.
+    /// CAN_TLS is 01; reserved flags are kept.
     pub flags: u8,
 }
 
 /// What an extension list belongs to (RFC 9174 sections 4.8 and 5.2.5).
 #[derive(Clone, Copy, Debug, PartialEq, Eq)]
 pub enum ListOf {
-    /// A session's list stands in its SESS_INIT.
+    /// The list of a session, in its SESS_INIT.
     Session,
-    /// A transfer's list stands in its first segment.
+    /// The list of a transfer, in its first segment.
     Transfer,
 }
 
-/// An extension item of a session or a transfer (RFC 9174 sections 4.8 and 5.2.5), less its value.
+/// An extension item without its value (RFC 9174 sections 4.8 and 5.2.5).
 #[derive(Clone, Copy, Debug, Default, PartialEq, Eq)]
 pub struct Item {
     /// CRITICAL is 01.
     pub flags: u8,
     /// The item's type.
     pub kind: u16,
-    /// How many bytes the value has.
+    /// The length of the value, in bytes.
     pub length: u16,
-    /// The transfer's total length in bytes: the value of a Transfer Length item (RFC 9174
-    /// section 5.2.5.1), which stands in a transfer's list, has type 0001 and a value of 8 bytes.
+    /// The transfer's total length in bytes, if the value is one.
+    ///
+    /// It is one in a Transfer Length item (RFC 9174 section 5.2.5.1): an item of a transfer's list
+    /// with type 0001 and a value of 8 bytes.
     pub total: Option<u64>,
 }
 
-/// An XFER_SEGMENT less its data (RFC 9174 section 5.2.2).
+/// An XFER_SEGMENT without its data (RFC 9174 section 5.2.2).
 #[derive(Debug, PartialEq, Eq, Drop)]
 pub struct SegmentHead {
     /// END is 01, START is 02.
@@ -57,15 +61,18 @@ pub struct SegmentHead {
     pub id: u64,
     /// The transfer extension items; none without START.
     pub items: Items,
-    /// How many bytes of data the segment has.
+    /// The length of the segment's data, in bytes.
     pub length: u64,
 }
 
-/// A message of TCPCLv4; of a segment its head alone.
+/// A message of TCPCLv4, without the data of a segment.
 #[derive(Debug, PartialEq, Eq, Drop)]
 pub enum Message {
-    /// RFC 9174 section 4.6: the keepalive interval in seconds, the longest segment and the longest
-    /// transfer in bytes that the sender will receive, its node ID and its session extension items.
+    /// SESS_INIT (RFC 9174 section 4.6).
+    ///
+    /// It has the keepalive interval in seconds, and the longest segment and the longest transfer
+    /// in bytes that the sender will receive. It also has the sender's node ID and its session
+    /// extension items.
     SessInit {
         keepalive: u16,
         segment_mru: u64,
@@ -73,27 +80,27 @@ pub enum Message {
         node: NodeId,
         items: Items,
     },
-    /// RFC 9174 section 5.2.2.
+    /// XFER_SEGMENT (RFC 9174 section 5.2.2).
     Segment(SegmentHead),
-    /// RFC 9174 section 5.2.3: how many bytes of the transfer have been received.
+    /// XFER_ACK (RFC 9174 section 5.2.3): `length` bytes of the transfer have been received.
     Ack {
         flags: u8,
         id: u64,
         length: u64,
     },
-    /// RFC 9174 section 5.2.4.
+    /// XFER_REFUSE (RFC 9174 section 5.2.4).
     Refuse {
         reason: u8,
         id: u64,
     },
-    /// RFC 9174 section 5.1.1.
+    /// KEEPALIVE (RFC 9174 section 5.1.1).
     Keepalive,
-    /// RFC 9174 section 6.1.
+    /// SESS_TERM (RFC 9174 section 6.1).
     SessTerm {
         flags: u8,
         reason: u8,
     },
-    /// RFC 9174 section 5.1.2: why, and the type byte of the message that was rejected.
+    /// MSG_REJECT (RFC 9174 section 5.1.2): the reason, and the type byte of the rejected message.
     MsgReject {
         reason: u8,
         header: u8,
@@ -104,7 +111,7 @@ impl Message {
     ghost use Rattle.std.specs.Prelude.{◌≡◌};
     ghost use Rattle.link_wire.specs.Message.{data_length};
 
-    /// How many bytes of data follow the head: none but in a segment.
+    /// The number of data bytes after the head; only a segment has data.
     pub fn data_length(&self) -> u64
         ensures { result ≡ data_length self.now }
     {
@@ -115,49 +122,50 @@ impl Message {
     }
 }
 
-/// What a message has besides its node ID and its extension items: its numbers.
+/// The numbers of a message: all that it has besides a node ID and extension items.
 #[derive(Clone, Copy, Debug, PartialEq, Eq)]
 pub enum Fields {
-    /// RFC 9174 section 4.6.
+    /// SESS_INIT (RFC 9174 section 4.6).
     SessInit {
         keepalive: u16,
         segment_mru: u64,
         transfer_mru: u64,
     },
-    /// RFC 9174 section 5.2.2.
+    /// XFER_SEGMENT (RFC 9174 section 5.2.2).
     Segment {
         flags: u8,
         id: u64,
         length: u64,
     },
-    /// RFC 9174 section 5.2.3.
+    /// XFER_ACK (RFC 9174 section 5.2.3).
     Ack {
         flags: u8,
         id: u64,
         length: u64,
     },
-    /// RFC 9174 section 5.2.4.
+    /// XFER_REFUSE (RFC 9174 section 5.2.4).
     Refuse {
         reason: u8,
         id: u64,
     },
-    /// RFC 9174 section 5.1.1.
+    /// KEEPALIVE (RFC 9174 section 5.1.1).
     Keepalive,
-    /// RFC 9174 section 6.1.
+    /// SESS_TERM (RFC 9174 section 6.1).
     SessTerm {
         flags: u8,
         reason: u8,
     },
-    /// RFC 9174 section 5.1.2.
+    /// MSG_REJECT (RFC 9174 section 5.1.2).
     MsgReject {
         reason: u8,
         header: u8,
     },
 }
 
-/// A buffer for one message after another, so that none is moved: a message's numbers, and beside
-/// them its node ID and its items. Where a message has no node ID or no items, those fields hold
-/// nothing of use.
+/// A buffer for one message after another, so that none is moved.
+///
+/// It has the message's numbers, and beside them its node ID and its items. If the message has no
+/// node ID, `node` has no meaning. If it has no items, `items` has no meaning.
 #[derive(Debug, Drop)]
 pub struct MessageBuffer {
     pub fields: Fields,
@@ -170,7 +178,7 @@ impl MessageBuffer {
     ghost use Rattle.link_wire.specs.Message.{data_length};
     ghost use Rattle.link_wire.specs.MessageBuffer.{message_of, message_with, SegmentHasTotals};
 
-    /// A buffer that holds a KEEPALIVE.
+    /// Makes a buffer that holds a KEEPALIVE.
     pub fn new() -> MessageBuffer
         ensures { message_of result ≡ Message.Keepalive }
     {
@@ -181,7 +189,9 @@ impl MessageBuffer {
         }
     }
 
-    /// Sets the numbers of a message without items; the node ID stays as it was.
+    /// Sets the numbers of a message without items.
+    ///
+    /// The node ID does not change.
     #[inline(always)]
     pub(crate) fn set(&mut self, fields: Fields)
         ensures message { message_of self.new
@@ -192,7 +202,7 @@ impl MessageBuffer {
         self.items.clear();
     }
 
-    /// How many bytes of data follow the message's head: none but in a segment.
+    /// The number of data bytes after the message's head; only a segment has data.
     #[inline(always)]
     pub fn data_length(&self) -> u64
         ensures { result ≡ data_length (message_of self.now) }
@@ -203,7 +213,7 @@ impl MessageBuffer {
         }
     }
 
-    /// The message that it holds.
+    /// Returns the message that the buffer holds.
     pub fn into_message(self) -> Message
         ensures { result ≡ message_of self }
     {

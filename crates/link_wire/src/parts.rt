@@ -1,4 +1,4 @@
-//! The fields of a message: bytes, and unsigned numbers in big-endian order.
+//! Reading the fields of a message: bytes, and unsigned numbers in big-endian order.
 
 ghost use Rattle.std.specs.Prelude.{◌≡◌, ◌<◌, length, MatchResult};
 ghost use Rattle.link_io.specs.Source.{IsLive};
@@ -10,7 +10,9 @@ use crate::halt::Halt;
 use byteorder::{BigEndian, ByteOrder};
 use link_io::{Filled, InDevice, Source};
 
-/// The next bytes, as many as the slice has room for.
+/// Reads as many of the next bytes as the slice has room for.
+///
+/// If the input ends before that, the fault is [`WireFault::Truncated`].
 #[inline]
 pub fn bytes<R: InDevice>(source: &mut Source<R>, field: &mut [u8]) -> Result<(), Halt>
     ensures { IsLive R.state source.old
@@ -24,7 +26,7 @@ pub fn bytes<R: InDevice>(source: &mut Source<R>, field: &mut [u8]) -> Result<()
     }
 }
 
-/// The next bytes, as many as the array has.
+/// Reads the next `N` bytes.
 #[inline]
 pub fn field<const N: usize, R: InDevice>(source: &mut Source<R>) -> Result<[u8; N], Halt>
     ensures { IsLive R.state source.old → Gets R.state (bytes_at N) source.old source.new result }
@@ -34,7 +36,7 @@ pub fn field<const N: usize, R: InDevice>(source: &mut Source<R>) -> Result<[u8;
     Ok(field)
 }
 
-/// The next byte.
+/// Reads the next byte.
 #[inline]
 pub fn number8<R: InDevice>(source: &mut Source<R>) -> Result<u8, Halt>
     ensures { IsLive R.state source.old → Gets R.state (number_at 1) source.old source.new result }
@@ -42,7 +44,7 @@ pub fn number8<R: InDevice>(source: &mut Source<R>) -> Result<u8, Halt>
     Ok(field::<1, R>(source)?[0])
 }
 
-/// The next two bytes, as a number.
+/// Reads the next two bytes as a number.
 #[inline]
 pub fn number16<R: InDevice>(source: &mut Source<R>) -> Result<u16, Halt>
     ensures { IsLive R.state source.old → Gets R.state (number_at 2) source.old source.new result }
@@ -50,7 +52,7 @@ pub fn number16<R: InDevice>(source: &mut Source<R>) -> Result<u16, Halt>
     Ok(BigEndian::read_u16(&field::<2, R>(source)?))
 }
 
-/// The next four bytes, as a number.
+/// Reads the next four bytes as a number.
 #[inline]
 pub fn number32<R: InDevice>(source: &mut Source<R>) -> Result<u32, Halt>
     ensures { IsLive R.state source.old → Gets R.state (number_at 4) source.old source.new result }
@@ -58,7 +60,7 @@ pub fn number32<R: InDevice>(source: &mut Source<R>) -> Result<u32, Halt>
     Ok(BigEndian::read_u32(&field::<4, R>(source)?))
 }
 
-/// The next eight bytes, as a number.
+/// Reads the next eight bytes as a number.
 #[inline]
 pub fn number64<R: InDevice>(source: &mut Source<R>) -> Result<u64, Halt>
     ensures { IsLive R.state source.old → Gets R.state (number_at 8) source.old source.new result }

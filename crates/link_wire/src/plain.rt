@@ -1,5 +1,7 @@
-//! Frequent heads of messages, read where they lie in a window (RFC 9174 sections 5.1 to 6.1). All
-//! else is read field by field: lists with items, SESS_INIT, faults, and heads at the window's edge.
+//! Reading frequent heads of messages in place, in a window (RFC 9174 sections 5.1 to 6.1).
+//!
+//! All else is read field by field: lists with items, SESS_INIT, faults, and heads at the window's
+//! edge.
 
 ghost use Rattle.std.specs.Prelude.{◌≡◌, ◌<◌, length, slice_index, IfSome};
 ghost use Rattle.link_wire.specs.Plain.{IsHead};
@@ -8,7 +10,7 @@ use crate::codes::{KEEPALIVE, MSG_REJECT, SESS_TERM, START, XFER_ACK, XFER_REFUS
 use crate::message::Fields;
 use byteorder::{BigEndian, ByteOrder};
 
-/// XFER_SEGMENT: type, flags and ID, then the data's length; with START a list of no bytes before it.
+/// XFER_SEGMENT: type, flags, ID, with START an empty list, and the length of the data.
 #[inline(always)]
 fn segment(window: &[u8]) -> Option<(Fields, usize)>
     requires some { 0 < length window.now }
@@ -80,7 +82,7 @@ fn sess_term(window: &[u8]) -> Option<(Fields, usize)>
     Some((Fields::SessTerm { flags, reason }, 3))
 }
 
-/// MSG_REJECT: type, reason, and the type byte that was rejected.
+/// MSG_REJECT: type, reason, and the rejected type byte.
 #[inline(always)]
 fn msg_reject(window: &[u8]) -> Option<(Fields, usize)>
     requires some { 0 < length window.now }
@@ -95,8 +97,10 @@ fn msg_reject(window: &[u8]) -> Option<(Fields, usize)>
     Some((Fields::MsgReject { reason, header }, 3))
 }
 
-/// The numbers of the message whose head begins the window, and the bytes of that head: where it is
-/// whole there, has no node ID and no item, and shows no fault.
+/// The numbers of the message whose head begins the window, and the length of that head.
+///
+/// It is `None` unless the head is whole in the window, has no node ID and no item, and shows no
+/// fault.
 #[inline(always)]
 pub fn plain(window: &[u8]) -> Option<(Fields, usize)>
     ensures { IfSome result (λ head. IsHead window.now head.0 head.1) }

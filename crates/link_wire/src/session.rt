@@ -1,4 +1,4 @@
-//! A recorded session: the contact header, then messages, and the data of segments.
+//! Reading a recorded session: the contact header, then messages, and the data of segments.
 
 use crate::fault::{Stop, WireFault};
 use crate::halt::Halt;
@@ -15,17 +15,17 @@ enum Phase {
     Unopened,
     /// Messages and data.
     Reading,
-    /// Nothing more: what stopped it.
+    /// Nothing more: the session has stopped.
     Stopped(Stop),
 }
 
-/// The reading of a recorded session, message by message.
+/// A recorded session that is read message by message (RFC 9174).
 #[derive(Drop)]
 pub struct Session<R> {
     source: Source<R>,
-    /// The offset of the segment whose data comes.
+    /// The offset of the segment whose data is read.
     offset: u64,
-    /// How many bytes of that data have not come.
+    /// The number of bytes of that data that were not given yet.
     left: u64,
     phase: Phase,
 }
@@ -41,7 +41,7 @@ impl<R: InDevice> Session<R> {
     ghost use Rattle.link_wire.specs.Session.{source_of, may_open, may_read, is_opened, IsSessionAt, HasContact, HasEndedBetween, HasNext, HasStopped, left_of, data_in, with_message_read, GivesContact, ReadMessage, GivesNext};
     ghost use Rattle.link_wire.specs.declared.session.Phase.TheVariants as phase;
 
-    /// A session over a source that has taken nothing.
+    /// Makes a session over a source that has taken nothing.
     pub fn new(source: Source<R>) -> Session<R>
         requires { IsTrue (is_fresh source) }
         ensures fresh { IsTrue (may_open result) }
@@ -55,7 +55,7 @@ impl<R: InDevice> Session<R> {
         }
     }
 
-    /// The source, as it stands.
+    /// Returns the source.
     pub fn into_source(self) -> Source<R>
         ensures { result ≡ source_of self }
     {
@@ -68,23 +68,27 @@ impl<R: InDevice> Session<R> {
         source
     }
 
-    /// How many bytes of the segment's data have not come. A stop leaves that as it is.
+    /// The number of bytes of the segment's data that were not given yet.
+    ///
+    /// A stop does not change it.
     #[inline(always)]
     pub fn left(&self) -> u64
         ensures left { result ≡ left_of self.now }
-        // Once it is 0, the next message may be asked for.
+        // Once it is 0, the next message may be read.
         ensures may_read { IsTrue (is_opened self.now) → result ≡ 0 → IsTrue (may_read self.now) }
     {
         self.left
     }
 
-    /// Whether the next call may have to wait for the reader: the bytes that are here are not enough for it. After a stop nothing
-    /// is read.
+    /// Whether the next call may have to wait for the reader.
+    ///
+    /// It returns `false` only if the available bytes are enough for that call, or after a stop.
+    /// After a stop nothing is read.
     pub fn may_wait(&self) -> bool
         ensures few { IsTrue result → length (window_of (source_of self.now)) < window_size }
         ensures data { IsTrue result → 0 < left_of self.now → data_in self.now ≡ [] }
         ensures stopped { (stop : _) → HasStopped self.now stop → result ≡ false }
-        // Where it need not wait, the input has enough left for what comes next.
+        // If it need not wait, the input has enough left for what comes next.
         ensures contact { IsTrue (may_open self.now) → result ≡ false
             → HasContact R.state self.now }
         ensures here { (history : List ℕ) → IsSessionAt R.state self.now history → result ≡ false
@@ -98,14 +102,17 @@ impl<R: InDevice> Session<R> {
         }
         let mut front = [0; FRONT];
         let count = self.source.peek(&mut front);
-        // A whole window never lies unread here, where the session has not stopped (`few` of `IsSessionAt`).
+        // The tests of the window's length are for the clause `few`. The window is never full here,
+        // since the session has not stopped (`few` of `IsSessionAt`).
         if let Phase::Unopened = self.phase {
             return !has_contact(&front[..count]) && self.source.window().len() < WINDOW;
         }
         !has_head(&front[..count]) && self.source.window().len() < WINDOW
     }
 
-    /// Reads the contact header: once, before all else.
+    /// Reads the contact header (RFC 9174 section 4.2).
+    ///
+    /// It is called once, before all else. A fault of the contact header has the offset 0.
     pub fn open(&mut self) -> Result<Contact, Stop>
         requires { IsTrue (may_open self.old) }
         ensures settles { IfErr result (HasStopped self.new) }
@@ -123,10 +130,12 @@ impl<R: InDevice> Session<R> {
         }
     }
 
-    /// The next message and the offset of its type byte, of a segment its head alone; `None` at the
-    /// end of a stream that ends between two messages, and again on each later call. It may be
-    /// called once the contact header and the data of the message before have come, and after a
-    /// stop: it then returns that stop again, and reads nothing.
+    /// Reads the next message, and returns it with the offset of its type byte.
+    ///
+    /// Of a segment only the head is read. If the stream ends between two messages, it returns
+    /// `None` at the end, and again on each later call. It may be called when the contact header
+    /// and all data of the message before have been given. It may also be called after a stop: then
+    /// it returns that stop again, and reads nothing.
     pub fn next(&mut self) -> Result<Option<(u64, Message)>, Stop>
         requires { IsTrue (may_read self.old) }
         ensures settles { IfErr result (HasStopped self.new) }
@@ -134,7 +143,7 @@ impl<R: InDevice> Session<R> {
         ensures again { HasEndedBetween self.old → (self.new ≡ self.old) × (result ≡ Ok None) }
         ensures gives { (history : List ℕ) → IsSessionAt R.state self.old history
             → GivesNext R.state self.old self.new history result }
-        // What a segment announces may be asked for.
+        // The items of a segment have their totals.
         ensures totals { IfOk result (λ got. IfSome got (λ next. MessageHasTotals next.1)) }
         ensures opened { IsTrue (is_opened self.new) }
         ensures stopped { (stop : _) → HasStopped self.old stop
@@ -147,8 +156,10 @@ impl<R: InDevice> Session<R> {
         }
     }
 
-    /// As `next`, into a buffer of the caller's, so that no message is moved: returns the offset of
-    /// the type byte. Where none is returned, `message` holds nothing of use.
+    /// Reads the next message into `message`, and returns the offset of its type byte.
+    ///
+    /// This is [`Session::next`] without moving the message. If it returns no offset, the content
+    /// of `message` has no meaning.
     #[inline(always)]
     pub fn read_next(&mut self, message: &mut MessageBuffer) -> Result<Option<u64>, Stop>
         requires { IsTrue (may_read self.old) }
@@ -158,7 +169,7 @@ impl<R: InDevice> Session<R> {
         ensures gives { (history : List ℕ) → IsSessionAt R.state self.old history
             → GivesNext R.state self.old self.new history
             (with_message_read (message_of message.new) result) }
-        // What a segment announces may be asked for.
+        // The items of a segment have their totals.
         ensures totals { IfOk result (λ got. IfSome got (λ offset. SegmentHasTotals message.new)) }
         ensures opened { IsTrue (is_opened self.new) }
         ensures stopped { (stop : _) → HasStopped self.old stop
@@ -170,8 +181,10 @@ impl<R: InDevice> Session<R> {
         }
     }
 
-    /// As `read_next`, of a frequent head that lies whole in the window: nothing is read. `None` where there is none, and after a stop:
-    /// nothing is given then.
+    /// Gives the next message if it has a frequent head that is whole in the window.
+    ///
+    /// This is [`Session::read_next`] for such a head, and it does not read from the reader.
+    /// Without such a head, and after a stop, it returns `None` and gives nothing.
     #[inline(always)]
     pub fn next_here(&mut self, message: &mut MessageBuffer) -> Option<u64>
         requires { IsTrue (may_read self.old) }
@@ -196,8 +209,9 @@ impl<R: InDevice> Session<R> {
         }
     }
 
-    /// Gives a head that lies whole in the window, of a message with these numbers, and returns its
-    /// offset.
+    /// Gives a head that is whole in the window, and returns its offset.
+    ///
+    /// The message has these numbers, and no node ID or items. It is put into `message`.
     #[inline(always)]
     fn give_head(&mut self, fields: Fields, size: usize, message: &mut MessageBuffer) -> u64
         requires may_read { IsTrue (may_read self.old) }
@@ -251,7 +265,7 @@ impl<R: InDevice> Session<R> {
         }
     }
 
-    /// The session stops in the message that begins at the offset.
+    /// Stops the session in the message that begins at `offset`, and returns the stop.
     #[cold]
     #[inline(never)]
     fn stop_at(&mut self, offset: u64, halt: Halt) -> Stop
@@ -264,15 +278,17 @@ impl<R: InDevice> Session<R> {
     }
 }
 
-/// The data of segments.
+/// The calls for the data of segments.
 impl<R: InDevice> Session<R> {
     ghost use Rattle.std.specs.Prelude.{◌≡◌, ◌≤◌, ℕ, List, length, take, drop, IfOk, IfErr, Ok, Err, IsTrue};
     ghost use Rattle.link_wire.specs.Session.{is_opened, IsSessionAt, HasStopped, left_of, data_in, PassedBytes, GivesData, GivesLoad};
     ghost use Rattle.link_wire.specs.declared.session.Phase.TheVariants as phase;
 
-    /// Copies the next bytes of the segment's data, after at most one read, and returns how many: 0
-    /// only where none are left, or for an empty slice. After a stop it returns that stop again, and
-    /// reads nothing.
+    /// Copies the next bytes of the segment's data, after at most one read, and returns how many.
+    ///
+    /// It returns 0 only if no data is left, or for an empty slice. After a stop it returns that
+    /// stop again, and reads nothing. If the input ends inside the data, the fault is
+    /// [`WireFault::Truncated`], at the offset of the segment.
     pub fn data(&mut self, buffer: &mut [u8]) -> Result<usize, Stop>
         ensures bound { IfOk result (λ n. n ≤ length buffer.new) }
         ensures settles { IfErr result (HasStopped self.new) }
@@ -312,7 +328,7 @@ impl<R: InDevice> Session<R> {
         }
     }
 
-    /// Fills the slice with the next data that lies in the window.
+    /// Fills the slice with the next data in the window, and gives it.
     fn copy(&mut self, part: &mut [u8])
         requires { length part.old ≤ length (data_in self.old) }
         ensures opened { is_opened self.new ≡ is_opened self.old }
@@ -324,9 +340,11 @@ impl<R: InDevice> Session<R> {
         self.pass(count);
     }
 
-    /// Reads where the window is empty and data is left, once, and returns how many bytes of the
-    /// segment's data lie in the window then: 0 only where none are left. After a stop it returns
-    /// that stop again, and reads nothing.
+    /// Makes data of the segment ready in the window, and returns how many bytes of it are there.
+    ///
+    /// It reads once if data is left and the window is empty. It returns 0 only if no data is left.
+    /// After a stop it returns that stop again, and reads nothing. If the input ends inside the
+    /// data, the fault is [`WireFault::Truncated`], at the offset of the segment.
     #[inline(always)]
     pub fn load(&mut self) -> Result<usize, Stop>
         ensures size { IfOk result (λ n. n ≡ length (data_in self.new)) }
@@ -347,7 +365,7 @@ impl<R: InDevice> Session<R> {
         }
     }
 
-    /// `load` where no data lies in the window, or after a stop.
+    /// `load` if no data is in the window, or after a stop.
     #[cold]
     #[inline(never)]
     fn load_on(&mut self) -> Result<usize, Stop>
@@ -375,7 +393,7 @@ impl<R: InDevice> Session<R> {
         }
     }
 
-    /// The segment's data that lies in the window.
+    /// The segment's data that is in the window.
     #[inline(always)]
     pub fn loaded(&self) -> &[u8]
         ensures { result.now ≡ data_in self.now }
@@ -384,8 +402,9 @@ impl<R: InDevice> Session<R> {
         &window[..self.left.min(window.len() as u64) as usize]
     }
 
-    /// Gives the next `count` bytes of the segment's data, which the caller has looked at where they
-    /// lie in the window.
+    /// Gives the next `count` bytes of the segment's data, which the caller has looked at in place.
+    ///
+    /// [`Session::loaded`] shows them.
     #[inline(always)]
     pub fn pass(&mut self, count: usize)
         requires { count ≤ length (data_in self.old) }

@@ -1,4 +1,4 @@
-//! The contact header and the heads of messages as bytes (RFC 9174), each appended to a buffer.
+//! Appending a contact header and heads of messages to a buffer, as bytes (RFC 9174).
 
 ghost use Rattle.std.specs.Prelude.{◌≡◌, ◌+◌, ◌^◌, ◌<◌, ◌≤◌, ◌++◌, length, IfSome, IsSome, IsTrue};
 ghost use Rattle.link_io.specs.Bytes.{AreBytes};
@@ -14,13 +14,13 @@ use crate::codes::{
 use crate::message::{Message, NodeId};
 use arrayvec::ArrayVec;
 
-/// The most bytes that a [`HeadBuf`] holds: the longest SESS_INIT that is written has 1,049.
+/// The size of a [`HeadBuf`], in bytes: the longest SESS_INIT that is written has 1,049.
 pub const HEAD_MAX: usize = 2048;
 
-/// Heads of messages as they are written, in bytes.
+/// A buffer for the bytes of a contact header and of heads.
 pub type HeadBuf = ArrayVec<u8, HEAD_MAX>;
 
-/// Appends the bytes as they stand.
+/// Appends these bytes.
 fn put_bytes(buffer: &mut HeadBuf, bytes: &[u8])
     requires { array_vec_len buffer.old + length bytes.now ≤ HEAD_MAX }
     ensures items { buffer.new.items ≡ buffer.old.items ++ bytes.now }
@@ -65,7 +65,9 @@ fn put_u64(buffer: &mut HeadBuf, number: u64)
     put_bytes(buffer, &number.to_be_bytes());
 }
 
-/// Appends a contact header of six bytes (RFC 9174 section 4.2), which the buffer has room for.
+/// Appends a contact header of six bytes (RFC 9174 section 4.2).
+///
+/// The buffer has room for it.
 #[tactic(auto, unfolding(crate::specs::Spelling::contact_bytes))]
 pub fn put_contact(buffer: &mut HeadBuf, flags: u8)
     requires { array_vec_len buffer.old + 6 ≤ HEAD_MAX }
@@ -98,7 +100,7 @@ fn put_keepalive(buffer: &mut HeadBuf, keepalive: u16)
     put_u16(buffer, keepalive);
 }
 
-/// Appends the longest segment and the longest transfer of a SESS_INIT.
+/// Appends the segment MRU and the transfer MRU of a SESS_INIT.
 fn put_mrus(buffer: &mut HeadBuf, segment_mru: u64, transfer_mru: u64)
     requires { array_vec_len buffer.old + 16 ≤ HEAD_MAX }
     ensures items { buffer.new.items ≡ buffer.old.items ++ (be 8 segment_mru ++ be 8 transfer_mru) }
@@ -108,8 +110,10 @@ fn put_mrus(buffer: &mut HeadBuf, segment_mru: u64, transfer_mru: u64)
     put_u64(buffer, transfer_mru);
 }
 
-/// Appends a SESS_INIT with no extension items (RFC 9174 section 4.6): 25 bytes and those of the
-/// node ID, which the buffer has room for.
+/// Appends a SESS_INIT with no extension items (RFC 9174 section 4.6).
+///
+/// The keepalive interval is in seconds. The longest segment and the longest transfer are in bytes.
+/// The buffer has room for the message: 25 bytes, and those of the node ID.
 #[tactic(auto, unfolding(crate::specs::Spelling::sess_init_bytes))]
 pub fn put_sess_init(
     buffer: &mut HeadBuf,
@@ -132,7 +136,7 @@ pub fn put_sess_init(
     put_u32(buffer, 0);
 }
 
-/// Appends a Transfer Length item.
+/// Appends a Transfer Length item (RFC 9174 section 5.2.5.1).
 #[tactic(auto, unfolding(crate::specs::Spelling::total_bytes))]
 fn put_total(buffer: &mut HeadBuf, total: u64)
     requires { array_vec_len buffer.old + 13 ≤ HEAD_MAX }
@@ -146,7 +150,9 @@ fn put_total(buffer: &mut HeadBuf, total: u64)
     put_u64(buffer, total);
 }
 
-/// Appends the list of a first segment: empty, or with the one item that announces the total.
+/// Appends the extension list of a first segment.
+///
+/// It is empty, or it has the one item that announces the total.
 #[tactic(auto, unfolding(crate::specs::Spelling::announce_bytes))]
 fn put_announce(buffer: &mut HeadBuf, announce: Option<u64>)
     requires { array_vec_len buffer.old + announce_size announce ≤ HEAD_MAX }
@@ -163,7 +169,7 @@ fn put_announce(buffer: &mut HeadBuf, announce: Option<u64>)
     }
 }
 
-/// Appends the numbers of a segment before its list.
+/// Appends the fields of a segment before its list.
 fn put_segment(buffer: &mut HeadBuf, flags: u8, id: u64)
     requires { array_vec_len buffer.old + 10 ≤ HEAD_MAX }
     ensures items { buffer.new.items ≡ buffer.old.items ++ (be 1 XFER_SEGMENT ++ be 1 flags
@@ -175,10 +181,12 @@ fn put_segment(buffer: &mut HeadBuf, flags: u8, id: u64)
     put_u64(buffer, id);
 }
 
-/// Appends the head of an XFER_SEGMENT whose data has that length (RFC 9174 section 5.2.2). With
-/// START it has an extension list, which is empty or announces the transfer's total length
-/// (section 5.2.5.1); only such a segment may announce. The buffer has room for it: 18 bytes
-/// without START, 22 with an empty list, 35 with the item.
+/// Appends the head of an XFER_SEGMENT (RFC 9174 section 5.2.2).
+///
+/// `length` is the length of the data in bytes. With START the segment has an extension list, which
+/// is empty or announces the transfer's total length in bytes (section 5.2.5.1). Only a segment
+/// with START may announce it. The buffer has room for the head: 18 bytes without START, 22 with an
+/// empty list, 35 with the item.
 #[tactic(auto, unfolding(crate::specs::Spelling::segment_head_bytes))]
 pub fn put_segment_head(
     buffer: &mut HeadBuf,
@@ -203,7 +211,9 @@ pub fn put_segment_head(
     put_u64(buffer, length);
 }
 
-/// Appends a SESS_TERM of three bytes (RFC 9174 section 6.1), which the buffer has room for.
+/// Appends a SESS_TERM of three bytes (RFC 9174 section 6.1).
+///
+/// The buffer has room for it.
 #[tactic(auto, unfolding(crate::specs::Spelling::sess_term_bytes))]
 pub fn put_sess_term(buffer: &mut HeadBuf, flags: u8, reason: u8)
     requires { array_vec_len buffer.old + 3 ≤ HEAD_MAX }

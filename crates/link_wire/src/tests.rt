@@ -1,4 +1,4 @@
-//! What the `put_` calls append: its bytes, and what a session reads of it.
+//! Tests of the bytes that the `put_` calls append, and of what a session reads and waits for.
 
 ghost use Rattle.std.specs.Prelude.{◌≡◌};
 ghost use Rattle.arrayvec.specs.ArrayVec.{array_vec_len};
@@ -9,7 +9,7 @@ use crate::{
 };
 use std::test::Fail;
 
-/// The first message of a session, of which these bytes are all.
+/// Reads the first message of a session that consists of these bytes.
 fn read_again(bytes: &[u8]) -> Result<Option<(u64, Message)>, Stop> {
     let mut session = Session::new(Source::new(Reader::new(bytes)));
     session.open()?;
@@ -25,7 +25,9 @@ fn opened() -> HeadBuf
     buffer
 }
 
-/// Whether the head of a segment with these items, none or one that announces, is read as it was put.
+/// Whether the head of a segment is read as it was put.
+///
+/// It has no items, or with START one item that announces a total.
 fn put_and_read(flags: u8, id: u64, length: u64, items: &[Item]) -> Result<bool, Fail> {
     let mut buffer = opened();
     let announce = match items {
@@ -158,9 +160,11 @@ fn terminations(rt: HostRuntime) -> Result<(), Fail> {
     Ok(())
 }
 
-/// A recording, and whether the call after its contact header may have to wait: for a head, until none of its fields is missing (RFC 9174
-/// sections 4.6 and 5.1 to 6.1). After the header come nothing, a KEEPALIVE, a SESS_TERM, an acknowledgement, a segment with an item, and a
-/// type that no message has.
+/// Recordings, and whether the call after the contact header may have to wait.
+///
+/// It may have to wait for a head until no field of the head is missing (RFC 9174 sections 4.6 and
+/// 5.1 to 6.1). After the contact header comes nothing, a KEEPALIVE, a SESS_TERM, an XFER_ACK, a
+/// segment with an item, or a type that no message has.
 const HEADS: &[(&[u8], bool)] = &[
     (b"dtn!\x04\x00", true),
     (b"dtn!\x04\x00\x04", false),
@@ -196,8 +200,9 @@ fn heads_that_are_waited_for(rt: HostRuntime) -> Result<(), Fail> {
     Ok(())
 }
 
-/// A recording up to the head of a segment with two bytes of data, and up to the first of them; and whether the call for data may have to
-/// wait.
+/// Recordings, and whether the call for data may have to wait.
+///
+/// One ends after the head of a segment with two bytes of data, the other after the first of these.
 const DATA: &[(&[u8], bool)] = &[
     (
         b"dtn!\x04\x00\x01\x01\x00\x00\x00\x00\x00\x00\x00\x00\x00\x00\x00\x00\x00\x00\x00\x02",

@@ -2,7 +2,7 @@ use Rattle.std.proofs.Common.{arith, length-drop}
 use Rattle.link_io.proofs.Writes.{take-all_after, WritesWhole-more}
 use Rattle.link_io.proofs.writing.write_out.Goals as goal
 
--- the prefix grows by what `write` took
+-- the written prefix grows by the bytes that `write` took
 pub loop-at-preserved : goal.loop-at-preserved
 loop-at-preserved g c =
     let bytes = c.args.bytes.now in

@@ -10,8 +10,8 @@ use Rattle.link_wire.specs.declared.message.ListOf.TheVariants.{Transfer}
 use Rattle.link_io.specs.declared.source.Source.{Source}
 use Rattle.link_wire.proofs.list.items_of.Given as goal
 
--- whatever the bytes left give, all of the list's give the items so far and that; in a transfer's list the items so far
--- have their totals
+-- The items of the whole list are the items so far, and then those of the bytes left. In a
+-- transfer's list, the items so far have their totals.
 abbrev pub invariant-loop-left : goal.invariant-loop-left
 invariant-loop-left g l =
     let look = g.R.InDevice.state in

@@ -4,7 +4,7 @@ use Rattle.link_wire.specs.Message.{skipped_at}
 use Rattle.link_wire.specs.Getting.{Gets}
 use Rattle.link_wire.proofs.list.skip.Given as goal
 
--- all but the bytes left have been passed over
+-- all but the last `left` bytes have been skipped
 abbrev pub invariant-loop-left : goal.invariant-loop-left
 invariant-loop-left g l = record {
   within : l.left ≤ l.count;

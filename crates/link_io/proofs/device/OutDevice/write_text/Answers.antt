@@ -2,7 +2,7 @@ use Rattle.std.proofs.Common.{take, arith, length-drop}
 use Rattle.link_io.proofs.Writes.{take-all_after, WritesWhole-more}
 use Rattle.link_io.proofs.device.OutDevice.write_text.Goals as goal
 
--- the prefix grows by what `write` took
+-- the written prefix grows by the bytes that `write` took
 pub loop-at-preserved : goal.loop-at-preserved
 loop-at-preserved g c =
     let made = take c.put-end.result c.put-end.new.page in

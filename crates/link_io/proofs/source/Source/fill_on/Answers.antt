@@ -4,7 +4,7 @@ use Rattle.link_io.specs.Source.{HasEnded}
 use Rattle.link_io.proofs.Sources.{Takes-then}
 use Rattle.link_io.proofs.source.Source.fill_on.Goals as goal
 
--- what was given goes on by what `some` gave
+-- the bytes given grow by those that `some` gave
 pub loop-at-preserved : goal.loop-at-preserved
 loop-at-preserved g c =
     let look = g.R.InDevice.state in

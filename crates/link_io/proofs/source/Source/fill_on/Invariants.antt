@@ -2,7 +2,7 @@ use Rattle.std.proofs.Common.{◌≡◌, length, ◌-◌, ◌≤◌, take}
 use Rattle.link_io.specs.Source.{IsLive, HasEnded, Takes}
 use Rattle.link_io.proofs.source.Source.fill_on.Given as goal
 
--- what stands before `at` was given, and a source that has ended gives nothing
+-- the bytes before `at` were given, and a source that has ended gave none
 abbrev pub invariant-loop-at : goal.invariant-loop-at
 invariant-loop-at g l =
     let look = g.R.InDevice.state in

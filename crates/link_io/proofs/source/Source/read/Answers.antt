@@ -5,7 +5,7 @@ use Rattle.link_io.proofs.Sources.{Consumes-empty}
 use Rattle.link_io.proofs.Windows.{range_none}
 use Rattle.link_io.proofs.source.Source.read.Goals as goal
 
--- the read gave a byte past the limit, and nothing of it is given
+-- the read returned a byte past the limit, and none of its bytes is given
 pub returns-in-Ok-clause-gives : goal.returns-in-Ok-clause-gives
 returns-in-Ok-clause-gives g c =
     let s = c.args.self.now in

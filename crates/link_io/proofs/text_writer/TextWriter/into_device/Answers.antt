@@ -4,7 +4,7 @@ use Rattle.std.specs.Io.KnownBytes.{Appends, Keeps, append_known}
 use Rattle.link_io.specs.declared.device.DeviceFault.{DeviceFault}
 use Rattle.link_io.proofs.text_writer.TextWriter.into_device.Goals as goal
 
--- what waited was written
+-- all bytes that waited were written
 kept : (old new : Option (List ℕ)) (bytes : List ℕ) → Appends old new bytes
     → Keeps (append_known old bytes) new
 kept None new bytes written = tt

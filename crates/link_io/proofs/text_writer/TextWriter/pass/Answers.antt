@@ -5,7 +5,7 @@ use Rattle.std.proofs.KnownBytes.{append_known-moved}
 use Rattle.link_io.specs.TextWriter.{waiting}
 use Rattle.link_io.proofs.text_writer.TextWriter.pass.Goals as goal
 
--- what is left of the first bytes
+-- the first `end` bytes, without the first `start` of them
 rest_of : (xs : List ℕ) (start end : ℕ) → start ≤ end
     → drop start (take end xs) ≡ slice_range xs start end
 rest_of xs start end order =
@@ -17,7 +17,7 @@ front_of xs end =
     let whole : end - 0 ≡ end = omega arith in
     ap (λ n. take n xs) whole
 
--- the device below took the first bytes that waited
+-- the device below took a prefix of the bytes that waited
 pub returns-clause-bytes : goal.returns-clause-bytes
 returns-clause-bytes g c =
     let page = c.args.self.now.page.items in

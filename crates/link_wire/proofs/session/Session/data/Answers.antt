@@ -26,7 +26,7 @@ returns-clause-gives g c = λ history at.
       some = λ left room. omega (arith, c.min-count.ensures, length-append part rest, size, length-drop c.min-count.result c.args.buffer.now);
     }
 
--- none of the data was left, and nothing was read
+-- no data was left, and nothing was read
 pub returns-then-ready-eq0-clause-gives : goal.returns-then-ready-eq0-clause-gives
 returns-then-ready-eq0-clause-gives g c = λ history at.
     let old = c.args.self.now in

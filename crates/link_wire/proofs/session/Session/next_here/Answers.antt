@@ -7,7 +7,7 @@ use Rattle.link_wire.proofs.Sessions.{none_left}
 use Rattle.link_wire.proofs.Steady.{window_has_head}
 use Rattle.link_wire.proofs.session.Session.next_here.Goals as goal
 
--- after the end the window is empty, and no head lies in it
+-- after the end the window is empty, so it has no head
 pub returns-in-Some-clause-again : goal.returns-in-Some-clause-again
 returns-in-Some-clause-again g c = λ ended.
     let none = ended_window c.args.self.now.source ended.1 in
