@@ -1,9 +1,10 @@
 #!/usr/bin/env python3
 """Measures a cutter: `bench/cut.py [PROGRAM [ROUNDS]]`.
 
-64 MiB go in pieces of 4,096 bytes through Cutter::push_slice, with segments of 65,536 bytes, and are copied in the same
-pieces into a buffer of that size, both sixteen times over; what is printed is the ratio of the times. PROGRAM is by
-default the one that `rt run -- cut` left in crates/cut_bench/out.
+The program pushes 64 MiB through Cutter::push_slice, in pieces of 4,096 bytes and with segments of
+65,536 bytes. It copies the same pieces into a buffer of that size. It does each of these sixteen
+times, and the ratio of the times is printed. PROGRAM is by default the one that `rt run -- cut`
+left in crates/cut_bench/out.
 """
 
 import os

@@ -3,19 +3,21 @@
 
 For list, some 128 MiB each:
 long.tcpcl: one transfer in segments of 64 KiB.
-bundles.tcpcl: a bundle of 200 bytes a transfer, with an acknowledgement and a KEEPALIVE after each.
+bundles.tcpcl: transfers of one bundle of 200 bytes, an acknowledgement and a KEEPALIVE after each.
 short.tcpcl: one transfer in segments of 1 to 16 bytes.
-answers.tcpcl: acknowledgements, refusals and KEEPALIVEs alone.
+answers.tcpcl: only acknowledgements, refusals and KEEPALIVEs.
 
-For unpack, some 256 MiB each, where each transfer is a good bundle:
-plain.tcpcl, crc16.tcpcl, crc32.tcpcl: bundles of 1 MiB in segments of 64 KiB, with no check, and with one over the payload.
-small.tcpcl: bundles of 100 to 300 bytes with a CRC-32C in the primary block, one a transfer, an acknowledgement after each.
+For unpack, some 256 MiB each, and each transfer is a good bundle:
+plain.tcpcl: bundles of 1 MiB in segments of 64 KiB, without a check.
+crc16.tcpcl, crc32.tcpcl: the same with a check over the payload.
+small.tcpcl: bundles of 100 to 300 bytes with a CRC-32C in the primary block. Each transfer has one,
+    and an acknowledgement follows it.
 crumbs.tcpcl: bundles of 1 MiB in segments of 1 to 16 bytes.
 
-For pack, some 256 MiB each, the same bundles one after another:
+For pack, some 256 MiB each, the same bundles, one after another:
 plain.bundles, crc16.bundles, crc32.bundles, small.bundles.
 
-Only python's standard library is used.
+The script uses only python's standard library.
 """
 
 import struct
@@ -28,7 +30,7 @@ BUNDLES_SIZE = 256 << 20
 # RFC 9174 section 4.2: `dtn!`, version 4, flags 00
 CONTACT = b"dtn!" + bytes([4, 0x00])
 
-# SESS_INIT (section 4.6): keepalive 60 s, MRUs 64 KiB and 1 MiB, node ID `ipn:1.0`, no extension items
+# SESS_INIT (section 4.6): keepalive 60 s, MRUs 64 KiB and 1 MiB, node ID `ipn:1.0`, no items
 SESS_INIT = struct.pack(">BHQQH", 0x07, 60, 65536, 1048576, 7) + b"ipn:1.0" + struct.pack(">I", 0)
 
 # KEEPALIVE (section 5.1.1)
@@ -42,7 +44,7 @@ START = 0x02
 BUNDLE = bytes.fromhex("9f880700008202820201820282010182010082000000850101000058aa") + bytes(170) + b"\xff"
 
 
-# A bundle's check (RFC 9171 section 4.2.1): its type, the reversed polynomial, the bytes of the field
+# A check of a bundle (RFC 9171 section 4.2.1): type, reversed polynomial, bytes of the field
 NO_CHECK = (0, 0, 0)
 CRC16 = (1, 0x8408, 2)
 CRC32 = (2, 0x82F63B78, 4)
@@ -64,7 +66,10 @@ def check_value(check, data):
 
 
 def checked(block, check):
-    """A block whose check field is its last item: 0x42 or 0x44, and the value over the block with zeros in its place."""
+    """A block with its check field as the last item.
+
+    The field has the head 0x42 or 0x44, and the check value of the block with zeros in its place.
+    """
     _, _, size = check
     if size == 0:
         return block
@@ -73,14 +78,14 @@ def checked(block, check):
 
 
 def bundle(payload, primary=NO_CHECK, content=NO_CHECK):
-    """A bundle (section 4) from ipn:1.1 to ipn:2.1 with this payload, and these checks in its two blocks."""
+    """A bundle (section 4) from ipn:1.1 to ipn:2.1 with this payload and with these checks."""
     first = bytes([0x88 + (primary[0] > 0), 7, 0, primary[0]]) + bytes.fromhex("82028202018202820101820100") + bytes.fromhex("82000000")
     second = bytes([0x85 + (content[0] > 0), 1, 1, 0, content[0], 0x5A]) + struct.pack(">I", len(payload)) + payload
     return b"\x9f" + checked(first, primary) + checked(second, content) + b"\xff"
 
 
 def transfer(number, data, sizes):
-    """The segments of a transfer whose data are cut into pieces of these sizes, in turn."""
+    """The segments of a transfer whose data is cut into pieces of these sizes, in turn."""
     pieces, at, turn = [], 0, 0
     while at < len(data):
         pieces.append(data[at : at + sizes[turn % len(sizes)]])
@@ -90,7 +95,7 @@ def transfer(number, data, sizes):
 
 
 def segment(flags, number, data):
-    """XFER_SEGMENT (section 5.2.2); with START an empty extension list."""
+    """XFER_SEGMENT (section 5.2.2). With START it has an empty extension list."""
     listed = struct.pack(">I", 0) if flags & START else b""
     return struct.pack(">BBQ", 0x01, flags, number) + listed + struct.pack(">Q", len(data)) + data
 
@@ -106,12 +111,12 @@ def refuse(reason, number):
 
 
 def repeated(block, size):
-    """The block as often as it fits."""
+    """The block, as often as it fits in `size` bytes."""
     return block * (size // len(block))
 
 
 def one_transfer(pieces):
-    """A transfer that begins with an empty segment and ends with one, and has these between."""
+    """A transfer with an empty segment at each end, and these pieces between, again and again."""
     middle = b"".join(segment(0, 0, piece) for piece in pieces)
     return segment(START, 0, b"") + repeated(middle, LIST_SIZE) + segment(END, 0, b"")
 
@@ -120,7 +125,7 @@ DATA = bytes(range(256)) * 256
 
 
 def bundles():
-    """The name of each kind of bundles, and bundles of that kind."""
+    """Yields the name of each kind of bundles, and bundles of that kind."""
     payload = (DATA * 16)[: (1 << 20) - 100]
     yield "plain", [bundle(payload)]
     yield "crc16", [bundle(payload, content=CRC16)]
@@ -129,7 +134,7 @@ def bundles():
 
 
 def recordings():
-    """The name of each recording, and what follows its SESS_INIT."""
+    """Yields the name of each recording, and the messages after its SESS_INIT."""
     data = DATA
     yield "long.tcpcl", one_transfer([data])
     yield "bundles.tcpcl", repeated(segment(START | END, 7, BUNDLE) + ack(START | END, 7, len(BUNDLE)) + KEEPALIVE, LIST_SIZE)

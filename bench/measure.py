@@ -1,8 +1,9 @@
 #!/usr/bin/env python3
-"""Measures `PROGRAM list`, `unpack` and `pack` against `cat`: `python3 measure.py PROGRAM FOLDER [ROUNDS]`.
+"""Measures tcpclkit against `cat`: `python3 measure.py PROGRAM FOLDER [ROUNDS]`.
 
-The times are user plus system time of the process alone, both taken in turn in each round, and what is printed is the ratio
-of their sums. The output and the report go to /dev/null. The peak memory is that of the program once it was given all of its input.
+A time is the user and system time of the process alone. In each round the program and `cat` run in
+turn. The printed ratio is that of the sums of their times. The output and the report go to
+/dev/null. The peak memory is that of the program after it was given all of its input.
 """
 
 import os
@@ -13,7 +14,7 @@ from pathlib import Path
 
 
 def seconds(words, path=None):
-    """User plus system time of a command whose standard input is the file, if one is given."""
+    """User plus system time of a command. Its standard input is the file, if one is given."""
     with open(path or os.devnull, "rb") as given, open(os.devnull, "wb") as nowhere:
         process = subprocess.Popen(words, stdin=given, stdout=nowhere, stderr=nowhere)
         _, status, usage = os.wait4(process.pid, 0)
@@ -24,7 +25,7 @@ def seconds(words, path=None):
 
 
 def peak_kilobytes(words, path):
-    """The most memory that the program held, read when it has taken its input and waits for more."""
+    """The most memory that the program held, read once it has its input and waits for more."""
     with open(os.devnull, "wb") as nowhere, open(path, "rb") as given:
         process = subprocess.Popen(words, stdin=subprocess.PIPE, stdout=nowhere, stderr=nowhere)
         while piece := given.read(1 << 20):
@@ -38,7 +39,7 @@ def peak_kilobytes(words, path):
 
 
 def ratio(words, path, rounds):
-    """How many times as long as `cat` the program takes for the file."""
+    """The time that the program takes for the file, as a multiple of the time of `cat`."""
     ours = theirs = 0.0
     for _ in range(rounds):
         ours += seconds(words, path)
@@ -46,10 +47,10 @@ def ratio(words, path, rounds):
     return ours / theirs
 
 
-# the words of pack
+# the words of `pack`
 PACK = "pack --node ipn:1.0"
 
-# the words, the file, what it has, and the most that is wanted; of memory in MB
+# the words, the file, what it has, the greatest ratio wanted, and the memory wanted in MB
 MEASURED = (
     ("list", "long.tcpcl", "segments of 64 KiB", 1.3),
     ("list", "bundles.tcpcl", "one small bundle a transfer, with acknowledgements and keepalives", 2.5),

@@ -1,8 +1,8 @@
 #!/usr/bin/env python3
 """Measures bundle scans and checks: `bench/scan.py [PROGRAM [ROUNDS]]`.
 
-Each line is a ratio of user and system times that were taken in turn in the same run, over 64 MiB each. PROGRAM is by default
-the one that `rt run` leaves in crates/scan_bench/out.
+Each line is a ratio of user and system times, over 64 MiB each. They are taken in turn in the same
+run. PROGRAM is by default the one that `rt run` leaves in crates/scan_bench/out.
 """
 
 import os
@@ -11,7 +11,8 @@ from pathlib import Path
 
 from measure import seconds
 
-# what is measured: its name, a word of the program, the word that it is compared with, and the most that is wanted
+# the name of what is measured, a word of the program, the word that it is compared with, and the
+# greatest ratio wanted
 MEASURED = (
     ("crc16 in slices, to byte by byte", "crc16-slices", "crc16-bytes", 0.25),
     ("crc32 in slices, to byte by byte", "crc32-slices", "crc32-bytes", 0.25),

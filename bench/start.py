@@ -1,8 +1,8 @@
 #!/usr/bin/env python3
-"""Measures how long the program takes from start to end on a contact header alone: `bench/start.py [PROGRAM [ROUNDS]]`.
+"""Measures a run from start to end on a contact header: `bench/start.py [PROGRAM [ROUNDS]]`.
 
-It and `true` are started in turn, in the same way, and the medians of the times are compared. PROGRAM is by default the one that
-`rt run` leaves in crates/tcpclkit/out.
+The program and `true` are started in turn, in the same way. The medians of their times are
+compared. PROGRAM is by default the one that `rt run` leaves in crates/tcpclkit/out.
 """
 
 import os

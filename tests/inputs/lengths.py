@@ -1,11 +1,14 @@
-"""Each length field of a stream, and each head of a bundle, at hostile values, with nothing, one byte, or all after it."""
+"""Each length field of a stream, and each head of a bundle, at hostile values.
+
+After it comes nothing, one byte, or all that it says.
+"""
 
 from .prefixes import LISTS, PACKS, UNPACKS
 from .spelling import (
     CONTACT, END, START, canonical, carried, head, item, laid, primary, segment, sess_init, spelled, total,
 )
 
-# The most bytes that are made for a length: above it, the input ends before them.
+# The most bytes that are made for a length. After a greater length, the input ends before them.
 MOST = 100 * 1024
 SPELLINGS = {0: 23, 1: 2**8 - 1, 2: 2**16 - 1, 4: 2**32 - 1, 8: 2**64 - 1}
 
@@ -17,7 +20,7 @@ EVERY_LENGTH = [
     b"\x05\x00\x00",
 ]
 
-# One bundle with every kind of endpoint ID and check, and one that is a fragment without checks.
+# A bundle with every kind of endpoint ID and of check, and a fragment without checks.
 CHECKED = [
     primary((4196, 2, 1), b"//node/a", None, kind=1, stamp=(700, 7)),
     canonical(192, 2, b"abc", kind=2),
@@ -30,7 +33,8 @@ FRAGMENT = [
 ]
 BUNDLES = {"bundle with checks": CHECKED, "fragment": FRAGMENT}
 
-# Heads of each major type and of each length; ill-formed ones, cut ones, indefinite lengths and the break.
+# Heads of each major type and of each length. Some are ill-formed, some are cut, some have an
+# indefinite length, and one is the break.
 KINDS = [bytes.fromhex(it) for it in [
     "00", "17", "1818", "20", "40", "60", "80", "c0", "e0", "f4", "f7", "f81f", "f820", "f90000", "fb0000000000000000",
     "1c", "1d", "1e", "1f", "3f", "5c", "5f", "7f", "9e", "9f", "bf", "df", "fc", "ff", "f8", "18", "1900", "1a000000",
@@ -38,7 +42,11 @@ KINDS = [bytes.fromhex(it) for it in [
 
 
 def tails(before, as_it_was, full):
-    """An input that is cut after a length: with nothing, one byte, the bytes that stood there, and all that it says."""
+    """Inputs that go on differently after a length.
+
+    They have nothing after it, one byte, the bytes that were there, or all bytes that it says.
+    `full` is None if the last are too many.
+    """
     inputs = [before, before + b"\x00", before + as_it_was] + ([] if full is None else [before + full])
     return dict.fromkeys(inputs)
 
@@ -60,7 +68,7 @@ def of_field(stream, field):
 
 
 def of_fields(name):
-    """The same for the fields of one name."""
+    """A stream with each length field of one name at each hostile value."""
     stream, fields = laid(EVERY_LENGTH)
     for field in fields:
         if field.length.name == name:
@@ -68,14 +76,14 @@ def of_fields(name):
 
 
 def spellings(it):
-    """A head's hostile values, each in every spelling of RFC 8949 section 3."""
+    """The hostile values of a head, each in every spelling (RFC 8949 section 3)."""
     for width, greatest in SPELLINGS.items():
         for value in values(max(it.value, it.limit), greatest):
             yield value, head(it.major, value, width)
 
 
 def resized(value):
-    """What makes content of `value` bytes from that of a head."""
+    """A function that makes `value` bytes of content from the content of a head."""
     return lambda content: (content + bytes(value))[:value]
 
 
@@ -96,7 +104,10 @@ def of_head(blocks, number, it):
 
 
 def of_kinds(blocks, number):
-    """A bundle with one head of each kind in place of its own, and with nothing and the rest after it."""
+    """A bundle with a head of each kind in place of one of its heads.
+
+    After that head comes nothing, or the rest of the bundle.
+    """
     for other in KINDS:
         changed, after = spelled(blocks, number, other)
         for content in (changed[:after], changed):
@@ -104,7 +115,7 @@ def of_kinds(blocks, number):
 
 
 def of_block(blocks, index, inputs_of):
-    """The inputs of each head of one block."""
+    """The inputs for each head of one block."""
     first = sum(len(it) for it in blocks[:index])
     for number, it in enumerate(blocks[index], first):
         yield from inputs_of(number, it)

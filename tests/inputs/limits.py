@@ -1,4 +1,7 @@
-"""Counts and sizes at their limits and one past them, and every byte where a byte is shown or judged alone."""
+"""Counts and sizes at their limits and one past them.
+
+Other groups have every byte in each place where a byte is shown or judged alone.
+"""
 
 import struct
 
@@ -21,12 +24,15 @@ def stream(*pieces):
 
 
 def items_of(count, length):
-    """That many extension items of values of that length."""
+    """`count` extension items with values of `length` bytes."""
     return [item("session", 0xFF, 0xFFFF, bytes(length)) for _ in range(count)]
 
 
 def item_counts():
-    """Lists of 63 to 66 items, in both kinds of list; and cut and overrun after 64 items, where the 65th is judged."""
+    """Lists of 63 to 66 items, in both kinds of list.
+
+    Others are cut or overrun after 64 items, where the 65th item is judged.
+    """
     for count in (63, 64, 65, 66):
         for length in (0, 1, 1019, 1020):
             yield laid([CONTACT, *sess_init(items=items_of(count, length)), b"\x04"])[0], STREAM_RUNS
@@ -40,7 +46,10 @@ def item_counts():
 
 
 def length_items():
-    """Transfers that announce their length, in items of each length and number, in the first segment and in a second."""
+    """Transfers of one segment and of two that announce their length.
+
+    The items that announce it have each length, and there are up to three of them.
+    """
     sizes = [(), (7,), (8,), (9,), (0,), (8, 8), (8, 7), (0, 8), (8, 8, 8)]
     for announced in (4, 5, 2**64 - 1):
         for lengths in sizes:
@@ -55,7 +64,10 @@ def length_items():
 
 
 def longest_lines():
-    """The longest lines: a node ID of 1,024 bytes and 64 items; and names of 1,024 and 1,025 bytes in a bundle."""
+    """The longest lines.
+
+    A node ID has 1,024 bytes, and its list 64 items. Names in a bundle have 1,024 and 1,025 bytes.
+    """
     node, number = b"\x00" * 1024, 2**64 - 1
     yield laid([CONTACT, *sess_init(node, items_of(64, 1019))])[0], STREAM_RUNS
     for lengths in ((1024, 1024), (1025, 1024), (1024, 1025)):
@@ -68,7 +80,7 @@ def longest_lines():
 
 
 def block_counts():
-    """Bundles of 63 to 66 canonical blocks, and with each other head in place of the 65th."""
+    """Bundles of 63 to 66 canonical blocks, and bundles with another head in place of the 65th."""
     for count in (63, 64, 65, 66):
         blocks = [canonical(7, number, b"", kind=number % 3) for number in range(2, count + 1)]
         yield from both(spelled([primary(None, None, None), *blocks, canonical(1, 1, b"")])[0])
@@ -86,7 +98,7 @@ def both(content):
 
 
 def block_numbers():
-    """Two extension blocks and a payload block of every pair of numbers, and types against numbers."""
+    """Extension blocks with every pair of numbers, and with every pair of a type and a number."""
     numbers, begin, end = (0, 1, 2, 3, 2**64 - 1), primary(None, None, None), canonical(1, 1, b"")
     for first in numbers:
         for second in numbers:
@@ -95,7 +107,10 @@ def block_numbers():
 
 
 def block_shapes():
-    """Primary blocks of each count with each check type and with and without the flag of a fragment; canonical ones too."""
+    """Primary and canonical blocks of each count of elements, with each check type.
+
+    The primary blocks also come with and without the flag of a fragment.
+    """
     for count in range(7, 13):
         for kind in (0, 1, 2, 3):
             for flags in (0, 1, 2, 3):
@@ -110,7 +125,10 @@ def block_shapes():
 
 
 def damaged():
-    """A bundle with each of its bytes changed in its lowest and its highest bit: packed byte by byte, and carried."""
+    """A bundle with each of its bytes changed, in its lowest and in its highest bit.
+
+    It is packed in segments of one byte, and carried in a transfer.
+    """
     whole, runs = spelled(CHECKED)[0], [("pack", {"node": "", "peer_segment": 1})]
     for at, byte in enumerate(whole):
         for bit in (0x01, 0x80):
@@ -120,7 +138,7 @@ def damaged():
 
 
 def order():
-    """Every two of the messages that the order of messages is about, and a few after them."""
+    """Every pair of messages whose order is judged, and a few messages after it."""
     whole, _ = spelled([primary((2, 1), (1, 1), None), canonical(1, 1, b"x")])
     messages = [laid(it)[0] for it in [
         sess_init(), [b"\x05\x00\x00"], [b"\x04"], segment(START | END, 0, whole), segment(START, 0, whole[:9]),
@@ -135,7 +153,10 @@ def order():
 
 
 def refused_and_cut():
-    """Messages that are refused for their order, cut at each byte; and with a head that has a fault of its own."""
+    """Messages that are refused for their order, and are cut at each byte.
+
+    Others have a head with a fault of its own.
+    """
     begun, late = CONTACT + laid(sess_init())[0], b"\x05\x00\x00"
     opened = laid(segment(START, 0, b"\x9f\x88"))[0]
     start, rest = laid(segment(START | END, 0, b"\x9f\x88", [total(2)]))[0], laid(segment(END, 1, b"\x07\x00"))[0]
@@ -150,7 +171,10 @@ def refused_and_cut():
 
 
 def every_byte():
-    """Every byte as a version, a flag, a message type, a reason, a byte of a node ID and of a dtn name."""
+    """Every byte, wherever a byte is shown or judged alone.
+
+    It is a version, flags, a message type, a reason, or a byte of a node ID or of a dtn name.
+    """
     runs = LISTS + UNPACKS[:1]
     for byte in range(256):
         it = bytes([byte])
@@ -165,7 +189,10 @@ def every_byte():
 
 
 def long_bundles():
-    """Bundles of lengths around 65,536 bytes, which is the longest chunk, and twice that; whole and cut."""
+    """Bundles of about 65,536 bytes, the longest chunk, and of about twice that.
+
+    They are whole, cut, or have a wrong last byte.
+    """
     for length in (65535, 65536, 65537, 131072, 131073):
         short = len(spelled([primary(None, None, None), canonical(1, 1, b"")], widths=lambda value: 8)[0])
         content = spelled([primary(None, None, None), canonical(1, 1, bytes(length - short))], widths=lambda value: 8)[0]
@@ -175,7 +202,10 @@ def long_bundles():
 
 
 def cut_chunks():
-    """Two bundles that are cut, or that end at a fault, at every byte, in chunks of each length and with each hold."""
+    """Bundles that are cut, or end at a fault, at every byte.
+
+    They are packed in chunks of each length and with each hold.
+    """
     whole, _ = spelled([primary((2, 1), (1, 1), None), canonical(1, 1, b"hello")])
     sizes, holds = (1, 10, 17, 34), (0, 10, 20, 33, 34)
     runs = [("pack", {"node": "", "peer_segment": size, "announce": hold}) for size in sizes for hold in holds]

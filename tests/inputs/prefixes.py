@@ -20,7 +20,7 @@ PACKS = [("pack", it) for it in [
 
 
 def prefixes(content):
-    """Every prefix of some bytes, all of them included."""
+    """Every prefix of some bytes, also all of them."""
     return [content[:length] for length in range(len(content) + 1)]
 
 
@@ -33,7 +33,10 @@ def of_file(name):
 
 
 def bundles():
-    """The bundles of another encoder, by their names; the long one, which is written with a repetition, is left out."""
+    """The bundles of another encoder, with their names.
+
+    The long bundle is left out, because its spelling has a repetition.
+    """
     with open(f"{EXAMPLES}/bundles/bundles.txt", encoding="utf-8") as it:
         lines = it.read().splitlines()
     for said, spelling in zip(lines[0::3], lines[1::3]):
@@ -42,7 +45,7 @@ def bundles():
 
 
 def of_bundle(bundle):
-    """The prefixes of a bundle: packed, and as the data of a transfer."""
+    """The prefixes of a bundle, packed and as the data of a transfer."""
     for prefix in prefixes(bundle):
         yield prefix, PACKS
         yield carried(prefix), UNPACKS[::2]

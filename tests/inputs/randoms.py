@@ -1,4 +1,7 @@
-"""Random streams and bundles: well formed, with heads and fields changed, and with bytes changed, dropped and repeated."""
+"""Random streams and bundles.
+
+Some are well formed. Others have heads and fields changed, or bytes changed, dropped and repeated.
+"""
 
 import random
 import struct
@@ -10,23 +13,23 @@ NUMBERS = [0, 1, 2, 3, 5, 23, 24, 255, 256, 1024, 65535, 65536, 2**32 - 1, 2**32
 
 
 def any_bytes(rng, length):
-    """That many bytes."""
+    """`length` random bytes."""
     return bytes(rng.choices(range(256), k=length))
 
 
 def some_bytes(rng, most):
-    """At most that many bytes."""
+    """At most `most` random bytes."""
     return any_bytes(rng, rng.randint(0, most))
 
 
 def endpoint(rng):
-    """An endpoint ID of each form."""
+    """A random endpoint ID of any form."""
     numbers = [rng.choice(NUMBERS) for _ in range(rng.choice((2, 2, 3)))]
     return rng.choice([None, some_bytes(rng, 20), numbers, numbers])
 
 
 def width_of(rng):
-    """Spells heads as short as they go, or each in some spelling that holds its value."""
+    """A choice of widths of heads: always the shortest one, or any that holds the value."""
     if rng.random() < 0.5:
         return lambda value: None
     return lambda value: rng.choice([it for it in (0, 1, 2, 4, 8) if value < (1 << 8 * it if it else 24)])
@@ -47,7 +50,7 @@ def blocks_of(rng):
 
 
 def bundle(rng):
-    """A bundle, in some cases with one head that is another."""
+    """A bundle, in some cases with another head in place of one."""
     blocks, widths = blocks_of(rng), width_of(rng)
     if rng.random() < 0.7:
         return spelled(blocks, widths=widths)[0]
@@ -58,7 +61,7 @@ def bundle(rng):
 
 
 def damage(rng, content):
-    """The bytes with a few of them changed, dropped, repeated or put in, or cut."""
+    """The bytes with a few of them changed, dropped, repeated or added, or with the end cut off."""
     for _ in range(rng.choice((1, 1, 2, 4))):
         at, end = sorted((rng.randint(0, len(content)), rng.randint(0, len(content))))
         end = min(end, at + rng.choice((1, 2, 9, 400)))
@@ -74,13 +77,13 @@ def damage(rng, content):
 
 
 def bundles(rng):
-    """Bundles one after another, damaged in some cases."""
+    """Bundles, one after another, and damaged in some cases."""
     content = b"".join(bundle(rng) for _ in range(rng.choice((1, 1, 2, 3))))
     return damage(rng, content) if rng.random() < 0.4 else content
 
 
 def items(rng, length):
-    """Extension items, in some cases with a Transfer Length item or more."""
+    """Extension items, in some cases with one or more Transfer Length items."""
     listed = [total(it) for it in rng.choice(5 * [[], [length]] + [[length + 1], [length, length], [2**64 - 1]])]
     for _ in range(rng.choice((0, 0, 0, 1, 3))):
         listed.append(item("any", rng.choice((0, 1, 255)), rng.choice((0, 2, 3, 4, 5, 0xFFFF, 1)), some_bytes(rng, 12)))
@@ -98,7 +101,7 @@ def other_message(rng):
 
 
 def transfer(rng, number):
-    """The messages of a transfer, in segments of random lengths with other messages between; it may lack its end."""
+    """The messages of a transfer, in segments of random lengths with other messages between."""
     data = bundle(rng) if rng.random() < 0.8 else damage(rng, bundle(rng))
     cuts = sorted(rng.randint(0, len(data)) for _ in range(rng.choice((0, 0, 1, 2, 5))))
     chunks = [data[begin:end] for begin, end in zip([0] + cuts, cuts + [len(data)])]
@@ -110,7 +113,10 @@ def transfer(rng, number):
 
 
 def stream(rng):
-    """A stream of a few transfers, with messages out of order in some cases, and damaged in some."""
+    """A stream of a few transfers.
+
+    In some cases a transfer lacks its end, messages are out of order, or bytes are damaged.
+    """
     node = rng.choice([b"ipn:1.0", some_bytes(rng, 40)])
     messages = [sess_init(node, items(rng, 9))] if rng.random() < 0.95 else []
     for number in range(rng.choice((0, 1, 2, 3, 6))):
@@ -150,12 +156,12 @@ def run_of_bundles(rng):
 
 
 def group(seed, runs, make):
-    """Inputs of some seed, each made of its own random numbers."""
+    """Inputs of a seed. Each is made from random numbers of its own."""
     for number in range(runs // 3):
         yield make(random.Random(f"{seed} {number}"))
 
 
 def groups(seed, runs):
-    """About that many runs in all."""
+    """The groups of this file, with about `runs` runs in all."""
     yield f"random {seed}: streams", lambda: group(seed, runs // 2, run_of_stream)
     yield f"random {seed}: bundles", lambda: group(seed, runs // 2, run_of_bundles)

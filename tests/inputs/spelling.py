@@ -1,7 +1,7 @@
-"""Messages and bundles as bytes, and where their lengths stand.
+"""Messages and bundles as bytes, and the offsets of their lengths.
 
-A stream is a list of pieces: bytes, or a `Length` with the pieces whose bytes it counts. A bundle is a list of blocks, and a
-block a list of `Head`s.
+A stream is a list of pieces. A piece is bytes, or a `Length` with the pieces whose bytes it counts.
+A bundle is a list of blocks, and a block is a list of `Head`s.
 """
 
 import struct
@@ -14,7 +14,10 @@ END, START = 0x01, 0x02
 
 
 class Length(NamedTuple):
-    """A length field: its name, its bytes, the greatest value that is good there, and what makes content of a length."""
+    """A length field: its name, its width in bytes, and the greatest value that is good there.
+
+    `fill` makes content of a length, and `inside` has the pieces that the field counts.
+    """
     name: str
     width: int
     limit: int
@@ -43,7 +46,10 @@ def laid(pieces):
 
 
 def item_bytes(length):
-    """One extension item of that many bytes in all, as far as one goes; below five bytes it is a cut one."""
+    """One extension item of `length` bytes in all, or of the most bytes that an item can have.
+
+    Below five bytes it is a cut item.
+    """
     if length < 5:
         return bytes(length)
     value = min(length - 5, 0xFFFF)
@@ -56,7 +62,7 @@ def item(name, flags, kind, value):
 
 
 def listed(name, items):
-    """An extension list of items of pieces."""
+    """An extension list of items, which are made of pieces."""
     return Length(f"{name} list", 4, 65536, item_bytes, [piece for it in items for piece in it])
 
 
@@ -79,14 +85,16 @@ def total(length):
 
 
 def carried(data):
-    """The bytes of a stream that carries some bytes as its one transfer."""
+    """The bytes of a stream that carries `data` as its only transfer."""
     return laid([CONTACT, *sess_init(), *segment(START | END, 0, data)])[0]
 
 
 class Head(NamedTuple):
-    """The head of a data item: major type and value, the greatest value that is good there, and what follows it.
+    """The head of a data item: its major type, its value, and the greatest good value there.
 
-    `check` is the check type of a check field, whose content is computed."""
+    `content` follows the head. `check` is the check type of a check field, whose content is
+    computed.
+    """
     major: int
     value: int
     limit: int = 0
@@ -120,7 +128,10 @@ def check_field(kind):
 
 
 def endpoint(it):
-    """An endpoint ID: None for dtn:none, bytes for a dtn name, numbers for an ipn one (RFC 9171 section 4.2.5.1)."""
+    """The heads of an endpoint ID (RFC 9171 section 4.2.5.1).
+
+    `it` is None for dtn:none, bytes for a dtn name, and numbers for an ipn endpoint ID.
+    """
     if it is None:
         return [array(2), unsigned(1, 2), unsigned(0)]
     if isinstance(it, bytes):
@@ -143,7 +154,7 @@ def canonical(block_type, number, content, kind=0):
 
 
 def head(major, value, width=None):
-    """A head with an argument of `width` bytes, or as short as it goes (RFC 8949 section 3)."""
+    """A head with an argument of `width` bytes, or in its shortest form (RFC 8949 section 3)."""
     if width is None:
         width = 0 if value < 24 else next(it for it in (1, 2, 4, 8) if value < 1 << 8 * it)
     if width == 0:
@@ -154,7 +165,9 @@ def head(major, value, width=None):
 def spelled(blocks, changed=None, other=b"", content=None, widths=lambda value: None):
     """The bundle as bytes, and the offset after its head number `changed`.
 
-    That head is spelled `other`, and `content` follows it, if it is given. Check fields fit their blocks all the same."""
+    That head is spelled `other`. If `content` is given, it makes the bytes that follow the head.
+    Check fields fit their blocks all the same.
+    """
     bundle, after, number = b"\x9f", 0, 0
     for block in blocks:
         start = len(bundle)

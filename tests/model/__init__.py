@@ -1,7 +1,8 @@
-"""A model of `tcpclkit`: what docs/FORMATS.md, and the RFCs it names, say of the three tools, in plain python.
+"""A model of `tcpclkit` in plain python, by docs/FORMATS.md and the RFCs that it names.
 
-It is written from those documents alone, and shares no code and no definition with the program. It reads whole byte strings,
-nothing piece by piece. `listing`, `unpacking` and `packing` of `tools` give for an input and options (output, report, status).
+It is written from those documents alone, and shares no code and no definition with the program. It
+reads whole byte strings, and nothing piece by piece. `listing`, `unpacking` and `packing` of
+`tools` take an input and options, and return (output, report, status).
 
     wire    the reading of a recorded stream
     bundle  the judgement of a bundle

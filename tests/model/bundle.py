@@ -10,7 +10,10 @@ MAX_BLOCKS = 64
 
 
 class Identity(NamedTuple):
-    """What a line says of a bundle. An endpoint ID is None, the bytes of a dtn name, or a tuple of ipn numbers."""
+    """The values by which a line names a bundle.
+
+    An endpoint ID is None, the bytes of a dtn name, or a tuple of ipn numbers.
+    """
     source: object
     time: int
     sequence: int
@@ -20,10 +23,12 @@ class Identity(NamedTuple):
 
 
 class Judgement(NamedTuple):
-    """What some bytes are: a fault (code, place), or a bundle at their beginning, of `length` bytes.
+    """The judgement of some bytes: a fault (code, offset), or a bundle at their beginning.
 
-    `length` is at a fault the number of the bytes before the one that shows it: of B1, of all bytes.
-    `payload` is where the payload's data begins and how long it is to be, where its head was good."""
+    `length` is the length of the bundle. With a fault it is the number of bytes before the one that
+    shows the fault, and for B1 the number of all bytes. `payload` is the offset of the payload's
+    data and its length by its head, if that head was good.
+    """
     fault: Optional[tuple]
     identity: Optional[Identity]
     length: int
@@ -31,30 +36,31 @@ class Judgement(NamedTuple):
 
 
 class Fault(Exception):
-    """A code, the place of the fault, and the number of the bytes before the one that shows it."""
+    """A code, the offset of the fault, and the number of bytes before the one that shows it."""
 
 
 class Scan:
-    """The bytes of a bundle, the number of those that were judged, and the place of the last head."""
+    """The bytes of a bundle, the number of bytes judged, and the offset of the last head."""
 
     def __init__(self, content):
         self.content, self.at, self.place, self.payload = content, 0, 0, None
 
     def fault(self, code):
-        """A fault of the last head, which the last byte judged shows."""
+        """Raises a fault of the last head. The last byte judged shows the fault."""
         raise Fault(code, self.place, self.at - 1)
 
     def take(self, count):
-        """The next bytes, if that many are there."""
+        """The next `count` bytes. It is fault B1 if fewer are there."""
         if count > len(self.content) - self.at:
             raise Fault("B1", len(self.content), len(self.content))
         self.at += count
         return self.content[self.at - count:self.at]
 
     def head(self):
-        """The next head as (major type, value), the value of an indefinite length and of the break being None.
+        """The next head (RFC 8949 sections 3 and 3.3) as (major type, value).
 
-        RFC 8949 sections 3 and 3.3."""
+        The value of an indefinite length and of the break is None.
+        """
         self.place = self.at
         first = self.take(1)[0]
         major, information = first >> 5, first & 0x1F
@@ -81,7 +87,7 @@ class Scan:
         return self.counted(self.head(), counts)
 
     def counted(self, head, counts):
-        """The same of a head that was read."""
+        """The count of an array whose head was read, which is one of `counts`."""
         major, value = head
         if major != ARRAY or value is None:
             self.fault("B5")
@@ -97,7 +103,10 @@ class Scan:
         return value
 
     def check_type(self, count, without):
-        """A check type (section 4.2.1), in a block of `count` elements that has `without` where it has no check field."""
+        """A check type (section 4.2.1), in a block of `count` elements.
+
+        A block without a check field has `without` elements.
+        """
         kind = self.unsigned()
         if kind > 2:
             self.fault("B8")
@@ -159,7 +168,10 @@ class Scan:
         return Identity(source, time, sequence, destination, 0, fragment)
 
     def number(self, kind, earlier):
-        """The number of a canonical block of type `kind`, after blocks of the numbers `earlier` (section 4.1)."""
+        """The number of a canonical block of type `kind` (section 4.1).
+
+        `earlier` has the numbers of the blocks before it.
+        """
         number = self.unsigned()
         if number == 0 or (number == 1) != (kind == 1):
             self.fault("B14")
@@ -168,7 +180,7 @@ class Scan:
         return number
 
     def canonical(self, start, count, earlier):
-        """A canonical block after its first head (section 4.3.2): its number."""
+        """Reads a canonical block after its first head (section 4.3.2), and returns its number."""
         kind = self.unsigned()
         number = self.number(kind, earlier)
         self.unsigned()
@@ -181,7 +193,10 @@ class Scan:
         return number
 
     def canonicals(self):
-        """The canonical blocks, of which the last, and no other, is the payload block, and the break (section 4.1)."""
+        """Reads the canonical blocks and the break (section 4.1).
+
+        The last block is the payload block, and no other block is.
+        """
         numbers = []
         while 1 not in numbers:
             start, head = self.at, self.head()
@@ -215,7 +230,7 @@ def first(content):
 
 
 def whole(content):
-    """The judgement of some bytes that are to be one bundle: a byte after it is B2."""
+    """The judgement of some bytes that are to be one bundle. A byte after the bundle is B2."""
     judgement = first(content)
     if judgement.fault is None and judgement.length < len(content):
         return judgement._replace(fault=("B2", judgement.length), identity=None)

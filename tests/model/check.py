@@ -1,11 +1,12 @@
 """The two check values of bundles (RFC 9171 section 4.2.1): "Check fields".
 
-Both registers go right, least significant bit first, so each polynomial stands with its bits in reverse.
+Both registers shift to the right, the least significant bit first. So the bits of each polynomial
+are in reverse order.
 """
 
 
 def table(polynomial):
-    """What eight steps of the register make of each byte."""
+    """The register after eight steps, for each byte that it may begin with."""
     register = list(range(256))
     for _ in range(8):
         register = [value >> 1 ^ (polynomial if value & 1 else 0) for value in register]
@@ -13,7 +14,7 @@ def table(polynomial):
 
 
 def value(polynomial, ones, content):
-    """The check value of some bytes, whose register starts as all ones and is inverted at the end."""
+    """The check value of some bytes. The register starts as all ones and is inverted at the end."""
     steps, register = TABLES[polynomial], ones
     for byte in content:
         register = register >> 8 ^ steps[(register ^ byte) & 0xFF]
@@ -23,7 +24,7 @@ def value(polynomial, ones, content):
 X25, CASTAGNOLI = 0x8408, 0x82F63B78
 TABLES = {X25: table(X25), CASTAGNOLI: table(CASTAGNOLI)}
 
-# The bytes of a check field by check type.
+# The number of bytes in the content of a check field, by check type.
 WIDTH = {1: 2, 2: 4}
 
 

@@ -1,13 +1,16 @@
-"""The words and lines of the report and of `list`: "Report lines", "Fault lines", "Unpacking" and "Packing"."""
+"""The words and lines of `list` and of the report.
+
+The sections of docs/FORMATS.md are "Report lines", "Fault lines", "Unpacking" and "Packing".
+"""
 
 from . import wire
 
-# RFC 9174 sections 5.2.4, 6.1 and 5.1.2
+# The names of reasons, by their codes in RFC 9174 sections 5.2.4, 6.1 and 5.1.2
 REFUSE = ["unknown", "completed", "no-resources", "retransmit", "not-acceptable", "extension-failure", "session-terminating"]
 TERM = ["unknown", "idle-timeout", "version-mismatch", "busy", "contact-failure", "resource-exhaustion"]
 REJECT = ["?", "message-type-unknown", "message-unsupported", "message-unexpected"]
 
-# The faults of bundles, and the one of `pack`.
+# The texts of the faults of bundles, and of the one fault of `pack`.
 FAULTS = {
     "B1": "input ends inside a bundle",
     "B3": "not a bundle",
@@ -40,7 +43,7 @@ def reason(names, code):
 
 
 def items(listed):
-    """ITEMS: how many extension items there are, and each."""
+    """ITEMS: the number of extension items, and then each item."""
     return f"items={len(listed)}" + "".join(f" item={it.flags:02x}:{it.kind:04x}:{len(it.value)}" for it in listed)
 
 
@@ -71,7 +74,7 @@ def endpoint(it):
 
 
 def identity(it):
-    """IDENTITY: what a line says of a bundle."""
+    """IDENTITY: the words of a line that name a bundle."""
     text = f"source={endpoint(it.source)} time={it.time} sequence={it.sequence}"
     text += f" destination={endpoint(it.destination)} payload={it.payload}"
     return text + (f" fragment={it.fragment[0]}/{it.fragment[1]}" if it.fragment else "")

@@ -1,4 +1,4 @@
-"""The three tools: each gives for an input and its options (output, report, status).
+"""The three tools. Each takes an input and its options, and returns (output, report, status).
 
 Options have the names and defaults of docs/MANUAL.md, with `_` for `-`.
 """
@@ -21,7 +21,10 @@ def listing(stream):
 
 
 def refusal(before, it):
-    """Why a message is refused after those before it, if it is: the first reason of "Transfers" that holds."""
+    """The reason why a message is refused after those before it, or None.
+
+    It is the first reason of "Transfers" that holds.
+    """
     segments = [each for each in before if isinstance(each, wire.Segment)]
     last_open = segments[-1].id if segments and not segments[-1].flags & wire.END else None
     has_begun = any(isinstance(each, wire.SessInit) for each in before)
@@ -39,7 +42,10 @@ def refusal(before, it):
 
 
 def accepted(read):
-    """The messages up to the first that is refused, and the fault that ends the stream, if there is one."""
+    """The messages before the first that is refused, and the fault that ends the stream.
+
+    The fault is None if there is none.
+    """
     messages = [it for _, it in read.messages]
     for index, (at, it) in enumerate(read.messages):
         why = refusal(messages[:index], it)
@@ -49,7 +55,7 @@ def accepted(read):
 
 
 def transfers_of(messages):
-    """The segments of each transfer: one with START, and those after it up to the next."""
+    """The segments of each transfer: one with START, and those after it up to the next START."""
     transfers = []
     for it in messages:
         if isinstance(it, wire.Segment) and it.flags & wire.START:
@@ -65,7 +71,10 @@ def is_closed(segments):
 
 
 def length_differs(items, length):
-    """What the Transfer Length items of a transfer (section 5.2.5.1) say against its length, if they do."""
+    """The judgement of a transfer whose Transfer Length items (section 5.2.5.1) are bad, or None.
+
+    They are malformed, or announce another length than `length`.
+    """
     announced = [it.value for it in items if it.kind == TRANSFER_LENGTH]
     if len(announced) > 1 or any(len(value) != 8 for value in announced):
         return "bad-length-item"
@@ -74,7 +83,7 @@ def length_differs(items, length):
 
 
 def judgement_of(segments, data, judged):
-    """JUDGEMENT: the first that holds."""
+    """JUDGEMENT: the first judgement that holds."""
     if not is_closed(segments):
         return "abandoned"
     differs = length_differs(segments[0].items, len(data))
@@ -112,13 +121,16 @@ def unpacking(stream, transfer=None, payload=False):
 
 
 def session_head(node, keepalive, segment_mru, transfer_mru):
-    """A contact header without flags and a SESS_INIT of no items: "Written heads"."""
+    """A contact header without flags and a SESS_INIT without items: "Written heads"."""
     numbers = struct.pack(">BHQQH", 0x07, keepalive, segment_mru, transfer_mru, len(node))
     return b"dtn!\x04\x00" + numbers + node + bytes(4)
 
 
 def segment(flags, number, data, announced):
-    """XFER_SEGMENT with its data; with START its list is empty or announces a length: "Written heads"."""
+    """XFER_SEGMENT with its data: "Written heads".
+
+    With START its extension list is empty, or announces a length.
+    """
     listed = b""
     if flags & wire.START:
         item = b"" if announced is None else struct.pack(">BHHQ", 0x00, TRANSFER_LENGTH, 8, announced)
@@ -127,7 +139,10 @@ def segment(flags, number, data, announced):
 
 
 def chunks_of(content, size, hold, is_whole):
-    """The chunks of a bundle, or of the accepted bytes of one that has a fault: those that are full and past the hold."""
+    """The chunks of a bundle, or of the accepted bytes of a bundle that has a fault.
+
+    With a fault there are only full chunks, and none if at most `hold` bytes were accepted.
+    """
     if is_whole:
         return [content[at:at + size] for at in range(0, len(content), size)]
     if len(content) <= hold:
@@ -136,7 +151,10 @@ def chunks_of(content, size, hold, is_whole):
 
 
 def segments_of(number, chunks, announced, is_whole):
-    """The segments that carry the chunks of a bundle: START on the first, and END on the last of a whole bundle."""
+    """The segments that carry the chunks of a bundle.
+
+    The first has START, and the last of a whole bundle has END.
+    """
     sent = b""
     for index, chunk in enumerate(chunks):
         flags = (wire.START if index == 0 else 0) | (wire.END if is_whole and index + 1 == len(chunks) else 0)
@@ -145,7 +163,10 @@ def segments_of(number, chunks, announced, is_whole):
 
 
 def limited(judged, most):
-    """The judgement of a bundle for a peer that takes at most `most` bytes: the byte after those is one too many."""
+    """The judgement of a bundle for a peer that takes at most `most` bytes.
+
+    The byte after these is one too many.
+    """
     needs = judged.length if judged.fault is None or judged.fault[0] == "B1" else judged.length + 1
     if needs > most:
         return bundle.Judgement(("P1", most), None, most, None)

@@ -1,4 +1,7 @@
-"""The reading of a recorded stream (RFC 9174 sections 3.2 and 4): "The recorded stream" to "The order of judgement"."""
+"""The reading of a recorded stream (RFC 9174 sections 3.2 and 4).
+
+The sections of docs/FORMATS.md are those from "The recorded stream" to "The order of judgement".
+"""
 
 from typing import NamedTuple, Optional
 
@@ -19,7 +22,10 @@ class Item(NamedTuple):
 
 
 class Segment(NamedTuple):
-    """XFER_SEGMENT (section 5.2.2). `items` is None without START; `data` is shorter than `length` where the stream is cut."""
+    """XFER_SEGMENT (section 5.2.2).
+
+    `items` is None without START. `data` is shorter than `length` if the stream is cut.
+    """
     flags: int
     id: int
     items: Optional[list]
@@ -66,9 +72,11 @@ class SessInit(NamedTuple):
 
 
 class Reading(NamedTuple):
-    """The contact header's flags, the messages with their offsets, and the fault (offset, text) if there is one.
+    """The contact header's flags, the messages with their offsets, and the fault.
 
-    Where the contact header has the fault, the flags are None. The last message may be a segment whose data is cut."""
+    The fault is (offset, text), or None if there is none. If the contact header has the fault, the
+    flags are None. The last message may be a segment whose data is cut.
+    """
     contact: Optional[int]
     messages: list
     fault: Optional[tuple]
@@ -85,7 +93,7 @@ class Cursor:
         self.stream, self.at = stream, 0
 
     def left(self):
-        """How many bytes follow."""
+        """The number of bytes that follow."""
         return len(self.stream) - self.at
 
     def take(self, count):
@@ -111,7 +119,10 @@ def contact(cursor):
 
 
 def extension_list(cursor):
-    """The items of an extension list (sections 4.8 and 5.2.5): the list's length, then the six steps for each item."""
+    """The items of an extension list (sections 4.8 and 5.2.5).
+
+    The list's length is judged first, and then each item by the six steps of "Extension lists".
+    """
     left = cursor.number(4)
     if left > MAX_LIST:
         raise Fault(f"extension list too long: {left}")
@@ -131,7 +142,7 @@ def extension_list(cursor):
 
 
 def segment(cursor):
-    """XFER_SEGMENT after its type byte (section 5.2.2). Its data is never a fault here: it may be cut."""
+    """XFER_SEGMENT after its type byte (section 5.2.2). Data that is cut is no fault here."""
     flags, transfer = cursor.number(1), cursor.number(8)
     items = extension_list(cursor) if flags & START else None
     length = cursor.number(8)
@@ -174,7 +185,7 @@ def is_cut(it):
 
 
 def reading(stream):
-    """What a stream holds, to its end or its first fault."""
+    """The reading of a stream, to its end or its first fault."""
     cursor, flags, messages, at = Cursor(stream), None, [], 0
     try:
         flags = contact(cursor)

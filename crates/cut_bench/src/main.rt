@@ -1,5 +1,7 @@
-//! 64 MiB in pieces of 4,096 bytes, sixteen times over: `cut` pushes them into a cutter with segments of 65,536 bytes and
-//! takes the chunks, `copy` copies them into a buffer of that size. Compare the user times of the two.
+//! 64 MiB in pieces of 4,096 bytes, cut and copied sixteen times, for a comparison of user times.
+//!
+//! - `cut` pushes the pieces into a cutter with segments of 65,536 bytes, and takes the chunks.
+//! - `copy` copies the pieces into a buffer of 65,536 bytes.
 #![tactic(auto)]
 
 ghost use Rattle.std.specs.Prelude.{◌≡◌, length};
@@ -8,23 +10,23 @@ use link_transfer::Cutter;
 use std::alloc::{AllocError, Global};
 use std::{env, io};
 
-/// How many bytes a piece has.
+/// The number of bytes of a piece.
 const PIECE: usize = 4096;
 
-/// How many pieces a segment has.
+/// The number of pieces of a segment.
 const PIECES: usize = 16;
 
-/// How many segments there are: those of 64 MiB, sixteen times.
+/// The number of segments: those of 64 MiB, sixteen times.
 const SEGMENTS: u32 = 16_384;
 
-/// How many bytes a chunk has, and one of them, which its first names.
+/// The sum of a chunk's length and of one of its bytes, whose offset depends on the first byte.
 fn sample(chunk: &[u8]) -> u64 {
     let first = chunk.first().copied().unwrap_or(0);
     let other = chunk.get(usize::from(first) * 256).copied().unwrap_or(0);
     (chunk.len() as u64).wrapping_add(u64::from(other))
 }
 
-/// A piece whose bytes the compiler does not know: they depend on a word of the command.
+/// A piece whose bytes the compiler does not know, since they depend on a word of the command line.
 #[inline(never)]
 fn first_piece(word: &str) -> [u8; PIECE] {
     let mut value = (word.len() % 256) as u8;
@@ -36,7 +38,7 @@ fn first_piece(word: &str) -> [u8; PIECE] {
     piece
 }
 
-/// The next piece: no two in a row are equal, so that each has to be copied.
+/// Makes the next piece. No two pieces in a row are equal, so each has to be copied.
 fn next(piece: &mut [u8; PIECE]) {
     piece[0] = piece[0].wrapping_add(1);
 }
@@ -68,7 +70,7 @@ fn copy(alloc: Global, piece: &mut [u8; PIECE]) -> Result<u64, AllocError> {
     Ok(answer)
 }
 
-/// Copies pieces into a segment.
+/// Fills a segment with copies of pieces.
 fn fill(segment: &mut [u8], piece: &mut [u8; PIECE])
     requires { length segment.old ≡ 65536 }
 {

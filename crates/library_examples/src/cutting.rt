@@ -1,4 +1,4 @@
-//! A bundle, written as the segments of a transfer.
+//! Writes a bundle as the segments of a transfer.
 
 ghost use Rattle.std.specs.Prelude.{◌≡◌, false, OnOk};
 ghost use Rattle.link_transfer.specs.Cutter.{cut_waits};
@@ -21,7 +21,9 @@ fn put_segment(stream: &mut Vec<u8>, id: u64, cut: Cut, chunk: &[u8]) -> Result<
     stream.extend_from_slice(chunk)
 }
 
-/// Appends a bundle, as the segments of the transfer with this ID.
+/// Appends a bundle as the segments of the transfer with this ID.
+///
+/// An error is a refused request for memory.
 pub fn put_transfer(
     stream: &mut Vec<u8>,
     cutter: &mut Cutter,

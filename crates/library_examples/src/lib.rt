@@ -1,4 +1,4 @@
-//! How the libraries are called: the functions that docs/LIBRARIES.md shows, word for word.
+//! Examples of how the libraries are called, which docs/LIBRARIES.md shows word for word.
 #![tactic(auto)]
 
 pub mod cutting;

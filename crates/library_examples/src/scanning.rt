@@ -1,26 +1,31 @@
-//! Bundles that stand one after another, scanned in pieces of any size.
+//! Scans bundles, one after another, in pieces of any size.
 
 use link_bundle::{BundleFault, BundleScan, State};
 use link_cbor::Piecewise;
 
-/// What is found in a piece.
+/// The result of scanning a piece.
 #[derive(Clone, Copy, Debug, PartialEq, Eq)]
 pub enum Found {
-    /// The bundle goes on. Of its payload, if it is reached: its offset in the bundle, and how many bytes have come.
+    /// The bundle goes on. If its payload was reached: the payload's offset in the bundle, and the
+    /// number of its bytes seen.
     Part(Option<(u64, u64)>),
-    /// A bundle ended: its sequence number, its payload's length, and how many bytes of the piece are its own.
+    /// A bundle ended: its sequence number, the length of its payload, and the number of bytes of
+    /// the piece that belong to it.
     Bundle {
         sequence: u64,
         payload: u64,
         taken: usize,
     },
-    /// No bundle: why, and the offset in the bundle.
+    /// The bytes are no bundle: the first fault, and its offset in the bundle.
     Fault(BundleFault, u64),
     /// The bundle so far and the piece have 2^63 bytes or more, which no scan takes.
     TooLong,
 }
 
-/// Scans the next piece. After a bundle or a fault the scan is new; what follows a bundle in the piece is for the next call.
+/// Scans the next piece.
+///
+/// After a bundle or a fault the scan is new. The bytes of the piece that follow a bundle are for
+/// the next call.
 pub fn scan_piece(scan: &mut BundleScan, piece: &[u8]) -> Found {
     if scan.count().saturating_add(piece.len() as u64) >= 1 << 63 {
         return Found::TooLong;

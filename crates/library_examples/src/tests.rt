@@ -1,4 +1,4 @@
-//! The examples on worked bytes: those of examples/README.md, and rows of docs/FORMATS.md.
+//! Tests of the examples on worked bytes: those of examples/README.md, and rows of docs/FORMATS.md.
 
 use crate::cutting::put_transfer;
 use crate::reading::copy_data;
@@ -9,24 +9,24 @@ use link_wire::{Stop, WireFault};
 use std::io::Read;
 use std::test::Fail;
 
-/// The bundle of 34 bytes.
+/// A bundle of 34 bytes.
 const BUNDLE: &[u8] =
     b"\x9f\x88\x07\x00\x00\x82\x02\x82\x02\x01\x82\x02\x82\x01\x01\x82\x01\x00\x82\x00\x00\x00\x85\x01\x01\x00\x00\x45hello\xff";
 
-/// The bundle of 37 bytes, with a check.
+/// The same bundle with a check, which has 37 bytes.
 const CHECKED: &[u8] =
     b"\x9f\x88\x07\x00\x00\x82\x02\x82\x02\x01\x82\x02\x82\x01\x01\x82\x01\x00\x82\x00\x00\x00\x86\x01\x01\x00\x01\x45hello\x42\x4b\xf3\xff";
 
-/// Pieces given to one scan, one after another, and what is found in each.
+/// The pieces that one scan is fed, one after another, and the result of each.
 const PIECES: [(&[u8], Found); 8] = [
     // A primary block, with the sequence number 7.
     (
         b"\x9f\x88\x07\x00\x00\x82\x02\x82\x02\x01\x82\x02\x82\x01\x01\x82\x01\x00\x82\x00\x07\x00",
         Found::Part(None),
     ),
-    // A payload block of 5 bytes, of which 2 have come.
+    // A payload block, and the first 2 of the 5 bytes of its payload.
     (b"\x85\x01\x01\x00\x00\x45he", Found::Part(Some((28, 2)))),
-    // The rest of it, the break, and the first byte of another bundle.
+    // The rest of the payload, the break, and the first byte of another bundle.
     (
         b"llo\xff\x9f",
         Found::Bundle {
@@ -46,7 +46,7 @@ const PIECES: [(&[u8], Found); 8] = [
             taken: 37,
         },
     ),
-    // The check of `hello`, and other data.
+    // A bundle with the check of `hello`, and another payload.
     (
         b"\x9f\x88\x07\x00\x00\x82\x02\x82\x02\x01\x82\x02\x82\x01\x01\x82\x01\x00\x82\x00\x00\x00\x86\x01\x01\x00\x01\x45iello\x42\x4b\xf3\xff",
         Found::Fault(BundleFault::CheckDiffers, 33),
@@ -60,11 +60,11 @@ fn bundles_in_pieces(rt: HostRuntime) {
     for (piece, found) in PIECES {
         assert_eq!(rt; scan_piece(&mut scan, piece), found);
     }
-    // Here the input ends, two bytes after the last bundle.
+    // The input ends here, two bytes after the beginning of a bundle.
     assert_eq!(rt; scan.finish(), Err((BundleFault::Cut, 2)));
 }
 
-/// A stream, what is returned of it, and how many bytes of the bundle are written.
+/// A stream, what `copy_data` returns for it, and the number of bytes of the bundle that it writes.
 type Recorded = (&'static [u8], Result<u64, Stop>, usize);
 
 const RECORDED: [Recorded; 5] = [
@@ -74,7 +74,7 @@ const RECORDED: [Recorded; 5] = [
         Ok(1),
         34,
     ),
-    // The same, cut after 70 bytes: the segment at 38 has 10 of its bytes.
+    // The same, cut after 70 bytes: the segment at 38 has 10 bytes of its data.
     (
         b"dtn!\x04\x00\x07\x00\x3c\x00\x00\x00\x00\x00\x01\x00\x00\x00\x00\x00\x00\x00\x10\x00\x00\x00\x07ipn:1.0\x00\x00\x00\x00\x01\x03\x00\x00\x00\x00\x00\x00\x00\x00\x00\x00\x00\x00\x00\x00\x00\x00\x00\x00\x00\x22\x9f\x88\x07\x00\x00\x82\x02\x82\x02\x01",
         Err(Stop::Wire(38, WireFault::Truncated)),
@@ -108,9 +108,11 @@ fn sessions_in_two_pieces(rt: HostRuntime) -> Result<(), Fail> {
     Ok(())
 }
 
-/// A bundle, and its segments of at most 20 bytes, where the length of one of at most 34 bytes is announced.
+/// A bundle, and its segments of at most 20 bytes.
+///
+/// The length of a bundle of at most 34 bytes is announced, if it has more than one segment.
 const CUT: [(&[u8], &[u8]); 4] = [
-    // 34 bytes: two segments, of which the first announces 34.
+    // 34 bytes: two segments, and the first announces 34.
     (
         BUNDLE,
         b"\x01\x02\x00\x00\x00\x00\x00\x00\x00\x00\x00\x00\x00\x0d\x00\x00\x01\x00\x08\x00\x00\x00\x00\x00\x00\x00\x22\x00\x00\x00\x00\x00\x00\x00\x14\x9f\x88\x07\x00\x00\x82\x02\x82\x02\x01\x82\x02\x82\x01\x01\x82\x01\x00\x82\x00\x01\x01\x00\x00\x00\x00\x00\x00\x00\x00\x00\x00\x00\x00\x00\x00\x00\x0e\x00\x00\x85\x01\x01\x00\x00\x45hello\xff",
@@ -120,16 +122,16 @@ const CUT: [(&[u8], &[u8]); 4] = [
         CHECKED,
         b"\x01\x02\x00\x00\x00\x00\x00\x00\x00\x01\x00\x00\x00\x00\x00\x00\x00\x00\x00\x00\x00\x14\x9f\x88\x07\x00\x00\x82\x02\x82\x02\x01\x82\x02\x82\x01\x01\x82\x01\x00\x82\x00\x01\x01\x00\x00\x00\x00\x00\x00\x00\x01\x00\x00\x00\x00\x00\x00\x00\x11\x00\x00\x86\x01\x01\x00\x01\x45hello\x42\x4b\xf3\xff",
     ),
-    // One segment, whose length says it all.
+    // 5 bytes: one segment, and no announcement.
     (
         b"hello",
         b"\x01\x03\x00\x00\x00\x00\x00\x00\x00\x02\x00\x00\x00\x00\x00\x00\x00\x00\x00\x00\x00\x05hello",
     ),
-    // No byte has no segment.
+    // No bytes: no segment.
     (b"", b""),
 ];
 
-/// One cutter serves all, and they are the transfers 0 to 3.
+/// One cutter cuts all of the bundles. They are the transfers 0 to 3.
 #[test]
 fn bundles_as_segments(rt: HostRuntime) -> Result<(), Fail> {
     let mut cutter = Cutter::new(rt.alloc(), 20, 34)?;

@@ -1,4 +1,4 @@
--- The number that a getter of `clap`'s matches reads, by the rows.
+-- The number that `get_one` of `clap` returns, by the rows of the matches.
 use Rattle.std.proofs.Common.{◌≡◌, ◌∙◌, ℕ, Bool, true, false, [], ◌∷◌, Option, Some, None, Result, ap, refl, length}
 use Rattle.std.proofs.lemmas.Bool.{lt-ltb, ltb-true}
 use Rattle.std.specs.Prelude.{◌&&◌, ◌^◌, nat_lt, option_and_then}
@@ -24,7 +24,7 @@ digits_from (d ∷ digits) passed = let parts = both _ _ passed in (ltb-true _ _
 abbrev is_below : ℕ → Text → Bool
 is_below limit text = is_numeral text && nat_lt (digits_value 10 (without_leading_plus text)) limit
 
--- what `parse` says at an unsigned type
+-- the contract of `parse` for an unsigned type of `bits` bits
 abbrev pub Gives : (bits : ℕ) → Text → Result ℕ ParseIntError → Type 0
 Gives bits text r = ParsesUnsigned bits 10 text r × ExplainsUnsignedError 10 text r × HasUnsignedDigitsIfOk text r
 

@@ -1,4 +1,4 @@
--- What is known of words in which `clap` finds nothing wrong.
+-- Facts about words in which `clap` finds no error.
 use Rattle.std.proofs.Common.{◌≡◌, ◌∙◌, ◌<◌, Bool, true, false, true≢false, cond, List, [], ◌∷◌, Option, Some, None, inl, inr, ap, length, refl, subst, sym}
 use Rattle.std.specs.Prelude.{◌⊎◌, ◌&&◌, is_some, not, option_map}
 use Rattle.std.specs.List.{list_any}
@@ -52,7 +52,7 @@ level_checked s names h words has below none =
     let defaults = second_empty (settle_fault s.rules s.args_override_self end) _ settle in
     second_empty (defaults_fault (settled s.rules end).rows s.rules) _ defaults
 
--- where no subcommand of the three is met, no name is
+-- the matches are those of a subcommand that has one of these three names
 abbrev NamesOneOf : (a b c : Text) → Option (Text × List Row) → Type 0
 NamesOneOf a b c None = ⊥
 NamesOneOf a b c (Some tool) = (tool.0 ≡ a) ⊎ ((tool.0 ≡ b) ⊎ (tool.0 ≡ c))
@@ -89,7 +89,7 @@ pub taken_names : (words : List Text) → AreTaken words → NamesTool (subcomma
 unfolding table list_words unpack_words pack_words
 taken_names words taken = built_names (built table).top (built_leaf list_words) (built_leaf unpack_words) (built_leaf pack_words) (argument_words table words) refl taken
 
--- ---- what a parse says, by the table
+-- ---- the results of a parse, if the command is that of the table
 
 module _ (a : App) (words : List Text) (is : a ≡ table) where
   pub is_free : is_simple_and_free a ≡ true

@@ -1,21 +1,21 @@
--- What the functions that build the command make, and what they do to it.
+-- Facts about the arguments and commands that src/command.rt builds.
 use Rattle.std.specs.Prelude.{◌≡◌, false, List, fold}
 use Rattle.clap.specs.Words.{Rule, Shape, app_of, rule_of, shape_of, with_rule}
 use Rattle.clap.specs.declared.builder.arg.Arg.{Arg}
 use Rattle.clap.specs.declared.builder.command.Command.{Command}
 use Rattle.clap.specs.declared.builder.command.Command.TheViews.{out-Command as fields_of}
 
--- the argument is read by this rule, and belongs to its own tool alone
+-- the argument is read by this rule, and belongs to its own tool alone: it is not global
 pub record HasRule (rule : Rule) (arg : Arg) : Type 0 where
   pub read : rule_of arg ≡ rule
   pub local : arg.global ≡ false
 
--- `new` is `old` with more arguments, in their order
+-- `new` is `old` with these arguments added, in this order
 pub record AddsRules (rules : List Rule) (old new : Command) : Type 0 where
   pub app : app_of new ≡ fold with_rule (app_of old) rules
   pub globals : (fields_of new).has_globals ≡ (fields_of old).has_globals
 
--- the command is a tool with these words
+-- the command is a tool of this shape, and has no global arguments
 pub record IsTool (words : Shape) (command : Command) : Type 0 where
   pub shape : shape_of command ≡ words
   pub local : (fields_of command).has_globals ≡ false

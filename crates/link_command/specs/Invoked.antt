@@ -1,4 +1,4 @@
--- What the program is to do, by the matches that `clap` defines for the words.
+-- The invocation that a command line asks for, by the matches that `clap` defines for its words.
 use Rattle.std.specs.Prelude.{◌≡◌, ◌&&◌, ◌^◌, ℕ, Bool, false, List, [], Option, Some, None, codes, length, max, min, nat_lt, option_and_then, option_map, string_bytes, unwrap_or, if◌then◌else◌}
 use Rattle.std.specs.List.{list_all}
 use Rattle.std.specs.Option.{option_map_or}
@@ -13,24 +13,25 @@ use Rattle.link_tools.specs.declared.options.Options.{Options}
 use Rattle.link_tools.specs.declared.options.Options.TheVariants as options
 use Rattle.link_command.specs.declared.invocation.Invocation.{Invocation}
 
--- ---- what a tool's matches, `rows`, say under an argument's name
+-- ---- the values of arguments in `rows`, the matches of a tool
 
--- a text of decimal digits, after at most one plus
+-- whether a text is one decimal digit or more, after at most one plus sign
 abbrev pub is_numeral : Text → Bool
 is_numeral text = nat_lt 0 (length (without_leading_plus text))
     && list_all (λ digit. nat_lt (digit_value digit) 10) (without_leading_plus text)
 
--- the number that a text of digits writes, where it is below the limit
+-- the number that a numeral spells, if it is below the limit
 abbrev pub number_below : (limit : ℕ) → Text → Option ℕ
 number_below limit text =
     if is_numeral text && nat_lt (digits_value 10 (without_leading_plus text)) limit
     then Some (digits_value 10 (without_leading_plus text)) else None
 
--- the number, if there is one
+-- the value of a numeric option, if there is one below the limit
 unfoldable pub number_in : (limit : ℕ) → (name : Text) → List Row → Option ℕ
 number_in limit name rows = option_and_then (number_below limit) (one_of name rows)
 
--- the number of an option that has a default; so 0 stands for none of the words that `clap` takes
+-- The value of a numeric option with a default. In all words that `clap` takes the option has a
+-- value, so the 0 is not used for them.
 unfoldable pub number_of : (limit : ℕ) → (name : Text) → List Row → ℕ
 number_of limit name rows = unwrap_or (number_in limit name rows) 0
 
@@ -38,7 +39,7 @@ number_of limit name rows = unwrap_or (number_in limit name rows) 0
 unfoldable pub is_set : (name : Text) → List Row → Bool
 is_set name rows = option_map_or (λ text. bytes_eq text (codes "true")) (first_of name rows) false
 
--- the text of an option that is required
+-- the text that is the value of a required option
 unfoldable pub text_of : (name : Text) → List Row → Text
 text_of name rows = unwrap_or (first_of name rows) []
 
@@ -48,7 +49,7 @@ pub record IsWanted (rows : List Row) (wanted : Wanted) : Type 0 where
   pub only : wanted.only ≡ number_in (2 ^ 64) (codes "transfer") rows
   pub payload : wanted.payload ≡ is_set (codes "payload") rows
 
--- `max` and `min` change no number that `clap` takes: the table has the same bounds.
+-- `max` and `min` change no number that `clap` takes, because the table has the same bounds.
 pub record IsPackOptions (rows : List Row) (o : PackOptions) : Type 0 where
   pub node : o.node.items ≡ text_of (codes "node") rows
   pub keepalive : o.keepalive ≡ number_of (2 ^ 16) (codes "keepalive") rows
@@ -59,7 +60,7 @@ pub record IsPackOptions (rows : List Row) (o : PackOptions) : Type 0 where
   pub announce : o.announce ≡ min 1048576 (number_of (2 ^ 64) (codes "announce") rows)
   pub send_term : o.send_term ≡ is_set (codes "end") rows
 
--- the options, by the name of the tool
+-- the options of the tool of this name
 abbrev pub AreOptions : (name : Text) → List Row → Options → Type 0
 AreOptions name rows options.List = name ≡ codes "list"
 AreOptions name rows (options.Unpack wanted) = (name ≡ codes "unpack") × IsWanted rows wanted
@@ -69,11 +70,11 @@ pub record IsInvokedBy (name : Text) (rows : List Row) (i : Invocation) : Type 0
   pub options : AreOptions name rows i.options
   pub file : option_map string_bytes i.file ≡ first_of (codes "file") rows
 
--- the invocation by the name of a tool and its matches
+-- the invocation of a tool, by its name and its matches; without a tool there is none
 abbrev pub IsInvokedByTool : Option (Text × List Row) → Invocation → Type 0
 IsInvokedByTool None i = ⊥
 IsInvokedByTool (Some tool) i = IsInvokedBy tool.0 tool.1 i
 
--- Each word is the text of one word of the command line; the first is the program's own name.
+-- The words are those of the command line. The first is the program's own name.
 abbrev pub IsInvoked : (words : List Text) → Invocation → Type 0
 IsInvoked words = IsInvokedByTool (subcommand_of table words)

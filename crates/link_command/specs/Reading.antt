@@ -1,4 +1,4 @@
--- What the functions that read the matches know and return.
+-- Conditions on the functions that read the matches, and on their results.
 use Rattle.std.specs.Prelude.{◌≡◌, ◌<◌, ◌⊎◌, ⊤, true, false, List, Option, Some, None, codes, length}
 use Rattle.clap.specs.Words.{Row, Text}
 use Rattle.clap.specs.declared.error.kind.ErrorKind.{ErrorKind}
@@ -10,16 +10,17 @@ use Rattle.link_command.specs.declared.usage.UsageFault.TheVariants.{Help, Words
 abbrev pub IsToolName : Text → Type 0
 IsToolName name = (name ≡ codes "list") ⊎ ((name ≡ codes "unpack") ⊎ (name ≡ codes "pack"))
 
--- a tool was named
+-- the words name one of the three tools
 abbrev pub NamesTool : Option (Text × List Row) → Type 0
 NamesTool None = ⊥
 NamesTool (Some tool) = IsToolName tool.0
 
--- why a tool's matches may be refused
+-- the faults that may be returned for the matches of a tool
 abbrev pub IsToolFault : Option (Text × List Row) → UsageFault → Type 0
 IsToolFault tool fault = ((fault ≡ NodeTooLong) × (1024 < length (node_of tool))) ⊎ (fault ≡ Memory)
 
--- the fault that stands for an error of `clap` of this kind; want of memory may come at any
+-- The faults that may be returned for an error of `clap` of this kind. `Memory` may be returned for
+-- any kind.
 abbrev pub StandsFor : ErrorKind → UsageFault → Type 0
 StandsFor kind (Help text) = is_request kind ≡ true
 StandsFor kind (Words text) = (is_request kind ≡ false) × (kind ≡ OutOfMemory → ⊥)

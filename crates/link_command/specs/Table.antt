@@ -1,4 +1,4 @@
--- The words that the program takes, as a command of `clap`. docs/MANUAL.md has the same table in words.
+-- The arguments of the program, as a command of `clap`. docs/MANUAL.md has this table in words.
 use Rattle.std.specs.Prelude.{true, false, List, [], ◌∷◌, Some, codes, pos}
 use Rattle.clap.specs.Words.{App, Rule, Shape, Text, new_rule}
 use Rattle.clap.specs.Simple.{new_shape}
@@ -22,23 +22,23 @@ up_to_1048576 = Unsigned 0 1048576
 
 -- ---- kinds of arguments
 
--- `--NAME`
+-- a flag `--NAME`
 abbrev pub flag : (name : Text) → Rule
 flag name = record (new_rule name) { long = Some name; action = Some SetTrue }
 
--- `--NAME VALUE`
+-- an option `--NAME VALUE`
 abbrev pub option : (name : Text) → Rule
 option name = record (new_rule name) { long = Some name; value_names = 1 }
 
--- `--NAME NUMBER`
+-- an option `--NAME N`, whose value is a number in this range
 abbrev pub number : (name : Text) → (range : ValueParser) → Rule
 number name range = record (option name) { parser = Some range }
 
--- the same with the number that it is where it is left out
+-- an option `--NAME N`, and the value that it has if it is not given
 abbrev pub number_or : (name : Text) → (range : ValueParser) → (default : Text) → Rule
 number_or name range default = record (number name range) { defaults = default ∷ [] }
 
--- `[FILE]`
+-- the argument `[FILE]`
 abbrev pub file : Rule
 file = record (new_rule (codes "file")) { value_names = 1 }
 
@@ -72,7 +72,7 @@ pack_words = tool (codes "pack") (
 
 -- ---- the program
 
--- `--help` comes with the program and with each tool, and `--version` with the program.
+-- `clap` adds `--help` to the program and to each tool, and `--version` to the program.
 abbrev pub program : Shape
 program = record (new_shape (codes "tcpclkit")) {
   disable_help_subcommand = true;

@@ -1,4 +1,4 @@
--- Words that ask for nothing to be done, and how the program ends then.
+-- The reasons why a command line starts no run, and how the program ends then.
 use Rattle.std.specs.Prelude.{◌≡◌, ◌<◌, ⊤, ℕ, Bool, true, false, List, [], Option, codes, length}
 use Rattle.std.specs.Option.{option_map_or}
 use Rattle.clap.specs.Words.{IsAmong, Row, Text, fault_of, subcommand_of}
@@ -9,31 +9,31 @@ use Rattle.link_command.specs.Invoked.{text_of}
 use Rattle.link_command.specs.declared.usage.UsageFault.{UsageFault}
 use Rattle.link_command.specs.declared.usage.UsageFault.TheVariants.{Help, Words, NodeTooLong, Memory}
 
--- ---- what `clap` finds in the words
+-- ---- errors that `clap` finds in the words
 
--- the words ask for help or for the version
+-- whether an error of this kind is a request for help or for the version
 abbrev pub is_request : ErrorKind → Bool
 is_request DisplayHelp = true
 is_request DisplayVersion = true
 is_request _ = false
 
--- what `clap` finds in the words is of a kind that passes the test
+-- `clap` finds an error in the words, and `is_kind` returns `expected` for its kind
 abbrev pub Finds : (is_kind : ErrorKind → Bool) → (expected : Bool) → (words : List Text) → Type 0
 Finds is_kind expected words =
     (kind : ErrorKind) × IsAmong kind (fault_of table words) × (is_kind kind ≡ expected)
 
--- `clap` finds nothing wrong with the words
+-- `clap` finds no error in the words
 abbrev pub AreTaken : (words : List Text) → Type 0
 AreTaken words = fault_of table words ≡ []
 
--- the text of `--node`, where the tool has one
+-- the value of `--node`, which is empty if the tool has none
 abbrev pub node_of : (tool : Option (Text × List Row)) → Text
 node_of tool = option_map_or (λ t. text_of (codes "node") t.1) tool []
 
 abbrev pub node_named : (words : List Text) → Text
 node_named words = node_of (subcommand_of table words)
 
--- when each fault may be returned; want of memory may come at any words
+-- when each fault may be returned; `Memory` may be returned for any words
 abbrev pub IsFaultOf : (words : List Text) → UsageFault → Type 0
 IsFaultOf words (Help text) = Finds is_request true words
 IsFaultOf words (Words text) = Finds is_request false words
@@ -48,7 +48,7 @@ usage_status (Words text) = 2
 usage_status NodeTooLong = 2
 usage_status Memory = 4
 
--- what the program itself says; help and mistakes carry a text of their own
+-- the program's own message; it is empty for a fault that carries a text
 abbrev pub usage_text : UsageFault → Text
 usage_text (Help text) = []
 usage_text (Words text) = []

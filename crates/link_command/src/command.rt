@@ -1,4 +1,4 @@
-//! The command that `clap` reads the words by.
+//! The command of `clap` that describes the program's arguments and help texts.
 
 ghost use Rattle.std.specs.Prelude.{◌≡◌, [], ◌∷◌, codes, IfOk, true};
 ghost use Rattle.clap.specs.Words.{app_of};
@@ -71,7 +71,7 @@ Example:
   $ tcpclkit pack --node ipn:1.0 --peer-segment 17 bundles > session.tcpcl
   bundle 0 segments=2 length=34 source=ipn:1.1 time=0 sequence=0 destination=ipn:2.1 payload=5";
 
-/// `tcpclkit`, with its tools.
+/// The command `tcpclkit` with its tools.
 pub(crate) fn tcpclkit<'a>(alloc: Global) -> Result<Command<'a>, AllocError>
     ensures { IfOk result (λ command. app_of command ≡ table) }
 {
@@ -85,7 +85,7 @@ pub(crate) fn tcpclkit<'a>(alloc: Global) -> Result<Command<'a>, AllocError>
     Ok(all)
 }
 
-/// `tcpclkit`, without its tools.
+/// The command `tcpclkit` without its tools.
 fn program<'a>(alloc: Global) -> Command<'a>
     ensures { app_of result ≡ record { top = program; subs = [] } }
 {
@@ -97,7 +97,7 @@ fn program<'a>(alloc: Global) -> Command<'a>
         .subcommand_required(true)
 }
 
-/// `tcpclkit list`
+/// The tool `list`.
 fn list_command<'a>(alloc: Global) -> Result<Command<'a>, AllocError>
     ensures { IfOk result (IsTool list_words) }
 {
@@ -106,7 +106,7 @@ fn list_command<'a>(alloc: Global) -> Result<Command<'a>, AllocError>
     Ok(whole)
 }
 
-/// `tcpclkit unpack`
+/// The tool `unpack`.
 fn unpack_command<'a>(alloc: Global) -> Result<Command<'a>, AllocError>
     ensures { IfOk result (IsTool unpack_words) }
 {
@@ -124,7 +124,7 @@ fn unpack_command<'a>(alloc: Global) -> Result<Command<'a>, AllocError>
     Ok(whole)
 }
 
-/// `tcpclkit pack`
+/// The tool `pack`.
 fn pack_command<'a>(alloc: Global) -> Result<Command<'a>, AllocError>
     ensures { IfOk result (IsTool pack_words) }
 {
@@ -135,7 +135,7 @@ fn pack_command<'a>(alloc: Global) -> Result<Command<'a>, AllocError>
     Ok(whole)
 }
 
-/// What `pack` says of the sender.
+/// Adds the options of `pack` for the sender: node ID, keepalive interval and segment MRU.
 fn with_sender<'a>(alloc: Global, tool: Command<'a>) -> Result<Command<'a>, AllocError>
     ensures { IfOk result (AddsRules (
         record (option (codes "node")) { required = true }
@@ -167,7 +167,7 @@ fn with_sender<'a>(alloc: Global, tool: Command<'a>) -> Result<Command<'a>, Allo
     Ok(three)
 }
 
-/// The limits of the transfers that `pack` knows.
+/// Adds the options of `pack` for the sender's transfer MRU and for the limits of the peer.
 fn with_limits<'a>(alloc: Global, tool: Command<'a>) -> Result<Command<'a>, AllocError>
     ensures { IfOk result (AddsRules (
         number_or (codes "transfer-mru") any_u64 (codes "1048576")
@@ -199,7 +199,7 @@ fn with_limits<'a>(alloc: Global, tool: Command<'a>) -> Result<Command<'a>, Allo
     Ok(three)
 }
 
-/// What else `pack` writes, and its input.
+/// Adds the options of `pack` for announced lengths and for SESS_TERM, and its input.
 fn with_form<'a>(alloc: Global, tool: Command<'a>) -> Result<Command<'a>, AllocError>
     ensures { IfOk result (AddsRules (
         number_or (codes "announce") up_to_1048576 (codes "0")
@@ -220,14 +220,14 @@ fn with_form<'a>(alloc: Global, tool: Command<'a>) -> Result<Command<'a>, AllocE
     Ok(three)
 }
 
-/// A tool without its arguments.
+/// A tool without its arguments; `about` and `help` are texts of its `--help`.
 fn tool<'a>(alloc: Global, name: &'a str, about: &'a str, help: &'a str) -> Command<'a>
     ensures { IsTool (tool name.entry.now []) result }
 {
     Command::new(alloc, name).about(about).after_help(help)
 }
 
-/// `[FILE]`
+/// The argument `[FILE]`.
 fn file<'a>(alloc: Global) -> Arg<'a>
     ensures { HasRule file result }
 {
@@ -236,7 +236,7 @@ fn file<'a>(alloc: Global) -> Arg<'a>
         .help("The file that is read; standard input without it")
 }
 
-/// `--NAME`
+/// A flag `--NAME`.
 fn flag<'a>(alloc: Global, name: &'a str, help: &'a str) -> Arg<'a>
     ensures { HasRule (flag name.entry.now) result }
 {
@@ -246,7 +246,7 @@ fn flag<'a>(alloc: Global, name: &'a str, help: &'a str) -> Arg<'a>
         .help(help)
 }
 
-/// `--NAME VALUE`
+/// An option `--NAME VALUE`; `value` is the word for its value in the help text.
 fn option<'a>(alloc: Global, name: &'a str, value: &'a str, help: &'a str) -> Arg<'a>
     ensures { HasRule (option name.entry.now) result }
 {
@@ -256,7 +256,7 @@ fn option<'a>(alloc: Global, name: &'a str, value: &'a str, help: &'a str) -> Ar
         .help(help)
 }
 
-/// `--NAME NUMBER`
+/// An option `--NAME N`, whose value is a number in this range.
 fn number<'a>(alloc: Global, name: &'a str, range: ValueParser<'a>, help: &'a str) -> Arg<'a>
     ensures { HasRule (number name.entry.now range.entry) result }
 {

@@ -1,4 +1,4 @@
-//! The command line of `tcpclkit`: what its words ask for.
+//! Reads the command line of `tcpclkit`: the tool, its options and its input.
 //!
 //! ```ignore
 //! match options(alloc, words) {

@@ -1,4 +1,4 @@
-//! The words, read by the command.
+//! Reads the words of a command line by the command of `clap`.
 
 ghost use Rattle.std.specs.Prelude.{◌≡◌, ◌^◌, ◌<◌, ◌⊎◌, codes, length, map, option_map, string_bytes, true, IfErr, IfNone, IfOk, IfSome, Some};
 ghost use Rattle.clap.specs.Words.{first_of, found_of, kind_of, rows_of, subcommand_rows_of, takes};
@@ -16,12 +16,14 @@ use link_tools::{Options, PackOptions, Wanted};
 use link_wire::NodeId;
 use std::alloc::{AllocError, Global};
 
-/// What the words ask for. The first is the program's own name.
+/// Reads the words of a command line; the first word is the program's own name.
 ///
 /// # Errors
 ///
-/// `clap` refuses the words or finds a request for help in them; or the node ID is too long; or a
-/// request for memory was refused. `clap`'s own definition decides what it takes.
+/// - [`UsageFault::Help`]: `clap` finds a request for help or for the version in the words.
+/// - [`UsageFault::Words`]: `clap` refuses the words. Its own definition decides which it takes.
+/// - [`UsageFault::NodeTooLong`]: the node ID has more than 1,024 bytes.
+/// - [`UsageFault::Memory`]: a request for memory was refused.
 pub fn options(alloc: Global, words: &[String]) -> Result<Invocation, UsageFault>
     ensures ok { IfOk result (IsInvoked (map string_bytes words.now)) }
     ensures taken { IfOk result (λ _. AreTaken (map string_bytes words.now)) }
@@ -39,7 +41,7 @@ pub fn options(alloc: Global, words: &[String]) -> Result<Invocation, UsageFault
     }
 }
 
-/// What the matches of the program ask for.
+/// The invocation that the matches of the program ask for.
 fn invocation(alloc: Global, matches: &ArgMatches<'_>) -> Result<Invocation, UsageFault>
     requires { NamesTool (subcommand_rows_of matches.now) }
     ensures ok { IfOk result (IsInvokedByTool (subcommand_rows_of matches.now)) }
@@ -51,7 +53,7 @@ fn invocation(alloc: Global, matches: &ArgMatches<'_>) -> Result<Invocation, Usa
     }
 }
 
-/// What the matches of a tool ask for.
+/// The invocation that the matches of this tool ask for.
 fn invocation_of(alloc: Global, name: &str, tool: &ArgMatches<'_>) -> Result<Invocation, UsageFault>
     requires { IsToolName name.now }
     ensures ok { IfOk result (IsInvokedBy name.now (rows_of (found_of tool.now))) }
@@ -66,7 +68,7 @@ fn invocation_of(alloc: Global, name: &str, tool: &ArgMatches<'_>) -> Result<Inv
     }
 }
 
-/// The tool of this name, with its options; `None`: its node ID is too long.
+/// The options of the tool of this name. `None`: the node ID is too long.
 fn options_of(name: &str, tool: &ArgMatches<'_>) -> Option<Options>
     requires { IsToolName name.now }
     ensures some { IfSome result (AreOptions name.now (rows_of (found_of tool.now))) }
@@ -80,7 +82,7 @@ fn options_of(name: &str, tool: &ArgMatches<'_>) -> Option<Options>
     }
 }
 
-/// The file that is named.
+/// The value of FILE, if there is one.
 fn file(alloc: Global, tool: &ArgMatches<'_>) -> Result<Option<String>, AllocError>
     ensures { IfOk result (λ file. option_map string_bytes file
         ≡ first_of (codes "file") (rows_of (found_of tool.now))) }
@@ -101,7 +103,7 @@ fn wanted(tool: &ArgMatches<'_>) -> Wanted
     }
 }
 
-/// The options of `pack`; `None`: the node ID is too long.
+/// The options of `pack`. `None`: the node ID is too long.
 fn pack_options(tool: &ArgMatches<'_>) -> Option<PackOptions>
     ensures some { IfSome result (IsPackOptions (rows_of (found_of tool.now))) }
     ensures none { IfNone result (1024
@@ -120,7 +122,7 @@ fn pack_options(tool: &ArgMatches<'_>) -> Option<PackOptions>
     })
 }
 
-/// The text of the node ID.
+/// The value of `--node`, which is a required option.
 #[tactic(auto, unfolding(crate::specs::Invoked::text_of))]
 fn node<'a>(tool: &ArgMatches<'a>) -> &'a str
     ensures { result.now ≡ text_of (codes "node") (rows_of (found_of tool.now)) }
@@ -128,14 +130,14 @@ fn node<'a>(tool: &ArgMatches<'a>) -> &'a str
     text(tool, "node").unwrap_or("")
 }
 
-/// The keepalive interval.
+/// The value of `--keepalive`, in seconds.
 fn keepalive(tool: &ArgMatches<'_>) -> u16
     ensures { result ≡ number_of (2 ^ 16) (codes "keepalive") (rows_of (found_of tool.now)) }
 {
     tool.get_one::<u16>("keepalive").unwrap_or(0)
 }
 
-/// The number of an option that has a default.
+/// The value of a numeric option that has a default.
 #[tactic(auto, unfolding(crate::specs::Invoked::number_of))]
 fn number_of(tool: &ArgMatches<'_>, name: &str) -> u64
     ensures { result ≡ number_of (2 ^ 64) name.now (rows_of (found_of tool.now)) }
@@ -143,14 +145,14 @@ fn number_of(tool: &ArgMatches<'_>, name: &str) -> u64
     number_in(tool, name).unwrap_or(0)
 }
 
-/// The number of an option, if there is one.
+/// The value of a numeric option, if it has one.
 fn number_in(tool: &ArgMatches<'_>, name: &str) -> Option<u64>
     ensures { result ≡ number_in (2 ^ 64) name.now (rows_of (found_of tool.now)) }
 {
     tool.get_one::<u64>(name)
 }
 
-/// Whether a flag was given.
+/// Whether this flag was given.
 #[tactic(auto, unfolding(crate::specs::Invoked::is_set))]
 fn is_set(tool: &ArgMatches<'_>, name: &str) -> bool
     ensures { result ≡ is_set name.now (rows_of (found_of tool.now)) }
@@ -161,7 +163,7 @@ fn is_set(tool: &ArgMatches<'_>, name: &str) -> bool
     }
 }
 
-/// The text of an argument, if there is one.
+/// The value of an argument as text, if it has one.
 fn text<'a>(tool: &ArgMatches<'a>, name: &str) -> Option<&'a str>
     ensures { option_map (λ text. text.now) result
         ≡ first_of name.now (rows_of (found_of tool.now)) }
@@ -169,7 +171,7 @@ fn text<'a>(tool: &ArgMatches<'a>, name: &str) -> Option<&'a str>
     tool.get_str(name)
 }
 
-/// Why `clap` gave no matches.
+/// The fault for an error of `clap`.
 fn usage_fault(alloc: Global, error: &Error) -> UsageFault
     ensures kind { StandsFor (kind_of error.now) result }
     ensures memory { kind_of error.now ≡ ErrorKind.OutOfMemory → result ≡ UsageFault.Memory }

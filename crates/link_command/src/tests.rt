@@ -1,4 +1,4 @@
-//! The command line on tables of words.
+//! Tests of the command line on tables of words.
 
 use crate::{Invocation, UsageFault, options, usage_exit};
 use link_tools::{Options, PackOptions, Wanted};
@@ -7,7 +7,7 @@ use std::alloc::{AllocError, Global};
 use std::process::Abort;
 use std::test::Fail;
 
-/// The words of a call, of which the first is the program's name.
+/// The program's name, and then the words of this line.
 fn words_of(alloc: Global, line: &[&str]) -> Result<Vec<String>, AllocError> {
     let mut words = Vec::new(alloc);
     words.push(String::from_str(alloc, "tcpclkit")?)?;
@@ -27,7 +27,7 @@ fn name_of(outcome: &Result<Invocation, UsageFault>) -> &'static str {
     }
 }
 
-/// What each call comes to.
+/// Checks that each line has the expected outcome, by its name in `name_of`.
 fn all_come_to(
     rt: &impl Abort,
     alloc: Global,
@@ -46,7 +46,7 @@ fn all_come_to(
     Ok(())
 }
 
-/// What the words ask for, which `clap` takes.
+/// The invocation of a line that is accepted. A fault fails the test.
 fn taken(alloc: Global, line: &[&str]) -> Result<Invocation, Fail> {
     let words = words_of(alloc, line)?;
     match options(alloc, words.as_slice()) {
@@ -55,7 +55,7 @@ fn taken(alloc: Global, line: &[&str]) -> Result<Invocation, Fail> {
     }
 }
 
-/// The text that the words are answered with.
+/// The text of the fault that is returned for a line.
 fn text_of(alloc: Global, line: &[&str]) -> Result<String, Fail> {
     let words = words_of(alloc, line)?;
     match options(alloc, words.as_slice()) {
@@ -64,7 +64,7 @@ fn text_of(alloc: Global, line: &[&str]) -> Result<String, Fail> {
     }
 }
 
-/// The options of `pack` that are not given.
+/// The options of `pack` if only `--node` is given.
 fn pack_defaults(node: &str) -> Result<PackOptions, Fail> {
     Ok(PackOptions {
         node: NodeId::try_from(node.as_bytes())?,
@@ -78,7 +78,7 @@ fn pack_defaults(node: &str) -> Result<PackOptions, Fail> {
     })
 }
 
-/// A call of `pack` with all options.
+/// A line of `pack` with all options and a file.
 const ALL_OF_PACK: &[&str] = &[
     "pack",
     "--keepalive",
@@ -98,7 +98,7 @@ const ALL_OF_PACK: &[&str] = &[
     "f",
 ];
 
-/// What it asks for.
+/// The options of `ALL_OF_PACK`.
 fn all_of_pack() -> Result<PackOptions, Fail> {
     Ok(PackOptions {
         node: NodeId::try_from("-é".as_bytes())?,
@@ -290,7 +290,7 @@ fn node_ids(rt: HostRuntime) -> Result<(), Fail> {
     Ok(())
 }
 
-/// Each help has what the tool does, its options with ranges and defaults, its statuses and an example.
+/// Each help text has the usage, the options with ranges and defaults, the statuses and an example.
 #[test]
 fn texts_of_help(rt: HostRuntime) -> Result<(), Fail> {
     let lines: [(&[&str], &[&str]); 5] = [
@@ -339,7 +339,7 @@ fn texts_of_help(rt: HostRuntime) -> Result<(), Fail> {
     Ok(())
 }
 
-/// A wrong word is answered with what is wrong and the usage.
+/// The text for wrong words says what is wrong, and has the usage or says how to find it.
 #[test]
 fn texts_of_wrong_words(rt: HostRuntime) -> Result<(), Fail> {
     let lines: [(&[&str], &str, &str); 4] = [
@@ -379,7 +379,7 @@ fn ends_of_the_program(rt: HostRuntime) -> Result<(), Fail> {
     Ok(())
 }
 
-/// What `options` returns; `None`: want of memory, which a line on standard output reports.
+/// The result of `options`. `None`: there was no memory, and a line on standard output says so.
 fn returned(
     rt: &(impl AllocGlobal + Print),
     words: &[String],
@@ -393,8 +393,10 @@ fn returned(
     }
 }
 
-/// Where one request for memory is refused, at most one of two calls returns want of it, and each other what the words ask for.
-/// No call is made where it was a request for the words themselves. `tests/refused` refuses each request in turn.
+/// Calls `options` twice, and checks that at least one call returns these options and this file.
+///
+/// The other call may report that there is no memory: `tests/refused` refuses each request in turn.
+/// If a request for the words themselves was refused, no call is made.
 fn asks_for(
     rt: &(impl Abort + AllocGlobal + Print),
     line: &[&str],
@@ -420,7 +422,7 @@ fn asks_for(
     Ok(())
 }
 
-/// The text of the fault of this name, which `options` returns; `None`: want of memory.
+/// The text of the fault that `options` returns, which has this name. `None`: there was no memory.
 fn text_returned(
     rt: &(impl Abort + AllocGlobal + Print),
     words: &[String],
@@ -438,7 +440,9 @@ fn text_returned(
     Ok(Some(text))
 }
 
-/// The same where a fault with a text is returned: both calls return the same text.
+/// Calls `options` twice, and checks that at least one call returns a fault of this name.
+///
+/// If both calls return it, their texts are the same. For memory, see `asks_for`.
 fn returns_text(
     rt: &(impl Abort + AllocGlobal + Print),
     line: &[&str],

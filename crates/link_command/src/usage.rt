@@ -1,17 +1,17 @@
-//! Words that ask for nothing to be done.
+//! The reasons why a command line starts no run, and how the program ends then.
 
 ghost use Rattle.std.specs.Prelude.{◌≡◌};
 ghost use Rattle.link_command.specs.Usage.{usage_status, usage_text};
 
 use thiserror::Error;
 
-/// Why nothing is to be done.
+/// The reason why a command line starts no run.
 #[derive(Debug, Drop, Error)]
 pub enum UsageFault {
-    /// The words ask for this help, or for the version: a text for standard output.
+    /// The words ask for help or for the version. This is the text for standard output.
     #[error("{0}")]
     Help(String),
-    /// The words are not a command of the program: what is wrong with them and the usage, for standard error.
+    /// The words are wrong. This text for standard error says why, and how to find the usage.
     #[error("{0}")]
     Words(String),
     /// The text of `--node` has more than 1,024 bytes.
@@ -22,8 +22,9 @@ pub enum UsageFault {
     Memory,
 }
 
-/// The exit status, and the program's own message without its newline. It is empty for `Help` and
-/// `Words`, which carry their text.
+/// Returns the exit status, and the program's own message without its newline.
+///
+/// The message is empty for `Help` and `Words`, which carry a text.
 pub fn usage_exit(fault: &UsageFault) -> (u8, &'static str)
     ensures status { result.0 ≡ usage_status fault.now }
     ensures text { result.1.now ≡ usage_text fault.now }

@@ -23,7 +23,7 @@ use Rattle.link_laws.proofs.Standing.{Stands, fresh, carrying, stands_none, stan
 
 -- ---- counts of chunks
 
--- all chunks have all bytes
+-- all chunks together have all bytes
 all_bytes : (segment size : ℕ) → 0 < segment → size ≤ chunk_count segment size * segment
 all_bytes segment size some = ⊎_elim
     (λ (fewer : chunk_count segment size * segment < size). absurd (omega (arith, chunk_left segment (chunk_count segment size) size some fewer)))
@@ -33,7 +33,7 @@ all_bytes segment size some = ⊎_elim
 some_chunk : (segment size : ℕ) → 0 < segment → 0 < size → 0 < chunk_count segment size
 some_chunk segment size some byte = chunk_left segment 0 size some (omega arith)
 
--- those that are due of a bundle that goes on are chunks of it
+-- the chunks that are due of a bundle that goes on are among its chunks
 pub due_within : (segment hold count size : ℕ) → 0 < segment
     → count ≤ due_of false segment hold size → count ≤ chunk_count segment size
 due_within segment hold count size some few =
@@ -42,7 +42,7 @@ due_within segment hold count size some few =
 
 -- ---- the transfers
 
--- the transfers, with `count` chunks sent of a bundle that goes on
+-- the transfers after `count` chunks of a bundle that goes on were sent
 abbrev pub partly : (id : ℕ) → Sending → (count : ℕ) → List Transfer → List Transfer
 partly id sending zero earlier = earlier
 partly id sending (suc count) earlier = sent id sending (suc count) false ∷ earlier
@@ -51,7 +51,7 @@ module _ (options : PackOptions) where
   abbrev pub transfer_of : (number : ℕ) → Packed → Transfer
   transfer_of number bundle = record { first = head_of number (sending options true bundle.bytes) 0; content = bundle.bytes; closed = true }
 
-  -- those of bundles, the latest first
+  -- the transfers of these bundles and the earlier ones, the latest first
   unfoldable pub onto : (number : ℕ) → List Packed → List Transfer → List Transfer
   onto number [] earlier = earlier
   onto number (bundle ∷ more) earlier = onto (suc number) more (transfer_of number bundle ∷ earlier)
@@ -113,7 +113,7 @@ module _ (options : PackOptions) where
 
   -- ---- to the end
 
-  -- all heads are in order, and make these transfers
+  -- all heads are in order, and these are their transfers
   pub record AreCarried (heads : List Entry) (transfers : List Transfer) : Type 0 where
     pub in_order : AreInOrder heads
     pub makes : transfers_of heads ≡ transfers
@@ -156,7 +156,7 @@ module _ (options : PackOptions) where
       let count = due_of false (segment_size options) options.announce (length rest.accepted) in
       part_by number count part heads earlier offset refl (due_within (segment_size options) options.announce count (length rest.accepted) (some_size options) (omega arith)) at
 
-  -- the messages of a packed stream
+  -- the messages of a packed stream are in order, and its transfers are those of the input
   pub packed_carried : (input : Divided) → AreBundles options.peer_transfer input.bundles
       → AreCarried (packed_entries options input) (packed_transfers input)
   packed_carried input are =

@@ -1,4 +1,4 @@
--- How the reading of a stream goes on, with more bytes after it.
+-- How the reading of a stream goes on when more bytes follow.
 use Rattle.std.proofs.Common.{◌≡◌, ℕ, zero, suc, ◌+◌, ◌-◌, ◌<◌, ◌≤◌, ◌⊎◌, inl, inr, Bool, true, false, nat_lt, List, [], ◌∷◌, ◌++◌, length, take, drop, None, Result, Ok, Err, if◌then◌else◌, refl, ap, sym, ◌∙◌, ⊎_elim, length-append, length-drop, arith}
 use Rattle.std.proofs.lemmas.Bool.{cases_lt, false≢true, lt-ltb, le-ltb}
 use Rattle.std.proofs.lemmas.List.{take-append-le, drop-append-le}
@@ -16,11 +16,11 @@ use Rattle.link_unpack.specs.Transfers.{cut_heads}
 use Rattle.link_unpack.proofs.Heads.{entry}
 use Rattle.link_laws.proofs.Fronts.{take-append}
 
--- a fault that lasts is no missing field
+-- a fault that lasts is not a missing field
 not_missing : (fault : WireFault) → is_lasting fault ≡ true → fault ≡ Truncated → ⊥
 not_missing fault stays is = false≢true (sym (ap is_lasting is) ∙ stays)
 
--- the data of a segment goes on that is cut
+-- the data of a cut segment goes on
 pub record GrowsFirst (offset : ℕ) (message : Message) (content : List ℕ)
     (rest : Stream) : Type 0 where
   pub short : length content < data_length message
@@ -28,7 +28,7 @@ pub record GrowsFirst (offset : ℕ) (message : Message) (content : List ℕ)
   pub others : List Entry
   pub heads : rest.entries ++ cut_heads rest.end ≡ entry offset message (content ++ piece) ∷ others
 
--- what may come after whole messages, where they ended so
+-- the readings that may follow the whole messages of a stream that has this end
 abbrev pub FollowsEnd : End → Stream → Type 0
 FollowsEnd Clean rest = Unit {0}
 FollowsEnd (Cut offset message content) rest = GrowsFirst offset message content rest
@@ -53,7 +53,7 @@ module _ (offset : ℕ) (message : Message) (bytes more : List ℕ) where
   grows_by true count later short is = record { short = short; piece = more; others = []; heads = refl }
   grows_by false count later short is = record { short = short; piece = take (count - length bytes) more; others = later.entries ++ cut_heads later.end; heads = ap (λ (xs : List ℕ). entry offset message xs ∷ later.entries ++ cut_heads later.end) is }
 
-  -- it is cut
+  -- the data is cut
   cut_on : (before after : Stream) → length bytes < data_length message
       → GoesOn (with_data_of offset message bytes before)
       (with_data_of offset message (bytes ++ more) after)
@@ -64,7 +64,7 @@ module _ (offset : ℕ) (message : Message) (bytes more : List ℕ) where
         follows = grows_by (nat_lt (length (bytes ++ more)) (data_length message)) (data_length message) after short (take-append (data_length message) bytes more (omega arith));
       })
 
-  -- it is whole
+  -- the data is whole
   whole_on : (before after : Stream) → data_length message ≤ length bytes → GoesOn before after
       → GoesOn (with_data_of offset message bytes before)
       (with_data_of offset message (bytes ++ more) after)
@@ -74,7 +74,7 @@ module _ (offset : ℕ) (message : Message) (bytes more : List ℕ) where
 
 -- ---- messages
 
--- a fault stays, if it lasts
+-- a fault that lasts stays the same
 fault_on : (offset byte : ℕ) (bytes more : List ℕ) (fault : WireFault)
     → message_at (byte ∷ bytes) ≡ Err fault
     → GoesOn (stream_at offset (byte ∷ bytes)) (stream_at offset ((byte ∷ bytes) ++ more))
@@ -129,7 +129,7 @@ abbrev pub stream_of : Reading → Stream
 stream_of reading = record { entries = reading.entries; end = reading.end }
 
 pub record ReadingGoesOn (before after : Reading) : Type 0 where
-  -- the contact header stays, or none of it was read yet
+  -- the contact header stays the same, or it was not read yet
   pub contact : (after.contact ≡ before.contact) ⊎ ((before.contact ≡ None) × (before.entries ≡ []))
   pub messages : GoesOn (stream_of before) (stream_of after)
 

@@ -11,7 +11,7 @@ use Rattle.link_unpack.specs.Unpacking.{part_of, parts_of, entry_of, line_of, li
 use Rattle.link_unpack.specs.declared.wanted.Wanted.{Wanted}
 use Rattle.link_laws.specs.Cuts.{order_of, entries_of, Follow, written_by, reported, CutsOutput}
 
--- ---- one entry more
+-- ---- one more entry
 
 written_push : (entries : List TransferEntry) (last : TransferEntry)
     → written_by (entries ++ last ∷ []) ≡ written_by entries + last.written
@@ -73,7 +73,7 @@ unlined_over None Clean transfers = ([], omega arith, refl)
 unlined_over None (Cut offset message content) transfers = unlined_settled transfers
 unlined_over None (Fault offset fault) transfers = unlined_settled transfers
 
--- the report of any stream
+-- the report cuts the output, for any stream
 pub cuts : (wanted : Wanted) (bytes : List ℕ) → CutsOutput wanted bytes
 unfolding unpacking
 cuts wanted bytes =

@@ -1,4 +1,4 @@
--- What an input is divided into: bundles that the peer takes, and what follows them.
+-- The parts of an input: bundles that the peer takes, and the rest after them.
 use Rattle.std.proofs.Common.{◌≡◌, ℕ, zero, suc, ◌-◌, ◌<◌, ◌≤◌, Bool, true, false, nat_lt, List, [], ◌∷◌, ◌++◌, length, take, drop, None, Result, Ok, Err, if◌then◌else◌, refl, ap, sym, ◌∙◌, subst, length-take, length-drop, arith}
 use Rattle.std.specs.Prelude.{IfSome}
 use Rattle.std.proofs.lemmas.Bool.{false≢true, ltb-false}
@@ -24,12 +24,12 @@ abbrev pub AreBundles : (limit : ℕ) → List Packed → Type 0
 AreBundles limit [] = Unit {0}
 AreBundles limit (bundle ∷ more) = IsBundle limit bundle × AreBundles limit more
 
--- the bytes of all of them
+-- the bytes of all these bundles, joined
 abbrev pub contents : List Packed → List ℕ
 contents [] = []
 contents (bundle ∷ more) = bundle.bytes ++ contents more
 
--- what is accepted of one that the peer does not take
+-- the accepted bytes of the bundle that is refused
 pub record IsRest (limit : ℕ) (rest : Rest) : Type 0 where
   pub within : length rest.accepted ≤ limit
   pub are : AreBytes rest.accepted
@@ -40,7 +40,7 @@ pub record IsDivided (limit : ℕ) (bytes : List ℕ) (input : Divided) : Type 0
   pub rest : IfSome input.rest (IsRest limit)
   pub whole : input.rest ≡ None → contents input.bundles ≡ bytes
 
--- ---- a prefix judged
+-- ---- a prefix that is judged
 
 some_bundle : (front : List ℕ) (info : BundleInfo) → verdict front ≡ Ok info → 0 < length front
 some_bundle [] info is = absurd (false≢true (sym (whole_stops [] info is) ∙ none_goes))
@@ -136,7 +136,7 @@ divided_so (suc count) limit (byte ∷ bytes) are few =
     (λ fewer. divided_so count limit (drop (length (front_of all)) all) (All-drop IsByte (length (front_of all)) all are) (omega arith))
     (omega arith)
 
--- how an input is divided
+-- the parts of any input
 pub is_divided : (limit : ℕ) (bytes : List ℕ) → AreBytes bytes
     → IsDivided limit bytes (divided limit bytes)
 unfolding divided

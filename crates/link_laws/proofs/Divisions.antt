@@ -1,4 +1,4 @@
--- What an input is divided into, however it goes on.
+-- The parts of an input, whatever bytes follow it.
 use Rattle.std.proofs.Common.{◌≡◌, ℕ, zero, suc, ◌+◌, ◌<◌, ◌≤◌, ◌⊎◌, inl, inr, Bool, true, false, if◌then◌else◌, List, [], ◌∷◌, ◌++◌, length, take, drop, Some, Result, Ok, Err, refl, ap, sym, ◌∙◌, ⊎_elim, append_assoc, length-append, length-drop, arith}
 use Rattle.std.proofs.lemmas.Bool.{cases_Bool, cases_lt, false≢true}
 use Rattle.std.proofs.lemmas.List.{take-append-drop, take-append-le}
@@ -16,7 +16,7 @@ use Rattle.link_pack.proofs.Dividing.{taken_again, none_front, none_goes, some_s
 abbrev pub refused_so : List Packed → Refusal → (accepted : List ℕ) → Divided
 refused_so bundles refusal accepted = record { bundles = bundles; rest = Some (record { accepted = accepted; refusal = refusal }) }
 
--- it shows why it is refused after these bundles
+-- after these bundles, the bytes show why the next one is refused
 pub record IsRefused (limit : ℕ) (bytes : List ℕ) : Type 0 where
   pub bundles : List Packed
   pub accepted : List ℕ
@@ -25,7 +25,7 @@ pub record IsRefused (limit : ℕ) (bytes : List ℕ) : Type 0 where
   pub divides : (more : List ℕ)
       → divided limit (bytes ++ more) ≡ refused_so bundles refusal accepted
 
--- after these bundles another has begun
+-- after these bundles, another bundle has begun
 pub record IsOpen (limit : ℕ) (bytes : List ℕ) : Type 0 where
   pub bundles : List Packed
   pub begun : List ℕ
@@ -35,7 +35,7 @@ pub record IsOpen (limit : ℕ) (bytes : List ℕ) : Type 0 where
   pub divides : (more : List ℕ)
       → divided limit (bytes ++ more) ≡ joined bundles (divided limit (begun ++ more))
 
--- ---- a prefix, and what is after it
+-- ---- a prefix, and the bytes after it
 
 is_shortest : (bytes : List ℕ) → IsShortestFront bundle_goes [] bytes (front_of bytes)
 is_shortest bytes = (takes_shortest bundle_goes [] bytes (front_of bytes)).1 refl
@@ -45,14 +45,14 @@ follows bytes =
     sym (take-append-drop (length (front_of bytes)) bytes)
     ∙ ap (λ (xs : List ℕ). xs ++ drop (length (front_of bytes)) bytes) (sym (is_shortest bytes).is_front)
 
--- of what goes on all is its prefix
+-- if more bytes are needed after the prefix, it is all of the bytes
 all_taken : (bytes : List ℕ) → bundle_goes (front_of bytes) ≡ true → front_of bytes ≡ bytes
 all_taken bytes goes =
     ⊎_elim (λ stops. absurd (false≢true (sym stops ∙ goes))) (λ all. all) (is_shortest bytes).stops
 
--- ---- the first of it
+-- ---- the first part
 
--- a bundle, and then what is after it
+-- a bundle, and then the rest after it
 module _ (limit : ℕ) (bundle rest : List ℕ) (info : BundleInfo) (front : front_of bundle ≡ bundle)
     (is : verdict bundle ≡ Ok info) (within : length bundle ≤ limit) where
   whole_then : (more : List ℕ)
@@ -91,7 +91,7 @@ faulty_first limit front rest fault place is said stays within = record {
   divides = λ more. ap (divided limit) (append_assoc front rest more) ∙ divided_faulty limit front (rest ++ more) fault place is said stays within;
 }
 
--- more than the peer takes
+-- more bytes than the peer takes
 longer_front : (limit : ℕ) (bytes more : List ℕ) → limit < length (front_of bytes)
     → divided limit (bytes ++ more) ≡ refused_so [] (Longer limit) (take limit (front_of bytes))
 longer_front limit bytes more beyond =
@@ -124,9 +124,9 @@ open_first limit begun front goes within = record {
   divides = λ more. refl;
 }
 
--- ---- the whole
+-- ---- the whole input
 
--- a fault that stops it lasts
+-- a fault that stops the scan lasts
 stopped_lasts : (stays : Bool) (fault : BundleFault) (place : ℕ)
     → is_going (if stays then state.Failed fault place else state.Going) ≡ false → stays ≡ true
 stopped_lasts true fault place stops = refl
@@ -137,7 +137,7 @@ IsDivided limit bytes = IsRefused limit bytes ⊎ IsOpen limit bytes
 
 module _ (count limit : ℕ)
     (later : (rest : List ℕ) → length rest ≤ count → IsDivided limit rest) where
-  -- a prefix that is judged, and what is after it, fewer bytes
+  -- a prefix that is judged, and the rest after it, which has fewer bytes
   judged_so : (front rest : List ℕ) (said : Result BundleInfo (BundleFault × ℕ))
       → verdict front ≡ said → bundle_goes front ≡ false
       → front_of front ≡ front → length front ≤ limit → length rest ≤ count

@@ -1,4 +1,4 @@
--- A packed stream, as the messages that it is.
+-- The messages of a packed stream.
 use Rattle.std.proofs.Common.{◌≡◌, ℕ, suc, ◌+◌, ◌^◌, ◌<◌, ◌≤◌, min, Bool, true, false, List, [], ◌∷◌, ◌++◌, length, Option, Some, None, if◌then◌else◌, refl, append_assoc, arith}
 use Rattle.std.specs.Prelude.{IfSome}
 use Rattle.link_wire.specs.Bytes.{AreBytes}
@@ -30,7 +30,7 @@ module _ (options : PackOptions) where
   abbrev pub init_entry : Entry
   init_entry = entry 6 (sess_init_with options.keepalive options.segment_mru options.transfer_mru options.node.items) []
 
-  -- those of bundles
+  -- the messages of these bundles
   unfoldable pub bundle_entries : (number : ℕ) → List Packed → (offset : ℕ) → List Entry
   bundle_entries number [] offset = []
   bundle_entries number (bundle ∷ more) offset =
@@ -50,7 +50,7 @@ module _ (options : PackOptions) where
   end_entries (Some rest) offset = []
 
   module _ (input : Divided) where
-    -- the bytes after SESS_INIT and the bundles, and after the rest
+    -- the bytes of SESS_INIT and of the bundles, and then those of the rest too
     abbrev pub bundles_bytes : List ℕ
     bundles_bytes = init_bytes ++ transfers_of options 0 input.bundles
 
@@ -140,7 +140,7 @@ module _ (options : PackOptions) where
           (rest_stream (length input.bundles) input.rest (6 + length (bundles_bytes options input)) rest few))
           (end_stream input.rest (6 + length (rest_bytes options input)))
 
-      -- what is packed is read as these messages
+      -- a packed stream is read as these messages
       pub packed_is : IsReading (packing_by options input).texts.output
           (packed_reading options input)
       unfolding prelude_bytes

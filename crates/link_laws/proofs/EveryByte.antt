@@ -1,4 +1,4 @@
--- The output of `unpack`, where all data of all transfers is wanted, is the data of the heads that are in order.
+-- The output of `unpack` without options is the data of the heads that are in order.
 use Rattle.std.proofs.Common.{◌≡◌, ℕ, zero, suc, ◌<◌, Bool, true, false, is_some, List, [], ◌∷◌, ◌++◌, length, take, Option, Some, None, Result, Ok, Err, nat_lt, if◌then◌else◌, refl, ap, sym, ◌∙◌, ⊎_elim, append-nil, append_assoc, arith}
 use Rattle.std.specs.List.{AllByRecursion, flat_map}
 use Rattle.std.proofs.lemmas.Bool.{ltb-true}
@@ -23,7 +23,7 @@ use Rattle.link_laws.specs.Cuts.{data_of, HasEveryByte}
 use Rattle.link_laws.specs.RoundTrip.{all}
 use Rattle.link_laws.proofs.Transfers.{kind_of, with_heads}
 
--- ---- what is read
+-- ---- the data that is read
 
 -- a message that is no segment has no data
 abbrev OwnsData : Entry → Type 0
@@ -44,7 +44,7 @@ no_data message.Keepalive other = refl
 no_data (message.SessTerm flags reason) other = refl
 no_data (message.MsgReject reason header) other = refl
 
--- data that is cut is some segment's
+-- data of size 0 is never cut, so data that is cut belongs to a segment
 never_cut : (bytes : List ℕ) (size : ℕ) → nat_lt (length bytes) size ≡ true → size ≡ 0 → ⊥
 never_cut bytes size cut none = let short = ltb-true (length bytes) size cut in omega arith
 
@@ -77,9 +77,9 @@ reading_own : (bytes : List ℕ) → HeadsOwn (heads_of (reading_of bytes))
 unfolding reading_of
 reading_own bytes = contact_own (contact_at bytes)
 
--- ---- a head more
+-- ---- one more head
 
--- Where a transfer is open after these messages, there is a latest.
+-- if a transfer is open after these messages, there is a latest transfer
 record HasLatest (transfers : List Transfer) (before : List Message) : Type 0 where
   pub some : is_some (open_of before) ≡ true → 0 < length transfers
 
@@ -87,7 +87,7 @@ latest_none : HasLatest [] []
 unfolding open_of
 latest_none = record { some = λ some. absurd (cc) }
 
--- data comes last in the output
+-- the data is added at the end of the output
 record Adds (transfers after : List Transfer) (content : List ℕ) : Type 0 where
   pub parts : parts_of all after ≡ parts_of all transfers ++ content
   pub some : 0 < length after
@@ -109,7 +109,7 @@ module _ (transfers : List Transfer) (before : List Message) (content : List ℕ
   segment_by false head is may =
       rw is (continued_adds transfers content (closes head content) (known.some (open_where_continued before head.flags head.id is may)))
 
-  -- the data of a head that is in order
+  -- a head that is in order adds its data
   record HasAdded (sent : Message) : Type 0 where
     pub parts : parts_of all (after_message transfers sent content)
         ≡ parts_of all transfers ++ content
@@ -160,7 +160,7 @@ heads_added (head ∷ heads) transfers before own latest =
     heads_added heads after (before ++ head.message ∷ []) own.1 added.latest
     ∙ ap (λ (parts : List ℕ). parts ++ flat_map data_of (ordered_after (before ++ head.message ∷ []) heads).heads) added.parts)
 
--- the output of any stream
+-- the output for any stream
 pub every_byte : (bytes : List ℕ) → HasEveryByte bytes
 unfolding unpacking ordered transfers_of parts_of
 every_byte bytes = heads_added (heads_of (reading_of bytes)) [] [] (reading_own bytes) latest_none

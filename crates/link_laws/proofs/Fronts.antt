@@ -1,4 +1,4 @@
--- Texts that begin others.
+-- Texts that are prefixes of others.
 use Rattle.std.proofs.Common.{◌≡◌, ℕ, ◌+◌, ◌-◌, ◌≤◌, List, [], ◌++◌, length, take, refl, ap, sym, ◌∙◌, append-nil, append_assoc, arith}
 use Rattle.std.proofs.Math.Seq.{take-append-add}
 use Rattle.link_laws.specs.Prefix.{IsFrontOf}
@@ -6,11 +6,11 @@ use Rattle.link_laws.specs.Prefix.{IsFrontOf}
 pub front_same : (text whole : List ℕ) → text ≡ whole → IsFrontOf text whole
 front_same text whole same = ([], sym same ∙ sym (append-nil text))
 
--- what follows a text, and what follows the whole
+-- a prefix of the whole is a prefix of the whole and more
 pub front_then : (text whole more : List ℕ) → IsFrontOf text whole → IsFrontOf text (whole ++ more)
 front_then text whole more front = (front.0 ++ more, ap (λ (xs : List ℕ). xs ++ more) front.1 ∙ append_assoc text front.0 more)
 
--- the same text before both
+-- the same text is put before both
 pub front_after : (before text whole : List ℕ) → IsFrontOf text whole
     → IsFrontOf (before ++ text) (before ++ whole)
 front_after before text whole front = (front.0, ap (λ (xs : List ℕ). before ++ xs) front.1 ∙ sym (append_assoc before text front.0))
@@ -26,7 +26,7 @@ pub front_trans : (text mid whole : List ℕ) → IsFrontOf text mid
 front_trans text mid whole first second =
     (first.0 ++ second.0, second.1 ∙ ap (λ (xs : List ℕ). xs ++ second.0) first.1 ∙ append_assoc text first.0 second.0)
 
--- a prefix of the bytes that are after others
+-- a prefix of joined bytes, if it is at least as long as the first of them
 pub take-append : (count : ℕ) (front back : List ℕ) → length front ≤ count
     → take count (front ++ back) ≡ front ++ take (count - length front) back
 take-append count front back enough =

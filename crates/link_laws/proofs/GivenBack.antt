@@ -1,4 +1,4 @@
--- What is packed is given back.
+-- Unpacking a packed stream returns the bundles.
 use Rattle.std.proofs.Common.{◌≡◌, ℕ, suc, ◌+◌, inl, inr, ◌⊎◌, true, false, ◌&&◌, List, [], ◌∷◌, ◌++◌, length, Result, Ok, if◌then◌else◌, refl, ap, ap₂, sym, ◌∙◌, append-nil, append_assoc, length-append}
 use Rattle.std.proofs.lemmas.Bool.{eq-eqb}
 use Rattle.link_bundle.specs.Bundle.{verdict}
@@ -110,7 +110,7 @@ over_clean wanted transfers = record {
   status = if are_good transfers then 0 else 1;
 }
 
--- what comes of a stream whose messages are these
+-- the result of unpacking a stream with these messages
 unpacked_so : (options : PackOptions) (wanted : Wanted) (stream : List ℕ) (entries : List Entry)
     (transfers : List Transfer) → IsPackedSo entries stream → AreCarried options entries transfers
     → unpacking wanted stream ≡ over_clean wanted transfers

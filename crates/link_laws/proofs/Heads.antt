@@ -1,4 +1,4 @@
--- Which heads are in order stays, as more of them come.
+-- The heads that are in order stay in order when more heads follow.
 use Rattle.std.proofs.Common.{◌≡◌, ℕ, ◌<◌, Bool, true, false, ◌&&◌, ◌==◌, List, [], ◌∷◌, ◌++◌, length, Option, Some, None, refl, ap, sym, ◌∙◌, subst, ⊎_elim, arith}
 use Rattle.std.proofs.lemmas.Bool.{ne_eqb}
 use Rattle.std.proofs.lemmas.Grind.{fold-append}
@@ -27,7 +27,7 @@ stays_by : (refused : Option OrderFault) (head : Entry) (rest later : Ordered)
 stays_by (Some fault) head rest later stop same is = refl
 stays_by None head rest later stop same is = ap (ordered_by None head) (same is)
 
--- nothing after it changes what is in order
+-- heads after the refused one do not change which heads are in order
 refused_stays : (heads more : List Entry) (seen : List Message) (stop : ℕ × OrderFault)
     → (ordered_after seen heads).refused ≡ Some stop
     → ordered_after seen (heads ++ more) ≡ ordered_after seen heads
@@ -45,7 +45,7 @@ module _ (offset : ℕ) (sent : Message) (content other : List ℕ) (others : Li
   last_by (Some fault) none later clean is = refl
   last_by None none later clean is = let never = sym clean ∙ is in absurd (cc)
 
-  -- nor does its own data
+  -- the data of the refused head does not change it either
   grown_stays : (heads : List Entry) (seen : List Message)
       → (ordered_after seen (heads ++ entry offset sent content ∷ [])).refused ≡ Some stop
       → ordered_after seen (heads ++ entry offset sent other ∷ others)
@@ -54,7 +54,7 @@ module _ (offset : ℕ) (sent : Message) (content other : List ℕ) (others : Li
   grown_stays [] seen is = last_by (refusal seen (event_of sent)) _ _ refl is
   grown_stays (head ∷ heads) seen is = stays_by (refusal seen (event_of head.message)) head _ _ stop (grown_stays heads (seen ++ head.message ∷ [])) is
 
--- ---- heads of which none is refused
+-- ---- heads, if none of them is refused
 
 unrefused_by : (refused : Option OrderFault) (head : Entry) (rest : Ordered) (heads : List Entry)
     → (rest.refused ≡ None → rest ≡ all heads) → (ordered_by refused head rest).refused ≡ None
@@ -93,7 +93,7 @@ module _ (wanted : Wanted) where
       rw (transfer_grows transfers head content piece)
       (continued_front wanted _ piece _ (segment_open transfers head content (unclosed_by (is_end head.flags) (length content) head.length short)))
 
-  -- more of its data changes the latest transfer alone, which it does not close yet
+  -- more data of the segment changes only the latest transfer, which the segment has not closed
   message_grows : (transfers : List Transfer) (sent : Message) (content piece : List ℕ)
       → length content < data_length sent
       → Precedes wanted (after_message transfers sent content)
@@ -104,14 +104,14 @@ module _ (wanted : Wanted) where
       (λ other. rw (transfers_same transfers sent content other, transfers_same transfers sent (content ++ piece) other) (precedes_same wanted transfers))
       (kind_of sent)
 
-  -- ---- what is in order, and what more heads make of it
+  -- ---- the heads that are in order, without and with more heads
 
   pub record OrderGoesOn (before after : Ordered) : Type 0 where
     pub stays : (stop : ℕ × OrderFault) → before.refused ≡ Some stop → after ≡ before
     pub precedes : before.refused ≡ None
         → Precedes wanted (transfers_of before.heads) (transfers_of after.heads)
 
-  -- more heads
+  -- more heads follow
   more_precedes : (heads more : List Entry) → AreInOrder heads
       → Precedes wanted (transfers_of heads) (transfers_of (ordered (heads ++ more)).heads)
   unfolding ordered
@@ -128,7 +128,7 @@ module _ (wanted : Wanted) where
         rw are (more_precedes heads more are);
   }
 
-  -- the last goes on, and then others come
+  -- the data of the last head goes on, and then other heads follow
   module _ (heads others : List Entry) (offset : ℕ) (sent : Message) (content piece : List ℕ)
       (short : length content < data_length sent) where
     abbrev last : Entry

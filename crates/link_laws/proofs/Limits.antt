@@ -76,7 +76,7 @@ module _ (options : PackOptions) where
 
 -- ---- transfers
 
--- what is announced is the length of a whole bundle
+-- a length that is announced is that of a whole bundle
 abbrev pub Announces : (whole : Bool) (size : ℕ) → Option ℕ → Type 0
 Announces whole size announce = (announced_of (announced announce) ≡ Absent) ⊎ ((whole ≡ true) × (announced_of (announced announce) ≡ Total size))
 

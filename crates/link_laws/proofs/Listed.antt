@@ -1,4 +1,4 @@
--- What is packed is listed as it was cut.
+-- A packed stream is listed as it was cut.
 use Rattle.std.proofs.Common.{◌≡◌, ℕ, zero, suc, ◌+◌, Bool, true, false, List, [], ◌∷◌, ◌++◌, length, Option, Some, None, refl, ap, ap₂, sym, ◌∙◌, append-nil, append_assoc, length-append, arith}
 use Rattle.link_wire.specs.Codes.{is_start}
 use Rattle.link_wire.specs.SpelledStream.{IsReading}

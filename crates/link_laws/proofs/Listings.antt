@@ -1,4 +1,4 @@
--- What `list` writes of some bytes is where that begins of any longer ones.
+-- The texts of `list` that some bytes determine are prefixes of its texts for longer inputs.
 use Rattle.std.proofs.Common.{◌≡◌, ℕ, true, false, List, [], ◌++◌, None, refl, ap, sym, ◌∙◌, ⊎_elim}
 use Rattle.std.proofs.lemmas.Bool.{cases_Bool}
 use Rattle.std.proofs.lemmas.Grind.{flat_map-append}
@@ -43,13 +43,13 @@ module _ (before after : Reading) (on : ReadingGoesOn before after) where
 
 -- ---- the report
 
--- a fault that more bytes may mend has no line
+-- a fault that more bytes may remove has no line yet
 pub mended_line : (offset : ℕ) (fault : WireFault) → is_lasting fault ≡ false
     → lasting_line offset fault ≡ []
 mended_line offset Truncated mends = refl
 mended_line offset fault mends = absurd (cc)
 
--- another has the line of the fault that ends the stream
+-- a fault that lasts has the line that it has at the end of the stream
 pub lasting_end : (offset : ℕ) (fault : WireFault) → is_lasting fault ≡ true
     → lasting_line offset fault ≡ fault_text (Wire offset fault)
 lasting_end offset Truncated stays = absurd (cc)

@@ -1,4 +1,4 @@
--- What is packed of an input is where that of any longer one begins.
+-- The texts of `pack` that some bytes determine are prefixes of its texts for longer inputs.
 use Rattle.std.proofs.Common.{◌≡◌, ℕ, suc, ◌+◌, ◌-◌, ◌<◌, ◌≤◌, Bool, true, false, List, [], ◌∷◌, ◌++◌, length, take, Result, Ok, Err, if◌then◌else◌, refl, ap, sym, ◌∙◌, subst, ⊎_elim, append-nil, append_assoc, add-zero, length-append, arith}
 use Rattle.std.proofs.lemmas.Bool.{cases_lt, false≢true}
 use Rattle.link_cbor.specs.Pieces.{taken}
@@ -17,14 +17,14 @@ use Rattle.link_laws.specs.Prefix.{IsFrontOf, IsPrefixed}
 use Rattle.link_laws.proofs.Divisions.{IsRefused, IsOpen, refused_so, is_divided}
 use Rattle.link_laws.proofs.Fronts.{front_same, front_then, front_after, front_first, front_none, take-append}
 
--- where bytes go on that are needed, and then are not, some come
+-- if more bytes are needed before `run`, and none after it, then `run` is not empty
 some_come : (begun run : List ℕ) → bundle_goes begun ≡ true → bundle_goes (begun ++ run) ≡ false
     → 0 < length run
 some_come begun [] goes stops = absurd (false≢true (sym stops ∙ ap bundle_goes (append-nil begun) ∙ goes))
 some_come begun (byte ∷ bytes) goes stops = omega arith
 
 module _ (options : PackOptions) where
-  -- ---- of some bundles and others
+  -- ---- some bundles, and then others
 
   transfers_of-append : (number : ℕ) (bundles more : List Packed)
       → transfers_of options number (bundles ++ more) ≡ transfers_of options number bundles
@@ -46,9 +46,9 @@ module _ (options : PackOptions) where
       (lines_of-append (suc number) bundles more ∙ ap (λ n. lines_of options (suc number) bundles ++ lines_of options n more) {y = number + suc (length bundles)} (omega arith))
       ∙ sym (append_assoc (line_of options number bundle) (lines_of options (suc number) bundles) _)
 
-  -- ---- of a bundle that has begun
+  -- ---- a bundle that has begun
 
-  -- the segments of all that is divided
+  -- the segments of the bundles and of the rest
   abbrev segments : (number : ℕ) → Divided → List ℕ
   segments number input = transfers_of options number input.bundles ++ rest_segments options (number + length input.bundles) input.rest
 
@@ -69,14 +69,14 @@ module _ (options : PackOptions) where
     grown_any [] = front_same _ _ (ap (begun_segments number) (sym (append-nil begun)))
     grown_any (byte ∷ bytes) = grown (byte ∷ bytes) false (omega arith)
 
-    -- it has become whole
+    -- the bundle has become whole
     whole_front : (run : List ℕ) (info : BundleInfo) (later : Divided) → 0 < length run
         → IsFrontOf (begun_segments number begun)
         (segments number (with_bundle (record { bytes = begun ++ run; info = info }) later))
     unfolding transfers_of
     whole_front run info later some = front_then _ _ _ (front_then _ _ _ (grown run true some))
 
-    -- it is refused, or goes on
+    -- the bundle is refused, or goes on
     rest_front : (run accepted : List ℕ) (refusal : Refusal) → accepted ≡ begun ++ run
         → IsFrontOf (begun_segments number begun) (segments number (refused_so [] refusal accepted))
     unfolding transfers_of
@@ -127,9 +127,9 @@ module _ (options : PackOptions) where
       (judged_front number begun run goes next (begun ++ more) (verdict (begun ++ run)) refl))
       (cases_lt limit (length (begun ++ run))))
 
-  -- ---- of an input
+  -- ---- an input
 
-  -- what stands after some bundles
+  -- the output after some bundles
   output_front : (bundles : List Packed) (begun : List ℕ) (input : Divided)
       → IsFrontOf (begun_segments (length bundles) begun) (segments (length bundles) input)
       → IsFrontOf (prelude_bytes options ++ transfers_of options 0 bundles
@@ -151,7 +151,7 @@ module _ (options : PackOptions) where
   report_front bundles input line = front_then _ _ line (rw (lines_of-append 0 bundles input.bundles) (front_first _ _))
 
   module _ (bytes more : List ℕ) where
-    -- it goes on from a bundle that has begun
+    -- the last bundle of the input has begun, and goes on
     open_prefix : IsOpen options.peer_transfer bytes → IsPrefixed (pack_tool options) bytes more
     open_prefix opened =
         let input = divided options.peer_transfer (opened.begun ++ more) in
@@ -163,7 +163,7 @@ module _ (options : PackOptions) where
           report = rw (sofar, whole) (report_front opened.bundles input _);
         }
 
-    -- all of it stays
+    -- a bundle is refused, and the texts stay the same
     refused_prefix : IsRefused options.peer_transfer bytes
         → IsPrefixed (pack_tool options) bytes more
     refused_prefix refused =

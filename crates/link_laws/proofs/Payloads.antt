@@ -1,4 +1,4 @@
--- What of a payload is in some bytes is where that begins which is in any longer ones.
+-- The payload bytes in some bytes are a prefix of the payload bytes in these bytes and more.
 use Rattle.std.proofs.Common.{◌≡◌, ℕ, List, [], ◌++◌, take, drop, Option, Some, None, refl, sym, ◌∙◌, subst}
 use Rattle.link_bundle.specs.Bundle.{judged, payload_of, bytes_of, payload_in}
 use Rattle.link_bundle.proofs.Payloads.{PayloadLasts-holds, PayloadPlaced-holds}
@@ -7,7 +7,7 @@ use Rattle.link_laws.specs.Prefix.{IsFrontOf}
 use Rattle.link_laws.proofs.Fronts.{front_none}
 
 module _ (bytes more : List ℕ) where
-  -- where its bytes are is not known yet, and so it was not known of fewer bytes
+  -- if the position of the payload is not known yet, it was not known for fewer bytes
   not_known : (known : Option (ℕ × ℕ)) → payload_of (judged bytes) ≡ known
       → payload_of (judged (bytes ++ more)) ≡ None → known ≡ None
   not_known None is none = refl

@@ -1,4 +1,4 @@
--- What a packed stream is read as.
+-- The reading of a packed stream.
 use Rattle.std.proofs.Common.{◌≡◌, ℕ, List, Option, Some, None, refl, ap, sym, ◌∙◌, arith}
 use Rattle.link_wire.specs.SpelledStream.{IsReading}
 use Rattle.link_wire.specs.Stream.{Entry, Clean, Reading, reading_of}
@@ -26,7 +26,7 @@ read_so reading stream clean is = record {
   heads = ap heads_of (sym is) ∙ heads_clean reading clean;
 }
 
--- where nothing is refused, nothing follows the bundles
+-- if no bundle is refused, nothing follows the bundles
 no_rest : (rest : Option Rest) → rest_status rest ≡ 0 → rest ≡ None
 no_rest None is = refl
 no_rest (Some rest) is = absurd (omega arith)

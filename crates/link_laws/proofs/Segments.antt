@@ -16,28 +16,28 @@ use Rattle.link_pack.specs.Segments.{Sending, cutting_of, cut_at, flags_of, segm
 use Rattle.link_unpack.proofs.Heads.{entry}
 use Rattle.link_laws.proofs.Streams.{stream_then, stream_one}
 
--- chunk number `k`, and the message that it is the data of
+-- chunk number `k`, and the message whose data it is
 abbrev pub chunk_of : Sending → (k : ℕ) → List ℕ
 chunk_of sending k = chunk_at sending.segment k sending.bundle
 
 abbrev pub message_of : (id : ℕ) → Sending → (k : ℕ) → Message
 message_of id sending k = segment_with (flags_of (cut_at sending k).first (cut_at sending k).last) id (length (chunk_of sending k)) (cut_at sending k).announce
 
--- the messages of `count` segments from number `k` on
+-- the messages of `count` segments from chunk number `k` on
 unfoldable pub segment_entries : (id : ℕ) → Sending → (k count offset : ℕ) → List Entry
 segment_entries id sending k zero offset = []
 segment_entries id sending k (suc count) offset =
     entry offset (message_of id sending k) (chunk_of sending k)
     ∷ segment_entries id sending (suc k) count (offset + length (segment_bytes id (cut_at sending k) (chunk_of sending k)))
 
--- what the segments can be made of
+-- the conditions under which segments are made
 pub record SendingFits (sending : Sending) : Type 0 where
   pub some : 0 < sending.segment
   pub small : sending.segment ≤ 65536
   pub hold : sending.hold ≤ 1048576
   pub are : AreBytes sending.bundle
 
--- what is announced fits its field
+-- a length that is announced fits in its field
 fits_by : (test : Bool) (size : ℕ) → (test ≡ true → size ≤ 1048576)
     → IfSome (if test then Some size else None) (λ total. total < 2 ^ 64)
 fits_by true size most = let small = most refl in omega arith
@@ -49,7 +49,7 @@ unfolding announcement
 announcement_fits so_far small =
     fits_by (so_far.whole && (nat_lt so_far.segment (length so_far.bundle) && nat_le (length so_far.bundle) so_far.hold)) (length so_far.bundle) (λ held. grind (arith, nat_tests))
 
--- the head of a segment, which announces with the first chunk alone
+-- the head of a segment, which announces a length only with the first chunk
 head_spelled : (first last : Bool) (id size : ℕ) (announce : Option ℕ) → id < 2 ^ 64 → size < 2 ^ 64
     → IfSome announce (λ total. total < 2 ^ 64)
     → (let outcome = if first then announce else None in

@@ -30,7 +30,7 @@ ends_as true false = refl
 ends_as false true = refl
 ends_as false false = refl
 
--- a first segment may come where no transfer is open, and another where its own is
+-- a first segment may come if no transfer is open, and another one if its own transfer is open
 first_may : (last : Bool) (id : ℕ)
     → refusal_by true false None (Segment (flags_of true last) id) ≡ None
 first_may true id = refl
@@ -49,7 +49,7 @@ opens_by : (first last : Bool) (id : ℕ)
     → open_after (Segment (flags_of first last) id) ≡ open_by id last
 opens_by first last id = ap (λ test. if test then None else Some id) (ends_as first last)
 
--- ---- what a segment makes of the transfers
+-- ---- the transfers after a segment
 
 and_true : (test : Bool) → (test && true) ≡ test
 and_true true = refl
@@ -67,11 +67,11 @@ closes_as : (head : SegmentHead) (content : List ℕ) (last : Bool) → is_end h
     → length content ≡ head.length → closes head content ≡ last
 closes_as head content last ends size = rw (ends, eq-eqb (length content) head.length size) (and_true last)
 
--- a transfer of which `count` chunks were sent
+-- a transfer after `count` of its chunks were sent
 abbrev pub sent : (id : ℕ) → Sending → (count : ℕ) → (closed : Bool) → Transfer
 sent id sending count closed = record { first = head_of id sending 0; content = take (count * sending.segment) sending.bundle; closed = closed }
 
--- a chunk more
+-- one more chunk
 taken_more : (segment k : ℕ) (bundle : List ℕ)
     → take (k * segment) bundle ++ chunk_at segment k bundle ≡ take (suc k * segment) bundle
 taken_more segment k bundle =

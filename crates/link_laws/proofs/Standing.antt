@@ -1,4 +1,4 @@
--- Heads that are in order, and the transfers that they make, one head further.
+-- Heads that are in order and their transfers, with one more head.
 use Rattle.std.proofs.Common.{◌≡◌, ℕ, true, false, List, [], ◌∷◌, ◌++◌, Option, None, ap, sym, ◌∙◌, subst}
 use Rattle.link_wire.specs.Stream.{Entry}
 use Rattle.link_wire.specs.declared.message.Message.{Message}
@@ -13,17 +13,18 @@ use Rattle.link_unpack.specs.UnpackRun.{messages_of, AreInOrder}
 use Rattle.link_unpack.proofs.Heads.{messages_push, no_transfers, transfers_push}
 use Rattle.link_unpack.proofs.Orders.{in_order_none, in_order_more}
 
--- these heads are in order, and make these transfers; a joiner that accepted their messages is here
+-- These heads are in order, and these are their transfers. A joiner that accepted their messages
+-- has this value.
 pub record Stands (heads : List Entry) (joiner : Joiner) (transfers : List Transfer) : Type 0 where
   pub in_order : AreInOrder heads
   pub joins : IsJoinerAt joiner (messages_of heads)
   pub makes : transfers_of heads ≡ transfers
 
--- before the first message
+-- a joiner before the first message
 abbrev pub fresh : Joiner
 fresh = record { initiated = false; terminated = false; transfer = None }
 
--- between SESS_INIT and SESS_TERM, where this transfer is open
+-- a joiner between SESS_INIT and SESS_TERM, with this transfer open
 abbrev pub carrying : Option ℕ → Joiner
 carrying transfer = record { initiated = true; terminated = false; transfer = transfer }
 
@@ -36,7 +37,7 @@ may_come : (joiner : Joiner) (before : List Message) (event : Event) → IsJoine
 unfolding refusal
 may_come joiner before event at may = rw (sym at.initiated, sym at.terminated, sym at.transfer) may
 
--- one head that may come
+-- one more head, which may come here
 pub stands_more : (heads : List Entry) (joiner : Joiner) (transfers : List Transfer) (head : Entry)
     (event : Event) → event_of head.message ≡ event
     → refusal_by joiner.initiated joiner.terminated joiner.transfer event ≡ None

@@ -1,4 +1,4 @@
--- Messages one after another are a stream.
+-- Messages, one after another, are a stream.
 use Rattle.std.proofs.Common.{◌≡◌, ℕ, ◌+◌, List, [], ◌∷◌, ◌++◌, length, refl, ap, sym, ◌∙◌, subst, append-nil, append_assoc, length-append, arith}
 use Rattle.std.proofs.lemmas.List.Elements.{All-nil}
 use Rattle.link_wire.specs.Bytes.{IsByte, AreBytes}
@@ -9,7 +9,7 @@ use Rattle.link_wire.specs.Stream.{Entry, End, Clean}
 use Rattle.link_wire.specs.declared.message.Message.{Message}
 use Rattle.link_unpack.proofs.Heads.{entry}
 
--- messages, and then what follows them
+-- messages, and then the rest of the stream
 pub stream_then : (entries more : List Entry) (end : End) (offset : ℕ) (front back : List ℕ)
     → IsStream entries Clean offset front → IsStream more end (offset + length front) back
     → IsStream (entries ++ more) end offset (front ++ back)

@@ -1,4 +1,4 @@
--- What is written of transfers stays, as more heads come.
+-- The texts that are written for transfers stay when more heads follow.
 use Rattle.std.proofs.Common.{◌≡◌, ℕ, ◌⊎◌, inl, inr, Bool, true, false, ◌&&◌, ◌==◌, is_some, List, [], ◌∷◌, ◌++◌, length, Option, Some, None, if◌then◌else◌, refl, ap, sym, ◌∙◌, ⊎_elim, append-nil}
 use Rattle.std.specs.List.{fold}
 use Rattle.std.proofs.lemmas.Bool.{cases_Bool, false≢true}
@@ -24,13 +24,13 @@ use Rattle.link_laws.specs.Prefix.{IsFrontOf}
 use Rattle.link_laws.proofs.Fronts.{front_same, front_first, front_after, front_none, front_trans}
 use Rattle.link_laws.proofs.Payloads.{payload_front}
 
--- the latest transfer is closed
+-- whether the latest transfer is closed
 abbrev pub latest_closed : List Transfer → Bool
 latest_closed [] = false
 latest_closed (latest ∷ earlier) = latest.closed
 
 module _ (wanted : Wanted) where
-  -- both texts of some transfers are where those of others begin
+  -- both texts of the first transfers are prefixes of those of the second
   pub record Precedes (first second : List Transfer) : Type 0 where
     pub output : IsFrontOf (parts_of wanted first) (parts_of wanted second)
     pub report : IsFrontOf (lines_of wanted (settled first)) (lines_of wanted (settled second))
@@ -54,7 +54,7 @@ module _ (wanted : Wanted) where
   settled_by true latest earlier = front_same _ _ refl
   settled_by false latest earlier = lines_front latest earlier
 
-  -- those that are over have the first lines
+  -- the lines of the transfers that are settled come first
   pub settled_front : (transfers : List Transfer)
       → IsFrontOf (lines_of wanted (settled transfers)) (lines_of wanted transfers)
   settled_front [] = front_same _ _ refl
@@ -72,7 +72,7 @@ module _ (wanted : Wanted) where
     report = front_trans _ _ _ (settled_front earlier) (after_settled latest.closed latest earlier);
   }
 
-  -- ---- more data of the latest
+  -- ---- more data of the latest transfer
 
   chosen_front : (selected payload : Bool) (content piece : List ℕ)
       → IsFrontOf (if selected then (if payload then payload_in content else content)
@@ -97,7 +97,7 @@ module _ (wanted : Wanted) where
 
 -- ---- heads that are in order
 
--- a segment, or another message
+-- a message is a segment, or it is not
 pub kind_of : (sent : Message) → ((head : SegmentHead) × (sent ≡ message.Segment head))
     ⊎ (is_segment (event_of sent) ≡ false)
 kind_of (message.SessInit keepalive segment_mru transfer_mru node items) = inr refl
@@ -108,7 +108,7 @@ kind_of message.Keepalive = inr refl
 kind_of (message.SessTerm flags reason) = inr refl
 kind_of (message.MsgReject reason header) = inr refl
 
--- Where a transfer is open after these messages, the latest is not closed.
+-- if a transfer is open after these messages, the latest transfer is not closed
 pub record KnowsOpen (transfers : List Transfer) (before : List Message) : Type 0 where
   pub unclosed : is_some (open_of before) ≡ true → latest_closed transfers ≡ false
 
@@ -152,7 +152,7 @@ module _ (transfers : List Transfer) (before : List Message) (content : List ℕ
       })
       (kind_of sent)
 
--- what more heads make of these transfers
+-- these transfers after more heads
 abbrev pub with_heads : List Transfer → List Entry → List Transfer
 with_heads transfers heads = fold (λ ts head. after_message ts head.message head.content) transfers heads
 

@@ -1,4 +1,4 @@
--- What `unpack` writes of some bytes is where that begins of any longer ones.
+-- The texts of `unpack` that some bytes determine are prefixes of its texts for longer inputs.
 use Rattle.std.proofs.Common.{◌≡◌, ℕ, true, false, List, [], ◌++◌, Option, Some, None, refl, ap, sym, subst, ⊎_elim, append-nil, append_assoc}
 use Rattle.std.proofs.lemmas.Bool.{cases_Bool, false≢true}
 use Rattle.link_wire.specs.Stream.{Entry, End, Clean, Cut, Fault, Stream, ended, Reading, reading_of}
@@ -17,7 +17,7 @@ use Rattle.link_laws.proofs.Transfers.{Precedes, settled_front}
 
 -- ---- a fault of the wire that lasts
 
--- more bytes leave what was read
+-- more bytes do not change what was read
 stays_after : (end : End) (rest : Stream) → FollowsEnd end rest
     → is_shown end ≡ true → rest ≡ ended end
 stays_after Clean rest follows shown = absurd (false≢true shown)
@@ -42,7 +42,7 @@ module _ (wanted : Wanted) where
 
   -- ---- the texts
 
-  -- the lines of the transfers that are over
+  -- the lines of the settled transfers come first among those of the transfers that are over
   over_front : (refused : Option (ℕ × OrderFault)) (end : End) (transfers : List Transfer)
       → IsFrontOf (lines_of wanted (settled transfers))
       (lines_of wanted (over refused end transfers))
@@ -57,14 +57,14 @@ module _ (wanted : Wanted) where
   abbrev whole_report : Option (ℕ × OrderFault) → End → List Transfer → List ℕ
   whole_report refused end transfers = lines_of wanted (over refused end transfers) ++ stop_lines refused end
 
-  -- both end with the line of a fault that lasts
+  -- both reports end with the line of a fault that lasts
   shown_report : (end : End) (transfers : List Transfer) → is_shown end ≡ true
       → sofar_report None end transfers ≡ whole_report None end transfers
   shown_report Clean transfers shown = absurd (false≢true shown)
   shown_report (Cut offset message content) transfers shown = absurd (false≢true shown)
   shown_report (Fault offset fault) transfers shown = ap (λ (line : List ℕ). lines_of wanted (settled transfers) ++ line) (lasting_end offset fault shown)
 
-  -- no such fault is known yet
+  -- no fault that lasts is known yet
   unshown_report : (end later : End) (refused : Option (ℕ × OrderFault))
       (transfers more : List Transfer) → is_shown end ≡ false → Precedes wanted transfers more
       → IsFrontOf (sofar_report None end transfers) (whole_report refused later more)
@@ -96,7 +96,7 @@ module _ (wanted : Wanted) where
   unshown_fronts end later before after none mends precedes =
       rw none (record { output = precedes.output; report = unshown_report end later after.refused _ _ mends precedes })
 
-  -- ---- what is read
+  -- ---- the messages that are read
 
   module _ (entries : List Entry) (end : End) (rest : Stream) (follows : FollowsEnd end rest) where
     abbrev before : Ordered

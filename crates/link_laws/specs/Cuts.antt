@@ -1,4 +1,4 @@
--- How the output of `unpack` is made of the stream's data, and how its report cuts it.
+-- How the data of the stream makes up the output of `unpack`, and how the report cuts the output.
 use Rattle.std.specs.Prelude.{◌≡◌, ℕ, ◌+◌, ◌≤◌, false, List, [], ◌∷◌, ◌++◌, length, None}
 use Rattle.std.specs.List.{flat_map}
 use Rattle.link_wire.specs.Stream.{Entry, reading_of}
@@ -10,15 +10,16 @@ use Rattle.link_unpack.specs.declared.wanted.Wanted.{Wanted}
 
 -- ---- the output
 
--- the data of a segment that is there
+-- the data of a segment, as far as it is there
 abbrev pub data_of : Entry → List ℕ
 data_of head = head.content
 
--- the heads of a stream that are in order, and the first that is not
+-- the heads of a stream that are in order, and the first that is refused, if there is one
 abbrev pub order_of : List ℕ → Ordered
 order_of bytes = ordered (heads_of (reading_of bytes))
 
--- of all transfers, without payload, the output is the data of the segments that were accepted, in order
+-- for all transfers, and without `--payload`, the output is the data of the accepted segments, in
+-- order
 abbrev pub HasEveryByte : List ℕ → Type 0
 HasEveryByte bytes =
     (unpacking (record { only = None; payload = false }) bytes).texts.output
@@ -26,13 +27,14 @@ HasEveryByte bytes =
 
 -- ---- the report
 
--- what the lines of these transfers say, the latest of which is the first here and the last there
+-- The entries of the report's lines for these transfers. The list of transfers begins with the
+-- latest, and the list of entries ends with it.
 unfoldable pub entries_of : Wanted → List Transfer → List TransferEntry
 entries_of wanted [] = []
 entries_of wanted (latest ∷ earlier) =
     entries_of wanted earlier ++ entry_of wanted latest (length (parts_of wanted earlier)) ∷ []
 
--- each begins where the ones before it end
+-- the first entry begins at `start`, and each other where the one before it ends
 unfoldable pub Follow : (start : ℕ) → List TransferEntry → Type 0
 Follow start [] = Unit {0}
 Follow start (entry ∷ more) = (entry.start ≡ start) × Follow (start + entry.written) more
@@ -41,19 +43,20 @@ unfoldable pub written_by : List TransferEntry → ℕ
 written_by [] = 0
 written_by (entry ∷ more) = entry.written + written_by more
 
--- the transfers that have a line
+-- the transfers that have a line in the report, the latest first
 abbrev pub reported : List ℕ → List Transfer
 reported bytes =
     over (order_of bytes).refused (reading_of bytes).end (transfers_of (order_of bytes).heads)
 
--- The report is the lines of these transfers and then that of the fault. What they say was written follows one another from
--- the beginning of the output, and what is left of the output is that of the transfer that has no line.
+-- The report is the lines of these transfers, and then the line of the fault. The parts of the
+-- output that the lines name follow one another from its beginning. The rest of the output is the
+-- part of the transfer that has no line.
 pub record CutsOutput (wanted : Wanted) (bytes : List ℕ) : Type 0 where
   pub lines : (unpacking wanted bytes).texts.report
       ≡ flat_map transfer_text (entries_of wanted (reported bytes))
       ++ stop_lines (order_of bytes).refused (reading_of bytes).end
   pub follow : Follow 0 (entries_of wanted (reported bytes))
-  -- a transfer that has no line is the latest, and stands last in the output
+  -- the transfer that has no line, if there is one: it is the latest, and the last in the output
   pub left : List Transfer
   pub one : length left ≤ 1
   pub whole : (unpacking wanted bytes).texts.output ≡ parts_of wanted (left ++ reported bytes)

@@ -1,4 +1,4 @@
--- How a packed stream is listed.
+-- The listing of a packed stream.
 use Rattle.std.specs.Prelude.{◌≡◌, ℕ, zero, suc, ◌+◌, Bool, true, false, List, [], ◌∷◌, ◌++◌, length}
 use Rattle.link_wire.specs.Spelling.{segment_head_size, segment_with, sess_init_with}
 use Rattle.link_wire.specs.declared.message.Message.TheVariants.{SessTerm}
@@ -18,20 +18,20 @@ flags_at sending k = flags_of (cut_at sending k).first (cut_at sending k).last
 abbrev pub length_at : Sending → (k : ℕ) → ℕ
 length_at sending k = length (chunk_at sending.segment k sending.bundle)
 
--- the line of the segment of chunk number `k`, where it stands at this offset
+-- the line of the segment of chunk number `k`, if the segment is at this offset
 abbrev pub segment_line : (id : ℕ) → Sending → (k offset : ℕ) → List ℕ
 segment_line id sending k offset =
     message_text offset (segment_with (flags_at sending k) id (length_at sending k)
     (cut_at sending k).announce)
 
--- how many bytes the segment has: its head, and its data
+-- the number of bytes of the segment: its head and its data
 abbrev pub segment_span : Sending → (k : ℕ) → ℕ
 segment_span sending k =
     segment_head_size (flags_at sending k) (cut_at sending k).announce + length_at sending k
 
 -- ---- segments
 
--- the lines of `count` segments from number `k` on, the first of them at this offset
+-- the lines of `count` segments from chunk number `k` on, if the first is at this offset
 unfoldable pub segment_lines : (id : ℕ) → Sending → (k count offset : ℕ) → List ℕ
 segment_lines id sending k zero offset = []
 segment_lines id sending k (suc count) offset =
@@ -52,7 +52,8 @@ abbrev pub term_line : (asked : Bool) (offset : ℕ) → List ℕ
 term_line true offset = message_text offset (SessTerm 0 0)
 term_line false offset = []
 
--- a line for each segment of each bundle from this number and offset on, and then that of SESS_TERM
+-- A line for each segment of each bundle, and then the line of SESS_TERM. The first bundle has this
+-- number, and its first segment is at this offset.
 unfoldable pub bundle_lines : PackOptions → (number offset : ℕ) → List Packed → List ℕ
 bundle_lines options number offset [] = term_line options.send_term offset
 bundle_lines options number offset (bundle ∷ more) =
@@ -61,7 +62,8 @@ bundle_lines options number offset (bundle ∷ more) =
     segment_lines number whole 0 count offset
     ++ bundle_lines options (suc number) (offset + segments_span whole 0 count) more
 
--- the contact header has 6 bytes, and SESS_INIT 25 and the node ID
+-- The lines of a packed stream. The contact header has 6 bytes, and SESS_INIT has 25 bytes and the
+-- node ID.
 abbrev pub packed_lines : PackOptions → List Packed → List ℕ
 packed_lines options bundles =
     contact_text (record { flags = 0 })
@@ -69,7 +71,7 @@ packed_lines options bundles =
     options.transfer_mru options.node.items)
     ++ bundle_lines options 0 (31 + length options.node.items) bundles
 
--- listing the stream shows these lines, and no fault
+-- listing the stream writes these lines, and finds no fault
 pub record IsListed (options : PackOptions) (bytes stream : List ℕ) : Type 0 where
   pub output : (listing stream).texts.output
       ≡ packed_lines options (divided options.peer_transfer bytes).bundles

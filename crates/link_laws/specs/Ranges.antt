@@ -1,10 +1,10 @@
--- What the types of the options and of the input say of their numbers.
+-- Bounds that the types of the options and of the input imply.
 use Rattle.std.specs.Prelude.{ℕ, ◌^◌, ◌<◌, ◌≤◌, List, length}
 use Rattle.link_wire.specs.Bytes.{AreBytes}
 use Rattle.link_wire.specs.Limits.{longest_node}
 use Rattle.link_pack.specs.declared.options.PackOptions.{PackOptions}
 
--- each number fits its field
+-- the numbers and the node ID fit in the fields of SESS_INIT (RFC 9174 section 4.6)
 pub record OptionsFit (options : PackOptions) : Type 0 where
   pub keepalive : options.keepalive < 2 ^ 16
   pub segment_mru : options.segment_mru < 2 ^ 64
@@ -12,7 +12,7 @@ pub record OptionsFit (options : PackOptions) : Type 0 where
   pub node : AreBytes options.node.items
   pub short : length options.node.items ≤ longest_node
 
--- the input is bytes, and fewer than IDs
+-- the input is bytes, and fewer of them than there are transfer IDs
 pub record InputFits (bytes : List ℕ) : Type 0 where
   pub are : AreBytes bytes
   pub few : length bytes < 2 ^ 64

@@ -1,4 +1,4 @@
--- What comes of a packed stream that is unpacked.
+-- The result of unpacking a packed stream.
 use Rattle.std.specs.Prelude.{◌≡◌, ℕ, suc, ◌+◌, false, List, [], ◌∷◌, ◌++◌, length, None}
 use Rattle.link_report.specs.Transfer.{transfer_text}
 use Rattle.link_report.specs.declared.judgement.Judgement.TheVariants.{Good}
@@ -7,11 +7,12 @@ use Rattle.link_unpack.specs.declared.wanted.Wanted.{Wanted}
 use Rattle.link_pack.specs.Bundles.{Packed, divided}
 use Rattle.link_pack.specs.declared.options.PackOptions.{PackOptions}
 
--- all data of all transfers
+-- `unpack` without options: all data of all transfers
 abbrev pub all : Wanted
 all = record { only = None; payload = false }
 
--- a line for each bundle: its number, where it begins in the output, and that it is good
+-- A line for each bundle: its number, its offset in the output, and the judgement that it is good.
+-- The first bundle has this number, and begins at `start`.
 unfoldable pub good_lines : (number start : ℕ) → List Packed → List ℕ
 good_lines number start [] = []
 good_lines number start (bundle ∷ more) =
@@ -24,7 +25,7 @@ good_lines number start (bundle ∷ more) =
     })
     ++ good_lines (suc number) (start + length bundle.bytes) more
 
--- unpacking the stream gives the bundles back, each good
+-- unpacking the stream returns the bundles, and each of them is good
 pub record GivesBack (options : PackOptions) (bytes stream : List ℕ) : Type 0 where
   pub output : (unpacking all stream).texts.output ≡ bytes
   pub report : (unpacking all stream).texts.report

@@ -1,5 +1,7 @@
-//! What the tools are to each other: the contract of each function is a law over the definitions alone, and the
-//! function does nothing. The calls in it do nothing either: their contracts are what its proof stands on.
+//! Laws over the definitions of the tools.
+//!
+//! The contract of each function is a law, and the function does nothing when it runs. The calls in
+//! it do nothing either: the proof of the law uses their contracts.
 
 ghost use Rattle.std.specs.Prelude.{◌≡◌, ◌<◌, ◌≤◌, ◌^◌, List, ℕ, length};
 ghost use Rattle.link_wire.specs.Bytes.{AreBytes};
@@ -19,8 +21,9 @@ use link_pack::PackOptions;
 use link_wire::NodeId;
 use link_wire::laws::exactly_one_reading;
 
-/// What some bytes determine of a tool's texts stays what it is, however the bytes go on: a run that is stopped has
-/// written a prefix of what a run over all bytes writes.
+/// The texts that some bytes determine begin the texts of every input that begins with these bytes.
+///
+/// So a run that is stopped has written a prefix of what a run over all bytes writes.
 pub fn sofar_is_prefix()
     ensures list { (bytes more : List ℕ) → IsPrefixed list_tool bytes more }
     ensures unpack { (wanted : Wanted) (bytes more : List ℕ)
@@ -29,9 +32,12 @@ pub fn sofar_is_prefix()
         → IsPrefixed (pack_tool options) bytes more }
 {}
 
-/// What is packed keeps the limits of the peer, whatever the input and however the packing ends: the stream is read
-/// without a fault, its messages are in order, each segment has some data and no more than the peer takes, each transfer
-/// no more than the peer takes, and a length that is announced is that of its transfer.
+/// A packed stream keeps the limits of the peer, whatever the input is and however packing ends.
+///
+/// - The stream is read without a fault, and its messages are in order.
+/// - Each segment has some data, and no more than the peer takes.
+/// - No transfer has more data than the peer takes.
+/// - A length that is announced is that of its transfer.
 pub fn keeps_limits(options: &PackOptions, bytes: &[u8])
     ensures { KeepsLimits options.now (packing options.now bytes.now).texts.output }
 {
@@ -40,8 +46,10 @@ pub fn keeps_limits(options: &PackOptions, bytes: &[u8])
     exactly_one_reading();
 }
 
-/// Unpacking undoes packing: where an input is packed without a fault, unpacking the stream gives the input back, with a
-/// line for each bundle, numbered from 0, each of them good.
+/// Unpacking undoes packing, if the input is packed without a fault.
+///
+/// The output of unpacking the stream is then the input. The report has one line for each bundle,
+/// numbered from 0, and each line says that the bundle is good.
 pub fn unpack_of_pack(options: &PackOptions, bytes: &[u8])
     ensures { (packing options.now bytes.now).status ≡ 0
         → GivesBack options.now bytes.now (packing options.now bytes.now).texts.output }
@@ -51,9 +59,11 @@ pub fn unpack_of_pack(options: &PackOptions, bytes: &[u8])
     exactly_one_reading();
 }
 
-/// What is packed is listed as it was cut: where an input is packed without a fault, listing the stream shows the contact
-/// header, SESS_INIT, a segment for each chunk of each bundle with its flags, ID, length and offset, and SESS_TERM where
-/// it was asked for.
+/// A packed stream is listed as it was cut, if the input is packed without a fault.
+///
+/// The listing has the lines of the contact header, of SESS_INIT, of one segment for each chunk of
+/// each bundle, and of SESS_TERM if it was asked for. The line of a segment shows its flags, ID,
+/// length and offset.
 pub fn list_of_pack(options: &PackOptions, bytes: &[u8])
     ensures { (packing options.now bytes.now).status ≡ 0
         → IsListed options.now bytes.now (packing options.now bytes.now).texts.output }
@@ -63,36 +73,40 @@ pub fn list_of_pack(options: &PackOptions, bytes: &[u8])
     exactly_one_reading();
 }
 
-/// Nothing is lost and nothing doubled: for all transfers, without payload, the output of `unpack` is the data of the
-/// segments that were accepted, in order.
+/// `unpack` without options loses no byte of data, and repeats none.
+///
+/// For all transfers, and without `--payload`, its output is the data of the segments that were
+/// accepted, in order.
 pub fn every_byte_once()
     ensures { (bytes : List ℕ) → HasEveryByte bytes }
 {}
 
-/// The report of `unpack` cuts its output: each line's transfer begins in the output where those before it end, and what
-/// is left after the last is that of a transfer that a fault left open.
+/// The report of `unpack` cuts its output into the transfers.
+///
+/// The transfer of each line begins in the output where the transfers before it end. The output
+/// after the last of them is that of a transfer that a fault left open.
 pub fn report_cuts_output()
     ensures { (wanted : Wanted) (bytes : List ℕ) → CutsOutput wanted bytes }
 {}
 
-// ---- what the types say
+// ---- bounds that the types imply
 
-/// A keepalive interval fits its field.
+/// A keepalive interval fits in its field of 16 bits.
 fn keepalive_fits(number: u16)
     ensures { number < 2 ^ 16 }
 {}
 
-/// So does an MRU.
+/// An MRU fits in its field of 64 bits.
 fn mru_fits(number: u64)
     ensures { number < 2 ^ 64 }
 {}
 
-/// The members of a slice of bytes are bytes.
+/// Each element of a slice of `u8` is a byte.
 fn are_bytes(bytes: &[u8])
     ensures { AreBytes bytes.now }
 {}
 
-/// A node ID is bytes, at most 1,024 of them.
+/// A node ID is at most 1,024 bytes.
 fn node_fits(node: &NodeId)
     ensures bytes { AreBytes node.now.items }
     ensures short { length node.now.items ≤ 1024 }
@@ -100,7 +114,7 @@ fn node_fits(node: &NodeId)
     are_bytes(node.as_slice());
 }
 
-/// What the options say fits the fields of SESS_INIT.
+/// The options fit in the fields of SESS_INIT (RFC 9174 section 4.6).
 fn options_fit(options: &PackOptions)
     ensures { OptionsFit options.now }
 {
@@ -110,7 +124,7 @@ fn options_fit(options: &PackOptions)
     node_fits(&options.node);
 }
 
-/// The input is bytes, and has fewer of them than there are IDs.
+/// The input is bytes, and fewer of them than there are transfer IDs.
 fn input_fits(bytes: &[u8])
     ensures { InputFits bytes.now }
 {

@@ -1,4 +1,4 @@
-//! The laws that make the tools one toolkit.
+//! Laws over the definitions of the tools, which say how the tools are related.
 #![tactic(auto)]
 
 pub mod laws;

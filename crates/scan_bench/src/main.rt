@@ -1,6 +1,10 @@
-//! 64 MiB: `scan` feeds them to a bundle scan as a payload under CRC-32C, `plain` as a payload without a check, `bundles` as
-//! small bundles one after another, with a CRC-32C in the primary block. `crc16-slices` and `crc32-slices` push them into a
-//! check alone in pieces, and `crc16-bytes` and `crc32-bytes` byte by byte. Compare the user times.
+//! Scans and checks over 64 MiB each, for a comparison of their user times.
+//!
+//! - `scan` feeds a scan a bundle with a CRC-32C in the payload block.
+//! - `plain` feeds a scan a bundle without a check.
+//! - `bundles` feeds a scan small bundles, one after another, with a CRC-32C in the primary block.
+//! - `crc16-slices` and `crc32-slices` push the bytes into a check in pieces.
+//! - `crc16-bytes` and `crc32-bytes` push the bytes into a check one by one.
 #![tactic(auto)]
 
 ghost use Rattle.std.specs.Prelude.{◌≤◌, length};
@@ -9,22 +13,26 @@ use link_bundle::{BundleScan, State};
 use link_cbor::{Check, CheckKind, Piecewise};
 use std::{env, io};
 
-/// A bundle up to the data of its payload block, whose head says 64 MiB and whose check type is CRC-32C.
+/// A bundle up to its payload, which has 64 MiB by its head.
+///
+/// The check type of the payload block is CRC-32C.
 const FRONT: &[u8] =
     b"\x9f\x88\x07\x00\x00\x82\x02\x82\x02\x01\x82\x02\x82\x01\x01\x82\x01\x00\x82\x00\x00\x00\x86\x01\x01\x00\x02\x5a\x04\x00\x00\x00";
 
-/// The same without a check.
+/// The same bundle without a check.
 const PLAIN_FRONT: &[u8] =
     b"\x9f\x88\x07\x00\x00\x82\x02\x82\x02\x01\x82\x02\x82\x01\x01\x82\x01\x00\x82\x00\x00\x00\x85\x01\x01\x00\x00\x5a\x04\x00\x00\x00";
 
-/// A bundle up to its payload, whose head says 153 bytes. Its primary block has a CRC-32C and a dtn name.
+/// A bundle up to its payload, which has 153 bytes by its head.
+///
+/// The primary block has a CRC-32C and a dtn name.
 const SMALL_FRONT: &[u8] =
     b"\x9f\x89\x07\x00\x02\x82\x01\x68\x2f\x2f\x6e\x6f\x64\x65\x2f\x61\x82\x02\x82\x01\x01\x82\x01\x00\x82\x19\xff\xff\x00\x1a\x00\x36\xee\x80\x44\x48\xff\xfe\x80\x85\x01\x01\x00\x00\x58\x99";
 
-/// How many bundles of 200 bytes make 64 MiB.
+/// The number of bundles of 200 bytes that make 64 MiB.
 const BUNDLES: u32 = 335_544;
 
-/// How many pieces of 4,096 bytes the payload has.
+/// The number of pieces of 4,096 bytes that make 64 MiB.
 const PIECES: u32 = 16_384;
 
 fn scanned(front: &[u8]) -> u64
@@ -39,7 +47,7 @@ fn scanned(front: &[u8]) -> u64
     scan.count()
 }
 
-/// How many of the bundles are whole.
+/// Scans the small bundles, and returns how many are whole.
 fn bundles() -> u64 {
     let mut bytes = [0xff; 200];
     bytes[..46].copy_from_slice(SMALL_FRONT);

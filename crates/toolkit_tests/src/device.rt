@@ -1,4 +1,4 @@
-//! Devices over memory that move a few bytes a call, count their calls, and fail where a test wants it.
+//! Devices in memory that move a few bytes a call, count their calls, and fail at a chosen call.
 
 ghost use Rattle.std.specs.Prelude.{◌≡◌, ◌<◌, ◌≤◌, true, false, [], length, Some, IfOk, MatchResult};
 ghost use Rattle.std.specs.Io.KnownBytes.{ReadConsumes, WriteAppends};
@@ -16,7 +16,7 @@ pub struct TestReader<'a> {
 }
 
 impl<'a> TestReader<'a> {
-    /// A reader that gives these bytes, at most that many a call.
+    /// A reader that gives these bytes, at most `per_call` of them a call.
     pub fn new(bytes: &'a [u8], per_call: usize, failing: Failing) -> TestReader<'a>
         requires { 0 < per_call }
         ensures state { ⟦<TestReader<'a> as InDevice>⟧.state result
@@ -29,14 +29,14 @@ impl<'a> TestReader<'a> {
         }
     }
 
-    /// How many bytes it has given.
+    /// The number of bytes that it has given.
     pub fn given(&self) -> usize
         ensures { result ≡ self.now.pace.moved }
     {
         self.pace.moved()
     }
 
-    /// How often it was read.
+    /// The number of calls of `read`.
     pub fn calls(&self) -> usize
         ensures { result ≡ self.now.pace.calls }
     {
@@ -60,7 +60,7 @@ impl InDevice for TestReader<'_> {
     }
 }
 
-/// A writer into memory.
+/// A writer that keeps its bytes in memory.
 #[derive(Drop)]
 pub struct TestWriter {
     written: Vec<u8>,
@@ -68,7 +68,7 @@ pub struct TestWriter {
 }
 
 impl TestWriter {
-    /// A writer that takes at most that many bytes a call.
+    /// A writer that takes at most `per_call` bytes a call.
     pub fn new(alloc: Global, per_call: usize, failing: Failing) -> TestWriter
         requires { 0 < per_call }
         ensures state { ⟦<TestWriter as OutDevice>⟧.state result
@@ -81,7 +81,7 @@ impl TestWriter {
         }
     }
 
-    /// What was written.
+    /// The bytes written so far.
     pub fn written(&self) -> &[u8]
         ensures { ⟦<TestWriter as OutDevice>⟧.state self.now
             ≡ record {
@@ -92,7 +92,7 @@ impl TestWriter {
         self.written.as_slice()
     }
 
-    /// How often it was written to.
+    /// The number of calls of `write`.
     pub fn calls(&self) -> usize
         ensures { result ≡ self.now.pace.calls }
     {
@@ -105,7 +105,7 @@ impl OutDevice for TestWriter {
 
     ghost handed = { λ w. Some w.written.items };
 
-    /// Want of memory is a fault too.
+    /// The device also fails if a request for memory is refused.
     fn write(&mut self, bytes: &[u8]) -> Result<usize, DeviceFault> {
         let count = self.pace.turn(bytes.len())?;
         match self.written.extend_from_slice(&bytes[..count]) {

@@ -1,4 +1,4 @@
-//! Each device fails at each of its calls in turn.
+//! Tests in which each device fails at each of its calls in turn.
 
 ghost use Rattle.std.specs.Prelude.{◌≡◌, ◌<◌, false};
 
@@ -25,7 +25,7 @@ enum Device {
 }
 
 impl Device {
-    /// How the program ends where this device has failed.
+    /// The exit status and the message of the program when this device has failed.
     fn exit(self) -> (u8, &'static str) {
         match self {
             Device::Reader => (4, "tcpclkit: read failed"),
@@ -34,7 +34,7 @@ impl Device {
     }
 }
 
-/// A run over devices that move at most that many bytes a call, of which one fails.
+/// A run over devices that move at most `per_call` bytes a call, and one of them fails.
 #[derive(Drop)]
 struct Trial<'a> {
     tool: Tool,
@@ -54,7 +54,7 @@ impl<'a> Trial<'a> {
         }
     }
 
-    /// The same, failing at this call.
+    /// The same trial, with the failure at this call.
     fn failing_at(&self, call: usize) -> Trial<'a> {
         Trial {
             tool: self.tool,
@@ -77,7 +77,7 @@ impl<'a> Trial<'a> {
         TestWriter::new(alloc, self.per_call, self.failing(device))
     }
 
-    /// The whole call.
+    /// Runs the tool in one call.
     fn run(&self, alloc: Global) -> End<'a> {
         self.tool.run(
             alloc,
@@ -87,7 +87,7 @@ impl<'a> Trial<'a> {
         )
     }
 
-    /// The same in steps, and three more.
+    /// Runs the tool in steps, and three more after the end.
     fn step_through(&self, rt: &(impl Abort + AllocGlobal)) -> Result<End<'a>, Fail> {
         self.tool.step_through(
             rt,
@@ -99,8 +99,10 @@ impl<'a> Trial<'a> {
     }
 }
 
-/// Whether the device fails in this trial, of which `whole` is the run where none fails. If so, each later step
-/// returns the same, and does no I/O: the whole call stops where the steps did.
+/// Whether the device fails in this trial; `whole` is the run in which no device fails.
+///
+/// If it fails, each later step returns the same and does no I/O. The whole call stops where the
+/// steps did.
 fn fails(
     rt: &(impl Abort + AllocGlobal),
     trial: &Trial<'_>,
@@ -118,14 +120,14 @@ fn fails(
     Ok(true)
 }
 
-/// How lines end that only the end of the input determines.
+/// The ends of those lines that only the end of the input determines.
 const AT_THE_END: [&[u8]; 3] = [
     b": truncated\n",
     b" abandoned\n",
     b": B1 input ends inside a bundle\n",
 ];
 
-/// A report less the line that only the end of the input determines.
+/// A report without the line that only the end of the input determines.
 fn lasting(report: &[u8]) -> &[u8] {
     match report.split_inclusive(|byte| *byte == b'\n').last() {
         Some(line) if AT_THE_END.iter().any(|end| line.ends_with(end)) => {
@@ -135,8 +137,10 @@ fn lasting(report: &[u8]) -> &[u8] {
     }
 }
 
-/// After a failed read the texts are what the bytes given determine, and after a failed write prefixes of
-/// those of a run over these bytes alone.
+/// Compares the texts after a failure with those of a run over only the bytes that were given.
+///
+/// After a failed read, the texts are those that these bytes determine. After a failed write, they
+/// are prefixes of the texts of that run.
 fn determined(
     rt: &(impl Abort + AllocGlobal),
     trial: &Trial<'_>,
@@ -160,8 +164,9 @@ fn determined(
     Ok(())
 }
 
-/// The device fails at the calls of a run that calls it that often, and at no later one. Between the first and
-/// the last hundred calls only each `stride`-th is tried.
+/// Checks that the device fails at each of the `calls` calls of a run, and at no later one.
+///
+/// Between the first and the last hundred calls, only each `stride`-th call is tried.
 fn fails_at_its_calls(
     rt: &(impl Abort + AllocGlobal),
     trial: &Trial<'_>,
@@ -186,7 +191,7 @@ fn fails_at_its_calls(
     Ok(())
 }
 
-/// Each device fails in turn, in runs over devices that move at most that many bytes a call.
+/// Each device fails in turn, in runs over devices that move at most `per_call` bytes a call.
 fn each_fails(
     rt: &(impl Abort + AllocGlobal),
     tool: Tool,
@@ -217,7 +222,9 @@ fn each_fails(
     Ok(())
 }
 
-/// Each device fails in turn at each call, in runs over devices that move all bytes at once, seven and one.
+/// Each device fails in turn at each call, in runs at each pace.
+///
+/// The devices move all bytes in a call, then seven bytes, then one byte.
 fn each_fails_at_each_pace(
     rt: &(impl Abort + AllocGlobal),
     tool: Tool,
@@ -232,7 +239,7 @@ fn each_fails_at_each_pace(
 fn every_message(rt: HostRuntime) -> Result<(), Fail> {
     let mut stream = joined(rt.alloc(), MESSAGES)?;
     each_fails_at_each_pace(&rt, Tool::List, &stream)?;
-    // a fault, so that the report has a line
+    // The fault gives the report a line.
     stream.push(0x16)?;
     each_fails_at_each_pace(&rt, Tool::List, &stream)
 }
@@ -243,7 +250,7 @@ fn two_bundles(rt: HostRuntime) -> Result<(), Fail> {
     each_fails_at_each_pace(&rt, Tool::Unpack(ALL), &stream)
 }
 
-/// A payload under a check that differs.
+/// A payload whose check differs.
 #[test]
 fn changed_payload(rt: HostRuntime) -> Result<(), Fail> {
     let parts = [
@@ -254,7 +261,7 @@ fn changed_payload(rt: HostRuntime) -> Result<(), Fail> {
     each_fails_at_each_pace(&rt, Tool::Unpack(PAYLOAD), &stream)
 }
 
-/// A transfer that another abandons, and a fault.
+/// A transfer that another abandons, without a fault after it and with one.
 #[test]
 fn abandoned_transfer(rt: HostRuntime) -> Result<(), Fail> {
     let mut stream = built(rt.alloc(), ABANDONED)?;
@@ -263,7 +270,7 @@ fn abandoned_transfer(rt: HostRuntime) -> Result<(), Fail> {
     each_fails_at_each_pace(&rt, Tool::Unpack(ALL), &stream)
 }
 
-/// A SESS_INIT whose list is longer than two windows, a segment, and a fault.
+/// A SESS_INIT whose extension list is longer than two windows, a segment, and a fault.
 fn long_list(alloc: Global) -> Result<Vec<u8>, Fail> {
     let value = [0xa5; 9000];
     let list: &[&[u8]] = &[
@@ -317,7 +324,7 @@ fn long_list_byte_by_byte(rt: HostRuntime) -> Result<(), Fail> {
     each_fails(&rt, Tool::List, &long_list(rt.alloc())?, 1, 31)
 }
 
-/// Each device fails in turn while a row's bundles are packed.
+/// Each device fails in turn while the bundles of a row are packed.
 fn each_fails_in_the_row(rt: &(impl Abort + AllocGlobal), row: &Row) -> Result<(), Fail> {
     let input = joined(rt.alloc(), row.input)?;
     each_fails_at_each_pace(rt, Tool::Pack(row.packing), &input)
@@ -334,14 +341,16 @@ fn announced_bundle(rt: HostRuntime) -> Result<(), Fail> {
     each_fails_in_the_row(&rt, &ANNOUNCED)
 }
 
-/// Segments without an END, and a fault.
+/// Segments without END, and a fault.
 #[test]
 fn bundle_past_the_limit(rt: HostRuntime) -> Result<(), Fail> {
     each_fails_in_the_row(&rt, &PAST_LIMIT)
 }
 
-/// What the bytes so far determine is written before any byte after them is taken: a line, a byte of data, or a segment
-/// after the session's beginning.
+/// A run writes what the bytes so far determine before it takes any byte after them.
+///
+/// That is a line of `list`, a byte of data of `unpack`, or a segment of `pack` after the beginning
+/// of the session.
 #[test]
 fn reads_no_further_than_it_writes(rt: HostRuntime) -> Result<(), Fail> {
     let stream = joined(rt.alloc(), TRANSFER)?;

@@ -1,5 +1,7 @@
-//! Tests that cross crates: devices that move bytes in small pieces and fail where a test wants it, and worked
-//! streams with the texts that they must give.
+//! Tests that cross crates.
+//!
+//! Their devices move bytes in small pieces, and fail at a chosen call. Each worked stream has
+//! the texts that the tools must write for it.
 #![tactic(auto)]
 
 mod device;

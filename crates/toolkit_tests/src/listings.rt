@@ -1,4 +1,4 @@
-//! Worked streams are listed as their rows say, however the devices move the bytes.
+//! Tests that list the worked streams, at each pace of the devices.
 
 ghost use Rattle.std.specs.Prelude.{◌<◌};
 
@@ -12,7 +12,7 @@ use std::alloc::Global;
 use std::process::Abort;
 use std::test::Fail;
 
-/// Lists each row's stream.
+/// Checks the result of listing for each row.
 fn all_given(rt: &(impl Abort + AllocGlobal), rows: &[Row]) -> Result<(), Fail> {
     for row in rows {
         let stream = joined(rt.alloc(), row.stream)?;
@@ -43,7 +43,7 @@ fn faults(rt: HostRuntime) -> Result<(), Fail> {
     all_given(&rt, &FAULTS)
 }
 
-/// A node ID of 1,024 bytes, each of which is escaped.
+/// A node ID of 1,024 bytes, all of them escaped.
 #[test]
 fn longest_node(rt: HostRuntime) -> Result<(), Fail> {
     let node = [0xff; 1024];
@@ -82,8 +82,9 @@ fn long_item(rt: HostRuntime) -> Result<(), Fail> {
     gives_at_each_pace(&rt, "a long item", &stream, &want)
 }
 
-/// Where the fault stands that a prefix of the longest list's stream ends with: none where it ends after the
-/// contact header.
+/// The offset of the fault at the end of a prefix of the stream with the longest list.
+///
+/// There is none if the prefix ends after the contact header.
 fn cut_at(size: usize) -> Option<usize> {
     match size {
         0..6 => Some(0),
@@ -92,7 +93,9 @@ fn cut_at(size: usize) -> Option<usize> {
     }
 }
 
-/// An item that fills the longest extension list, and prefixes of its stream: the first 101 and the last.
+/// An item that fills the longest extension list, and prefixes of its stream.
+///
+/// The prefixes are those of at most 100 bytes, and the one without the last byte.
 #[test]
 fn longest_list(rt: HostRuntime) -> Result<(), Fail> {
     let list = b"\x00\x01\x00\x00\x00\xab\xcd\xff\xfb";
@@ -146,10 +149,10 @@ fn long_segment(rt: HostRuntime) -> Result<(), Fail> {
     gives_at_each_pace(&rt, "a long segment", &stream, &want)
 }
 
-/// Where the contact header and each of the messages ends.
+/// The offsets at which the contact header and each of the messages end.
 const ENDS: [usize; 8] = [6, 38, 56, 66, 67, 70, 73, 76];
 
-/// The lines of the messages that are whole, and a fault line where a message is cut.
+/// The lines of the whole messages are listed, and a fault line if a message is cut.
 #[test]
 fn every_prefix(rt: HostRuntime) -> Result<(), Fail> {
     let stream = joined(rt.alloc(), MESSAGES)?;
@@ -176,7 +179,9 @@ fn every_prefix(rt: HostRuntime) -> Result<(), Fail> {
     Ok(())
 }
 
-/// How often the reader is read, over devices that move at most that many bytes a call, and how many bytes it gives.
+/// The number of calls of the reader, and the number of bytes that it gives.
+///
+/// The devices move at most `per_call` bytes a call.
 fn reads(alloc: Global, stream: &[u8], per_call: usize) -> (usize, usize)
     requires { 0 < per_call }
 {
@@ -184,14 +189,14 @@ fn reads(alloc: Global, stream: &[u8], per_call: usize) -> (usize, usize)
     (end.reader.calls(), end.reader.given())
 }
 
-/// Each read asks for a whole window of 8,192 bytes, and the reader is read once more at the end.
+/// Each read asks for a whole window of 8,192 bytes. At the end the reader is called once more.
 #[test]
 fn counted_reads(rt: HostRuntime) -> Result<(), Fail> {
     let mut stream = joined(rt.alloc(), TRANSFER)?;
     assert_eq!(rt; reads(rt.alloc(), &stream, usize::MAX), (2, 94));
     assert_eq!(rt; reads(rt.alloc(), &stream, 1), (95, 94));
     for (size, calls) in [(8191, 2), (8192, 2), (8193, 3), (16_384, 3), (16_385, 4)] {
-        // keepalives
+        // keepalives after the transfer
         stream.resize(size, 4)?;
         assert_eq!(rt; reads(rt.alloc(), &stream, usize::MAX), (calls, size));
     }

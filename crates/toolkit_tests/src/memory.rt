@@ -1,5 +1,7 @@
-//! Runs of `pack` whose one request for memory may be refused. It is the first request of each of these tests, so `rt try
-//! --test --fail-alloc 1` refuses it: they pass with it and without.
+//! Tests of runs of `pack` whose one request for memory may be refused.
+//!
+//! It is the first request of each of these tests, so `rt try --test --fail-alloc 1` refuses it.
+//! The tests pass whether it is refused or not.
 
 ghost use Rattle.std.specs.Prelude.{◌≡◌, false};
 
@@ -13,7 +15,7 @@ use std::alloc::Global;
 use std::process::Abort;
 use std::test::Fail;
 
-/// The pieces, one after another, in no memory that has to be asked for.
+/// The pieces, joined without a request for memory.
 fn in_place(pieces: &[&[u8]]) -> Result<HeadBuf, Fail> {
     let mut bytes = HeadBuf::new();
     for piece in pieces {
@@ -29,14 +31,14 @@ fn reader<'a>(bytes: &'a [u8]) -> TestReader<'a>
     TestReader::new(bytes, usize::MAX, Failing::Never)
 }
 
-/// A writer that never fails. It takes memory when it is written to.
+/// A writer that never fails. It takes no memory before it is written to.
 fn writer(alloc: Global) -> TestWriter
     ensures { (⟦<TestWriter as OutDevice>⟧.state result).failed ≡ false }
 {
     TestWriter::new(alloc, usize::MAX, Failing::Never)
 }
 
-/// A run that was given no memory: nothing was read, nothing was written, and no device has failed.
+/// Checks that a run without memory has read nothing and written nothing, and no device has failed.
 fn is_untouched(rt: &impl Abort, end: &End<'_>) -> Result<(), Fail> {
     assert_eq!(rt; run_exit(&end.answer), (4, "tcpclkit: out of memory"));
     let (reader, output, report) = (&end.reader, &end.output, &end.report);
@@ -47,7 +49,7 @@ fn is_untouched(rt: &impl Abort, end: &End<'_>) -> Result<(), Fail> {
     Ok(())
 }
 
-/// What the row says came of its input.
+/// Checks that the run has the result of the row.
 fn is_packed(rt: &(impl Abort + AllocGlobal), row: &Row, end: &End<'_>) -> Result<(), Fail> {
     let output = built(rt.alloc(), row.output)?;
     let report = joined(rt.alloc(), row.report)?;
@@ -57,7 +59,9 @@ fn is_packed(rt: &(impl Abort + AllocGlobal), row: &Row, end: &End<'_>) -> Resul
     Ok(())
 }
 
-/// The run gives what the row says. Where it was given no memory, one over the devices that came back does.
+/// Checks that a run made by `PackRun::new` has the result of the row.
+///
+/// If it gets no memory, a second run has that result, over the devices that came back.
 fn new_runs(rt: &(impl Abort + AllocGlobal), row: &Row) -> Result<(), Fail> {
     let input = in_place(row.input)?;
     let begun = PackRun::new(
@@ -83,7 +87,7 @@ fn new_runs(rt: &(impl Abort + AllocGlobal), row: &Row) -> Result<(), Fail> {
     is_packed(rt, row, &end)
 }
 
-/// The whole call gives what the row says, or nothing at all.
+/// Checks that the whole call has the result of the row, or does nothing at all.
 fn packs(rt: &(impl Abort + AllocGlobal), row: &Row) -> Result<(), Fail> {
     let input = in_place(row.input)?;
     let end = pack(

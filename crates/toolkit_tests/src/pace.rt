@@ -1,20 +1,22 @@
-//! How a test device moves its bytes: at most that many a call, up to a call that fails.
+//! The pace of a test device: the bytes that a call moves, and the calls that fail.
 
 ghost use Rattle.std.specs.Prelude.{◌<◌};
 
 use link_wire::DeviceFault;
 
-/// When a device fails. It fails at each later call too.
+/// When a device fails.
+///
+/// It fails at each later call too.
 #[derive(Clone, Copy, Debug, PartialEq, Eq)]
 pub enum Failing {
     Never,
     /// At this call, counted from 1.
     AtCall(usize),
-    /// At the first call after it has moved this many bytes. It moves no more than these.
+    /// At the first call after it has moved this many bytes. It moves no more bytes than these.
     Past(usize),
 }
 
-/// The calls of a device, counted.
+/// The pace of a device, and counts of its calls and bytes.
 #[derive(Debug, Drop)]
 pub struct Pace {
     per_call: usize,
@@ -28,7 +30,7 @@ pub struct Pace {
 impl Pace {
     ghost use Rattle.std.specs.Prelude.{◌≡◌, ◌+◌, ◌-◌, ◌^◌, ◌<◌, ◌≤◌, true, false, IsOk, IfOk, MatchResult};
 
-    /// Moves at most this many bytes a call.
+    /// The pace of a device that moves at most `per_call` bytes a call.
     pub fn new(per_call: usize, failing: Failing) -> Pace
         requires { 0 < per_call }
         ensures piece { result.per_call ≡ per_call }
@@ -45,7 +47,9 @@ impl Pace {
         }
     }
 
-    /// How many bytes a call moves of those that it could: at least one if there is one.
+    /// Counts a call, and returns how many of at most `most` bytes it moves.
+    ///
+    /// It moves at least one byte if there is one. An `Err` is a failure of the device.
     pub fn turn(&mut self, most: usize) -> Result<usize, DeviceFault>
         ensures bound { IfOk result (λ n. n ≤ most) }
         ensures piece { IfOk result (λ n. n ≤ self.old.per_call) }
@@ -72,7 +76,7 @@ impl Pace {
         Ok(count)
     }
 
-    /// How many bytes may still be moved in the present call.
+    /// The greatest number of bytes that the current call may move; 0 if it fails.
     fn room(&self) -> usize
         ensures { self.now.failing ≡ Failing.Never → result ≡ 2 ^ 64 - 1 }
     {
@@ -84,7 +88,7 @@ impl Pace {
         }
     }
 
-    /// Fails the device for another reason.
+    /// Makes the device fail for a reason of its own.
     pub fn fail(&mut self)
         ensures failed { self.new.failed ≡ true }
         ensures same { (self.new.calls ≡ self.old.calls) × (self.new.moved ≡ self.old.moved) }
@@ -92,14 +96,14 @@ impl Pace {
         self.failed = true;
     }
 
-    /// How many bytes were moved.
+    /// The number of bytes moved.
     pub fn moved(&self) -> usize
         ensures { result ≡ self.now.moved }
     {
         self.moved
     }
 
-    /// How many calls there were.
+    /// The number of calls.
     pub fn calls(&self) -> usize
         ensures { result ≡ self.now.calls }
     {

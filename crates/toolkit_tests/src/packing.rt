@@ -1,4 +1,4 @@
-//! Worked bundles are packed as their rows say, however the devices move the bytes, and step by step.
+//! Tests that pack the worked bundles, at each pace of the devices and step by step.
 
 use crate::packings::{
     ANNOUNCED, DEFAULTS, FAULTS, HELD, IN_HALVES, NOT_HELD, PAST_LIMIT, Packing, Row, WHOLE,
@@ -12,7 +12,7 @@ use std::alloc::Global;
 use std::process::Abort;
 use std::test::Fail;
 
-/// Packing the input gives this at each pace, and in steps at each pace.
+/// Checks that packing the input has this result at each pace, in one call and in steps.
 fn gives_in_steps(
     rt: &(impl Abort + AllocGlobal),
     name: &str,
@@ -24,7 +24,7 @@ fn gives_in_steps(
     steps_alike(rt, want.tool, input, 1)
 }
 
-/// Packs each row's input.
+/// Checks the result of packing for each row.
 fn all_given(rt: &(impl Abort + AllocGlobal), rows: &[Row]) -> Result<(), Fail> {
     for row in rows {
         let input = joined(rt.alloc(), row.input)?;
@@ -51,7 +51,7 @@ fn faults(rt: HostRuntime) -> Result<(), Fail> {
     all_given(&rt, &FAULTS)
 }
 
-/// A bundle that is cut at each of its bytes.
+/// A bundle that is cut after each of its bytes but the last.
 #[test]
 fn every_prefix(rt: HostRuntime) -> Result<(), Fail> {
     let bundle = joined(rt.alloc(), PLAIN)?;
@@ -72,8 +72,10 @@ fn every_prefix(rt: HostRuntime) -> Result<(), Fail> {
     Ok(())
 }
 
-/// Packs a row's input over a reader of a byte a call. Each entry is a number of steps, and how many bytes of the output
-/// and lines of the report are written after each of them; the step after all of these is the last.
+/// Packs a row's input in steps, over a reader of one byte a call.
+///
+/// Each entry of `written` is a number of steps, and how many bytes of the output and lines of the
+/// report are written after each of these steps. The step after all of them is the last.
 fn byte_by_byte(
     rt: &(impl Abort + AllocGlobal),
     row: &Row,
@@ -102,7 +104,9 @@ fn byte_by_byte(
     Ok(())
 }
 
-/// A chunk is written in the step that takes its last byte, and a bundle's line in the same step as its last chunk.
+/// A chunk is written in the step that takes its last byte.
+///
+/// The line of a bundle is written in the same step as its last chunk.
 #[test]
 fn two_bundles_step_by_step(rt: HostRuntime) -> Result<(), Fail> {
     let written = [
@@ -115,14 +119,16 @@ fn two_bundles_step_by_step(rt: HostRuntime) -> Result<(), Fail> {
     byte_by_byte(&rt, &IN_HALVES, &written)
 }
 
-/// A bundle whose length may yet be announced is written at its end.
+/// A bundle whose length may still be announced is written at its end.
 #[test]
 fn announced_step_by_step(rt: HostRuntime) -> Result<(), Fail> {
     byte_by_byte(&rt, &ANNOUNCED, &[(34, 38, 0), (1, 125, 1)])
 }
 
-/// The chunks of one whose length is announced no more are written in the step that takes the byte past it; and those of
-/// one that is never announced, as they are full.
+/// The chunks of a bundle are written once its length can no longer be announced.
+///
+/// That is in the step that takes the first byte past the longest length that is announced. If no
+/// length is announced, a chunk is written as soon as it is full.
 #[test]
 fn past_the_limit_step_by_step(rt: HostRuntime) -> Result<(), Fail> {
     byte_by_byte(&rt, &HELD, &[(34, 38, 0)])?;
@@ -138,7 +144,7 @@ fn packed(alloc: Global, row: &Row) -> Result<Vec<u8>, Fail> {
     joined(alloc, &[end.output.written()])
 }
 
-/// Unpacking what was packed gives the bundles again, with these lines.
+/// Checks that unpacking the packed stream returns the bundles, with these lines.
 fn comes_back(rt: &(impl Abort + AllocGlobal), row: &Row, report: &[&[u8]]) -> Result<(), Fail> {
     let input = joined(rt.alloc(), row.input)?;
     let report = joined(rt.alloc(), report)?;
@@ -176,7 +182,7 @@ fn announced_length_listed(rt: HostRuntime) -> Result<(), Fail> {
     gives_at_each_pace(&rt, "an announced length", &stream, &want)
 }
 
-/// A bundle of 70,033 bytes, whose payload is zeros.
+/// A bundle of 70,033 bytes whose payload is zeros.
 fn long_bundle(alloc: Global) -> Result<Vec<u8>, Fail> {
     let mut bundle = joined(alloc, PLAIN)?;
     bundle.truncate(27);

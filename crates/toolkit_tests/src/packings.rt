@@ -1,4 +1,4 @@
-//! Worked inputs of bundles, and the stream, the report and the status that packing them gives.
+//! Worked inputs of bundles, and the stream, the report and the status of packing them.
 
 use crate::stream::{
     BACK, CONTACT, FIRST_10, FIRST_SEGMENT, FRONT, LENGTH_17, NO_ITEMS, PLAIN, Part, SESSION,
@@ -7,7 +7,7 @@ use crate::transfers::TWO_BUNDLES;
 use link_tools::PackOptions;
 use link_wire::NodeId;
 
-/// The options of a run, in numbers and bytes.
+/// The options of a run of `pack`, as numbers and bytes.
 #[derive(Clone, Copy, Debug, PartialEq, Eq)]
 pub struct Packing {
     pub node: &'static [u8],
@@ -21,8 +21,10 @@ pub struct Packing {
 }
 
 impl Packing {
-    /// The options of a run. No row asks for what they cannot hold: a node ID of more than 1,024 bytes, segments without
-    /// data, or announced lengths above 1,048,576.
+    /// The same options in the type that `pack` takes.
+    ///
+    /// No row has values that this type cannot hold: a node ID of more than 1,024 bytes, segments
+    /// without data, or announced lengths above 1,048,576.
     pub fn options(&self) -> PackOptions {
         PackOptions {
             node: NodeId::try_from(self.node).unwrap_or_default(),
@@ -37,7 +39,7 @@ impl Packing {
     }
 }
 
-/// A sender that says of itself what SESSION does, and a peer without limits.
+/// The sender of `SESSION`, and a peer without limits.
 pub const DEFAULTS: Packing = Packing {
     node: b"ipn:1.0",
     keepalive: 60,
@@ -49,76 +51,82 @@ pub const DEFAULTS: Packing = Packing {
     send_term: false,
 };
 
-/// Segments of 17 bytes, half the bundle.
+/// Segments of 17 bytes: half the bundle.
 const HALVES: Packing = Packing {
     peer_segment: 17,
     ..DEFAULTS
 };
 
-/// Segments of 10 bytes, and transfers of one byte less than the bundle has.
+/// Segments of 10 bytes, and transfers of at most 33 bytes: one less than the bundle has.
 const TENS: Packing = Packing {
     peer_segment: 10,
     peer_transfer: 33,
     ..DEFAULTS
 };
 
-/// Bundles, one after another, and what packing them gives.
+/// Bundles, one after another, and the result of packing them.
 #[derive(Clone, Copy)]
 pub struct Row {
     pub name: &'static str,
     pub packing: Packing,
     pub input: &'static [&'static [u8]],
     pub output: &'static [Part],
-    /// A line each.
+    /// One element for each line.
     pub report: &'static [&'static [u8]],
     pub status: u8,
 }
 
-/// The bundle's bytes after the first 10.
+/// The second 10 bytes of the bundle.
 const SECOND_10: &[u8] = b"\x82\x02\x82\x01\x01\x82\x01\x00\x82\x00";
 
+/// The third 10 bytes of the bundle.
 const THIRD_10: &[u8] = b"\x00\x00\x85\x01\x01\x00\x00\x45he";
 
+/// The last 4 bytes of the bundle.
 const LAST_4: &[u8] = b"llo\xff";
 
-/// The second half of the bundle without its last byte; then with another in its place.
+/// The second half of the bundle without its last byte.
 const CUT_BACK: &[u8] = b"\x00\x82\x00\x00\x00\x85\x01\x01\x00\x00\x45hello";
 
+/// The second half of the bundle with another last byte.
 const UNENDED_BACK: &[u8] = b"\x00\x82\x00\x00\x00\x85\x01\x01\x00\x00\x45hello\x00";
 
-/// The first half of the bundle with bytes in place of its flags.
+/// The first half of the bundle with a byte string in place of its flags.
 const WRONG_FRONT: &[u8] = b"\x9f\x88\x07\x40\x00\x82\x02\x82\x02\x01\x82\x02\x82\x01\x01\x82\x01";
 
-/// The line of a first bundle in one segment, in two and in four, and that of a second one in two.
+/// The line of a first bundle in one segment.
 const IN_ONE: &[u8] =
     b"bundle 0 segments=1 length=34 source=ipn:1.1 time=0 sequence=0 destination=ipn:2.1 payload=5\n";
 
+/// The line of a first bundle in two segments.
 const IN_TWO: &[u8] =
     b"bundle 0 segments=2 length=34 source=ipn:1.1 time=0 sequence=0 destination=ipn:2.1 payload=5\n";
 
+/// The line of a first bundle in four segments.
 const IN_FOUR: &[u8] =
     b"bundle 0 segments=4 length=34 source=ipn:1.1 time=0 sequence=0 destination=ipn:2.1 payload=5\n";
 
+/// The line of a second bundle in two segments.
 const SECOND_IN_TWO: &[u8] =
     b"bundle 1 segments=2 length=34 source=ipn:1.1 time=0 sequence=0 destination=ipn:2.1 payload=5\n";
 
-/// The line of a first bundle that has more than 33 bytes, where the peer takes no more.
+/// The fault line of a first bundle of more than 33 bytes, if the peer takes no more.
 const PAST_33: &[u8] = b"tcpclkit: bundle 0 byte 33: P1 longer than the peer's transfer limit\n";
 
-/// What is written before the bundles.
+/// The output before the bundles.
 const BEGUN: &[Part] = &[Part::Bytes(SESSION)];
 
-/// The bundle in one segment.
+/// The output for the bundle in one segment.
 const ONE_SEGMENT: &[Part] = &[Part::Bytes(SESSION), Part::Segment(3, 0, PLAIN)];
 
-/// The bundle in two segments.
+/// The output for the bundle in two segments.
 const TWO_SEGMENTS: &[Part] = &[
     Part::Bytes(SESSION),
     Part::Segment(2, 0, &[FRONT]),
     Part::Segment(1, 0, &[BACK]),
 ];
 
-/// The first three of the bundle's four segments of 10 bytes.
+/// The output with the three full segments of the bundle, of 10 bytes each.
 const THREE_SEGMENTS: &[Part] = &[
     Part::Bytes(SESSION),
     Part::Segment(2, 0, &[FIRST_10]),
@@ -136,7 +144,7 @@ pub const IN_HALVES: Row = Row {
     status: 0,
 };
 
-/// A bundle of just the length up to which lengths are announced: 125 bytes.
+/// A bundle of exactly the longest length that is announced. Its stream has 125 bytes.
 pub const ANNOUNCED: Row = Row {
     name: "an announced length",
     packing: Packing {
@@ -158,7 +166,7 @@ pub const ANNOUNCED: Row = Row {
     status: 0,
 };
 
-/// A bundle that is longer than the peer takes, by one byte.
+/// A bundle that is one byte longer than the peer takes.
 pub const PAST_LIMIT: Row = Row {
     name: "a byte past the peer's limit",
     packing: TENS,
@@ -168,7 +176,7 @@ pub const PAST_LIMIT: Row = Row {
     status: 3,
 };
 
-/// Its length might yet be announced where the peer's limit is met.
+/// The same bundle, whose length may still be announced when it reaches the peer's limit.
 pub const HELD: Row = Row {
     name: "a byte past the limit and past what is announced",
     packing: Packing {
@@ -181,7 +189,7 @@ pub const HELD: Row = Row {
     status: 3,
 };
 
-/// Its length is announced no more where the peer's limit is met.
+/// The same bundle, whose length can no longer be announced when it reaches the peer's limit.
 pub const NOT_HELD: Row = Row {
     name: "a byte past the limit, and two past what is announced",
     packing: Packing {
@@ -194,7 +202,7 @@ pub const NOT_HELD: Row = Row {
     status: 3,
 };
 
-/// Inputs of nothing but whole bundles.
+/// Inputs that have only whole bundles.
 pub const WHOLE: [Row; 9] = [
     Row {
         name: "nothing",

@@ -1,4 +1,4 @@
-//! Worked streams, and the texts and the status that listing them gives.
+//! Worked streams, and the texts and the status of listing them.
 
 use crate::stream::{
     BACK, CONTACT, CONTACT_LINE, FIRST_SEGMENT, FRONT, LAST_SEGMENT, LENGTH_17, LENGTH_34,
@@ -14,18 +14,20 @@ pub struct Row {
     pub status: u8,
 }
 
-/// An extension item without a value, and 16 of them.
+/// An extension item without a value.
 const ITEM: &[u8] = b"\x00\xab\xcd\x00\x00";
 
+/// 16 of these items.
 const ITEMS_16: &[u8] =
     b"\x00\xab\xcd\x00\x00\x00\xab\xcd\x00\x00\x00\xab\xcd\x00\x00\x00\xab\xcd\x00\x00\
     \x00\xab\xcd\x00\x00\x00\xab\xcd\x00\x00\x00\xab\xcd\x00\x00\x00\xab\xcd\x00\x00\
     \x00\xab\xcd\x00\x00\x00\xab\xcd\x00\x00\x00\xab\xcd\x00\x00\x00\xab\xcd\x00\x00\
     \x00\xab\xcd\x00\x00\x00\xab\xcd\x00\x00\x00\xab\xcd\x00\x00\x00\xab\xcd\x00\x00";
 
-/// How a line shows them.
+/// The words of a line for the item.
 const ITEM_WORDS: &[u8] = b" item=00:abcd:0";
 
+/// The words of a line for 16 of the items.
 const WORDS_16: &[u8] = b" item=00:abcd:0 item=00:abcd:0 item=00:abcd:0 item=00:abcd:0\
     \x20item=00:abcd:0 item=00:abcd:0 item=00:abcd:0 item=00:abcd:0\
     \x20item=00:abcd:0 item=00:abcd:0 item=00:abcd:0 item=00:abcd:0\
@@ -45,7 +47,7 @@ pub const MESSAGES: &[&[u8]] = &[
     b"\x05\x00\x7f",
 ];
 
-/// Its lines, a line for each of its contact header and messages.
+/// The lines of `MESSAGES`: one for the contact header, and one for each message.
 pub const MESSAGE_LINES: &[&[u8]] = &[
     CONTACT_LINE,
     SESSION_LINE,
@@ -271,7 +273,7 @@ pub const TRANSFERS: [Row; 5] = [
         report: b"",
         status: 0,
     },
-    // examples/every-message.tcpcl
+    // The stream of examples/every-message.tcpcl.
     Row {
         name: "every kind of message, with extension items",
         stream: &[

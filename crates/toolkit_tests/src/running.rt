@@ -1,4 +1,4 @@
-//! Runs of the tools over test devices, and what they must give.
+//! Runs of the tools over test devices, and checks of their results.
 
 ghost use Rattle.std.specs.Prelude.{◌≡◌, ◌<◌, false};
 
@@ -17,7 +17,7 @@ use std::test::Fail;
 /// A run over test devices that has ended.
 pub type End<'a> = RunEnd<TestReader<'a>, TestWriter, TestWriter>;
 
-/// A tool, and what is asked of it.
+/// A tool with its options.
 #[derive(Clone, Copy, Debug, PartialEq, Eq)]
 pub enum Tool {
     List,
@@ -26,7 +26,7 @@ pub enum Tool {
 }
 
 impl Tool {
-    /// A whole run.
+    /// Runs the tool in one call.
     pub fn run<'a>(
         self,
         alloc: Global,
@@ -45,7 +45,7 @@ impl Tool {
         }
     }
 
-    /// A run in steps: at most that many to its end, and three more.
+    /// Runs the tool in steps: at most `steps` of them to its end, and three more.
     pub fn step_through<'a>(
         self,
         rt: &(impl Abort + AllocGlobal),
@@ -73,7 +73,7 @@ impl Tool {
     }
 }
 
-/// Steps a run to its end, which comes within that many steps.
+/// Steps a run to its end, and returns its result. `None`: it has not ended after `steps` steps.
 pub fn stepped<R: InDevice, W: OutDevice, E: OutDevice, T: Run<R, W, E>>(
     run: &mut T,
     steps: usize,
@@ -88,7 +88,7 @@ pub fn stepped<R: InDevice, W: OutDevice, E: OutDevice, T: Run<R, W, E>>(
     None
 }
 
-/// Steps a run to its end, and three times more: each of these returns the same.
+/// Steps a run to its end, and then three times more. Each of these steps returns the same.
 fn ended<R: InDevice, W: OutDevice, E: OutDevice, T: Run<R, W, E> + Drop>(
     rt: &impl Abort,
     run: T,
@@ -109,7 +109,7 @@ fn ended<R: InDevice, W: OutDevice, E: OutDevice, T: Run<R, W, E> + Drop>(
     })
 }
 
-/// Two runs called their devices as often, wrote the same and ended alike.
+/// Checks that two runs called their devices equally often, wrote the same and ended alike.
 pub fn alike(rt: &impl Abort, first: &End<'_>, second: &End<'_>) -> Result<(), Fail> {
     assert_eq!(rt; first.answer, second.answer);
     assert_eq!(rt;
@@ -132,7 +132,7 @@ pub fn alike(rt: &impl Abort, first: &End<'_>, second: &End<'_>) -> Result<(), F
     Ok(())
 }
 
-/// What a tool must give for an input.
+/// The result that a tool must have on an input.
 #[derive(Drop)]
 pub struct Expected<'a> {
     pub tool: Tool,
@@ -141,7 +141,9 @@ pub struct Expected<'a> {
     pub status: u8,
 }
 
-/// Runs a tool over an input, and devices that move at most that many bytes a call and never fail.
+/// Runs a tool over an input.
+///
+/// The devices move at most `per_call` bytes a call, and never fail.
 pub fn ended_over<'a>(alloc: Global, tool: Tool, stream: &'a [u8], per_call: usize) -> End<'a>
     requires { 0 < per_call }
 {
@@ -153,7 +155,9 @@ pub fn ended_over<'a>(alloc: Global, tool: Tool, stream: &'a [u8], per_call: usi
     )
 }
 
-/// Over devices that move at most that many bytes a call, the tool gives this for the input.
+/// Checks that a tool has this result on an input.
+///
+/// The devices move at most `per_call` bytes a call.
 pub fn gives(
     rt: &(impl Abort + AllocGlobal),
     name: &str,
@@ -179,8 +183,10 @@ pub fn gives(
     Ok(())
 }
 
-/// Over devices that move at most that many bytes a call, the tool does in steps what the whole call does. Each step
-/// after the end returns the same, and does no I/O.
+/// Checks that a tool does in steps what it does in one call.
+///
+/// The devices move at most `per_call` bytes a call. Each step after the end returns the same, and
+/// does no I/O.
 pub fn steps_alike(
     rt: &(impl Abort + AllocGlobal),
     tool: Tool,
@@ -200,7 +206,9 @@ pub fn steps_alike(
     alike(rt, &in_steps, &whole)
 }
 
-/// The tool gives this whether the bytes are moved all at once, by sevens or one by one, and in steps too.
+/// Checks that a tool has this result at each pace: all bytes in a call, seven bytes, and one byte.
+///
+/// At the first pace it has the same result in steps.
 pub fn gives_at_each_pace(
     rt: &(impl Abort + AllocGlobal),
     name: &str,

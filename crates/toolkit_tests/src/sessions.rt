@@ -1,4 +1,4 @@
-//! A session read message by message.
+//! Tests of a session that is read message by message.
 
 ghost use Rattle.std.specs.Prelude.{◌<◌};
 
@@ -51,7 +51,9 @@ fn message_by_message(rt: HostRuntime) -> Result<(), Fail> {
     Ok(())
 }
 
-/// How many bytes are given and taken, after the contact header was read from a reader of that many bytes a call.
+/// The numbers of bytes given and taken after the contact header was read.
+///
+/// The reader moves at most `per_call` bytes a call.
 fn opened(stream: &[u8], per_call: usize) -> (u64, u64)
     requires { 0 < per_call }
 {
@@ -62,7 +64,7 @@ fn opened(stream: &[u8], per_call: usize) -> (u64, u64)
     (source.given(), source.taken())
 }
 
-/// What was read ahead is taken and not given.
+/// Bytes that were read ahead are taken, and not given.
 #[test]
 fn reads_ahead(rt: HostRuntime) -> Result<(), Fail> {
     let stream = joined(rt.alloc(), TRANSFER)?;
@@ -71,7 +73,9 @@ fn reads_ahead(rt: HostRuntime) -> Result<(), Fail> {
     Ok(())
 }
 
-/// A segment whose data is cut: what is there comes, then the fault at the segment, and again on a second call.
+/// The data of a cut segment is given as far as it is there, and then the fault is returned.
+///
+/// The fault has the offset of the segment. A second call returns it again.
 #[test]
 fn cut_data(rt: HostRuntime) -> Result<(), Fail> {
     let stream = joined(rt.alloc(), TRANSFER)?;

@@ -1,5 +1,7 @@
-//! Devices made of readers and writers of std: each of their errors is a failure, `Interrupted` too, and so is a
-//! write of no byte. A device that goes on after it is not asked again.
+//! Tests of devices that are made of readers and writers of std.
+//!
+//! Each error of a reader or a writer is a failure, `Interrupted` too, and so is a write that takes
+//! no byte. After a failure the device is not called again, even if it would go on.
 
 ghost use Rattle.std.specs.Prelude.{◌≡◌, false};
 
@@ -16,7 +18,9 @@ use std::io::{self, ErrorKind, Read, Write};
 use std::process::Abort;
 use std::test::Fail;
 
-/// Gives a byte a call, but is interrupted at one call, counted from 1, and then goes on.
+/// A reader of one byte a call, which is interrupted at one call and then goes on.
+///
+/// Calls are counted from 1.
 #[derive(Drop)]
 struct Slow<'a> {
     left: &'a [u8],
@@ -41,14 +45,16 @@ impl Read for Slow<'_> {
     }
 }
 
-/// What a writer does at one call in place of writing a byte.
+/// What a writer does at one call instead of taking a byte.
 #[derive(Clone, Copy, Debug, PartialEq, Eq)]
 enum Hitch {
     Interrupted,
     TakesNone,
 }
 
-/// Takes a byte a call, but has a hitch at one call, counted from 1, and then goes on.
+/// A writer of one byte a call, which has a hitch at one call and then goes on.
+///
+/// Calls are counted from 1.
 #[derive(Drop)]
 struct Narrow {
     written: Vec<u8>,
@@ -82,7 +88,7 @@ impl Write for Narrow {
     }
 }
 
-/// A device of this reader.
+/// A device over a `Slow` reader of these bytes.
 fn reader<'a>(left: &'a [u8], interrupted_at: usize) -> Reader<Slow<'a>>
     ensures { (⟦<Reader<Slow<'a>> as InDevice>⟧.state result).failed ≡ false }
 {
@@ -93,7 +99,7 @@ fn reader<'a>(left: &'a [u8], interrupted_at: usize) -> Reader<Slow<'a>>
     })
 }
 
-/// A device of this writer.
+/// A device over this writer.
 fn device<W: Write>(writer: W) -> Writer<W>
     ensures { (⟦<Writer<W> as OutDevice>⟧.state result).failed ≡ false }
 {
@@ -117,10 +123,10 @@ fn with_memory(alloc: Global) -> Writer<Vec<u8>>
     device(Vec::new(alloc))
 }
 
-/// Where the device of a call number that is never reached has its hitch.
+/// The number of a call that is never reached, for a device without a hitch.
 const NEVER: usize = usize::MAX;
 
-/// Steps to the end and three times more: each of these returns the same.
+/// Steps a run to its end, and then three times more. Each of these steps returns the same.
 fn ends<R: InDevice, W: OutDevice, E: OutDevice>(
     rt: &impl Abort,
     run: &mut ListRun<R, W, E>,
@@ -133,7 +139,7 @@ fn ends<R: InDevice, W: OutDevice, E: OutDevice>(
     Ok(())
 }
 
-/// Where the lines end that the first bytes of the transfer's stream determine.
+/// The number of lines that the first `size` bytes of the stream `TRANSFER` determine.
 fn lines_after(size: usize) -> usize {
     match size {
         0..6 => 0,
@@ -143,7 +149,7 @@ fn lines_after(size: usize) -> usize {
     }
 }
 
-/// The reader is interrupted at each of its calls in turn, that after the last byte too.
+/// The reader is interrupted at each of its calls in turn, also at the one after the last byte.
 #[test]
 fn interrupted_reader(rt: HostRuntime) -> Result<(), Fail> {
     let stream = joined(rt.alloc(), TRANSFER)?;
@@ -215,7 +221,9 @@ fn hitching_report(rt: HostRuntime) -> Result<(), Fail> {
     Ok(())
 }
 
-/// Inside a `fill`: what came before stands at the slice's start, and a second call does not read.
+/// After an interrupt inside a `fill`, the bytes before it are at the start of the slice.
+///
+/// A second call does not read.
 #[test]
 fn interrupted_fill(rt: HostRuntime) -> Result<(), Fail> {
     let mut source = Source::new(reader(b"tcpclkit", 4));
@@ -232,7 +240,7 @@ fn interrupted_fill(rt: HostRuntime) -> Result<(), Fail> {
     Ok(())
 }
 
-/// Inside a `write_whole`: a prefix was written, and nothing after it.
+/// After a hitch inside a `write_whole`, a prefix was written, and nothing after it.
 #[test]
 fn hitching_write(rt: HostRuntime) -> Result<(), Fail> {
     for hitch in [Hitch::Interrupted, Hitch::TakesNone] {
@@ -259,7 +267,7 @@ fn interrupted_session(rt: HostRuntime) -> Result<(), Fail> {
     Ok(())
 }
 
-/// Slices and vectors, and devices of a byte a call, give the same texts.
+/// Runs over slices and vectors have the same texts as runs over devices of one byte a call.
 #[test]
 fn whole_transfer(rt: HostRuntime) -> Result<(), Fail> {
     let stream = joined(rt.alloc(), TRANSFER)?;

@@ -4,14 +4,14 @@ use std::alloc::Global;
 use std::str;
 use std::test::Fail;
 
-/// The contact header (section 4.2).
+/// A contact header (section 4.2) without flags.
 pub const CONTACT: &[u8] = b"dtn!\x04\x00";
 
-/// A SESS_INIT up to its MRUs (section 4.6): type, keepalive of 60 s, 64 KiB, 1 MiB.
+/// A SESS_INIT up to its MRUs (section 4.6): its type, keepalive 60 s, MRUs 64 KiB and 1 MiB.
 pub const PARAMETERS: &[u8] =
     b"\x07\x00\x3c\x00\x00\x00\x00\x00\x01\x00\x00\x00\x00\x00\x00\x00\x10\x00\x00";
 
-/// A node ID with its length.
+/// A node ID after its length.
 pub const NODE: &[u8] = b"\x00\x07ipn:1.0";
 
 /// An empty extension list (section 4.8).
@@ -20,35 +20,40 @@ pub const NO_ITEMS: &[u8] = b"\x00\x00\x00\x00";
 /// A contact header and a SESS_INIT: 38 bytes.
 pub const SESSION: &[&[u8]] = &[CONTACT, PARAMETERS, NODE, NO_ITEMS];
 
-/// A segment's flags START and END, transfer 0, no items (section 5.2.2): its data length follows.
+/// A segment up to its data length (section 5.2.2): START and END, transfer 0, no items.
 pub const WHOLE_TRANSFER: &[u8] = b"\x01\x03\x00\x00\x00\x00\x00\x00\x00\x00\x00\x00\x00\x00";
 
-/// A segment's flag START and transfer 0: its extension list follows.
+/// A segment up to its extension list: START, transfer 0.
 pub const FIRST_SEGMENT: &[u8] = b"\x01\x02\x00\x00\x00\x00\x00\x00\x00\x00";
 
-/// A segment's flag END and transfer 0: its data length follows.
+/// A segment up to its data length: END, transfer 0.
 pub const LAST_SEGMENT: &[u8] = b"\x01\x01\x00\x00\x00\x00\x00\x00\x00\x00";
 
-/// The data lengths 34 and 17.
+/// The data length 34.
 pub const LENGTH_34: &[u8] = b"\x00\x00\x00\x00\x00\x00\x00\x22";
 
+/// The data length 17.
 pub const LENGTH_17: &[u8] = b"\x00\x00\x00\x00\x00\x00\x00\x11";
 
-/// A bundle of 34 bytes in two halves (RFC 9171 section 4): from ipn:1.1 to ipn:2.1, with the payload `hello`.
+/// The first half of a bundle of 34 bytes (RFC 9171 section 4).
+///
+/// The bundle goes from ipn:1.1 to ipn:2.1, and its payload is `hello`.
 pub const FRONT: &[u8] = b"\x9f\x88\x07\x00\x00\x82\x02\x82\x02\x01\x82\x02\x82\x01\x01\x82\x01";
 
+/// The second half of the bundle.
 pub const BACK: &[u8] = b"\x00\x82\x00\x00\x00\x85\x01\x01\x00\x00\x45hello\xff";
 
-/// The bundle.
+/// The bundle, in two halves.
 pub const PLAIN: &[&[u8]] = &[FRONT, BACK];
 
-/// Its first 10 bytes.
+/// The first 10 bytes of the bundle.
 pub const FIRST_10: &[u8] = b"\x9f\x88\x07\x00\x00\x82\x02\x82\x02\x01";
 
-/// The back half with a CRC-16/X-25 in the payload block; then with the first byte of the payload changed.
+/// The second half of the bundle with a CRC-16/X-25 in the payload block.
 pub const CHECKED_BACK: &[u8] =
     b"\x00\x82\x00\x00\x00\x86\x01\x01\x00\x01\x45hello\x42\x4b\xf3\xff";
 
+/// `CHECKED_BACK` with another first byte of the payload.
 pub const CHANGED_BACK: &[u8] =
     b"\x00\x82\x00\x00\x00\x86\x01\x01\x00\x01\x45iello\x42\x4b\xf3\xff";
 
@@ -68,7 +73,7 @@ fn append(bytes: &mut Vec<u8>, pieces: &[&[u8]]) -> Result<(), Fail> {
     Ok(())
 }
 
-/// The pieces, one after another.
+/// The pieces, joined.
 pub fn joined(alloc: Global, pieces: &[&[u8]]) -> Result<Vec<u8>, Fail> {
     let mut bytes = Vec::new(alloc);
     append(&mut bytes, pieces)?;
@@ -78,9 +83,9 @@ pub fn joined(alloc: Global, pieces: &[&[u8]]) -> Result<Vec<u8>, Fail> {
 /// A part of a stream.
 #[derive(Clone, Copy)]
 pub enum Part {
-    /// Bytes as they stand, one piece after another.
+    /// The bytes of these pieces, joined.
     Bytes(&'static [&'static [u8]]),
-    /// A segment: its flags, its transfer ID and the pieces of its data. It has no extension items.
+    /// A segment without extension items: its flags, its transfer ID and the pieces of its data.
     Segment(u8, u64, &'static [&'static [u8]]),
 }
 
@@ -99,7 +104,7 @@ pub fn put_segment(stream: &mut Vec<u8>, flags: u8, id: u64, data: &[&[u8]]) -> 
     append(stream, data)
 }
 
-/// The parts, one after another.
+/// The bytes of the parts, joined.
 pub fn built(alloc: Global, parts: &[Part]) -> Result<Vec<u8>, Fail> {
     let mut stream = Vec::new(alloc);
     for part in parts {
@@ -111,7 +116,7 @@ pub fn built(alloc: Global, parts: &[Part]) -> Result<Vec<u8>, Fail> {
     Ok(stream)
 }
 
-/// A text that was written, as an assertion shows it.
+/// Bytes that were written, as a text that an assertion can show.
 pub fn text(bytes: &[u8]) -> Result<&str, Fail> {
     Ok(str::from_utf8(bytes)?)
 }

@@ -1,4 +1,4 @@
-//! Worked streams with transfers, and the texts and the status that unpacking them gives.
+//! Worked streams with transfers, and the texts and the status of unpacking them.
 
 use crate::stream::{
     BACK, CONTACT, FIRST_10, FIRST_SEGMENT, FRONT, LENGTH_17, LENGTH_34, NO_ITEMS, NODE,
@@ -30,7 +30,7 @@ const PAYLOAD_OF_1: Wanted = Wanted {
     payload: true,
 };
 
-/// A recorded stream and what unpacking it gives.
+/// A recorded stream, and the result of unpacking it.
 #[derive(Clone, Copy)]
 pub struct Row {
     pub name: &'static str,
@@ -41,10 +41,10 @@ pub struct Row {
     pub status: u8,
 }
 
-/// The end of the line of a transfer that is the bundle.
+/// The end of a transfer's line, if the data of the transfer is the bundle.
 pub const GOOD: &[u8] = b" good source=ipn:1.1 time=0 sequence=0 destination=ipn:2.1 payload=5\n";
 
-/// Ten bytes of the bundle, and then another transfer.
+/// A transfer with ten bytes of the bundle, and then another transfer.
 pub const ABANDONED: &[Part] = &[
     Part::Bytes(SESSION),
     Part::Segment(2, 0, &[FIRST_10]),
@@ -60,7 +60,7 @@ pub const TWO_BUNDLES: &[Part] = &[
     Part::Segment(1, 1, &[BACK]),
 ];
 
-/// The bundle in three transfers, of which the first and the last have one ID.
+/// The bundle in three transfers. The first and the last have the same ID.
 const SAME_ID: &[Part] = &[
     Part::Bytes(SESSION),
     Part::Segment(3, 1, PLAIN),
@@ -111,7 +111,7 @@ pub const WHOLE_BUNDLES: Row = Row {
     status: 0,
 };
 
-/// Their payloads.
+/// The payloads of two transfers.
 pub const PAYLOADS: Row = Row {
     name: "two payloads",
     wanted: PAYLOAD,
@@ -126,7 +126,7 @@ pub const PAYLOADS: Row = Row {
     status: 0,
 };
 
-/// Streams that are read to their end, all of their data wanted.
+/// Streams that are read to their end, with all of their data wanted.
 pub const WHOLE: [Row; 9] = [
     Row {
         name: "a contact header",
@@ -226,7 +226,7 @@ pub const WHOLE: [Row; 9] = [
     },
 ];
 
-/// Streams of which a part is wanted.
+/// Streams from which only a part is wanted.
 pub const PARTS: [Row; 4] = [
     Row {
         name: "one of two transfers",

@@ -1,4 +1,4 @@
-//! Worked streams are unpacked as their rows say, however the devices move the bytes, and step by step.
+//! Tests that unpack the worked streams, at each pace of the devices and step by step.
 
 ghost use Rattle.std.specs.Prelude.{◌<◌};
 
@@ -16,7 +16,7 @@ use std::alloc::Global;
 use std::process::Abort;
 use std::test::Fail;
 
-/// Unpacking the stream gives what the row says.
+/// Checks that unpacking the stream has the result of the row.
 fn row_gives(rt: &(impl Abort + AllocGlobal), row: &Row, stream: &[u8]) -> Result<(), Fail> {
     let output = joined(rt.alloc(), row.output)?;
     let report = joined(rt.alloc(), row.report)?;
@@ -29,7 +29,7 @@ fn row_gives(rt: &(impl Abort + AllocGlobal), row: &Row, stream: &[u8]) -> Resul
     gives_at_each_pace(rt, row.name, stream, &want)
 }
 
-/// Unpacks each row's stream.
+/// Checks the result of unpacking for each row.
 fn all_given(rt: &(impl Abort + AllocGlobal), rows: &[Row]) -> Result<(), Fail> {
     for row in rows {
         row_gives(rt, row, &built(rt.alloc(), row.stream)?)?;
@@ -52,7 +52,7 @@ fn faults(rt: HostRuntime) -> Result<(), Fail> {
     all_given(&rt, &FAULTS)
 }
 
-/// Keepalives stand before two transfers: the first read ends at each place of them in turn.
+/// Two transfers follow keepalives, and the first read ends at each offset of them in turn.
 #[test]
 fn after_keepalives(rt: HostRuntime) -> Result<(), Fail> {
     let whole = built(rt.alloc(), TWO_BUNDLES)?;
@@ -68,7 +68,7 @@ fn after_keepalives(rt: HostRuntime) -> Result<(), Fail> {
     Ok(())
 }
 
-/// The stream is one transfer that is the bundle.
+/// Checks that the stream is unpacked as one transfer, whose data is the bundle.
 fn gives_the_bundle(
     rt: &(impl Abort + AllocGlobal),
     name: &str,
@@ -88,7 +88,7 @@ fn gives_the_bundle(
     gives_at_each_pace(rt, name, stream, &want)
 }
 
-/// An empty segment, then each byte in a segment of its own with an empty one after it.
+/// An empty segment, and then each byte in a segment of its own with an empty one after it.
 #[test]
 fn byte_segments_and_empty_ones(rt: HostRuntime) -> Result<(), Fail> {
     let bundle = joined(rt.alloc(), PLAIN)?;
@@ -103,7 +103,7 @@ fn byte_segments_and_empty_ones(rt: HostRuntime) -> Result<(), Fail> {
     gives_the_bundle(&rt, "bytes and empty segments", &stream)
 }
 
-/// The bundle in segments of this size; the last may be shorter.
+/// A stream with the bundle in segments of this size; the last may be shorter.
 fn in_segments(alloc: Global, size: usize) -> Result<Vec<u8>, Fail>
     requires { 0 < size }
 {
@@ -127,7 +127,7 @@ fn segments_of_each_size(rt: HostRuntime) -> Result<(), Fail> {
     Ok(())
 }
 
-/// A cut segment: the data that is there is written, and its transfer has no line.
+/// The data of a cut segment is written as far as it is there. Its transfer has no line.
 #[test]
 fn cut_data(rt: HostRuntime) -> Result<(), Fail> {
     let stream = joined(rt.alloc(), TRANSFER)?;
@@ -158,8 +158,10 @@ fn at_once<'a>(
     )
 }
 
-/// Steps through a row's stream. After each step but the last, as many pieces of the output and of the report are
-/// written as `written` says.
+/// Steps through a row's stream, and checks the texts after each step but the last.
+///
+/// Each entry of `written` is for one step: how many pieces of the row's output, and how many of
+/// its report, are written after it.
 fn after_each_step(
     rt: &(impl Abort + AllocGlobal),
     row: &Row,
@@ -194,11 +196,12 @@ fn empty_end_step_by_step(rt: HostRuntime) -> Result<(), Fail> {
     after_each_step(&rt, &EMPTY_END, &written)
 }
 
-/// A transfer of 100 segments of 1,000 zeros each, and how many of them are written after each step. A piece of data
-/// ends where a read of 8,192 bytes does.
+/// A transfer of 100 segments of 1,000 zeros each, and the number of zeros written after each step.
+///
+/// A piece of data ends where a read of 8,192 bytes ends.
 fn hundred_segments(alloc: Global) -> Result<(Vec<u8>, Vec<usize>), Fail> {
     let mut stream = joined(alloc, SESSION)?;
-    // the contact header and the SESS_INIT
+    // The steps of the contact header and of the SESS_INIT.
     let mut written = Vec::from_slice(alloc, &[0, 0])?;
     for count in 0..100 {
         let flags = match count {

@@ -1,4 +1,4 @@
-//! The bundle with a change, in one segment: its verdict, and what of its payload is written.
+//! Tests of the bundle with a change, in one segment: its verdict, and the payload that is written.
 
 ghost use Rattle.std.specs.Prelude.{◌≤◌};
 
@@ -10,7 +10,8 @@ use std::alloc::Global;
 use std::process::Abort;
 use std::test::Fail;
 
-/// From where to where bytes of the bundle are replaced, by which, the verdict, and the bytes of the payload.
+/// The range of the bundle's bytes that is replaced, the new bytes, the verdict, and the payload's
+/// bytes.
 type Changed = ([usize; 2], &'static [u8], &'static str, &'static [u8]);
 
 const GOOD: &str = "good source=ipn:1.1 time=0 sequence=0 destination=ipn:2.1 payload=5";
@@ -33,7 +34,7 @@ const PRIMARY: [Changed; 17] = [
     ([2, 3], b"\x1a\x00\x00\x00\x07", GOOD, b"hello"),
     // an ill-formed head
     ([3, 4], b"\x1c", "bad=B4 byte=3", b""),
-    // bytes in place of the flags
+    // a byte string in place of the flags
     ([3, 4], b"\x40", "bad=B5 byte=3", b""),
     // a simple value below 32 in two bytes
     ([3, 4], b"\xf8\x1f", "bad=B4 byte=3", b""),
@@ -58,7 +59,7 @@ const PRIMARY: [Changed; 17] = [
     ),
     // an ipn part of one number
     ([5, 10], b"\x82\x02\x81\x02", "bad=B6 byte=7", b""),
-    // bytes in place of the service number
+    // a byte string in place of the service number
     ([5, 10], b"\x82\x02\x83\x00\x02\x40", "bad=B5 byte=10", b""),
 ];
 
@@ -77,7 +78,7 @@ const NAMES: [Changed; 4] = [
         "good source=ipn:1.1 time=0 sequence=0 destination=dtn://node/a payload=5",
         b"hello",
     ),
-    // three ipn numbers, of which the allocator identifier is 0
+    // three ipn numbers, with allocator identifier 0
     (
         [5, 10],
         b"\x82\x02\x83\x00\x02\x01",
@@ -96,7 +97,7 @@ const NAMES: [Changed; 4] = [
 const BLOCKS: [Changed; 12] = [
     // the bundle as it is
     ([34, 34], b"", GOOD, b"hello"),
-    // no byte
+    // no bytes
     ([0, 34], b"", "bad=B1 byte=0", b""),
     // without its last byte
     ([33, 34], b"", "bad=B1 byte=33", b"hello"),
@@ -129,7 +130,7 @@ const BLOCKS: [Changed; 12] = [
     ),
     // a check
     ([17, 34], CHECKED_BACK, GOOD, b"hello"),
-    // another byte under the check
+    // a check, and another byte under it
     ([17, 34], CHANGED_BACK, "bad=B13 byte=33", b"iello"),
     // a check of three bytes
     (
@@ -140,7 +141,7 @@ const BLOCKS: [Changed; 12] = [
     ),
 ];
 
-/// Unpacking one transfer gives these bytes and this verdict.
+/// Checks that unpacking one transfer has this output and this verdict.
 fn judged(
     rt: &(impl Abort + AllocGlobal),
     wanted: Wanted,
@@ -163,7 +164,7 @@ fn judged(
     gives_at_each_pace(rt, verdict, &stream, &want)
 }
 
-/// The bundle is judged so, with all of its data written and with its payload alone.
+/// Checks the verdict, with all data of the bundle written and with its payload alone.
 fn judged_both_ways(
     rt: &(impl Abort + AllocGlobal),
     bundle: &[u8],
@@ -203,7 +204,7 @@ fn canonical_blocks(rt: HostRuntime) -> Result<(), Fail> {
     all_judged(&rt, &BLOCKS)
 }
 
-/// The bundle with this many blocks before its payload block, from number 2 on.
+/// The bundle with this many blocks before its payload block, numbered from 2.
 fn with_blocks(alloc: Global, blocks: u8) -> Result<Vec<u8>, Fail>
     requires { blocks ≤ 64 }
 {

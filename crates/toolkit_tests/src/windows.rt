@@ -1,4 +1,6 @@
-//! A source reads 8,192 bytes at a time. Wherever a read ends, a stream is listed alike.
+//! Tests that a stream is listed alike, wherever a read of the source ends.
+//!
+//! A source reads 8,192 bytes at a time.
 
 use crate::running::{Expected, Tool, gives, gives_at_each_pace};
 use crate::stream::{
@@ -9,7 +11,7 @@ use std::alloc::Global;
 use std::process::Abort;
 use std::test::Fail;
 
-/// A message, and its line after the offset.
+/// A message, and its line without the offset.
 struct Part {
     bytes: &'static [&'static [u8]],
     words: &'static [u8],
@@ -64,10 +66,10 @@ const PARTS: [Part; 9] = [
     },
 ];
 
-/// How many bytes the parts have.
+/// The number of bytes of the parts.
 const PARTS_SIZE: usize = 168;
 
-/// The end of the first read.
+/// The offset at which the first read ends.
 pub const EDGE: usize = 8192;
 
 /// A stream and its lines.
@@ -78,7 +80,7 @@ struct Listed {
 }
 
 impl Listed {
-    /// Both with every part after them.
+    /// The stream and its lines with all of `PARTS` after them.
     fn with_parts(&self, alloc: Global) -> Result<Listed, Fail> {
         let mut stream = joined(alloc, &[&self.stream])?;
         let mut lines = joined(alloc, &[&self.lines])?;
@@ -103,7 +105,7 @@ impl Listed {
     }
 }
 
-/// A contact header and a segment with that much data.
+/// A contact header and a segment with `size` bytes of data.
 fn segment_of(alloc: Global, size: u64) -> Result<Listed, Fail> {
     let mut stream = joined(alloc, &[CONTACT, WHOLE_TRANSFER, &size.to_be_bytes()])?;
     for _ in 0..size {
@@ -114,7 +116,7 @@ fn segment_of(alloc: Global, size: u64) -> Result<Listed, Fail> {
     Ok(Listed { stream, lines })
 }
 
-/// A long segment stands before the parts: the first read ends at each place of them in turn.
+/// The parts follow a long segment, and the first read ends at each offset of them in turn.
 #[test]
 fn after_data(rt: HostRuntime) -> Result<(), Fail> {
     for size in 7996..=8164 {
@@ -125,7 +127,7 @@ fn after_data(rt: HostRuntime) -> Result<(), Fail> {
     Ok(())
 }
 
-/// Keepalives stand before the parts: the first read ends at each place of them in turn.
+/// The parts follow keepalives, and the first read ends at each offset of them in turn.
 #[test]
 fn after_keepalives(rt: HostRuntime) -> Result<(), Fail> {
     let stream = joined(rt.alloc(), &[CONTACT])?;

@@ -3,14 +3,11 @@ use Rattle.link_laws.proofs.laws.sofar_is_prefix.Goals as goal
 use Rattle.link_laws.proofs.Packings.{pack_prefix}
 use Rattle.link_laws.proofs.Listings.{list_prefix}
 
--- src/laws.rt:15:1
 pub returns-clause-list : goal.returns-clause-list
 returns-clause-list c = list_prefix
 
--- src/laws.rt:15:1
 pub returns-clause-unpack : goal.returns-clause-unpack
 returns-clause-unpack c = unpack_prefix
 
--- src/laws.rt:15:1
 pub returns-clause-pack : goal.returns-clause-pack
 returns-clause-pack c = pack_prefix
