@@ -2,7 +2,8 @@
 
 use crate::{
     Fault, Judgement, JudgementView, Line, PackedEntry, PackedView, TransferEntry, TransferView,
-    fault_line, judge, packed_line, packed_view_line, transfer_line, transfer_view_line,
+    fault_line, judge, judge_view, packed_line, packed_view_line, transfer_line,
+    transfer_view_line,
 };
 use arrayvec::ArrayVec;
 use link_bundle_types::{BundleFault, BundleInfo, BundleView, Eid, EidView};
@@ -304,7 +305,9 @@ fn first_judgement_that_holds(rt: HostRuntime) {
         ),
     ];
     for (abandoned, announced, length, verdict, want) in rows {
-        assert!(rt; judge(abandoned, announced, length, verdict) == want);
+        assert!(rt; judge_view(abandoned, announced, length, verdict) == want);
+        let verdict = verdict.map(|_| whole());
+        assert!(rt; judge(abandoned, announced, length, verdict).view() == want);
     }
 }
 

@@ -66,7 +66,25 @@ impl Judgement {
 /// announcement of its extension items, and `length` the number of its data bytes. `verdict` is the
 /// verdict on these bytes. An abandoned transfer is judged first, then the announced length, and
 /// then the verdict.
-pub fn judge<'a>(
+pub fn judge(
+    abandoned: bool,
+    announced: Announced,
+    length: u64,
+    verdict: Result<BundleInfo, (BundleFault, u64)>,
+) -> Judgement
+    ensures { result ≡ judged abandoned announced length verdict }
+{
+    match (abandoned, announced, verdict) {
+        (true, _, _) => Judgement::Abandoned,
+        (_, Announced::Malformed, _) => Judgement::BadLengthItem,
+        (_, Announced::Total(total), _) if total != length => Judgement::LengthDiffers(total),
+        (_, _, Ok(info)) => Judgement::Good(info),
+        (_, _, Err((fault, offset))) => Judgement::Bad(fault, offset),
+    }
+}
+
+/// Judges a transfer as [`judge`] does, with the bundle by reference.
+pub fn judge_view<'a>(
     abandoned: bool,
     announced: Announced,
     length: u64,

@@ -37,7 +37,7 @@ mod tests;
 mod transfer;
 
 pub use fault::{Fault, fault_line};
-pub use judgement::{Judgement, JudgementView, judge};
+pub use judgement::{Judgement, JudgementView, judge, judge_view};
 pub use kept_digits::KeptDigits;
 pub use message::{MessageText, contact_line, message_line};
 pub use packed::{PackedEntry, PackedView, packed_line, packed_view_line};

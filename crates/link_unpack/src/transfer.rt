@@ -10,7 +10,7 @@ use crate::wanted::Wanted;
 use link_bundle::BundleScan;
 use link_bundle_types::State;
 use link_cbor::Piecewise;
-use link_report::{JudgementView, Line, TransferView, judge, transfer_view_line};
+use link_report::{JudgementView, Line, TransferView, judge_view, transfer_view_line};
 use link_transfer::Announced;
 
 /// No input has more bytes.
@@ -192,7 +192,7 @@ impl TransferScan {
             earlier → abandoned ≡ not transfer.closed
             → result ≡ is_good (judgement_of transfer) }
     {
-        let judgement = judge(abandoned, self.announced, self.size, self.scan.view());
+        let judgement = judge_view(abandoned, self.announced, self.size, self.scan.view());
         let entry = TransferView {
             id: self.id,
             start: self.start,

@@ -7,10 +7,10 @@ pub returns-clause-text : goal.returns-clause-text
 returns-clause-text c = λ transfer earlier follows over.
     c.transfer_view_line.ensures
     ∙ line_is c.args.self.now transfer earlier follows c.args.abandoned over _ c.view.ensures.seen
-    c.judge-judgement.result c.judge-judgement.ensures.judged
+    c.judge_view-judgement.result c.judge_view-judgement.ensures.judged
 
 pub returns-clause-good : goal.returns-clause-good
 returns-clause-good c = λ transfer earlier follows over.
     c.is_bundle.ensures
     ∙ ap is_good (judgement_is c.args.self.now transfer earlier follows c.args.abandoned over _ c.view.ensures.seen
-    c.judge-judgement.result c.judge-judgement.ensures.judged)
+    c.judge_view-judgement.result c.judge_view-judgement.ensures.judged)
