@@ -158,6 +158,7 @@ module _ {R : Type 0} (look : R → Input) where
     next = rw append_assoc (Consumes-trans (ahead look old) (ahead look mid) (look new.reader).left xs (ys ++ q.past) p.next q.next);
     count = more_given (given_by old) (given_by mid) (given_by new) xs ys p.count q.count;
     cause = q.cause;
+    device = λ is. q.device is ∙ p.device;
     failed = q.failed;
   }
 

@@ -115,6 +115,8 @@ module _ {R : Type 0} where
     pub next : Consumes (ahead look old) (look new.reader).left (bytes ++ past)
     pub count : given_by new ≡ given_by old + length bytes
     pub cause : HasCause look new fault past
+    -- a byte past the limit is no failure of the reader
+    pub device : fault ≡ io.InputTooLong → (look new.reader).failed ≡ (look old.reader).failed
     pub failed : HasFailed new fault
 
   -- The result of `ready`: the window has some bytes, or the input is over.

@@ -382,6 +382,7 @@ module _ {R W E : Type 0} (in_look : R → Input) (out_look : W → Output)
           writes = rw due at written.writes;
           reports = rw due at written.reports;
         };
+        reader = stops.device refl ∙ sound.reader;
         output = sound.output;
         report = sound.report;
       }

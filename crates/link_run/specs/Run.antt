@@ -128,7 +128,7 @@ module _ {R W E : Type 0} (in_look : R → Input) (out_look : W → Output)
     pub output : (out_look now.output).failed ≡ false
     pub report : (report_look now.report).failed ≡ false
 
-  -- A byte past the limit was read, and no writer failed: the bytes `past` of the last read were not given, those before them
+  -- A byte past the limit was read, and no device failed: the bytes `past` of the last read were not given, those before them
   -- show no fault, and the texts are those that these determine.
   pub record PassedLimit (tool : Tool) (start now : Devices R W E) (given : List ℕ) : Type 0 where
     pub unshown : tool.shows given ≡ false
@@ -136,6 +136,7 @@ module _ {R W E : Type 0} (in_look : R → Input) (out_look : W → Output)
     pub few : length past ≤ window_size
     pub limit : longest_input < length given + length past
     pub written : HandedBack start now (given ++ past) (tool.sofar given)
+    pub reader : (in_look now.reader).failed ≡ false
     pub output : (out_look now.output).failed ≡ false
     pub report : (report_look now.report).failed ≡ false
 

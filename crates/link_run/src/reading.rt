@@ -136,9 +136,14 @@ pub fn ready_bytes<R: InDevice, W: OutDevice, E: OutDevice>(
     ensures handed { (result ≡ Err IoFault.Write → ⊥)
         → HoldsNoBytesBack R.state W.state E.state W.handed E.handed source.old writers.new }
     ensures line { next_line writers.new ≡ next_line writers.old }
-    ensures ended { HasEnded source.old → source.new ≡ source.old }
+    ensures ended { HasEnded source.old → (source.new ≡ source.old)
+        × ((result ≡ Ok 0) × Writes W.state E.state writers.old writers.new (on_output [])
+        ⊎ (result ≡ Err IoFault.Write)
+        × Unsettled W.state E.state writers.old writers.new IoFault.Write) }
     ensures failed { (fault : _) → HasFailed source.old fault → (source.new ≡ source.old)
-        × ((result ≡ Err fault) ⊎ (result ≡ Err IoFault.Write)) }
+        × ((result ≡ Err fault) × Writes W.state E.state writers.old writers.new (on_output [])
+        ⊎ (result ≡ Err IoFault.Write)
+        × Unsettled W.state E.state writers.old writers.new IoFault.Write) }
 {
     if source.window().is_empty() {
         settle_before_bytes(source, writers)?;

@@ -19,5 +19,6 @@ returns-in-Ok-clause-gives g c =
       next = rw none (Consumes-empty (look s.reader).left (look c.read_ahead.new.reader).left _ c.in-Ok.ensures.bytes.0);
       count = sym (add-zero s.given);
       cause = (omega (arith, size, c.in-Ok.ensures.bound), omega (arith, size, c.if-n-self.true));
+      device = λ is. c.in-Ok.ensures.failed;
       failed = (refl, refl);
     }
