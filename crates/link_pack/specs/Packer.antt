@@ -7,8 +7,9 @@ use Rattle.link_bundle_types.specs.declared.fault.BundleFault.{BundleFault}
 use Rattle.link_bundle_types.specs.declared.fault.State.{State}
 use Rattle.link_bundle_types.specs.declared.fault.State.TheVariants as state
 use Rattle.link_bundle_types.specs.declared.info.BundleInfo.{BundleInfo}
-use Rattle.link_transfer.specs.Cutter.{IsCutterAt}
-use Rattle.link_transfer.specs.Cutting.{Cutting, with_bytes}
+use Rattle.link_transfer.specs.Cutter.{IsCutterAt, cut_waits}
+use Rattle.link_transfer.specs.Cutting.{Cutting, beginning, with_bytes}
+use Rattle.link_transfer.specs.declared.cutter.Cutter.{Cutter}
 use Rattle.link_report.specs.Fault.{fault_text}
 use Rattle.link_report.specs.declared.fault.Fault.{Fault}
 use Rattle.link_report.specs.declared.fault.Fault.TheVariants.{Bundle}
@@ -23,6 +24,12 @@ use Rattle.link_pack.specs.declared.packer.Packer.{Packer}
 -- a cutter that was given these bytes of a bundle, and has given all chunks that are due
 abbrev pub cutting : PackOptions → (begun : List ℕ) → Cutting
 cutting options begun = going (segment_size options) options.announce begun
+
+-- a new cutter for runs with these options: it was given no byte, and no cut waits
+abbrev pub IsCutterFor : PackOptions → Cutter → Type 0
+IsCutterFor options cutter =
+    IsCutterAt cutter (beginning (segment_size options) options.announce)
+    × (cut_waits cutter ≡ false)
 
 -- these bundles were packed, and exactly these bytes of the next one have come
 pub record Holds (packer : Packer) (bundles : List Packed) (begun : List ℕ) : Type 0 where

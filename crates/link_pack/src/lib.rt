@@ -4,7 +4,8 @@
 //! limits of the peer.
 //!
 //! ```ignore
-//! let end = pack(alloc, options, reader, output, report);
+//! let memory = cutter_for(alloc, &options);
+//! let end = pack(memory, options, reader, output, report);
 //! ```
 #![tactic(auto)]
 
@@ -14,4 +15,5 @@ mod packing;
 mod segments;
 
 pub use options::PackOptions;
+pub use packer::cutter_for;
 pub use packing::{PackRun, pack};

@@ -1,6 +1,7 @@
 //! The bundle that is being packed: scanned, and cut into chunks.
 
-ghost use Rattle.std.specs.Prelude.{◌≡◌, ◌<◌, min};
+ghost use Rattle.std.specs.Prelude.{◌≡◌, ◌<◌, min, IfOk};
+ghost use Rattle.link_pack.specs.Packer.{IsCutterFor};
 ghost use Rattle.link_pack.specs.Packing.{segment_size};
 
 use crate::options::PackOptions;
@@ -45,48 +46,37 @@ fn segment(options: &PackOptions) -> u64
     options.peer_segment.min(SEGMENT_LIMIT)
 }
 
+/// The cutter of a run with these options: the one request for memory that a run of `pack` makes, for the longest segment
+/// or for one byte more than `announce`, whichever is greater.
+///
+/// # Errors
+///
+/// The request was refused.
+pub fn cutter_for(alloc: Global, options: &PackOptions) -> Result<Cutter, AllocError>
+    ensures { IfOk result (IsCutterFor options.now) }
+{
+    Cutter::new(alloc, segment(options) as usize, options.announce as usize)
+}
+
 impl Packer {
-    ghost use Rattle.std.specs.Prelude.{◌≡◌, ◌+◌, ◌-◌, min, true, ◌^◌, ◌<◌, ◌≤◌, false, List, ℕ, [], ◌∷◌, ◌++◌, length, take, is_ok, IfOk, IfSome, IfNone, Ok};
+    ghost use Rattle.std.specs.Prelude.{◌≡◌, ◌+◌, ◌-◌, min, true, ◌^◌, ◌<◌, ◌≤◌, false, List, ℕ, [], ◌∷◌, ◌++◌, length, take, IfSome, IfNone, Ok};
     ghost use Rattle.link_bundle.specs.Bundle.{verdict, state_of, bundle_goes};
     ghost use Rattle.link_bundle.specs.Scan.{HasScanned, scan_size};
     ghost use Rattle.link_bundle_types.specs.declared.info.BundleInfo.{BundleInfo};
     ghost use Rattle.link_report.specs.Fault.{fault_text};
     ghost use Rattle.link_transfer.specs.Cutter.{IsCutterAt, cut_waits, wanted_by};
-    ghost use Rattle.link_transfer.specs.Cutting.{Cutting, beginning, with_bytes};
+    ghost use Rattle.link_transfer.specs.Cutting.{Cutting, with_bytes};
     ghost use Rattle.link_pack.specs.Bundles.{Packed};
     ghost use Rattle.link_pack.specs.Packing.{line_of};
-    ghost use Rattle.link_pack.specs.Packer.{Holds, MakesOf, CutShort, found_by, accepted_of, is_whole};
+    ghost use Rattle.link_pack.specs.Packer.{Holds, IsCutterFor, MakesOf, CutShort, found_by, accepted_of, is_whole};
 
-    /// Nothing was packed. It takes memory once, for the cutter.
+    /// A packer that has packed nothing, over a new cutter.
     #[inline(never)]
-    pub fn new(alloc: Global, options: PackOptions) -> Result<Packer, AllocError>
-        ensures start { IfOk result (λ packer. Holds packer [] []) }
-        ensures options { IfOk result (λ packer. packer.options ≡ options) }
-        ensures quiet { IfOk result (λ packer. cut_waits packer.cutter ≡ false) }
-    {
-        let cutter = Cutter::new(alloc, segment(&options) as usize, options.announce as usize);
-        Packer::over(cutter, options)
-    }
-
-    /// A packer over this cutter, where it was given memory.
-    fn over(cutter: Result<Cutter, AllocError>, options: PackOptions) -> Result<Packer, AllocError>
-        requires start { IfOk cutter
-            (λ it. IsCutterAt it (beginning (segment_size options) options.announce)) }
-        requires quiet { IfOk cutter (λ it. cut_waits it ≡ false) }
-        ensures start { IfOk result (λ packer. Holds packer [] []) }
-        ensures options { IfOk result (λ packer. packer.options ≡ options) }
-        ensures quiet { IfOk result (λ packer. cut_waits packer.cutter ≡ false) }
-        ensures given { is_ok result ≡ is_ok cutter }
-    {
-        Ok(Packer::with(cutter?, options))
-    }
-
-    /// A packer with this cutter.
-    fn with(cutter: Cutter, options: PackOptions) -> Packer
-        requires start { IsCutterAt cutter (beginning (segment_size options) options.announce) }
+    pub fn new(cutter: Cutter, options: PackOptions) -> Packer
+        requires { IsCutterFor options cutter }
         ensures start { Holds result [] [] }
         ensures options { result.options ≡ options }
-        ensures cutter { result.cutter ≡ cutter }
+        ensures quiet { cut_waits result.cutter ≡ false }
     {
         Packer {
             options,

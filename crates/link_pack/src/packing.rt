@@ -1,6 +1,6 @@
 //! `pack`: bundles as the stream of a sender, and a line for each bundle.
 
-ghost use Rattle.std.specs.Prelude.{◌≡◌, ◌+◌, ◌^◌, ◌<◌, IsTrue, false, true, [], List, ℕ, length, ◌⊎◌, None, Ok};
+ghost use Rattle.std.specs.Prelude.{◌≡◌, ◌+◌, ◌^◌, ◌<◌, IsTrue, IfErr, IfOk, false, true, [], List, ℕ, length, None, Ok};
 ghost use Rattle.link_run.specs.Run.{Devices, GivesAnswer};
 ghost use Rattle.link_run.specs.Writers.{GivesTexts, on_output, on_report};
 ghost use Rattle.link_bundle.specs.Bundle.{verdict, bundle_goes};
@@ -9,17 +9,18 @@ ghost use Rattle.link_bundle_types.specs.declared.info.BundleInfo.{BundleInfo};
 ghost use Rattle.link_transfer.specs.Cutter.{cut_waits};
 ghost use Rattle.link_pack.specs.Bundles.{Packed};
 ghost use Rattle.link_pack.specs.Packing.{prelude_bytes, end_bytes, line_of, pack_tool};
-ghost use Rattle.link_pack.specs.Packer.{MakesOf};
+ghost use Rattle.link_pack.specs.Packer.{IsCutterFor, MakesOf};
 ghost use Rattle.link_pack.specs.PackRun.{may_go_on, is_begun, IsPacking, GivesStage, GivesWritten, GivesFound, GivesFinish, LacksMemory};
 
 use crate::options::PackOptions;
 use crate::packer::{Found, Packer};
 use crate::segments::write_segments;
 use link_run::{Progress, Run, RunEnd, Status, Writers, ready_bytes};
+use link_transfer::Cutter;
 use link_wire::{
     HeadBuf, InDevice, IoFault, OutDevice, Source, put_contact, put_sess_init, put_sess_term,
 };
-use std::alloc::{AllocError, Global};
+use std::alloc::AllocError;
 
 /// How many bytes one step is given at most.
 const PIECE: usize = 4096;
@@ -242,106 +243,37 @@ pub struct PackRun<R, W, E> {
 }
 
 impl<R: InDevice, W: OutDevice, E: OutDevice> PackRun<R, W, E> {
-    ghost use Rattle.std.specs.Prelude.{◌≡◌, [], false, is_ok, Ok, IfOk, IfErr};
-    ghost use Rattle.link_transfer.specs.Cutter.{cut_waits};
-    ghost use Rattle.link_run.specs.Run.{devices_at, GivesAnswer};
-    ghost use Rattle.link_pack.specs.Packer.{Holds};
+    ghost use Rattle.std.specs.Prelude.{◌≡◌, [], false};
+    ghost use Rattle.link_run.specs.Run.{devices_at};
+    ghost use Rattle.link_pack.specs.Packer.{IsCutterFor};
     ghost use Rattle.link_pack.specs.Packing.{pack_tool};
     ghost use Rattle.link_pack.specs.PackRuns.{place_of_pack, tool_of_pack, pack_stands};
 
-    /// A run that has read and written nothing. It takes memory once, for the bytes that the run holds at most. Where that
-    /// is not given, the devices come back as they are.
+    /// A run that has read and written nothing. The cutter is new, as [`cutter_for`](crate::cutter_for) makes it.
     pub fn new(
-        alloc: Global,
+        cutter: Cutter,
         options: PackOptions,
         reader: R,
         output: W,
         report: E,
-    ) -> Result<PackRun<R, W, E>, RunEnd<R, W, E>>
+    ) -> PackRun<R, W, E>
+        requires cutter { IsCutterFor options cutter }
         requires reader { (R.state reader).failed ≡ false }
         requires output { (W.state output).failed ≡ false }
         requires report { (E.state report).failed ≡ false }
-        ensures start { IfOk result
-            (λ run. pack_stands R.state W.state E.state run (devices_at (place_of_pack run)) []) }
-        ensures tool { IfOk result (λ run. tool_of_pack run ≡ pack_tool options) }
-        ensures devices { IfOk result (λ run. devices_at (place_of_pack run)
-            ≡ record { reader = reader; output = output; report = report }) }
-        ensures memory { IfErr result
-            (λ end. LacksMemory (record { reader = reader; output = output; report = report })
-            (record { reader = end.reader; output = end.output; report = end.report }) end.answer) }
-    {
-        PackRun::over(Packer::new(alloc, options), reader, output, report)
-    }
-
-    /// A run with this packer, where it was given memory.
-    fn over(
-        packer: Result<Packer, AllocError>,
-        reader: R,
-        output: W,
-        report: E,
-    ) -> Result<PackRun<R, W, E>, RunEnd<R, W, E>>
-        requires reader { (R.state reader).failed ≡ false }
-        requires output { (W.state output).failed ≡ false }
-        requires report { (E.state report).failed ≡ false }
-        requires start { IfOk packer (λ it. Holds it [] []) }
-        requires quiet { IfOk packer (λ it. cut_waits it.cutter ≡ false) }
-        ensures start { IfOk result
-            (λ run. pack_stands R.state W.state E.state run (devices_at (place_of_pack run)) []) }
-        ensures packer { IfOk result (λ run. packer ≡ Ok run.packer) }
-        ensures devices { IfOk result (λ run. devices_at (place_of_pack run)
-            ≡ record { reader = reader; output = output; report = report }) }
-        ensures memory { IfErr result
-            (λ end. LacksMemory (record { reader = reader; output = output; report = report })
-            (record { reader = end.reader; output = end.output; report = end.report }) end.answer) }
-        ensures given { is_ok result ≡ is_ok packer }
-    {
-        match packer {
-            Ok(packer) => Ok(PackRun::with(packer, reader, output, report)),
-            Err(_) => Err(RunEnd {
-                reader,
-                output,
-                report,
-                answer: Err(IoFault::Memory),
-            }),
-        }
-    }
-
-    /// A run with this packer.
-    fn with(packer: Packer, reader: R, output: W, report: E) -> PackRun<R, W, E>
-        requires reader { (R.state reader).failed ≡ false }
-        requires output { (W.state output).failed ≡ false }
-        requires report { (E.state report).failed ≡ false }
-        requires start { Holds packer [] [] }
-        requires quiet { cut_waits packer.cutter ≡ false }
         ensures start { pack_stands R.state W.state E.state result
             (devices_at (place_of_pack result)) [] }
-        ensures packer { result.packer ≡ packer }
+        ensures tool { tool_of_pack result ≡ pack_tool options }
         ensures devices { devices_at (place_of_pack result)
             ≡ record { reader = reader; output = output; report = report } }
     {
+        let packer = Packer::new(cutter, options);
         PackRun {
             source: Source::new(reader),
             writers: Writers::new(output, report),
             packer,
             head: HeadBuf::new(),
             stage: Stage::Prelude,
-        }
-    }
-
-    /// Steps to the end, where the run was given memory.
-    fn finish(begun: Result<PackRun<R, W, E>, RunEnd<R, W, E>>) -> RunEnd<R, W, E>
-        requires { IfOk begun
-            (λ run. pack_stands R.state W.state E.state run (devices_at (place_of_pack run)) []) }
-        ensures ran { IfOk begun
-            (λ run. GivesAnswer R.state W.state E.state (tool_of_pack run)
-            (devices_at (place_of_pack run))
-            (record { reader = result.reader; output = result.output; report = result.report })
-            result.answer) }
-        ensures lacked { IfErr begun (λ end. result ≡ end) }
-    {
-        match begun {
-            Ok(run) => run.run(),
-            Err(end) => end,
         }
     }
 
@@ -400,24 +332,35 @@ impl<R: InDevice, W: OutDevice, E: OutDevice> Run<R, W, E> for PackRun<R, W, E> 
 
 /// Packs the bundles of an input into the stream of a sender (RFC 9174) on the output, with a line for each on the report.
 /// What is no bundle, and a bundle that is longer than the peer takes, is reported at the byte that shows it, and stops
-/// the run. It takes memory once, before it reads: want of it is [`IoFault::Memory`].
+/// the run. `memory` is what [`cutter_for`](crate::cutter_for) returned: where it was refused, the answer is
+/// [`IoFault::Memory`], and the devices come back as they were.
 pub fn pack<R: InDevice, W: OutDevice, E: OutDevice>(
-    alloc: Global,
+    memory: Result<Cutter, AllocError>,
     options: PackOptions,
     reader: R,
     output: W,
     report: E,
 ) -> RunEnd<R, W, E>
+    requires cutter { IfOk memory (IsCutterFor options) }
     requires reader { (R.state reader).failed ≡ false }
     requires output { (W.state output).failed ≡ false }
     requires report { (E.state report).failed ≡ false }
-    ensures { GivesAnswer R.state W.state E.state (pack_tool options)
+    ensures ran { IfOk memory (λ _. GivesAnswer R.state W.state E.state (pack_tool options)
         (record { reader = reader; output = output; report = report })
         (record { reader = result.reader; output = result.output; report = result.report })
-        result.answer
-        ⊎ LacksMemory (record { reader = reader; output = output; report = report })
+        result.answer) }
+    ensures lacked { IfErr memory
+        (λ _. LacksMemory (record { reader = reader; output = output; report = report })
         (record { reader = result.reader; output = result.output; report = result.report })
-        result.answer }
+        result.answer) }
 {
-    PackRun::finish(PackRun::new(alloc, options, reader, output, report))
+    match memory {
+        Ok(cutter) => PackRun::new(cutter, options, reader, output, report).run(),
+        Err(_) => RunEnd {
+            reader,
+            output,
+            report,
+            answer: Err(IoFault::Memory),
+        },
+    }
 }

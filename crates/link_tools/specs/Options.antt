@@ -1,30 +1,40 @@
 -- The tools by their options.
-use Rattle.std.specs.Prelude.{◌⊎◌, Result}
+use Rattle.std.specs.Prelude.{Result, Ok, Err, IfOk, ⊤}
 use Rattle.link_wire.specs.Device.{Input, Output}
 use Rattle.link_wire.specs.declared.IoFault.{IoFault}
-use Rattle.link_run.specs.Run.{Tool, Devices, GivesAnswer}
+use Rattle.link_run.specs.Run.{Devices, GivesAnswer}
 use Rattle.link_run.specs.declared.run.Status.{Status}
 use Rattle.link_list.specs.Listing.{list_tool}
 use Rattle.link_unpack.specs.Unpacking.{unpack_tool}
 use Rattle.link_pack.specs.Packing.{pack_tool}
+use Rattle.link_pack.specs.Packer.{IsCutterFor}
 use Rattle.link_pack.specs.PackRun.{LacksMemory}
+use Rattle.link_tools.specs.declared.options.Job.{Job}
+use Rattle.link_tools.specs.declared.options.Job.TheVariants as job
 use Rattle.link_tools.specs.declared.options.Options.{Options}
 use Rattle.link_tools.specs.declared.options.Options.TheVariants.{List, Unpack, Pack}
 
-abbrev pub tool_of : Options → Tool
-tool_of List = list_tool
-tool_of (Unpack wanted) = unpack_tool wanted
-tool_of (Pack options) = pack_tool options
+-- what is asked of the tool
+abbrev pub options_of : Job → Options
+options_of job.List = List
+options_of (job.Unpack wanted) = Unpack wanted
+options_of (job.Pack options memory) = Pack options
 
--- only `pack` asks for memory
-abbrev pub AsksForMemory : Options → Type 0
-AsksForMemory List = ⊥
-AsksForMemory (Unpack wanted) = ⊥
-AsksForMemory (Pack options) = Unit {0}
+-- The memory that `pack` asked for is that of a new cutter for its options, or it was refused.
+abbrev pub IsReady : Job → Type 0
+IsReady job.List = ⊤
+IsReady (job.Unpack wanted) = ⊤
+IsReady (job.Pack options memory) = IfOk memory (IsCutterFor options)
 
--- what a whole run gives: what its tool writes, or want of memory
-abbrev pub GivesRun : {R W E : Type 0} → (R → Input) → (W → Output) → (E → Output) → Options
+-- What a whole run gives: what its tool writes. Where `pack` was refused its memory, nothing was read or written, and that is
+-- the answer.
+abbrev pub GivesRun : {R W E : Type 0} → (R → Input) → (W → Output) → (E → Output) → Job
     → (start now : Devices R W E) → Result Status IoFault → Type 0
-GivesRun in_look out_look report_look options start now answer =
-    GivesAnswer in_look out_look report_look (tool_of options) start now answer
-    ⊎ (AsksForMemory options × LacksMemory start now answer)
+GivesRun in_look out_look report_look job.List start now answer =
+    GivesAnswer in_look out_look report_look list_tool start now answer
+GivesRun in_look out_look report_look (job.Unpack wanted) start now answer =
+    GivesAnswer in_look out_look report_look (unpack_tool wanted) start now answer
+GivesRun in_look out_look report_look (job.Pack options (Ok cutter)) start now answer =
+    GivesAnswer in_look out_look report_look (pack_tool options) start now answer
+GivesRun in_look out_look report_look (job.Pack options (Err refused)) start now answer =
+    LacksMemory start now answer

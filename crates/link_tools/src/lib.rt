@@ -1,10 +1,11 @@
 //! The tools over recorded TCPCLv4 sessions (RFC 9174): each reads a device step by step, and writes its
 //! output and its report.
 //!
-//! [`run_tool`] runs the tool that the options are for, and [`run_exit`] says how its answer ends a program.
+//! [`Job::new`] makes the tool of the options ready, [`run_tool`] runs it, and [`run_exit`] says how its answer ends a program.
 //!
 //! ```ignore
-//! let end = run_tool(alloc, Options::List, reader, output, report);
+//! let job = Job::new(alloc, Options::List);
+//! let end = run_tool(job, reader, output, report);
 //! let (status, message) = run_exit(&end.answer);
 //! ```
 #![tactic(auto)]
@@ -14,7 +15,7 @@ mod options;
 
 pub use exit::run_exit;
 pub use link_list::{ListRun, list};
-pub use link_pack::{PackOptions, PackRun, pack};
+pub use link_pack::{PackOptions, PackRun, cutter_for, pack};
 pub use link_run::{Progress, Run, RunEnd, Status};
 pub use link_unpack::{UnpackRun, Wanted, unpack};
-pub use options::{Options, run_tool};
+pub use options::{Job, Options, run_tool};

@@ -1,14 +1,15 @@
 //! The tools by their options.
 
 ghost use Rattle.std.specs.Prelude.{◌≡◌, false};
-ghost use Rattle.link_tools.specs.Options.{GivesRun};
+ghost use Rattle.link_tools.specs.Options.{GivesRun, IsReady, options_of};
 
 use link_list::list;
-use link_pack::{PackOptions, pack};
+use link_pack::{PackOptions, cutter_for, pack};
 use link_run::RunEnd;
+use link_transfer::Cutter;
 use link_unpack::{Wanted, unpack};
 use link_wire::{InDevice, OutDevice};
-use std::alloc::Global;
+use std::alloc::{AllocError, Global};
 
 /// A tool, and what is asked of it.
 #[derive(Debug, Drop, PartialEq, Eq)]
@@ -21,25 +22,53 @@ pub enum Options {
     Pack(PackOptions),
 }
 
-/// Runs the tool to its end. Only `pack` takes memory; where it gets none, the devices come back as they are.
+/// A tool that is ready to run.
+#[derive(Drop)]
+pub enum Job {
+    /// [`Options::List`]
+    List,
+    /// [`Options::Unpack`]
+    Unpack(Wanted),
+    /// [`Options::Pack`], with the answer to its one request for memory.
+    Pack(PackOptions, Result<Cutter, AllocError>),
+}
+
+impl Job {
+    /// The tool of the options. `pack` alone asks for memory, once, and its request is made here.
+    pub fn new(alloc: Global, options: Options) -> Job
+        ensures options { options_of result ≡ options }
+        ensures ready { IsReady result }
+    {
+        match options {
+            Options::List => Job::List,
+            Options::Unpack(wanted) => Job::Unpack(wanted),
+            Options::Pack(options) => {
+                let memory = cutter_for(alloc, &options);
+                Job::Pack(options, memory)
+            }
+        }
+    }
+}
+
+/// Runs the tool to its end. Where `pack` was refused its memory, the devices come back as they were.
 pub fn run_tool<R: InDevice, W: OutDevice, E: OutDevice>(
-    alloc: Global,
-    options: Options,
+    job: Job,
     reader: R,
     output: W,
     report: E,
 ) -> RunEnd<R, W, E>
+    requires ready { IsReady job }
     requires reader { (R.state reader).failed ≡ false }
     requires output { (W.state output).failed ≡ false }
     requires report { (E.state report).failed ≡ false }
-    ensures { GivesRun R.state W.state E.state options
+    ensures { GivesRun R.state W.state E.state job
         (record { reader = reader; output = output; report = report })
         (record { reader = result.reader; output = result.output; report = result.report })
         result.answer }
 {
-    match options {
-        Options::List => list(reader, output, report),
-        Options::Unpack(wanted) => unpack(wanted, reader, output, report),
-        Options::Pack(options) => pack(alloc, options, reader, output, report),
+    match job {
+        Job::List => list(reader, output, report),
+        Job::Unpack(wanted) => unpack(wanted, reader, output, report),
+        Job::Pack(options, memory) => pack(memory, options, reader, output, report),
     }
 }

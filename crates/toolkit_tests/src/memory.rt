@@ -9,8 +9,8 @@ use crate::packings::{ANNOUNCED, IN_HALVES, Row};
 use crate::running::End;
 use crate::stream::{built, joined, text};
 use crate::{Failing, TestReader, TestWriter};
-use link_tools::{PackRun, Run, pack, run_exit};
-use link_wire::{HeadBuf, InDevice, IoFault, OutDevice};
+use link_tools::{cutter_for, pack, run_exit};
+use link_wire::{HeadBuf, InDevice, OutDevice};
 use std::alloc::Global;
 use std::process::Abort;
 use std::test::Fail;
@@ -59,58 +59,23 @@ fn is_packed(rt: &(impl Abort + AllocGlobal), row: &Row, end: &End<'_>) -> Resul
     Ok(())
 }
 
-/// Checks that a run made by `PackRun::new` has the result of the row.
-///
-/// If it gets no memory, a second run has that result, over the devices that came back.
-fn new_runs(rt: &(impl Abort + AllocGlobal), row: &Row) -> Result<(), Fail> {
-    let input = in_place(row.input)?;
-    let begun = PackRun::new(
-        rt.alloc(),
-        row.packing.options(),
-        reader(&input),
-        writer(rt.alloc()),
-        writer(rt.alloc()),
-    );
-    let end = match begun {
-        Ok(run) => run.run(),
-        Err(end) => {
-            is_untouched(rt, &end)?;
-            pack(
-                rt.alloc(),
-                row.packing.options(),
-                end.reader,
-                end.output,
-                end.report,
-            )
-        }
-    };
-    is_packed(rt, row, &end)
-}
-
 /// Checks that the whole call has the result of the row, or does nothing at all.
 fn packs(rt: &(impl Abort + AllocGlobal), row: &Row) -> Result<(), Fail> {
     let input = in_place(row.input)?;
+    let options = row.packing.options();
+    let memory = cutter_for(rt.alloc(), &options);
+    let refused = memory.is_err();
     let end = pack(
-        rt.alloc(),
-        row.packing.options(),
+        memory,
+        options,
         reader(&input),
         writer(rt.alloc()),
         writer(rt.alloc()),
     );
-    if end.answer == Err(IoFault::Memory) {
+    if refused {
         return is_untouched(rt, &end);
     }
     is_packed(rt, row, &end)
-}
-
-#[test]
-fn run_of_two_bundles(rt: HostRuntime) -> Result<(), Fail> {
-    new_runs(&rt, &IN_HALVES)
-}
-
-#[test]
-fn run_of_an_announced_bundle(rt: HostRuntime) -> Result<(), Fail> {
-    new_runs(&rt, &ANNOUNCED)
 }
 
 #[test]

@@ -7,7 +7,7 @@ use crate::running::{Expected, Tool, ended_over, gives_at_each_pace, steps_alike
 use crate::stream::{CONTACT_LINE, PLAIN, SESSION, SESSION_LINE, built, joined, put_segment, text};
 use crate::transfers::{ALL, EMPTY_END, WHOLE_BUNDLES};
 use crate::{Failing, TestReader, TestWriter};
-use link_tools::{PackRun, Progress, Run, Status};
+use link_tools::{PackRun, Progress, Run, Status, cutter_for};
 use std::alloc::Global;
 use std::process::Abort;
 use std::test::Fail;
@@ -83,14 +83,15 @@ fn byte_by_byte(
 ) -> Result<(), Fail> {
     let input = joined(rt.alloc(), row.input)?;
     let output = built(rt.alloc(), row.output)?;
-    let run = PackRun::new(
-        rt.alloc(),
-        row.packing.options(),
+    let options = row.packing.options();
+    let cutter = cutter_for(rt.alloc(), &options)?;
+    let mut run = PackRun::new(
+        cutter,
+        options,
         TestReader::new(&input, 1, Failing::Never),
         TestWriter::new(rt.alloc(), usize::MAX, Failing::Never),
         TestWriter::new(rt.alloc(), usize::MAX, Failing::Never),
     );
-    let mut run = run.ok().ok_or("no memory")?;
     for (steps, size, lines) in written {
         let report = row.report.get(..*lines).ok_or("more than the report")?;
         let report = joined(rt.alloc(), report)?;

@@ -6,8 +6,8 @@ use crate::packings::Packing;
 use crate::stream::text;
 use crate::{Failing, TestReader, TestWriter};
 use link_tools::{
-    ListRun, PackRun, Progress, Run, RunEnd, Status, UnpackRun, Wanted, list, pack, run_exit,
-    unpack,
+    ListRun, PackRun, Progress, Run, RunEnd, Status, UnpackRun, Wanted, cutter_for, list, pack,
+    run_exit, unpack,
 };
 use link_wire::{InDevice, IoFault, OutDevice};
 use std::alloc::Global;
@@ -41,7 +41,10 @@ impl Tool {
         match self {
             Tool::List => list(reader, output, report),
             Tool::Unpack(wanted) => unpack(wanted, reader, output, report),
-            Tool::Pack(packing) => pack(alloc, packing.options(), reader, output, report),
+            Tool::Pack(packing) => {
+                let options = packing.options();
+                pack(cutter_for(alloc, &options), options, reader, output, report)
+            }
         }
     }
 
@@ -64,10 +67,10 @@ impl Tool {
                 ended(rt, UnpackRun::new(wanted, reader, output, report), steps)
             }
             Tool::Pack(packing) => {
-                match PackRun::new(rt.alloc(), packing.options(), reader, output, report) {
-                    Ok(run) => ended(rt, run, steps),
-                    Err(end) => Ok(end),
-                }
+                let options = packing.options();
+                let cutter = cutter_for(rt.alloc(), &options)?;
+                let run = PackRun::new(cutter, options, reader, output, report);
+                ended(rt, run, steps)
             }
         }
     }

@@ -26,11 +26,14 @@ struct Slow<'a> {
     left: &'a [u8],
     calls: usize,
     interrupted_at: usize,
+    /// The fewest bytes that a call asked for.
+    asked: usize,
 }
 
 impl Read for Slow<'_> {
     fn read(&mut self, buffer: &mut [u8]) -> io::Result<usize> {
         self.calls = self.calls.saturating_add(1);
+        self.asked = self.asked.min(buffer.len());
         if self.calls == self.interrupted_at {
             return Err(io::Error::from(ErrorKind::Interrupted));
         }
@@ -50,6 +53,8 @@ impl Read for Slow<'_> {
 enum Hitch {
     Interrupted,
     TakesNone,
+    /// It takes every byte, and its flush fails.
+    KeepsBack,
 }
 
 /// A writer of one byte a call, which has a hitch at one call and then goes on.
@@ -70,6 +75,7 @@ impl Write for Narrow {
             return match self.hitch {
                 Hitch::Interrupted => Err(io::Error::from(ErrorKind::Interrupted)),
                 Hitch::TakesNone => Ok(0),
+                Hitch::KeepsBack => Err(io::Error::from(ErrorKind::Other)),
             };
         }
         match bytes.first() {
@@ -84,7 +90,10 @@ impl Write for Narrow {
     }
 
     fn flush(&mut self) -> io::Result<()> {
-        Ok(())
+        match self.hitch {
+            Hitch::KeepsBack => Err(io::Error::from(ErrorKind::Other)),
+            _ => Ok(()),
+        }
     }
 }
 
@@ -96,6 +105,7 @@ fn reader<'a>(left: &'a [u8], interrupted_at: usize) -> Reader<Slow<'a>>
         left,
         calls: 0,
         interrupted_at,
+        asked: usize::MAX,
     })
 }
 
@@ -240,6 +250,19 @@ fn interrupted_fill(rt: HostRuntime) -> Result<(), Fail> {
     Ok(())
 }
 
+/// A call that needs bytes reads once, also at the end, and each read asks for a whole window.
+#[test]
+fn a_read_asks_for_a_whole_window(rt: HostRuntime) {
+    let mut source = Source::new(reader(b"tc", NEVER));
+    let mut buffer = [0; 8];
+    for (given, taken) in [(1, 1), (1, 2), (0, 2), (0, 2)] {
+        assert_eq!(rt; source.some(&mut buffer), Ok(given));
+        assert_eq!(rt; source.taken(), taken);
+    }
+    let reader = source.into_reader().into_inner();
+    assert_eq!(rt; (reader.calls, reader.asked), (3, 8192));
+}
+
 /// After a hitch inside a `write_whole`, a prefix was written, and nothing after it.
 #[test]
 fn hitching_write(rt: HostRuntime) -> Result<(), Fail> {
@@ -251,6 +274,17 @@ fn hitching_write(rt: HostRuntime) -> Result<(), Fail> {
         assert_eq!(rt; (text(&out.written)?, out.calls), ("tcp", 4));
     }
     Ok(())
+}
+
+/// A flush that fails is a failure of the device, and a flush that does not fail is none.
+#[test]
+fn failed_flush(rt: HostRuntime) {
+    for (hitch, failed) in [(Hitch::TakesNone, false), (Hitch::KeepsBack, true)] {
+        let mut out = writer(rt.alloc(), hitch, NEVER);
+        assert_eq!(rt; out.settle().is_err(), failed);
+        assert_eq!(rt; out.failed(), failed);
+        assert!(rt; out.into_inner().written.is_empty());
+    }
 }
 
 /// A session that is interrupted stops, and does not read on.

@@ -1,13 +1,13 @@
 use Rattle.std.proofs.Common.{refl, arith}
 use Rattle.link_pack.proofs.Sending.{open_none}
 use Rattle.link_pack.proofs.Dividing.{none_front, none_goes}
-use Rattle.link_pack.proofs.packer.Packer.with.Goals as goal
+use Rattle.link_pack.proofs.packer.Packer.new.Goals as goal
 
 pub returns-clause-start : goal.returns-clause-start
 returns-clause-start c = record {
   number = refl;
   scanned = c.new.ensures.seen;
-  cut = rw open_none c.requires.start;
+  cut = rw open_none c.requires.0;
   front = none_front;
   goes = none_goes;
   within = omega arith;
