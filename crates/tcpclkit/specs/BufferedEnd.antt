@@ -7,7 +7,7 @@ use Rattle.link_wire.specs.declared.IoFault.{IoFault}
 use Rattle.link_run.specs.Run.{Devices}
 use Rattle.link_run.specs.declared.run.Status.{Status}
 use Rattle.link_tools.specs.Options.{GivesRun}
-use Rattle.link_tools.specs.declared.options.Options.{Options}
+use Rattle.link_tools.specs.declared.options.Job.{Job}
 use Rattle.tcpclkit.specs.Ending.{answer_after_flush}
 
 -- the first bytes of those that are known
@@ -24,12 +24,22 @@ module _ {R W E : Type 0} (in_look : R → Input) (out_look : W → Output)
     (report_look : E → Output) where
   -- The tool was run over the devices `start`. What it wrote was handed on, nothing was read after the run, and the answer is
   -- the tool's own, in which a stream that failed then counts.
-  pub record GivesBuffered (options : Options) (start : Devices R W E) (input : R)
+  pub record GivesBuffered (job : Job) (start : Devices R W E) (input : R)
       (output report : Output) (answer : Result Status IoFault) : Type 0 where
     pub now : Devices R W E
     pub ends : Result Status IoFault
-    pub run : GivesRun in_look out_look report_look options start now ends
+    pub run : GivesRun in_look out_look report_look job start now ends
     pub reads : input ≡ now.reader
     pub writes : HandsOn (out_look now.output) output
     pub reports : HandsOn (report_look now.report) report
     pub answers : answer ≡ answer_after_flush ends (not output.failed && not report.failed)
+
+-- This is the answer of the tool over the devices `start`, with their streams as they stand then.
+pub record AnswersBuffered {R W E W' E' : Type 0} (in_look : R → Input) (out_look : W → Output)
+    (report_look : E → Output) (job : Job) (start : Devices R W E) (out_below : W' → Output)
+    (report_below : E' → Output) (answer : Result Status IoFault) : Type 0 where
+  pub input : R
+  pub output : W'
+  pub report : E'
+  pub gave : GivesBuffered in_look out_look report_look job start input
+      (out_below output) (report_below report) answer

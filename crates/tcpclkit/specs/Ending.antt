@@ -1,8 +1,11 @@
 -- How a call of the program ends.
-use Rattle.std.specs.Prelude.{ℕ, Bool, true, false, ◌==◌, if◌then◌else◌, List, Result, Ok, Err, codes}
+use Rattle.std.specs.Prelude.{ℕ, Bool, true, false, not, option_map, string_bytes, IsTrue, Option, Some, None, ◌==◌, ◌&&◌, if◌then◌else◌, List, Result, Ok, Err, codes}
+use Rattle.std.specs.Str.{bytes_eq}
 use Rattle.link_wire.specs.declared.IoFault.{IoFault}
 use Rattle.link_wire.specs.declared.IoFault.TheVariants as io
-use Rattle.link_command.specs.Usage.{usage_status, usage_text}
+use Rattle.link_command.specs.Usage.{AreTaken, IsFaultOf, usage_status, usage_text}
+use Rattle.link_command.specs.Invoked.{IsInvoked}
+use Rattle.link_command.specs.declared.invocation.Invocation.{Invocation}
 use Rattle.link_tools.specs.Exit.{status_of, exit_text}
 use Rattle.link_run.specs.declared.run.Status.{Status}
 use Rattle.tcpclkit.specs.declared.ending.Ending.{Ending}
@@ -28,3 +31,19 @@ ending_text (Usage fault) = usage_text fault
 ending_text NotText = codes "tcpclkit: a word is not UTF-8"
 ending_text NoInput = codes "tcpclkit: cannot open the input"
 ending_text (Answer answer) = exit_text answer
+
+-- a text that was asked for and could not be written is a failed write
+abbrev pub status_after : (status : ℕ) → (written : Bool) → ℕ
+status_after status written = if not written && status == 0 then 4 else status
+
+-- the name of the input, if there is one, names a file: `-` is standard input
+abbrev pub names_a_file : Option (List ℕ) → Bool
+names_a_file None = false
+names_a_file (Some name) = not (bytes_eq name (codes "-"))
+
+-- how a call with these words may end
+abbrev pub MayEnd : (words : List (List ℕ)) → Ending → Type 0
+MayEnd words (Usage fault) = IsFaultOf words fault
+MayEnd words NotText = ⊥
+MayEnd words NoInput = (i : Invocation) × IsInvoked words i × IsTrue (names_a_file (option_map string_bytes i.file))
+MayEnd words (Answer answer) = AreTaken words

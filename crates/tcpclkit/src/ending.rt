@@ -1,7 +1,7 @@
 //! How a call of the program ends.
 
 ghost use Rattle.std.specs.Prelude.{◌≡◌};
-ghost use Rattle.tcpclkit.specs.Ending.{answer_after_flush, ending_status, ending_text};
+ghost use Rattle.tcpclkit.specs.Ending.{answer_after_flush, ending_status, ending_text, status_after};
 
 use link_command::{UsageFault, usage_exit};
 use link_tools::{Status, run_exit};
@@ -43,4 +43,11 @@ pub fn ending_exit(ending: &Ending) -> (u8, &'static str)
         Ending::NoInput => (4, "tcpclkit: cannot open the input"),
         Ending::Answer(answer) => run_exit(answer),
     }
+}
+
+/// The program's exit status: a text that was asked for and could not be written is a failed write.
+pub fn exit_status(status: u8, written: bool) -> u8
+    ensures { result ≡ status_after status written }
+{
+    if !written && status == 0 { 4 } else { status }
 }

@@ -7,16 +7,20 @@
 mod ending;
 mod streams;
 
+ghost use Rattle.std.specs.Prelude.{◌≡◌, map, option_map, string_bytes, IfErr, IfOk, IsTrue};
+ghost use Rattle.either.specs.Either.{is_left};
+ghost use Rattle.tcpclkit.specs.Ending.{MayEnd, names_a_file};
+
 use either::{Either, Left, Right};
-use ending::{Ending, ending_exit};
+use ending::{Ending, ending_exit, exit_status};
 use link_command::{Invocation, UsageFault, options};
-use link_tools::Options;
+use link_tools::Job;
 use link_wire::IoFault;
 use std::fs::File;
 use std::io::{ErrorKind, Stdin};
 use std::process::ExitCode;
 use std::{env, fs, io};
-use streams::{buffered, run_buffered};
+use streams::{buffered, run_over};
 
 fn main(rt: HostRuntime) -> ExitCode {
     let ending = run(&rt);
@@ -27,10 +31,7 @@ fn main(rt: HostRuntime) -> ExitCode {
         _ if message.is_empty() => Ok(()),
         _ => eprintln!(rt; "{message}"),
     };
-    if written.is_err() && status == 0 {
-        return ExitCode::from(4);
-    }
-    ExitCode::from(status)
+    ExitCode::from(exit_status(status, written.is_ok()))
 }
 
 /// Does what the words ask for.
@@ -40,34 +41,39 @@ fn run(rt: &HostRuntime) -> Ending {
         Err(error) if error.kind() == ErrorKind::InvalidData => return Ending::NotText,
         Err(_) => return Ending::Answer(Err(IoFault::Memory)),
     };
-    let invocation = match options(rt.alloc(), words.as_slice()) {
+    run_words(rt, words.as_slice())
+}
+
+/// Does what these words ask for.
+fn run_words(rt: &HostRuntime, words: &[String]) -> Ending
+    ensures { MayEnd (map string_bytes words.now) result }
+{
+    let invocation = match options(rt.alloc(), words) {
         Ok(invocation) => invocation,
         Err(fault) => return Ending::Usage(fault),
     };
     let Invocation { options, file } = invocation;
-    match input(rt, file.as_deref()) {
-        Ok(input) => run_over(rt, options, input),
-        Err(_) => Ending::NoInput,
-    }
+    let Ok(input) = input(rt, file.as_deref()) else {
+        return Ending::NoInput;
+    };
+    let job = Job::new(rt.alloc(), options);
+    let streams = buffered(rt.alloc(), input, rt.stdout(), rt.stderr());
+    Ending::Answer(run_over(job, streams))
 }
 
-/// The file of that name, opened, or standard input. Both are of one type, so that the tools are compiled once.
-fn input(rt: &HostRuntime, file: Option<&str>) -> io::Result<Either<File, Stdin>> {
+/// The file of that name, opened; or standard input, which is named `-` or not at all. Both are of one type, so that the tools
+/// are compiled once.
+fn input(rt: &HostRuntime, file: Option<&str>) -> io::Result<Either<File, Stdin>>
+    ensures kind { IfOk result (λ input. is_left input ≡ names_a_file (option_map (λ name. name.now) file.entry)) }
+    ensures named { IfErr result (λ _. IsTrue (names_a_file (option_map (λ name. name.now) file.entry))) }
+{
     match file {
-        Some(name) => Ok(Left(fs::open(rt, name)?)),
-        None => Ok(Right(rt.stdin())),
+        Some(name) if name != "-" => Ok(Left(fs::open(rt, name)?)),
+        _ => Ok(Right(rt.stdin())),
     }
 }
 
 /// The words of the call. An `Err` is a word that is not UTF-8, or want of memory.
 fn words(rt: &HostRuntime) -> io::Result<Vec<String>> {
     Ok(env::args(rt)?.collect(rt.alloc())?)
-}
-
-/// Runs the tool over the input.
-fn run_over(rt: &HostRuntime, options: Options, input: Either<File, Stdin>) -> Ending {
-    match buffered(rt.alloc(), input, rt.stdout(), rt.stderr()) {
-        Ok(streams) => Ending::Answer(run_buffered(rt.alloc(), options, streams).answer),
-        Err(_) => Ending::Answer(Err(IoFault::Memory)),
-    }
 }

@@ -1,12 +1,13 @@
 //! The tools over buffered streams.
 
-ghost use Rattle.std.specs.Prelude.{◌≡◌, false, IfOk, IfErr};
+ghost use Rattle.std.specs.Prelude.{◌≡◌, false, Err, IfOk, IfErr};
 ghost use Rattle.std.specs.IoError.{error_kind};
-ghost use Rattle.link_run.specs.Run.{Devices};
-ghost use Rattle.tcpclkit.specs.BufferedEnd.{GivesBuffered, HandsOn};
+ghost use Rattle.link_run.specs.Run.{Devices, NoneFailed};
+ghost use Rattle.link_tools.specs.Options.{IsReady};
+ghost use Rattle.tcpclkit.specs.BufferedEnd.{AnswersBuffered, GivesBuffered, HandsOn};
 
 use crate::ending::after_flush;
-use link_tools::{Options, Status, run_tool};
+use link_tools::{Job, Status, run_tool};
 use link_wire::{BufferedReader, InDevice, IoFault, OutDevice, TextWriter, Writer};
 use std::alloc::Global;
 use std::io;
@@ -46,6 +47,11 @@ pub fn buffered<R: Read + Drop, W: Write + Drop, E: Write + Drop>(
     output: W,
     report: E,
 ) -> io::Result<Streams<R, W, E>>
+    ensures sound { IfOk result (λ streams. NoneFailed
+        ⟦<BufferedReader<R> as InDevice>⟧.state
+        ⟦<TextWriter<Writer<W>> as OutDevice>⟧.state
+        ⟦<TextWriter<Writer<E>> as OutDevice>⟧.state
+        (record { reader = streams.input; output = streams.output; report = streams.report })) }
     ensures input { IfOk result (λ streams. ⟦<BufferedReader<R> as InDevice>⟧.state streams.input
         ≡ record { left = R.remaining input; failed = false }) }
     ensures output { IfOk result
@@ -73,19 +79,44 @@ pub fn buffered<R: Read + Drop, W: Write + Drop, E: Write + Drop>(
     })
 }
 
-/// Runs the tool that the options are for, and hands both texts on to their streams, also after a fault or a failure.
+/// Runs the tool over the streams, if memory was given for their buffers.
+pub fn run_over<R: Read + Drop, W: Write + Drop, E: Write + Drop>(
+    job: Job,
+    streams: io::Result<Streams<R, W, E>>,
+) -> Result<Status, IoFault>
+    requires ready { IsReady job }
+    requires sound { IfOk streams (λ streams. NoneFailed
+        ⟦<BufferedReader<R> as InDevice>⟧.state
+        ⟦<TextWriter<Writer<W>> as OutDevice>⟧.state
+        ⟦<TextWriter<Writer<E>> as OutDevice>⟧.state
+        (record { reader = streams.input; output = streams.output; report = streams.report })) }
+    ensures ran { IfOk streams (λ streams. AnswersBuffered
+        ⟦<BufferedReader<R> as InDevice>⟧.state
+        ⟦<TextWriter<Writer<W>> as OutDevice>⟧.state
+        ⟦<TextWriter<Writer<E>> as OutDevice>⟧.state job
+        (record { reader = streams.input; output = streams.output; report = streams.report })
+        ⟦<Writer<W> as OutDevice>⟧.state ⟦<Writer<E> as OutDevice>⟧.state result) }
+    ensures lacked { IfErr streams (λ _. result ≡ Err IoFault.Memory) }
+{
+    match streams {
+        Ok(streams) => run_buffered(job, streams).answer,
+        Err(_) => Err(IoFault::Memory),
+    }
+}
+
+/// Runs the tool, and hands both texts on to their streams, also after a fault or a failure. The output is handed on first.
 pub fn run_buffered<R: Read + Drop, W: Write + Drop, E: Write + Drop>(
-    alloc: Global,
-    options: Options,
+    job: Job,
     streams: Streams<R, W, E>,
 ) -> BufferedEnd<R, W, E>
+    requires ready { IsReady job }
     requires input { (⟦<BufferedReader<R> as InDevice>⟧.state streams.input).failed ≡ false }
     requires output { (⟦<TextWriter<Writer<W>> as OutDevice>⟧.state streams.output).failed ≡ false }
     requires report { (⟦<TextWriter<Writer<E>> as OutDevice>⟧.state streams.report).failed ≡ false }
     ensures { GivesBuffered
         ⟦<BufferedReader<R> as InDevice>⟧.state
         ⟦<TextWriter<Writer<W>> as OutDevice>⟧.state
-        ⟦<TextWriter<Writer<E>> as OutDevice>⟧.state options
+        ⟦<TextWriter<Writer<E>> as OutDevice>⟧.state job
         (record { reader = streams.input; output = streams.output; report = streams.report })
         result.input (⟦<Writer<W> as OutDevice>⟧.state result.output)
         (⟦<Writer<E> as OutDevice>⟧.state result.report) result.answer }
@@ -95,9 +126,9 @@ pub fn run_buffered<R: Read + Drop, W: Write + Drop, E: Write + Drop>(
         output,
         report,
     } = streams;
-    let end = run_tool(alloc, options, input, output, report);
+    let end = run_tool(job, input, output, report);
     let output = handed_on(end.output);
-    let report = handed_on(end.report);
+    let report = handed_on_after(&output, end.report);
     let flushed = !output.failed() && !report.failed();
     BufferedEnd {
         answer: after_flush(end.answer, flushed),
@@ -105,6 +136,18 @@ pub fn run_buffered<R: Read + Drop, W: Write + Drop, E: Write + Drop>(
         output,
         report,
     }
+}
+
+/// Hands on the report, once the output holds nothing back.
+fn handed_on_after<W: OutDevice, E: Write + Drop>(
+    _output: &W,
+    report: TextWriter<Writer<E>>,
+) -> Writer<E>
+    requires { W.handed _output.now ≡ (W.state _output.now).written }
+    ensures { HandsOn (⟦<TextWriter<Writer<E>> as OutDevice>⟧.state report)
+        (⟦<Writer<E> as OutDevice>⟧.state result) }
+{
+    handed_on(report)
 }
 
 /// Hands on what waits. Returns the device below, which says whether it failed in that.

@@ -5,7 +5,7 @@ use Rattle.tcpclkit.proofs.streams.run_buffered.Goals.{then-not-failed, else-not
 
 pub returns : goal.returns
 returns g c =
-    let flushed : c.if-not-failed.flushed ≡ (not c.handed_on-output.result.failed && not c.handed_on-report.result.failed) =
+    let flushed : c.if-not-failed.flushed ≡ (not c.handed_on-output.result.failed && not c.handed_on_after-report.result.failed) =
     elim c.if-not-failed.branch [
       | then-not-failed w ↦ rw (w.flushed-is, w.failed-then-not-failed.ensures, sym c.failed.ensures ∙ w.if-not-failed.true) refl
       | else-not-failed w ↦ rw (w.flushed-is, w.if-not-failed.false, sym c.failed.ensures ∙ w.if-not-failed.false) refl
@@ -16,6 +16,6 @@ returns g c =
       run = c.run_tool-end.ensures;
       reads = refl;
       writes = c.handed_on-output.ensures;
-      reports = c.handed_on-report.ensures;
+      reports = c.handed_on_after-report.ensures;
       answers = c.after_flush.ensures ∙ ap (λ b. answer_after_flush c.run_tool-end.result.answer b) flushed;
     }
