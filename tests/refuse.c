@@ -1,5 +1,8 @@
-// Loaded before the C library (LD_PRELOAD), it refuses one request for memory: the one whose number is in REFUSE, counted from 1.
-// Each refusal is a line on standard error. No header is needed, so that the kit's own clang builds it.
+// A library that refuses one request for memory: the one whose number is in REFUSE, counted from 1.
+//
+// LD_PRELOAD loads it before the C library. A request is a call of malloc or realloc. A refused
+// request writes a line to standard error. This file includes no header, so the kit's clang can
+// build it.
 void *__libc_malloc(unsigned long size);
 void *__libc_realloc(void *old, unsigned long size);
 char *getenv(const char *name);

@@ -1,4 +1,4 @@
--- What is known of the bundle that is being packed.
+-- The history of a packer, and what a run of bytes shows of the current bundle.
 use Rattle.std.specs.Prelude.{◌≡◌, ℕ, ◌-◌, ◌<◌, ◌≤◌, Bool, true, false, List, [], ◌++◌, length, take, Option, Some, None, Ok, Err}
 use Rattle.link_bundle.specs.Bundle.{verdict, bundle_goes}
 use Rattle.link_bundle.specs.Scan.{HasScanned}
@@ -21,17 +21,18 @@ use Rattle.link_pack.specs.declared.packer.Found.{Found}
 use Rattle.link_pack.specs.declared.packer.Found.TheVariants as found
 use Rattle.link_pack.specs.declared.packer.Packer.{Packer}
 
--- a cutter that was given these bytes of a bundle, and has given all chunks that are due
+-- the history of a cutter to which these bytes of an incomplete bundle were pushed, and which has
+-- cut all chunks that are due
 abbrev pub cutting : PackOptions → (begun : List ℕ) → Cutting
 cutting options begun = going (segment_size options) options.announce begun
 
--- a new cutter for runs with these options: it was given no byte, and no cut waits
+-- the cutter is new and has the limits of these options; no chunk is ready
 abbrev pub IsCutterFor : PackOptions → Cutter → Type 0
 IsCutterFor options cutter =
     IsCutterAt cutter (beginning (segment_size options) options.announce)
     × (cut_waits cutter ≡ false)
 
--- these bundles were packed, and exactly these bytes of the next one have come
+-- these bundles were packed, and exactly the bytes `begun` of the next one have come
 pub record Holds (packer : Packer) (bundles : List Packed) (begun : List ℕ) : Type 0 where
   pub number : packer.number ≡ length bundles
   pub scanned : HasScanned packer.scan begun
@@ -40,16 +41,17 @@ pub record Holds (packer : Packer) (bundles : List Packed) (begun : List ℕ) : 
   pub goes : bundle_goes begun ≡ true
   pub within : length begun ≤ packer.options.peer_transfer
 
--- a run of bytes more has come; `whole` says that it ends the bundle
+-- the bytes `run` have come after the bytes `begun`; `whole` is whether they end the bundle
 pub record Grows (packer : Packer) (begun run : List ℕ) (whole : Bool) : Type 0 where
   pub scanned : HasScanned packer.scan (begun ++ run)
   pub cut : IsCutterAt packer.cutter (with_bytes run whole (cutting packer.options begun))
   pub front : front_of (begun ++ run) ≡ begun ++ run
   pub within : length (begun ++ run) ≤ packer.options.peer_transfer
 
--- the run shows that these are bytes of no bundle that the peer takes
+-- the bytes `begun` and then `run` are not the start of a bundle that the peer takes, whatever
+-- follows
 pub record Refuses (packer : Packer) (begun run : List ℕ) (fault : Fault) : Type 0 where
-  -- its bytes before the one that shows it
+  -- the bytes of `run` before the byte that shows this
   pub accepted : List ℕ
   pub refusal : Refusal
   pub cut : IsCutterAt packer.cutter (with_bytes accepted false (cutting packer.options begun))
@@ -62,7 +64,7 @@ pub record Refuses (packer : Packer) (begun run : List ℕ) (fault : Fault) : Ty
         rest = Some (record { accepted = begun ++ accepted; refusal = refusal });
       }
 
--- what a run of bytes makes of the bundle
+-- what the bytes `run` show of the bundle, after the bytes `begun`
 abbrev pub MakesOf : Packer → (begun run : List ℕ) → Found → Type 0
 MakesOf packer begun run found.Part =
     Grows packer begun run false × (bundle_goes (begun ++ run) ≡ true)
@@ -70,27 +72,27 @@ MakesOf packer begun run found.Whole =
     Grows packer begun run true × ((info : BundleInfo) × (verdict (begun ++ run) ≡ Ok info))
 MakesOf packer begun run (found.Refused fault) = Refuses packer begun run fault
 
--- these bytes end inside a bundle
+-- the bytes end inside a bundle
 pub record IsCut (bytes : List ℕ) : Type 0 where
   pub fault : BundleFault
   pub place : ℕ
   pub is : verdict bytes ≡ Err (fault, place)
   pub mends : lasts fault ≡ false
 
--- why the input's last bytes are no bundle
+-- the fault of an input that ends after the bytes `begun` of a bundle, if there are any
 abbrev pub CutShort : (number : ℕ) → (begun : List ℕ) → Option Fault → Type 0
 CutShort number begun None = begun ≡ []
 CutShort number begun (Some fault) =
     (0 < length begun) × ((cut : IsCut begun)
     × (fault_text fault ≡ refusal_line number (Faulty cut.fault cut.place)))
 
--- what the state of the scan makes of the bundle
+-- what the state of the scan shows of the bundle
 abbrev pub found_by : (number : ℕ) → State → Found
 found_by number state.Going = found.Part
 found_by number state.Ended = found.Whole
 found_by number (state.Failed fault place) = found.Refused (Bundle number place fault)
 
--- what of a run is accepted
+-- the accepted bytes of a run: all but the byte that shows a fault
 abbrev pub accepted_of : Found → (run : List ℕ) → List ℕ
 accepted_of found.Part run = run
 accepted_of found.Whole run = run

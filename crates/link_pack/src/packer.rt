@@ -1,4 +1,4 @@
-//! The bundle that is being packed: scanned, and cut into chunks.
+//! The packing of one bundle after another: each is scanned, and cut into chunks.
 
 ghost use Rattle.std.specs.Prelude.{◌≡◌, ◌<◌, min, IfOk};
 ghost use Rattle.link_pack.specs.Packer.{IsCutterFor};
@@ -13,32 +13,34 @@ use link_transfer::Cutter;
 use link_wire::INPUT_LIMIT;
 use std::alloc::{AllocError, Global};
 
-/// The most data of a segment, whatever the peer takes.
+/// The most bytes of data in a segment, whatever the peer takes.
 const SEGMENT_LIMIT: u64 = 65_536;
 
-/// What a run of bytes makes of the bundle.
+/// What the packer knows of the current bundle after a run of its bytes.
 #[derive(Clone, Copy, Debug, PartialEq, Eq)]
 pub enum Found {
-    /// It goes on.
+    /// The bundle is incomplete.
     Part,
-    /// It is whole.
+    /// The bundle is whole.
     Whole,
-    /// It is none that the peer takes.
+    /// The bytes are not the start of a bundle that the peer takes, because of this fault.
     Refused(Fault),
 }
 
-/// Packs one bundle after another. Of a bundle it holds no bytes but those of a chunk, and of a bundle whose length may
-/// yet be announced.
+/// Packs one bundle after another.
+///
+/// It holds no more bytes than those of one chunk. But while the length of a bundle may still be
+/// announced, it holds all bytes of that bundle.
 #[derive(Drop)]
 pub struct Packer {
     pub options: PackOptions,
-    /// How many bundles were packed: the next one's number.
+    /// The number of bundles packed, which is the number of the current bundle.
     pub number: u64,
     scan: BundleScan,
     pub cutter: Cutter,
 }
 
-/// How many bytes of data a segment has at most.
+/// The most bytes of data in a segment, by the peer's limit and [`SEGMENT_LIMIT`].
 fn segment(options: &PackOptions) -> u64
     ensures value { result ≡ segment_size options.now }
     ensures some { 0 < result }
@@ -46,8 +48,10 @@ fn segment(options: &PackOptions) -> u64
     options.peer_segment.min(SEGMENT_LIMIT)
 }
 
-/// The cutter of a run with these options: the one request for memory that a run of `pack` makes, for the longest segment
-/// or for one byte more than `announce`, whichever is greater.
+/// Makes the cutter for a run of `pack` with these options.
+///
+/// This is the only request for memory that a run of `pack` makes. It is for the bytes of the
+/// longest segment or for one byte more than `announce`, whichever is greater.
 ///
 /// # Errors
 ///
@@ -70,7 +74,7 @@ impl Packer {
     ghost use Rattle.link_pack.specs.Packing.{line_of};
     ghost use Rattle.link_pack.specs.Packer.{Holds, IsCutterFor, MakesOf, CutShort, found_by, accepted_of, is_whole};
 
-    /// A packer that has packed nothing, over a new cutter.
+    /// Makes a packer that has packed nothing, with a new cutter for the same options.
     #[inline(never)]
     pub fn new(cutter: Cutter, options: PackOptions) -> Packer
         requires { IsCutterFor options cutter }
@@ -86,7 +90,7 @@ impl Packer {
         }
     }
 
-    /// How many bytes more the bundle may have.
+    /// The number of further bytes that the peer's limit and [`INPUT_LIMIT`] leave the bundle.
     fn room(&self) -> u64
         ensures { result
             ≡ min self.now.options.peer_transfer (2 ^ 63 - 1) - scan_size self.now.scan }
@@ -97,8 +101,11 @@ impl Packer {
             .saturating_sub(self.scan.count())
     }
 
-    /// Takes the next bytes of a piece that is not empty, and returns how many it took and what they make of the bundle:
-    /// no more than the peer's limit leaves, and than fill a chunk.
+    /// Takes the next bytes of a nonempty piece, and returns how many it took and what they show.
+    ///
+    /// It takes no more bytes than the peer's limit leaves, and no more than the next chunk needs.
+    /// If the limit leaves none, it takes one byte, which shows that the bundle is too long. It may
+    /// be called only if no chunk is ready.
     #[inline(never)]
     pub fn take(&mut self, piece: &[u8]) -> (usize, Found)
         requires some { 0 < length piece.now }
@@ -125,7 +132,7 @@ impl Packer {
         (count, found)
     }
 
-    /// What the bytes that were scanned make of the bundle.
+    /// What the scanned bytes show of the bundle.
     fn found(&self) -> Found
         ensures { (seen : List ℕ) → HasScanned self.now.scan seen
             → result ≡ found_by self.now.number (state_of (verdict seen)) }
@@ -139,7 +146,7 @@ impl Packer {
         }
     }
 
-    /// Hands the cutter what was accepted of a run: the byte that shows a fault is not.
+    /// Pushes the accepted bytes of a run to the cutter: all but the byte that shows a fault.
     fn cut(&mut self, run: &[u8], found: Found)
         requires { cut_waits self.old.cutter ≡ false }
         ensures cut { (so_far : Cutting) → IsCutterAt self.old.cutter so_far
@@ -160,7 +167,7 @@ impl Packer {
         };
     }
 
-    /// Makes an empty line that of the bundle, which is whole.
+    /// Writes the line of the bundle, which is whole, into an empty line.
     pub fn put_line(&self, line: &mut Line)
         requires { line.old.items ≡ [] }
         ensures { (bytes : List ℕ) (info : BundleInfo) → HasScanned self.now.scan bytes
@@ -180,7 +187,7 @@ impl Packer {
         }
     }
 
-    /// Another bundle begins.
+    /// Begins the next bundle.
     pub fn next(&mut self)
         ensures scanned { HasScanned self.new.scan [] }
         ensures number { self.old.number + 1 < 2 ^ 64 → self.new.number ≡ self.old.number + 1 }
@@ -191,7 +198,9 @@ impl Packer {
         self.number = self.number.saturating_add(1);
     }
 
-    /// Why the bytes that have come are no bundle; `None` where none has come.
+    /// The fault of an input that ends here, inside a bundle.
+    ///
+    /// It is `None` if no byte of the bundle has come.
     pub fn cut_short(&self) -> Option<Fault>
         ensures { (begun : List ℕ) → HasScanned self.now.scan begun → bundle_goes begun ≡ true
             → CutShort self.now.number begun result }

@@ -1,4 +1,4 @@
--- The tools by their options.
+-- The tools by their options: when a tool is ready to run, and what a whole run does.
 use Rattle.std.specs.Prelude.{Result, Ok, Err, IfOk, ⊤}
 use Rattle.link_wire.specs.Device.{Input, Output}
 use Rattle.link_wire.specs.declared.IoFault.{IoFault}
@@ -14,20 +14,22 @@ use Rattle.link_tools.specs.declared.options.Job.TheVariants as job
 use Rattle.link_tools.specs.declared.options.Options.{Options}
 use Rattle.link_tools.specs.declared.options.Options.TheVariants.{List, Unpack, Pack}
 
--- what is asked of the tool
+-- the options of the tool that is ready to run
 abbrev pub options_of : Job → Options
 options_of job.List = List
 options_of (job.Unpack wanted) = Unpack wanted
 options_of (job.Pack options memory) = Pack options
 
--- The memory that `pack` asked for is that of a new cutter for its options, or it was refused.
+-- `pack` has a new cutter for its options, or its request for memory was refused. The other tools
+-- are always ready.
 abbrev pub IsReady : Job → Type 0
 IsReady job.List = ⊤
 IsReady (job.Unpack wanted) = ⊤
 IsReady (job.Pack options memory) = IfOk memory (IsCutterFor options)
 
--- What a whole run gives: what its tool writes. Where `pack` was refused its memory, nothing was read or written, and that is
--- the answer.
+-- A whole run of the tool took the devices from `start` to `now`, and returned this answer
+-- (`GivesAnswer`). If the memory of `pack` was refused, nothing was read or written, and the answer
+-- is that fault.
 abbrev pub GivesRun : {R W E : Type 0} → (R → Input) → (W → Output) → (E → Output) → Job
     → (start now : Devices R W E) → Result Status IoFault → Type 0
 GivesRun in_look out_look report_look job.List start now answer =

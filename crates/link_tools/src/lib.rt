@@ -1,7 +1,8 @@
-//! The tools over recorded TCPCLv4 sessions (RFC 9174): each reads a device step by step, and writes its
-//! output and its report.
+//! The tools `list`, `unpack` and `pack` for recorded TCPCLv4 sessions (RFC 9174).
 //!
-//! [`Job::new`] makes the tool of the options ready, [`run_tool`] runs it, and [`run_exit`] says how its answer ends a program.
+//! Each tool reads an input device step by step, and writes an output and a report. [`Job::new`]
+//! makes the tool of the given options ready to run, and [`run_tool`] runs it to its end.
+//! [`run_exit`] returns the exit status and the message with which a program ends after the run.
 //!
 //! ```ignore
 //! let job = Job::new(alloc, Options::List);

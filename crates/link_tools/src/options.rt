@@ -1,4 +1,4 @@
-//! The tools by their options.
+//! One type for the options of every tool, and one call that runs any of the tools.
 
 ghost use Rattle.std.specs.Prelude.{◌≡◌, false};
 ghost use Rattle.link_tools.specs.Options.{GivesRun, IsReady, options_of};
@@ -11,30 +11,32 @@ use link_unpack::{Wanted, unpack};
 use link_wire::{InDevice, OutDevice};
 use std::alloc::{AllocError, Global};
 
-/// A tool, and what is asked of it.
+/// A tool with its options.
 #[derive(Debug, Drop, PartialEq, Eq)]
 pub enum Options {
-    /// A line for each message of a recording.
+    /// `list`: a line for the contact header and for each message of a recording.
     List,
-    /// The data of its transfers, and a line for each transfer.
+    /// `unpack`: the wanted data of a recording's transfers, and a line for each transfer.
     Unpack(Wanted),
-    /// The stream of a sender that carries bundles, and a line for each bundle.
+    /// `pack`: bundles as the stream of a sender, and a line for each bundle.
     Pack(PackOptions),
 }
 
 /// A tool that is ready to run.
 #[derive(Drop)]
 pub enum Job {
-    /// [`Options::List`]
+    /// The tool of [`Options::List`].
     List,
-    /// [`Options::Unpack`]
+    /// The tool of [`Options::Unpack`].
     Unpack(Wanted),
-    /// [`Options::Pack`], with the answer to its one request for memory.
+    /// The tool of [`Options::Pack`], with the result of its one request for memory.
     Pack(PackOptions, Result<Cutter, AllocError>),
 }
 
 impl Job {
-    /// The tool of the options. `pack` alone asks for memory, once, and its request is made here.
+    /// Makes the tool of these options ready to run.
+    ///
+    /// Only `pack` requests memory: one request, which is made here.
     pub fn new(alloc: Global, options: Options) -> Job
         ensures options { options_of result ≡ options }
         ensures ready { IsReady result }
@@ -50,7 +52,10 @@ impl Job {
     }
 }
 
-/// Runs the tool to its end. Where `pack` was refused its memory, the devices come back as they were.
+/// Runs the tool to its end, and returns its devices and its answer.
+///
+/// If the memory of `pack` was refused, the devices are returned as they were, and the answer is
+/// `IoFault::Memory`.
 pub fn run_tool<R: InDevice, W: OutDevice, E: OutDevice>(
     job: Job,
     reader: R,

@@ -1,4 +1,4 @@
--- What a run over buffered streams has written.
+-- Lemmas on buffered streams: the bytes left in an input, and the bytes handed on.
 use Rattle.std.proofs.Common.{◌≡◌, ℕ, inr, List, [], Option, Some, None, true, false, Result, Ok, Err, is_ok, OnErr, MatchResult, if◌then◌else◌, ap, ◌∙◌, refl, ◌==◌, length, take, ◌+◌}
 use Rattle.std.proofs.Math.Seq.{take-append-add}
 use Rattle.std.specs.Io.KnownBytes.{Appends, Keeps, append_known, prepend_known}
@@ -14,20 +14,20 @@ nothing_before (Some bytes) = refl
 abbrev known_input : Option (List ℕ) → Input
 known_input left = record { left = left; failed = false }
 
--- a reader with an empty buffer has left what its input has
+-- a buffered reader with an empty buffer has the bytes left that its input has left
 pub read_input : (capacity : ℕ) (buffer : List ℕ) (rest known : Option (List ℕ))
     → capacity ≡ 65536 → buffer ≡ [] → rest ≡ known
     → known_input (if capacity == 0 then None else prepend_known buffer rest) ≡ known_input known
 read_input capacity buffer rest known size empty is = rw (size, empty) (ap known_input (nothing_before rest ∙ is))
 
--- a part of what waited was handed on after what had been
+-- if a prefix of what waited was handed on, the stream has a prefix of all that was written
 first_handed : (old new : Option (List ℕ)) (waiting : List ℕ) (count : ℕ)
     → Appends old new (take count waiting) → AreFirst (append_known old waiting) new
 first_handed None new waiting count written = (0, tt)
 first_handed (Some xs) None waiting count written = absurd written
 first_handed (Some xs) (Some ys) waiting count written = (length xs + count, rw (take-append-add xs waiting count) written)
 
--- the stream failed before all that waited was handed on
+-- `HandsOn` for a stream that failed before all that waited was handed on
 pub handed_part : (answer : Result (Unit {0}) DeviceFault) (old new : Output) (waiting : List ℕ)
     → is_ok answer ≡ false
     → OnErr answer (GivesPart old.written new.written waiting)

@@ -1,4 +1,4 @@
--- What a run over buffered streams has written.
+-- The end of a run over buffered streams: what was handed on, and the answer.
 use Rattle.std.specs.Prelude.{◌≡◌, ℕ, ◌⊎◌, true, ◌&&◌, not, List, take, Option, Result}
 use Rattle.std.specs.Option.{option_map}
 use Rattle.std.specs.Io.KnownBytes.{Keeps}
@@ -10,11 +10,11 @@ use Rattle.link_tools.specs.Options.{GivesRun}
 use Rattle.link_tools.specs.declared.options.Job.{Job}
 use Rattle.tcpclkit.specs.Ending.{answer_after_flush}
 
--- the first bytes of those that are known
+-- `first` is a prefix of the bytes `all`, if these are known
 abbrev pub AreFirst : (all first : Option (List ℕ)) → Type 0
 AreFirst all first = (count : ℕ) × Keeps (option_map (take count) all) first
 
--- What was written was handed on to the stream: all of it, or, where the stream failed, the first bytes.
+-- What was written was handed on to the stream: all of it, or a prefix of it if the stream failed.
 pub record HandsOn (written handed : Output) : Type 0 where
   pub failed : written.failed ≡ true → handed.failed ≡ true
   pub bytes : Keeps written.written handed.written
@@ -22,8 +22,8 @@ pub record HandsOn (written handed : Output) : Type 0 where
 
 module _ {R W E : Type 0} (in_look : R → Input) (out_look : W → Output)
     (report_look : E → Output) where
-  -- The tool was run over the devices `start`. What it wrote was handed on, nothing was read after the run, and the answer is
-  -- the tool's own, in which a stream that failed then counts.
+  -- The tool was run over the devices `start`. What it wrote was handed on, and nothing was read
+  -- after the run. The answer is the tool's own, in which a failed stream counts.
   pub record GivesBuffered (job : Job) (start : Devices R W E) (input : R)
       (output report : Output) (answer : Result Status IoFault) : Type 0 where
     pub now : Devices R W E
@@ -34,7 +34,8 @@ module _ {R W E : Type 0} (in_look : R → Input) (out_look : W → Output)
     pub reports : HandsOn (report_look now.report) report
     pub answers : answer ≡ answer_after_flush ends (not output.failed && not report.failed)
 
--- This is the answer of the tool over the devices `start`, with their streams as they stand then.
+-- The tool was run over the devices `start`, and this is the answer (`GivesBuffered`). The call
+-- returns no devices, so the fields name those that the run left.
 pub record AnswersBuffered {R W E W' E' : Type 0} (in_look : R → Input) (out_look : W → Output)
     (report_look : E → Output) (job : Job) (start : Devices R W E) (out_below : W' → Output)
     (report_below : E' → Output) (answer : Result Status IoFault) : Type 0 where

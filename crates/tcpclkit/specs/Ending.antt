@@ -1,4 +1,4 @@
--- How a call of the program ends.
+-- The ways in which the program ends, with their exit statuses and messages.
 use Rattle.std.specs.Prelude.{ℕ, Bool, true, false, not, option_map, string_bytes, IsTrue, Option, Some, None, ◌==◌, ◌&&◌, if◌then◌else◌, List, Result, Ok, Err, codes}
 use Rattle.std.specs.Str.{bytes_eq}
 use Rattle.link_wire.specs.declared.IoFault.{IoFault}
@@ -11,37 +11,39 @@ use Rattle.link_run.specs.declared.run.Status.{Status}
 use Rattle.tcpclkit.specs.declared.ending.Ending.{Ending}
 use Rattle.tcpclkit.specs.declared.ending.Ending.TheVariants.{Usage, NotText, NoInput, Answer}
 
--- The first fault decides. A run that a fault of its input stopped (status 3) or that failed keeps its answer,
--- whether or not its texts were flushed; of any other run, a flush that fails makes a failed write.
+-- The program's answer for the answer of a run. The first fault decides. If a fault of the input
+-- (status 3) or a failure stopped the run, its answer stays, whether or not its texts were flushed.
+-- After any other run, a failed flush is a failed write.
 abbrev pub answer_after_flush : Result Status IoFault → Bool → Result Status IoFault
 answer_after_flush (Ok status) false = if status.0 == 3 then Ok status else Err io.Write
 answer_after_flush (Ok status) true = Ok status
 answer_after_flush (Err fault) flushed = Err fault
 
--- the exit status
+-- the exit status, if the program's text or message can be written
 abbrev pub ending_status : Ending → ℕ
 ending_status (Usage fault) = usage_status fault
 ending_status NotText = 2
 ending_status NoInput = 4
 ending_status (Answer answer) = status_of answer
 
--- what the program itself says on standard error, without the newline
+-- the program's own message for standard error, without its newline; it may be empty
 abbrev pub ending_text : Ending → List ℕ
 ending_text (Usage fault) = usage_text fault
 ending_text NotText = codes "tcpclkit: a word is not UTF-8"
 ending_text NoInput = codes "tcpclkit: cannot open the input"
 ending_text (Answer answer) = exit_text answer
 
--- a text that was asked for and could not be written is a failed write
+-- The exit status; `written` is whether the program's text or message was written. With status 0,
+-- the only text is one that was asked for. If it was not written, that is a failed write.
 abbrev pub status_after : (status : ℕ) → (written : Bool) → ℕ
 status_after status written = if not written && status == 0 then 4 else status
 
--- the name of the input, if there is one, names a file: `-` is standard input
+-- whether the input is a named file: `-`, or no name, is standard input
 abbrev pub names_a_file : Option (List ℕ) → Bool
 names_a_file None = false
 names_a_file (Some name) = not (bytes_eq name (codes "-"))
 
--- how a call with these words may end
+-- How the program may end for these words. They are texts, so it does not end with `NotText`.
 abbrev pub MayEnd : (words : List (List ℕ)) → Ending → Type 0
 MayEnd words (Usage fault) = IsFaultOf words fault
 MayEnd words NotText = ⊥

@@ -1,4 +1,4 @@
-//! How a call of the program ends.
+//! The ways in which the program ends, with their exit statuses and messages.
 
 ghost use Rattle.std.specs.Prelude.{◌≡◌};
 ghost use Rattle.tcpclkit.specs.Ending.{answer_after_flush, ending_status, ending_text, status_after};
@@ -7,22 +7,23 @@ use link_command::{UsageFault, usage_exit};
 use link_tools::{Status, run_exit};
 use link_wire::IoFault;
 
-/// How a call of the program ends.
+/// A way in which the program ends.
 #[derive(Debug, Drop)]
 pub enum Ending {
-    /// The words ask for help, or for nothing that can be done.
+    /// The command line starts no run, for this reason.
     Usage(UsageFault),
-    /// A word is not UTF-8.
+    /// An argument is not UTF-8.
     NotText,
-    /// The file that is named cannot be opened.
+    /// The named file cannot be opened.
     NoInput,
-    /// A run gave this answer.
+    /// The answer of a run, or [`IoFault::Memory`] if there was no memory to begin one.
     Answer(Result<Status, IoFault>),
 }
 
-/// The answer of a run whose texts were flushed, or were not.
+/// Returns the program's answer for the answer of a run.
 ///
-/// The first fault decides: a failed flush counts only where no fault stopped the run.
+/// `flushed` is whether the output and the report were flushed. The first fault decides: a failed
+/// flush is a failed write only if neither a fault of the input nor a failure stopped the run.
 pub fn after_flush(answer: Result<Status, IoFault>, flushed: bool) -> Result<Status, IoFault>
     ensures { result ≡ answer_after_flush answer flushed }
 {
@@ -32,7 +33,10 @@ pub fn after_flush(answer: Result<Status, IoFault>, flushed: bool) -> Result<Sta
     }
 }
 
-/// The exit status, and the message for standard error without its newline, empty where there is none.
+/// Returns the exit status, and the message for standard error without its newline.
+///
+/// The message is empty after a run that did not fail. It is also empty for [`UsageFault::Help`]
+/// and [`UsageFault::Words`], which carry a text.
 pub fn ending_exit(ending: &Ending) -> (u8, &'static str)
     ensures status { result.0 ≡ ending_status ending.now }
     ensures text { result.1.now ≡ ending_text ending.now }
@@ -45,7 +49,10 @@ pub fn ending_exit(ending: &Ending) -> (u8, &'static str)
     }
 }
 
-/// The program's exit status: a text that was asked for and could not be written is a failed write.
+/// Returns the program's exit status; `written` is whether its text or message was written.
+///
+/// With status 0, the only text is one that was asked for. If it was not written, the status is 4,
+/// that of a failed write. Any other status stays.
 pub fn exit_status(status: u8, written: bool) -> u8
     ensures { result ≡ status_after status written }
 {

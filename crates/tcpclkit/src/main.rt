@@ -1,7 +1,10 @@
-//! `tcpclkit`: what a recorded TCPCLv4 session (RFC 9174) carried.
+//! `tcpclkit`: lists, unpacks and makes recorded sessions of TCPCLv4 (RFC 9174).
 //!
-//! `tcpclkit list` writes a line for each message of a recording, `tcpclkit unpack` the data of its transfers and a line for
-//! each, and `tcpclkit pack` makes of bundles the stream of a sender. Each reads a file, or standard input.
+//! - `tcpclkit list` writes a line for the contact header and for each message of a recording.
+//! - `tcpclkit unpack` writes the data of a recording's transfers, and a line for each transfer.
+//! - `tcpclkit pack` writes bundles as the stream of a sender, and a line for each bundle.
+//!
+//! Each reads a file, or standard input.
 #![tactic(auto)]
 
 mod ending;
@@ -34,7 +37,7 @@ fn main(rt: HostRuntime) -> ExitCode {
     ExitCode::from(exit_status(status, written.is_ok()))
 }
 
-/// Does what the words ask for.
+/// Does what the program's arguments ask for.
 fn run(rt: &HostRuntime) -> Ending {
     let words = match words(rt) {
         Ok(words) => words,
@@ -44,7 +47,7 @@ fn run(rt: &HostRuntime) -> Ending {
     run_words(rt, words.as_slice())
 }
 
-/// Does what these words ask for.
+/// Does what these words ask for; the first word is the program's own name.
 fn run_words(rt: &HostRuntime, words: &[String]) -> Ending
     ensures { MayEnd (map string_bytes words.now) result }
 {
@@ -61,8 +64,9 @@ fn run_words(rt: &HostRuntime, words: &[String]) -> Ending
     Ending::Answer(run_over(job, streams))
 }
 
-/// The file of that name, opened; or standard input, which is named `-` or not at all. Both are of one type, so that the tools
-/// are compiled once.
+/// Opens the file of this name, or returns standard input if the name is `-` or there is no name.
+///
+/// Both inputs have one type, so the tools are compiled once. Only opening a file can fail.
 fn input(rt: &HostRuntime, file: Option<&str>) -> io::Result<Either<File, Stdin>>
     ensures kind { IfOk result (λ input. is_left input ≡ names_a_file (option_map (λ name. name.now) file.entry)) }
     ensures named { IfErr result (λ _. IsTrue (names_a_file (option_map (λ name. name.now) file.entry))) }
@@ -73,7 +77,10 @@ fn input(rt: &HostRuntime, file: Option<&str>) -> io::Result<Either<File, Stdin>
     }
 }
 
-/// The words of the call. An `Err` is a word that is not UTF-8, or want of memory.
+/// Returns the program's arguments; the first is the program's own name.
+///
+/// The error has the kind `InvalidData` if an argument is not UTF-8. Any other error is a lack of
+/// memory.
 fn words(rt: &HostRuntime) -> io::Result<Vec<String>> {
     Ok(env::args(rt)?.collect(rt.alloc())?)
 }

@@ -1,4 +1,4 @@
-//! The tools over buffered streams.
+//! Runs of the tools over buffered streams.
 
 ghost use Rattle.std.specs.Prelude.{◌≡◌, false, Err, IfOk, IfErr};
 ghost use Rattle.std.specs.IoError.{error_kind};
@@ -13,34 +13,34 @@ use std::alloc::Global;
 use std::io;
 use std::io::{BufReader, ErrorKind, Read, Write};
 
-/// How many bytes of the input are read at once, below the window of its source.
+/// The size in bytes of the input's buffer, from which the window of its source is filled.
 const INPUT_BUFFER: usize = 64 << 10;
 
-/// An input and two streams, with buffers over them.
+/// An input, an output and a report, each with a buffer over it.
 pub struct Streams<R: Read, W: Write, E: Write> {
     input: BufferedReader<R>,
     output: TextWriter<Writer<W>>,
     report: TextWriter<Writer<E>>,
 }
 
-/// A run over buffered streams that has ended.
+/// A run over buffered streams that has ended: its answer and its devices.
 #[derive(Drop)]
 pub struct BufferedEnd<R: Read, W: Write, E: Write> {
-    /// The answer, in which a failed flush counts.
+    /// The answer, in which a failed flush counts ([`after_flush`]).
     pub answer: Result<Status, IoFault>,
-    /// Where the input came from.
+    /// The input, as the run left it.
     pub input: BufferedReader<R>,
-    /// Where the output went to.
+    /// The device to which the output was handed on.
     pub output: Writer<W>,
-    /// Where the report went to.
+    /// The device to which the report was handed on.
     pub report: Writer<E>,
 }
 
-/// Puts buffers over an input and two streams.
+/// Puts buffers over an input, an output and a report.
 ///
 /// # Errors
 ///
-/// Want of memory: nothing was read and nothing written.
+/// The error has the kind `OutOfMemory`: the memory of a buffer was refused.
 pub fn buffered<R: Read + Drop, W: Write + Drop, E: Write + Drop>(
     alloc: Global,
     input: R,
@@ -67,7 +67,7 @@ pub fn buffered<R: Read + Drop, W: Write + Drop, E: Write + Drop>(
     let report = match TextWriter::new(alloc, Writer::new(report)) {
         Ok(report) => report,
         Err(error) => {
-            // Nothing waits in it.
+            // A `TextWriter` cannot be dropped. Nothing waits in this one.
             let _ = output.into_device();
             return Err(error.into());
         }
@@ -79,7 +79,9 @@ pub fn buffered<R: Read + Drop, W: Write + Drop, E: Write + Drop>(
     })
 }
 
-/// Runs the tool over the streams, if memory was given for their buffers.
+/// Runs the tool over the streams, and returns the answer.
+///
+/// If there was no memory for the buffers, the answer is [`IoFault::Memory`].
 pub fn run_over<R: Read + Drop, W: Write + Drop, E: Write + Drop>(
     job: Job,
     streams: io::Result<Streams<R, W, E>>,
@@ -104,7 +106,9 @@ pub fn run_over<R: Read + Drop, W: Write + Drop, E: Write + Drop>(
     }
 }
 
-/// Runs the tool, and hands both texts on to their streams, also after a fault or a failure. The output is handed on first.
+/// Runs the tool, and then hands the output and the report on to their devices.
+///
+/// It hands them on also after a fault or a failure. The output is handed on before the report.
 pub fn run_buffered<R: Read + Drop, W: Write + Drop, E: Write + Drop>(
     job: Job,
     streams: Streams<R, W, E>,
@@ -138,7 +142,10 @@ pub fn run_buffered<R: Read + Drop, W: Write + Drop, E: Write + Drop>(
     }
 }
 
-/// Hands on the report, once the output holds nothing back.
+/// Hands on what waits in the report.
+///
+/// `_output` is here only for the contract. It requires that the output holds nothing back, so the
+/// report cannot be handed on first.
 fn handed_on_after<W: OutDevice, E: Write + Drop>(
     _output: &W,
     report: TextWriter<Writer<E>>,
@@ -150,14 +157,16 @@ fn handed_on_after<W: OutDevice, E: Write + Drop>(
     handed_on(report)
 }
 
-/// Hands on what waits. Returns the device below, which says whether it failed in that.
+/// Hands on what waits, and returns the device below.
+///
+/// If not all of it was handed on, the device has failed.
 fn handed_on<W: Write + Drop>(writer: TextWriter<Writer<W>>) -> Writer<W>
     ensures { HandsOn (⟦<TextWriter<Writer<W>> as OutDevice>⟧.state writer)
         (⟦<Writer<W> as OutDevice>⟧.state result) }
 {
     let (mut device, passed) = writer.into_device();
     if passed.is_ok() {
-        // a failure stays with the device
+        // After a failure here, the device's own `failed` returns true.
         let _ = device.settle();
     }
     device
