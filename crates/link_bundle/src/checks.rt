@@ -60,7 +60,7 @@ impl BlockChecks {
 
     /// Takes bytes of a block that may have a check.
     ///
-    /// Most heads are one byte, and one byte is faster alone.
+    /// Most heads are one byte, and pushing one byte by itself is faster.
     #[inline(never)]
     fn take_covered(&mut self, check: CheckType, run: &[u8])
         ensures { (covered : List ℕ) → Covers check self.old covered

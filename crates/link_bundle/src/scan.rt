@@ -57,7 +57,8 @@ impl BundleScan {
 
     /// Makes the scan new, whatever it has seen, also after a fault.
     ///
-    /// The next byte is the first of a bundle. Values that are not read again are not overwritten.
+    /// The next byte is the first of a bundle. A field keeps its value if the next bundle sets it
+    /// before it is read.
     pub fn restart(&mut self)
         ensures seen { HasScanned self.new [] }
         ensures size { scan_size self.new ≡ 0 }

@@ -5,7 +5,7 @@ use Rattle.clap.specs.declared.builder.arg.Arg.{Arg}
 use Rattle.clap.specs.declared.builder.command.Command.{Command}
 use Rattle.clap.specs.declared.builder.command.Command.TheViews.{out-Command as fields_of}
 
--- the argument is read by this rule, and belongs to its own tool alone: it is not global
+-- the argument is read by this rule, and belongs only to its own tool: it is not global
 pub record HasRule (rule : Rule) (arg : Arg) : Type 0 where
   pub read : rule_of arg ≡ rule
   pub local : arg.global ≡ false

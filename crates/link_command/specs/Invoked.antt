@@ -30,7 +30,7 @@ number_below limit text =
 unfoldable pub number_in : (limit : ℕ) → (name : Text) → List Row → Option ℕ
 number_in limit name rows = option_and_then (number_below limit) (one_of name rows)
 
--- The value of a numeric option with a default. In all words that `clap` takes the option has a
+-- The value of a numeric option with a default. In all words that `clap` takes, the option has a
 -- value, so the 0 is not used for them.
 unfoldable pub number_of : (limit : ℕ) → (name : Text) → List Row → ℕ
 number_of limit name rows = unwrap_or (number_in limit name rows) 0

@@ -1,4 +1,4 @@
--- The reasons why a command line starts no run, and how the program ends then.
+-- The reasons why a command line starts no run, and how the program then ends.
 use Rattle.std.specs.Prelude.{◌≡◌, ◌<◌, ⊤, ℕ, Bool, true, false, List, [], Option, codes, length}
 use Rattle.std.specs.Option.{option_map_or}
 use Rattle.clap.specs.Words.{IsAmong, Row, Text, fault_of, subcommand_of}

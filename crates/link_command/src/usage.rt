@@ -1,4 +1,4 @@
-//! The reasons why a command line starts no run, and how the program ends then.
+//! The reasons why a command line starts no run, and how the program then ends.
 
 ghost use Rattle.std.specs.Prelude.{◌≡◌};
 ghost use Rattle.link_command.specs.Usage.{usage_status, usage_text};

@@ -49,8 +49,8 @@ reported bytes =
     over (order_of bytes).refused (reading_of bytes).end (transfers_of (order_of bytes).heads)
 
 -- The report is the lines of these transfers, and then the line of the fault. The parts of the
--- output that the lines name follow one another from its beginning. The rest of the output is the
--- part of the transfer that has no line.
+-- output that the lines describe follow one another from its beginning. The rest of the output is
+-- the part of the transfer that has no line.
 pub record CutsOutput (wanted : Wanted) (bytes : List ℕ) : Type 0 where
   pub lines : (unpacking wanted bytes).texts.report
       ≡ flat_map transfer_text (entries_of wanted (reported bytes))

@@ -21,7 +21,8 @@ use link_pack::PackOptions;
 use link_wire::NodeId;
 use link_wire::laws::exactly_one_reading;
 
-/// The texts that some bytes determine begin the texts of every input that begins with these bytes.
+/// The texts that some bytes determine are prefixes of the texts of every input that begins with
+/// these bytes.
 ///
 /// So a run that is stopped has written a prefix of what a run over all bytes writes.
 pub fn sofar_is_prefix()

@@ -19,7 +19,7 @@ use link_wire::{
     copy_into,
 };
 
-/// The greatest length of a list in bytes: 27, and 34 for each item.
+/// The greatest length of a list's text in bytes: 27, plus 34 for each item.
 const ITEMS_MAX: usize = 27 + 34 * MAX_ITEMS;
 
 /// A bound on the line of a message with a reason, between its offset and its newline.

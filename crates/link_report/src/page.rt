@@ -22,7 +22,7 @@ pub(crate) fn write_text(page: &mut [u8], at: usize, text: &str) -> usize
     copy_into(page, at, text.as_bytes())
 }
 
-/// Writes a text of a constant length, which compiles to stores alone.
+/// Writes a text of a constant length, which compiles only to stores.
 #[inline(always)]
 pub(crate) fn write_bytes<const N: usize>(page: &mut [u8], at: usize, text: [u8; N]) -> usize
     requires { at + N ≤ length page.old }

@@ -45,7 +45,7 @@ data_after left bytes (Fault offset fault) = ended (Fault offset fault)
 abbrev pub with_data : ℕ → List ℕ → Reading → Reading
 with_data left bytes reading = joined reading (data_after left bytes reading.end)
 
--- The stream that the bytes after those given are read as, from the offset `place` on. Between two
+-- The stream that is read from the bytes after those given, from the offset `place` on. Between two
 -- messages, it is messages. Inside a segment, it is the last `left` bytes of the segment's data,
 -- and then messages. After a fault, nothing more is read.
 abbrev pub rest_after : ℕ → ℕ → End → List ℕ → Stream
@@ -81,8 +81,8 @@ abbrev pub IsEnoughFor : {A : Type 0} → (List ℕ → Part A) → Option (List
 IsEnoughFor part None = ⊤
 IsEnoughFor part (Some bytes) = part bytes ≡ Err wire.Truncated → ⊥
 
--- The bytes left are enough for what comes next. If `left` bytes of data are to come, that is one
--- of them. Otherwise it is the head of a message.
+-- The bytes left are enough for what comes next. If `left` bytes of data are to come, one of them
+-- comes next. Otherwise the head of a message does.
 abbrev pub IsEnough : (left : ℕ) → Option (List ℕ) → Type 0
 IsEnough zero rest = IsEnoughFor message_at rest
 IsEnough (suc left) rest = HasBytes rest

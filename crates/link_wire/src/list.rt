@@ -52,8 +52,8 @@ fn skip<R: InDevice>(source: &mut Source<R>, count: u16) -> Result<(), Halt>
 
 /// Reads the value of an item, and returns it if it is a total length.
 ///
-/// It is one in a Transfer Length item of 8 bytes, in the list of a transfer. Another value is
-/// skipped.
+/// A total length is the value of a Transfer Length item of 8 bytes, in the list of a transfer. Any
+/// other value is skipped.
 fn total<R: InDevice>(
     source: &mut Source<R>,
     of: ListOf,

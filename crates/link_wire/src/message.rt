@@ -47,8 +47,8 @@ pub struct Item {
     pub length: u16,
     /// The transfer's total length in bytes, if the value is one.
     ///
-    /// It is one in a Transfer Length item (RFC 9174 section 5.2.5.1): an item of a transfer's list
-    /// with type 0001 and a value of 8 bytes.
+    /// A total length is the value of a Transfer Length item (RFC 9174 section 5.2.5.1): an item of
+    /// a transfer's list with type 0001 and a value of 8 bytes.
     pub total: Option<u64>,
 }
 

@@ -132,7 +132,7 @@ impl<R: InDevice> Session<R> {
 
     /// Reads the next message, and returns it with the offset of its type byte.
     ///
-    /// Of a segment only the head is read. If the stream ends between two messages, it returns
+    /// Only the head of a segment is read. If the stream ends between two messages, it returns
     /// `None` at the end, and again on each later call. It may be called when the contact header
     /// and all data of the message before have been given. It may also be called after a stop: then
     /// it returns that stop again, and reads nothing.

@@ -349,8 +349,8 @@ fn bundle_past_the_limit(rt: HostRuntime) -> Result<(), Fail> {
 
 /// A run writes what the bytes so far determine before it takes any byte after them.
 ///
-/// That is a line of `list`, a byte of data of `unpack`, or a segment of `pack` after the beginning
-/// of the session.
+/// The text is a line of `list`, a byte of data of `unpack`, or a segment of `pack` after the
+/// beginning of the session.
 #[test]
 fn reads_no_further_than_it_writes(rt: HostRuntime) -> Result<(), Fail> {
     let stream = joined(rt.alloc(), TRANSFER)?;

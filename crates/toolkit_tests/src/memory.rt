@@ -1,7 +1,7 @@
 //! Tests of runs of `pack` whose one request for memory may be refused.
 //!
-//! It is the first request of each of these tests, so `rt try --test --fail-alloc 1` refuses it.
-//! The tests pass whether it is refused or not.
+//! This request is the first one of each of these tests, so `rt try --test --fail-alloc 1` refuses
+//! it. The tests pass whether it is refused or not.
 
 ghost use Rattle.std.specs.Prelude.{◌≡◌, false};
 

@@ -12,7 +12,7 @@ use std::alloc::Global;
 use std::process::Abort;
 use std::test::Fail;
 
-/// Checks that packing the input has this result at each pace, in one call and in steps.
+/// Checks that packing the input gives this result at each pace, in one call and in steps.
 fn gives_in_steps(
     rt: &(impl Abort + AllocGlobal),
     name: &str,
@@ -128,8 +128,8 @@ fn announced_step_by_step(rt: HostRuntime) -> Result<(), Fail> {
 
 /// The chunks of a bundle are written once its length can no longer be announced.
 ///
-/// That is in the step that takes the first byte past the longest length that is announced. If no
-/// length is announced, a chunk is written as soon as it is full.
+/// They are written in the step that takes the first byte past the longest length that is
+/// announced. If no length is announced, a chunk is written as soon as it is full.
 #[test]
 fn past_the_limit_step_by_step(rt: HostRuntime) -> Result<(), Fail> {
     byte_by_byte(&rt, &HELD, &[(34, 38, 0)])?;

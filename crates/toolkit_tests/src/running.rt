@@ -135,7 +135,7 @@ pub fn alike(rt: &impl Abort, first: &End<'_>, second: &End<'_>) -> Result<(), F
     Ok(())
 }
 
-/// The result that a tool must have on an input.
+/// The result that a tool must give for an input.
 #[derive(Drop)]
 pub struct Expected<'a> {
     pub tool: Tool,
@@ -158,7 +158,7 @@ pub fn ended_over<'a>(alloc: Global, tool: Tool, stream: &'a [u8], per_call: usi
     )
 }
 
-/// Checks that a tool has this result on an input.
+/// Checks that a tool gives this result for an input.
 ///
 /// The devices move at most `per_call` bytes a call.
 pub fn gives(
@@ -209,9 +209,10 @@ pub fn steps_alike(
     alike(rt, &in_steps, &whole)
 }
 
-/// Checks that a tool has this result at each pace: all bytes in a call, seven bytes, and one byte.
+/// Checks that a tool gives this result at each pace: all bytes in a call, seven bytes, and one
+/// byte.
 ///
-/// At the first pace it has the same result in steps.
+/// At the first pace it gives the same result in steps.
 pub fn gives_at_each_pace(
     rt: &(impl Abort + AllocGlobal),
     name: &str,

@@ -16,7 +16,7 @@ use std::alloc::Global;
 use std::process::Abort;
 use std::test::Fail;
 
-/// Checks that unpacking the stream has the result of the row.
+/// Checks that unpacking the stream gives the result of the row.
 fn row_gives(rt: &(impl Abort + AllocGlobal), row: &Row, stream: &[u8]) -> Result<(), Fail> {
     let output = joined(rt.alloc(), row.output)?;
     let report = joined(rt.alloc(), row.report)?;

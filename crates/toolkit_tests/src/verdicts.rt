@@ -141,7 +141,7 @@ const BLOCKS: [Changed; 12] = [
     ),
 ];
 
-/// Checks that unpacking one transfer has this output and this verdict.
+/// Checks that unpacking one transfer gives this output and this verdict.
 fn judged(
     rt: &(impl Abort + AllocGlobal),
     wanted: Wanted,
@@ -164,7 +164,7 @@ fn judged(
     gives_at_each_pace(rt, verdict, &stream, &want)
 }
 
-/// Checks the verdict, with all data of the bundle written and with its payload alone.
+/// Checks the verdict, with all data of the bundle written and with only its payload written.
 fn judged_both_ways(
     rt: &(impl Abort + AllocGlobal),
     bundle: &[u8],
