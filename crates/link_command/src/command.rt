@@ -11,7 +11,12 @@ use std::alloc::{AllocError, Global};
 
 const ABOUT: &str = "Lists, unpacks and makes recorded sessions of TCPCLv4 (RFC 9174)";
 
-const HELP: &str = "Each command reads FILE, or standard input without it, and has its own --help.
+const HELP: &str = "Each command reads FILE, or standard input, and has its own --help.
+
+A recording is what one side of a session sent: a contact header, and then messages.
+A capture (pcap, pcapng) or a compressed file (gzip, zstd) is no recording. The report
+then says `byte 0: not a contact header`. The manual page says how to get a recording
+out of a capture.
 
 Exit status:
   0  the input was read to its end, and nothing was wrong with it; or help was asked for
@@ -29,7 +34,12 @@ Example:
 
 const LIST_ABOUT: &str = "Writes a line for the contact header and each message of a recording";
 
-const LIST_HELP: &str = "Exit status:
+const LIST_HELP: &str =
+    "A recording is what one side of a session sent: a contact header, and then messages.
+A capture (pcap, pcapng) or a compressed file (gzip, zstd) is no recording. The report
+then says `byte 0: not a contact header`.
+
+Exit status:
   0  the recording was read to its end, and nothing was wrong with it
   2  the arguments are wrong; standard error says how
   3  a fault of the recording stopped the run
@@ -45,7 +55,12 @@ Example:
 const UNPACK_ABOUT: &str =
     "Writes the data of a recording's transfers, and a line for each on standard error";
 
-const UNPACK_HELP: &str = "Exit status:
+const UNPACK_HELP: &str =
+    "A recording is what one side of a session sent: a contact header, and then messages.
+A capture (pcap, pcapng) or a compressed file (gzip, zstd) is no recording. The report
+then says `byte 0: not a contact header`.
+
+Exit status:
   0  each transfer is good, and nothing was wrong with the recording
   1  the recording was read to its end, and some transfer is not good
   2  the arguments are wrong; standard error says how
@@ -90,7 +105,7 @@ fn program<'a>(alloc: Global) -> Command<'a>
     ensures { app_of result ≡ record { top = program; subs = [] } }
 {
     Command::new(alloc, "tcpclkit")
-        .version("0.1.0")
+        .version("0.2.0")
         .about(ABOUT)
         .after_help(HELP)
         .disable_help_subcommand(true)
@@ -233,7 +248,7 @@ fn file<'a>(alloc: Global) -> Arg<'a>
 {
     Arg::new(alloc, "file")
         .value_name("FILE")
-        .help("The file that is read; standard input without it")
+        .help("The file to read; `-` or no FILE is standard input")
 }
 
 /// A flag `--NAME`.

@@ -325,7 +325,7 @@ fn texts_of_help(rt: HostRuntime) -> Result<(), Fail> {
                 "Example:",
             ],
         ),
-        (&["--version"], &["tcpclkit 0.1.0\n"]),
+        (&["--version"], &["tcpclkit 0.2.0\n"]),
     ];
     for (line, parts) in lines {
         let text = text_of(rt.alloc(), line)?;
