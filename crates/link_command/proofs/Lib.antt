@@ -1,3 +1,4 @@
 mod Builds
 mod Numbers
+mod Stopped
 mod Taken

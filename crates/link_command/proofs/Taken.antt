@@ -1,13 +1,13 @@
 -- Facts about words in which `clap` finds no error.
-use Rattle.std.proofs.Common.{◌≡◌, ◌∙◌, ◌<◌, Bool, true, false, true≢false, cond, List, [], ◌∷◌, Option, Some, None, inl, inr, ap, length, refl, subst, sym}
+use Rattle.std.proofs.Common.{◌≡◌, ◌∙◌, ◌<◌, Bool, true, false, true≢false, cond, List, [], ◌∷◌, Option, Some, None, inl, inr, ap, codes, length, refl, subst, sym}
 use Rattle.std.specs.Prelude.{◌⊎◌, ◌&&◌, is_some, not, option_map}
 use Rattle.std.specs.List.{list_any}
 use Rattle.clap.specs.Words.{App, HasMatchesOf, IsAmong, Kinds, Row, Shape, Text, built, fault_of, is_simple_and_free, subcommand_of, subcommand_rows_of}
 use Rattle.clap.specs.Facts.{explicit_source}
 use Rattle.clap.specs.Walk.{Held, Names, answers_to, finished, nothing_held, settled, stop_after, walk, walk_from}
-use Rattle.clap.specs.Simple.{argument_words, built_leaf, entered, label_of, names_of, rows_at}
+use Rattle.clap.specs.Simple.{argument_words, built_leaf, entered, help_shape, label_of, names_of, rows_at}
 use Rattle.clap.specs.Takes.{is_given}
-use Rattle.clap.specs.Kinds.{check_kinds, or_else}
+use Rattle.clap.specs.Kinds.{check_kinds}
 use Rattle.clap.specs.Faults.{built_fault, check_fault, defaults_fault, entered_fault, level_fault, settle_fault, walk_fault}
 use Rattle.clap.proofs.OnLiterals.{clap_on_literals}
 use Rattle.link_command.specs.Table.{list_words, pack_words, table, unpack_words}
@@ -15,6 +15,7 @@ use Rattle.clap.specs.declared.parser.matches.ArgMatches.{ArgMatches}
 use Rattle.clap.specs.declared.error.kind.ErrorKind.{ErrorKind}
 use Rattle.clap.specs.declared.error.kind.ErrorKind.TheVariants.{OutOfMemory}
 use Rattle.clap.proofs.WalkLemmas.{both}
+use Rattle.link_command.proofs.Stopped.{StopsElsewhere, level_stops, not_help, second_empty}
 use Rattle.link_command.specs.Usage.{AreTaken, IsFaultOf, is_request, node_of}
 use Rattle.link_command.specs.Reading.{IsToolFault, NamesTool, StandsFor}
 use Rattle.link_command.specs.declared.usage.UsageFault.{UsageFault}
@@ -25,10 +26,6 @@ unfolding clap_on_literals table list_words unpack_words pack_words
 table_is_simple = refl
 
 -- ---- a tool is named
-
-second_empty : (a b : Kinds) → or_else a b ≡ [] → b ≡ []
-second_empty [] b none = none
-second_empty (k ∷ ks) b none = cc
 
 required_is_there : (has wants_help required wants_argument : Bool) → required ≡ true
     → check_kinds (not has && wants_help) (not has && required) wants_argument ≡ [] → has ≡ true
@@ -52,42 +49,58 @@ level_checked s names h words has below none =
     let defaults = second_empty (settle_fault s.rules s.args_override_self end) _ settle in
     second_empty (defaults_fault (settled s.rules end).rows s.rules) _ defaults
 
--- the matches are those of a subcommand that has one of these three names
+-- a subcommand is entered, and its name is one of the three
 abbrev NamesOneOf : (a b c : Text) → Option (Text × List Row) → Type 0
 NamesOneOf a b c None = ⊥
 NamesOneOf a b c (Some tool) = (tool.0 ≡ a) ⊎ ((tool.0 ≡ b) ⊎ (tool.0 ≡ c))
 
-entered_name : (s₁ s₂ s₃ : Shape) (rest : List Text) (b₁ b₂ b₃ : Bool)
-    → is_some (option_map (λ s. rows_at s rest)
-    (cond b₁ (Some s₁) (cond b₂ (Some s₂) (cond b₃ (Some s₃) None)))) ≡ true
-    → NamesOneOf s₁.name s₂.name s₃.name
-    (option_map (λ s. rows_at s rest)
-    (cond b₁ (Some s₁) (cond b₂ (Some s₂) (cond b₃ (Some s₃) None))))
-entered_name s₁ s₂ s₃ rest true b₂ b₃ some = inl refl
-entered_name s₁ s₂ s₃ rest false true b₃ some = inr (inl refl)
-entered_name s₁ s₂ s₃ rest false false true some = inr (inr refl)
-entered_name s₁ s₂ s₃ rest false false false some = absurd (true≢false (sym some))
+-- the subcommand of the first test that passes, if there is one
+abbrev first_of_four : (b₁ b₂ b₃ b₄ : Bool) (s₁ s₂ s₃ s₄ : Shape) → Option Shape
+first_of_four b₁ b₂ b₃ b₄ s₁ s₂ s₃ s₄ =
+    cond b₁ (Some s₁) (cond b₂ (Some s₂) (cond b₃ (Some s₃) (cond b₄ (Some s₄) None)))
 
-entered_one : (top s₁ s₂ s₃ : Shape) (stop : Option (Text × List Text))
-    → is_some (entered (record { top = top; subs = s₁ ∷ s₂ ∷ s₃ ∷ [] }) stop) ≡ true
+-- If the test of the fourth fails, the name is that of one of the first three.
+entered_name : (s₁ s₂ s₃ s₄ : Shape) (rest : List Text) (b₁ b₂ b₃ b₄ : Bool) → b₄ ≡ false
+    → is_some (option_map (λ s. rows_at s rest) (first_of_four b₁ b₂ b₃ b₄ s₁ s₂ s₃ s₄)) ≡ true
     → NamesOneOf s₁.name s₂.name s₃.name
-    (entered (record { top = top; subs = s₁ ∷ s₂ ∷ s₃ ∷ [] }) stop)
-entered_one top s₁ s₂ s₃ None some = absurd (true≢false (sym some))
-entered_one top s₁ s₂ s₃ (Some p) some = entered_name s₁ s₂ s₃ p.1 (answers_to p.0 (label_of s₁)) (answers_to p.0 (label_of s₂)) (answers_to p.0 (label_of s₃)) some
+    (option_map (λ s. rows_at s rest) (first_of_four b₁ b₂ b₃ b₄ s₁ s₂ s₃ s₄))
+entered_name s₁ s₂ s₃ s₄ rest true b₂ b₃ b₄ other some = inl refl
+entered_name s₁ s₂ s₃ s₄ rest false true b₃ b₄ other some = inr (inl refl)
+entered_name s₁ s₂ s₃ s₄ rest false false true b₄ other some = inr (inr refl)
+entered_name s₁ s₂ s₃ s₄ rest false false false true other some = absurd (true≢false other)
+entered_name s₁ s₂ s₃ s₄ rest false false false false other some = absurd (true≢false (sym some))
 
-built_names : (top s₁ s₂ s₃ : Shape) (words : List Text) → top.subcommand_required ≡ true
-    → built_fault (record { top = top; subs = s₁ ∷ s₂ ∷ s₃ ∷ [] }) nothing_held words ≡ []
-    → NamesOneOf s₁.name s₂.name s₃.name
-    (entered (record { top = top; subs = s₁ ∷ s₂ ∷ s₃ ∷ [] }) (stop_after top.rules (names_of (record { top = top; subs = s₁ ∷ s₂ ∷ s₃ ∷ [] })) words))
-built_names top s₁ s₂ s₃ words required none =
-    let app : App = record { top = top; subs = s₁ ∷ s₂ ∷ s₃ ∷ [] } in
-    let stop = stop_after top.rules (names_of app) words in
-    entered_one top s₁ s₂ s₃ stop
-    (check_passes top (finished top.rules (walk top.rules (names_of app) nothing_held words).held) (is_some (entered app stop)) required (level_checked top (names_of app) nothing_held words (is_some (entered app stop)) (entered_fault app stop) none))
+-- a command with three tools and a fourth subcommand, which is `help`
+abbrev with_tools : (top s₁ s₂ s₃ s₄ : Shape) → App
+with_tools top s₁ s₂ s₃ s₄ = record { top = top; subs = s₁ ∷ s₂ ∷ s₃ ∷ s₄ ∷ [] }
+
+-- The subcommand at which a walk stopped is one of the first three, if the walk stopped elsewhere
+-- than at `help`.
+entered_one : (top s₁ s₂ s₃ s₄ : Shape) (stop : Option (Text × List Text))
+    → label_of s₄ ≡ (codes "help", []) → StopsElsewhere stop
+    → is_some (entered (with_tools top s₁ s₂ s₃ s₄) stop) ≡ true
+    → NamesOneOf s₁.name s₂.name s₃.name (entered (with_tools top s₁ s₂ s₃ s₄) stop)
+entered_one top s₁ s₂ s₃ s₄ None help elsewhere some = absurd (true≢false (sym some))
+entered_one top s₁ s₂ s₃ s₄ (Some p) help elsewhere some = entered_name s₁ s₂ s₃ s₄ p.1 (answers_to p.0 (label_of s₁)) (answers_to p.0 (label_of s₂)) (answers_to p.0 (label_of s₃)) (answers_to p.0 (label_of s₄))
+    (ap (answers_to p.0) help ∙ not_help p.0 elsewhere) some
+
+-- Where a subcommand is required, words in which nothing is wrong name one of the three tools.
+built_names : (top s₁ s₂ s₃ s₄ : Shape) (words : List Text) → top.subcommand_required ≡ true
+    → top.disable_help_subcommand ≡ false → label_of s₄ ≡ (codes "help", [])
+    → built_fault (with_tools top s₁ s₂ s₃ s₄) nothing_held words ≡ []
+    → NamesOneOf s₁.name s₂.name s₃.name (entered (with_tools top s₁ s₂ s₃ s₄)
+    (stop_after top.rules (names_of (with_tools top s₁ s₂ s₃ s₄)) words))
+built_names top s₁ s₂ s₃ s₄ words required enabled help none =
+    let app : App = with_tools top s₁ s₂ s₃ s₄ in
+    let names : Names = names_of app in
+    let stop = stop_after top.rules names words in
+    let has = is_some (entered app stop) in
+    entered_one top s₁ s₂ s₃ s₄ stop help (level_stops top names nothing_held words has (entered_fault app stop) enabled none)
+    (check_passes top (finished top.rules (walk top.rules names nothing_held words).held) has required (level_checked top names nothing_held words has (entered_fault app stop) none))
 
 pub taken_names : (words : List Text) → AreTaken words → NamesTool (subcommand_of table words)
 unfolding table list_words unpack_words pack_words
-taken_names words taken = built_names (built table).top (built_leaf list_words) (built_leaf unpack_words) (built_leaf pack_words) (argument_words table words) refl taken
+taken_names words taken = built_names (built table).top (built_leaf list_words) (built_leaf unpack_words) (built_leaf pack_words) (built_leaf help_shape) (argument_words table words) refl refl refl taken
 
 -- ---- the results of a parse, if the command is that of the table
 

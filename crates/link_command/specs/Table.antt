@@ -72,10 +72,10 @@ pack_words = tool (codes "pack") (
 
 -- ---- the program
 
--- `clap` adds `--help` to the program and to each tool, and `--version` to the program.
+-- `clap` adds `--help` to the program and to each tool. It adds `--version` and the command `help`
+-- to the program.
 abbrev pub program : Shape
 program = record (new_shape (codes "tcpclkit")) {
-  disable_help_subcommand = true;
   has_version = true;
   subcommand_required = true;
 }

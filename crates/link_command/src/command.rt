@@ -108,7 +108,6 @@ fn program<'a>(alloc: Global) -> Command<'a>
         .version("0.2.0")
         .about(ABOUT)
         .after_help(HELP)
-        .disable_help_subcommand(true)
         .subcommand_required(true)
 }
 

@@ -120,8 +120,9 @@ fn wrong_words(rt: HostRuntime) -> Result<(), Fail> {
         "words",
         &[
             &[],
-            &["help"],
             &["lists"],
+            &["help", "lists"],
+            &["help", "list", "list"],
             &["pack"],
             &["list", "a", "b"],
             &["list", "--payload"],
@@ -161,6 +162,11 @@ fn requests_for_help(rt: HostRuntime) -> Result<(), Fail> {
             &["unpack", "--help"],
             &["pack", "--help"],
             &["pack", "-h"],
+            &["help"],
+            &["help", "list"],
+            &["help", "unpack"],
+            &["help", "pack"],
+            &["help", "help"],
         ],
     )
 }
@@ -335,6 +341,23 @@ fn texts_of_help(rt: HostRuntime) -> Result<(), Fail> {
                 "{line:?} without {part:?}: {text}"
             );
         }
+    }
+    Ok(())
+}
+
+/// The texts of `help` and `help NAME` are those of `--help` and `NAME --help`.
+#[test]
+fn texts_of_the_command_help(rt: HostRuntime) -> Result<(), Fail> {
+    let lines: [(&[&str], &[&str]); 4] = [
+        (&["help"], &["--help"]),
+        (&["help", "list"], &["list", "--help"]),
+        (&["help", "unpack"], &["unpack", "--help"]),
+        (&["help", "pack"], &["pack", "--help"]),
+    ];
+    for (line, same) in lines {
+        let text = text_of(rt.alloc(), line)?;
+        let expected = text_of(rt.alloc(), same)?;
+        assert!(rt; text == expected, "{line:?}: {text}{expected}");
     }
     Ok(())
 }

@@ -1,0 +1,161 @@
+-- A walk in which `clap` finds nothing wrong does not stop at the name `help`.
+use Rattle.std.proofs.Common.{◌≡◌, ◌∙◌, ℕ, Bool, true, false, true≢false, cond, List, [], ◌∷◌, Option, Some, None, codes, refl, sym}
+use Rattle.std.proofs.lemmas.Bool.{false_from_ne_true}
+use Rattle.std.proofs.lemmas.Slice.Eq.{bytes_eq-Decides}
+use Rattle.std.specs.Prelude.{◌&&◌, ◌||◌, ⊤, fold, is_some, not}
+use Rattle.std.specs.Str.{bytes_eq}
+use Rattle.clap.specs.Words.{Kinds, Rule, Shape, Text}
+use Rattle.clap.specs.Lexer.{long_of, short_of}
+use Rattle.clap.specs.Walk.{Held, Names, Outcome, Step, Waiting, Walk, after_flag, after_step, answers_to, arg_by_index, arg_by_long, bundle, done, idle, long_met, long_or_other, next, option, plain, plain_word, positional, refused, short_or_plain, subcommand, subcommand_met, subcommand_or_other, to_positional, trailing, value, waits, walk, walk_from, walked, walked_from, word_met}
+use Rattle.clap.specs.Kinds.{or_else}
+use Rattle.clap.specs.Faults.{level_fault, other_fault, step_fault, turn_fault, walk_fault, word_fault}
+use Rattle.clap.specs.declared.error.kind.ErrorKind.TheVariants.{DisplayHelp, InvalidSubcommand}
+
+-- If nothing is wrong in two steps, nothing is in the first ..
+first_empty : (a b : Kinds) → or_else a b ≡ [] → a ≡ []
+first_empty [] b none = refl
+first_empty (k ∷ ks) b none = none
+
+-- .. nor in the second.
+pub second_empty : (a b : Kinds) → or_else a b ≡ [] → b ≡ []
+second_empty [] b none = none
+second_empty (k ∷ ks) b none = cc
+
+-- If the step enters a subcommand, its name is not `help`.
+abbrev EntersNoHelp : Step → Type 0
+EntersNoHelp (subcommand name) = bytes_eq name (codes "help") ≡ false
+EntersNoHelp _ = ⊤
+
+-- If a walk stopped at the name of a subcommand, it is not `help`.
+abbrev pub StopsElsewhere : (stop : Option (Text × List Text)) → Type 0
+StopsElsewhere None = ⊤
+StopsElsewhere (Some p) = bytes_eq p.0 (codes "help") ≡ false
+
+-- ---- a word that names no subcommand enters none
+
+-- a word that is not read as a flag
+plain_step : (c : List Rule) (waiting : Waiting) (word : Text) (h : Held)
+    → EntersNoHelp (plain_word c waiting word h).1
+plain_step c idle word h = tt
+plain_step c (option id) word h = tt
+plain_step c positional word h = tt
+
+-- a flag word, whatever it comes to
+flag_step : (c : List Rule) (waiting : Waiting) (word : Text) (h : Held) (outcome : Outcome)
+    → EntersNoHelp (after_flag c waiting word h outcome).1
+flag_step c waiting word h done = tt
+flag_step c waiting word h (waits id) = tt
+flag_step c waiting word h plain = plain_step c waiting word h
+flag_step c waiting word h refused = plain_step c waiting word h
+
+-- a word that begins with one hyphen, or with none
+short_step : (c : List Rule) (waiting : Waiting) (word : Text) (flags : Option Text) (h : Held)
+    → EntersNoHelp (short_or_plain c waiting word flags h).1
+short_step c waiting word None h = plain_step c waiting word h
+short_step c waiting word (Some flags) h = flag_step c waiting word (bundle c flags h).0 (bundle c flags h).1
+
+-- a word that begins with two hyphens, or another
+long_step : (c : List Rule) (waiting : Waiting) (word : Text)
+    (flag : Option (Text × Option Text)) (h : Held)
+    → EntersNoHelp (long_or_other c waiting word flag h).1
+long_step c waiting word None h = short_step c waiting word (short_of word) h
+long_step c waiting word (Some p) h = flag_step c waiting word (long_met c (arg_by_long c p.0) p.1 h).0 (long_met c (arg_by_long c p.0) p.1 h).1
+
+-- ---- a word in which nothing is wrong does not name `help`
+
+-- The name `help` is a fault where the subcommand of that name is not disabled.
+help_is_a_fault : (is_help disabled : Bool) → disabled ≡ false
+    → cond (is_help && not disabled) (DisplayHelp ∷ InvalidSubcommand ∷ []) [] ≡ []
+    → is_help ≡ false
+help_is_a_fault false disabled enabled none = refl
+help_is_a_fault true true enabled none = absurd (true≢false enabled)
+help_is_a_fault true false enabled none = cc
+
+-- a word before `--`, by the subcommand that it names
+other_step : (s : Shape) (met : Option Text) (waiting : Waiting) (at : ℕ) (word : Text) (h : Held)
+    → s.disable_help_subcommand ≡ false → other_fault s met word h ≡ []
+    → EntersNoHelp (subcommand_or_other s.rules met waiting at word h).1
+other_step s (Some name) waiting at word h enabled none = help_is_a_fault (bytes_eq name (codes "help")) s.disable_help_subcommand enabled none
+other_step s None waiting at word h enabled none = go (bytes_eq word (45 ∷ 45 ∷ []))
+  where
+    go : (is_end : Bool) → EntersNoHelp (cond is_end (h, trailing at)
+        (long_or_other s.rules waiting word (long_of word) h)).1
+    go true = tt
+    go false = long_step s.rules waiting word (long_of word) h
+
+-- any word
+word_step : (s : Shape) (names : Names) (is_trailing : Bool) (waiting : Waiting) (at : ℕ)
+    (word : Text) (h : Held) → s.disable_help_subcommand ≡ false
+    → word_fault s names is_trailing waiting word h ≡ []
+    → EntersNoHelp (word_met s.rules names is_trailing waiting at word h).1
+word_step s names true waiting at word h enabled none = tt
+word_step s names false waiting at word h enabled none = other_step s (subcommand_met names waiting word) waiting at word h enabled none
+
+-- ---- the walk
+
+-- A word for a positional stops no walk.
+positional_stops : (c : List Rule) (found : Option Rule) (word : Text) (w : Walk) (h : Held)
+    → StopsElsewhere w.stopped → StopsElsewhere (to_positional c found word w h).stopped
+positional_stops c None word w h before = before
+positional_stops c (Some rule) word w h before = tt
+
+-- A step that does not enter `help` does not stop the walk there.
+step_stops : (c : List Rule) (word : Text) (w : Walk) (h : Held) (step : Step)
+    → StopsElsewhere w.stopped → EntersNoHelp step
+    → StopsElsewhere (after_step c word w h step).stopped
+step_stops c word w h (next waiting) before passes = before
+step_stops c word w h (trailing at) before passes = before
+step_stops c word w h (subcommand name) before passes = passes
+step_stops c word w h value before passes = positional_stops c (arg_by_index c w.position) word w h before
+
+-- A word in which nothing is wrong does not stop the walk at `help`.
+turn_stops : (s : Shape) (names : Names) (w : Walk) (word : Text)
+    → s.disable_help_subcommand ≡ false → StopsElsewhere w.stopped
+    → turn_fault s names w word ≡ [] → StopsElsewhere (walked s.rules names w word).stopped
+unfolding walked
+turn_stops s names w word enabled before none = go w.stopped before none
+  where
+    met : Held × Step
+    met = word_met s.rules names w.is_trailing w.waiting w.position word w.held
+
+    here : Kinds
+    here = word_fault s names w.is_trailing w.waiting word w.held
+
+    go : (stop : Option (Text × List Text)) → StopsElsewhere stop
+        → cond (is_some stop) [] (or_else here (step_fault s w.position met.0 met.1)) ≡ []
+        → StopsElsewhere (walked_from s.rules names stop w word).stopped
+    go (Some p) elsewhere none = elsewhere
+    go None elsewhere none = step_stops s.rules word w met.0 met.1 before (word_step s names w.is_trailing w.waiting w.position word w.held enabled (first_empty here _ none))
+
+-- Words in which nothing is wrong do not stop the walk at `help`.
+walk_stops : (s : Shape) (names : Names) (words : List Text) (w : Walk)
+    → s.disable_help_subcommand ≡ false → StopsElsewhere w.stopped
+    → walk_fault s names w words ≡ []
+    → StopsElsewhere (fold (walked s.rules names) w words).stopped
+unfolding walk_fault
+walk_stops s names [] w enabled before none = before
+walk_stops s names (word ∷ rest) w enabled before none =
+    let here = turn_fault s names w word in
+    let after = walk_fault s names (walked s.rules names w word) rest in
+    walk_stops s names rest (walked s.rules names w word) enabled (turn_stops s names w word enabled before (first_empty here after none)) (second_empty here after none)
+
+-- If nothing is wrong with the words, the walk over them does not stop at the name `help`, where
+-- the subcommand of that name is not disabled.
+pub level_stops : (s : Shape) (names : Names) (h : Held) (words : List Text) (has : Bool)
+    (below : Kinds) → s.disable_help_subcommand ≡ false
+    → level_fault s names h words has below ≡ []
+    → StopsElsewhere (walk s.rules names h words).stopped
+level_stops s names h words has below enabled none = walk_stops s names words (walk_from h) enabled tt (first_empty (walk_fault s names (walk_from h) words) _ none)
+
+-- The subcommand `help` does not answer to another name.
+pub not_help : (name : Text) → bytes_eq name (codes "help") ≡ false
+    → answers_to name (codes "help", []) ≡ false
+not_help name other = false_from_ne_true (answers_to name (codes "help", [])) (λ same. true≢false (is_help name same ∙ other))
+  where
+    either : (b : Bool) → (b || false) ≡ true → b ≡ true
+    either true same = refl
+    either false same = same
+
+    is_help : (name : Text) → answers_to name (codes "help", []) ≡ true
+        → true ≡ bytes_eq name (codes "help")
+    is_help name same = sym ((bytes_eq-Decides name (codes "help")).1 (sym ((bytes_eq-Decides (codes "help") name).0 (either (bytes_eq (codes "help") name) same))))
