@@ -1,4 +1,4 @@
--- The part of a message that the order of messages depends on.
+-- The part of a message that the rules on the order of messages use.
 use Rattle.link_wire.specs.declared.message.Message.{Message}
 use Rattle.link_wire.specs.declared.message.Message.TheVariants as message
 use Rattle.link_transfer.specs.declared.event.Event.{Event}

@@ -1,11 +1,11 @@
-//! The part of a message that the order of messages depends on.
+//! The part of a message that the rules on the order of messages use.
 
 ghost use Rattle.std.specs.Prelude.{◌≡◌};
 ghost use Rattle.link_wire.specs.Codes.{is_start, is_end};
 
 use link_wire::{END, Fields, Message, START};
 
-/// The part of a message that the order of messages depends on.
+/// The part of a message that the rules on the order of messages use.
 #[derive(Clone, Copy, Debug, PartialEq, Eq)]
 pub enum Event {
     /// A SESS_INIT.

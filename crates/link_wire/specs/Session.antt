@@ -149,8 +149,7 @@ module _ {R : Type 0} where
   data_in s = take s.left (window_of s.source)
 
   -- The session was given exactly these bytes, and met no fault. It is at the end of their reading:
-  -- however the bytes go on, what follows is read from there. If no data is to come, less than a
-  -- whole window is unread.
+  -- whatever bytes follow, they are read from there. If no data is to come, the window is not full.
   pub record IsSessionAt (look : R → Input) (s : Session R) (history : List ℕ) : Type 0 where
     pub at : IsSourceAt s.source history
     pub live : IsLive look s.source
