@@ -89,7 +89,7 @@ after_primary draft start bytes fields = do
   (_, place) ← field_at check start bytes place
   block_end draft.payload draft.numbers primary bytes place
 
--- the rest of the primary block, from each of its fields on
+-- The rest of the primary block: one definition for each of its fields, from that field on.
 
 abbrev pub fields_of : Draft → ℕ → Reading (Primary × Option CheckKind)
 fields_of draft place = Ok ((primary_of draft, kind_of draft.check), place)

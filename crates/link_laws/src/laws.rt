@@ -82,7 +82,7 @@ pub fn every_byte_once()
     ensures { (bytes : List ℕ) → HasEveryByte bytes }
 {}
 
-/// The report of `unpack` cuts its output into the transfers.
+/// The report of `unpack` says how the output divides into transfers.
 ///
 /// The transfer of each line begins in the output where the transfers before it end. The output
 /// after the last of them is that of a transfer that a fault left open.

@@ -49,7 +49,7 @@ viewed_judgement (view.LengthDiffers announced) = LengthDiffers announced
 viewed_judgement (view.Bad fault offset) = Bad fault offset
 viewed_judgement (view.Good info) = Good (viewed_info info)
 
--- the names of a good bundle have at most 1,024 bytes each
+-- the dtn names in the source and the destination of a good bundle have at most 1,024 bytes each
 abbrev pub IsShortJudgement : Judgement → Type 0
 IsShortJudgement Abandoned = Unit {0}
 IsShortJudgement BadLengthItem = Unit {0}
