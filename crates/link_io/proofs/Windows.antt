@@ -35,3 +35,9 @@ held_next (Some all) window held count next =
     let parts : all ≡ take count held ++ rest =
     next.1 ∙ ap (λ bytes. bytes ++ next.0) (sym (take-append-drop count held)) ∙ append_assoc (take count held) (drop count held) next.0 in
     (rest, ap (λ bytes. window ++ bytes) parts ∙ sym (append_assoc window (take count held) rest))
+
+-- two lists that agree from an offset on agree from each later offset on
+pub drop_later : (at count later : ℕ) (xs ys : List ℕ) → later ≡ at + count
+    → drop at xs ≡ drop at ys → drop later xs ≡ drop later ys
+drop_later at count later xs ys is same =
+    rw is (sym (drop-drop count at xs) ∙ ap (λ zs. drop count zs) same ∙ drop-drop count at ys)

@@ -128,6 +128,7 @@ impl<R: InDevice> Source<R> {
         ensures fits { result ≤ length bytes.old }
         ensures size { length bytes.new ≡ length bytes.old }
         ensures next { BeginsWith (ahead R.state self.now) (take result bytes.new) }
+        ensures rest { drop result bytes.new ≡ drop result bytes.old }
     {
         let window = self.window();
         if window.len() >= bytes.len() {
@@ -251,6 +252,7 @@ impl<R: InDevice> Source<R> {
             → (self.new ≡ self.old) × (result ≡ Err fault) }
         ensures nothing { length buffer.old ≡ 0 → self.new ≡ self.old }
         ensures rest { IfOk result (λ n. drop n buffer.new ≡ drop n buffer.old) }
+        ensures untouched { (fault : _) → HasFailed self.old fault → buffer.new ≡ buffer.old }
     {
         if let Flow::Failed(fault) = self.flow {
             return Err(fault);
@@ -292,6 +294,7 @@ impl<R: InDevice> Source<R> {
             → (self.new ≡ self.old) × (result ≡ Ok (filled_at_end buffer.old)) }
         ensures failed { (fault : _) → HasFailed self.old fault
             → (self.new ≡ self.old) × (result ≡ Err fault) }
+        ensures untouched { (fault : _) → HasFailed self.old fault → buffer.new ≡ buffer.old }
     {
         if buffer.len() <= self.end - self.start && !buffer.is_empty() {
             self.copy(buffer);
@@ -309,6 +312,7 @@ impl<R: InDevice> Source<R> {
             → (self.new ≡ self.old) × (result ≡ Ok (filled_at_end buffer.old)) }
         ensures failed { (fault : _) → HasFailed self.old fault
             → (self.new ≡ self.old) × (result ≡ Err fault) }
+        ensures untouched { (fault : _) → HasFailed self.old fault → buffer.new ≡ buffer.old }
     {
         if let Flow::Failed(fault) = self.flow {
             return Err(fault);
