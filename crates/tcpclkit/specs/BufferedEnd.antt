@@ -33,14 +33,3 @@ module _ {R W E : Type 0} (in_look : R → Input) (out_look : W → Output)
     pub writes : HandsOn (out_look now.output) output
     pub reports : HandsOn (report_look now.report) report
     pub answers : answer ≡ answer_after_flush ends (not output.failed && not report.failed)
-
--- The tool was run over the devices `start`, and this is the answer (`GivesBuffered`). The call
--- returns no devices, so the fields name those that the run left.
-pub record AnswersBuffered {R W E W' E' : Type 0} (in_look : R → Input) (out_look : W → Output)
-    (report_look : E → Output) (job : Job) (start : Devices R W E) (out_below : W' → Output)
-    (report_below : E' → Output) (answer : Result Status IoFault) : Type 0 where
-  pub input : R
-  pub output : W'
-  pub report : E'
-  pub gave : GivesBuffered in_look out_look report_look job start input
-      (out_below output) (report_below report) answer

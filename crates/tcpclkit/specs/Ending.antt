@@ -1,12 +1,14 @@
 -- The ways in which the program ends, with their exit statuses and messages.
-use Rattle.std.specs.Prelude.{ℕ, Bool, true, false, not, option_map, string_bytes, IsTrue, Option, Some, None, ◌==◌, ◌&&◌, if◌then◌else◌, List, Result, Ok, Err, codes}
+use Rattle.std.specs.Prelude.{◌≡◌, ℕ, Bool, true, false, not, option_map, string_bytes, IsTrue, Option, Some, None, ◌==◌, ◌&&◌, if◌then◌else◌, List, Result, Ok, Err, codes}
 use Rattle.std.specs.Str.{bytes_eq}
 use Rattle.link_wire.specs.declared.IoFault.{IoFault}
 use Rattle.link_wire.specs.declared.IoFault.TheVariants as io
-use Rattle.link_command.specs.Usage.{AreTaken, IsFaultOf, usage_status, usage_text}
+use Rattle.link_command.specs.Usage.{IsFaultOf, usage_status, usage_text}
 use Rattle.link_command.specs.Invoked.{IsInvoked}
 use Rattle.link_command.specs.declared.invocation.Invocation.{Invocation}
 use Rattle.link_tools.specs.Exit.{status_of, exit_text}
+use Rattle.link_tools.specs.Options.{options_of}
+use Rattle.link_tools.specs.declared.options.Job.{Job}
 use Rattle.link_run.specs.declared.run.Status.{Status}
 use Rattle.tcpclkit.specs.declared.ending.Ending.{Ending}
 use Rattle.tcpclkit.specs.declared.ending.Ending.TheVariants.{Usage, NotText, NoInput, Answer}
@@ -43,9 +45,18 @@ abbrev pub names_a_file : Option (List ℕ) → Bool
 names_a_file None = false
 names_a_file (Some name) = not (bytes_eq name (codes "-"))
 
--- How the program may end for these words. They are texts, so it does not end with `NotText`.
+-- The words ask for this tool, and for this input: a file, or else standard input.
+abbrev pub AskFor : (words : List (List ℕ)) → Job → (is_file : Bool) → Type 0
+AskFor words job is_file =
+    (i : Invocation) × IsInvoked words i × (options_of job ≡ i.options)
+    × (is_file ≡ names_a_file (option_map string_bytes i.file))
+
+-- How a call with these words may end if it starts no run. The words are texts, so it does not end
+-- with `NotText`.
 abbrev pub MayEnd : (words : List (List ℕ)) → Ending → Type 0
 MayEnd words (Usage fault) = IsFaultOf words fault
 MayEnd words NotText = ⊥
-MayEnd words NoInput = (i : Invocation) × IsInvoked words i × IsTrue (names_a_file (option_map string_bytes i.file))
-MayEnd words (Answer answer) = AreTaken words
+MayEnd words NoInput =
+    (i : Invocation) × IsInvoked words i
+    × IsTrue (names_a_file (option_map string_bytes i.file))
+MayEnd words (Answer answer) = ⊥

@@ -12,7 +12,8 @@ mod streams;
 
 ghost use Rattle.std.specs.Prelude.{◌≡◌, map, option_map, string_bytes, IfErr, IfOk, IsTrue};
 ghost use Rattle.either.specs.Either.{is_left};
-ghost use Rattle.tcpclkit.specs.Ending.{MayEnd, names_a_file};
+ghost use Rattle.link_tools.specs.Options.{IsReady};
+ghost use Rattle.tcpclkit.specs.Ending.{AskFor, MayEnd, names_a_file};
 
 use either::{Either, Left, Right};
 use ending::{Ending, ending_exit, exit_status};
@@ -44,24 +45,34 @@ fn run(rt: &HostRuntime) -> Ending {
         Err(error) if error.kind() == ErrorKind::InvalidData => return Ending::NotText,
         Err(_) => return Ending::Answer(Err(IoFault::Memory)),
     };
-    run_words(rt, words.as_slice())
+    let (job, input) = match request(rt, words.as_slice()) {
+        Ok(request) => request,
+        Err(ending) => return ending,
+    };
+    let streams = buffered(rt.alloc(), input, rt.stdout(), rt.stderr());
+    match run_over(job, streams) {
+        Ok(end) => Ending::Answer(end.answer),
+        Err(fault) => Ending::Answer(Err(fault)),
+    }
 }
 
-/// Does what these words ask for; the first word is the program's own name.
-fn run_words(rt: &HostRuntime, words: &[String]) -> Ending
-    ensures { MayEnd (map string_bytes words.now) result }
+/// Returns the tool that these words ask for, and its input, or the ending of a call without a run.
+///
+/// The first word is the program's own name.
+fn request(rt: &HostRuntime, words: &[String]) -> Result<(Job, Either<File, Stdin>), Ending>
+    ensures ok { IfOk result (λ request. AskFor (map string_bytes words.now) request.0 (is_left request.1)) }
+    ensures ready { IfOk result (λ request. IsReady request.0) }
+    ensures err { IfErr result (MayEnd (map string_bytes words.now)) }
 {
     let invocation = match options(rt.alloc(), words) {
         Ok(invocation) => invocation,
-        Err(fault) => return Ending::Usage(fault),
+        Err(fault) => return Err(Ending::Usage(fault)),
     };
     let Invocation { options, file } = invocation;
     let Ok(input) = input(rt, file.as_deref()) else {
-        return Ending::NoInput;
+        return Err(Ending::NoInput);
     };
-    let job = Job::new(rt.alloc(), options);
-    let streams = buffered(rt.alloc(), input, rt.stdout(), rt.stderr());
-    Ending::Answer(run_over(job, streams))
+    Ok((Job::new(rt.alloc(), options), input))
 }
 
 /// Opens the file of this name, or returns standard input if the name is `-` or there is no name.

@@ -1,10 +1,10 @@
 //! Runs of the tools over buffered streams.
 
-ghost use Rattle.std.specs.Prelude.{◌≡◌, false, Err, IfOk, IfErr};
+ghost use Rattle.std.specs.Prelude.{◌≡◌, false, Err, IfOk, IfErr, IsOkAnd};
 ghost use Rattle.std.specs.IoError.{error_kind};
 ghost use Rattle.link_run.specs.Run.{Devices, NoneFailed};
 ghost use Rattle.link_tools.specs.Options.{IsReady};
-ghost use Rattle.tcpclkit.specs.BufferedEnd.{AnswersBuffered, GivesBuffered, HandsOn};
+ghost use Rattle.tcpclkit.specs.BufferedEnd.{GivesBuffered, HandsOn};
 
 use crate::ending::after_flush;
 use link_tools::{Job, Status, run_tool};
@@ -79,29 +79,32 @@ pub fn buffered<R: Read + Drop, W: Write + Drop, E: Write + Drop>(
     })
 }
 
-/// Runs the tool over the streams, and returns the answer.
+/// Runs the tool over the streams, if there was memory for their buffers.
 ///
-/// If there was no memory for the buffers, the answer is [`IoFault::Memory`].
+/// # Errors
+///
+/// [`IoFault::Memory`] if there was none.
 pub fn run_over<R: Read + Drop, W: Write + Drop, E: Write + Drop>(
     job: Job,
     streams: io::Result<Streams<R, W, E>>,
-) -> Result<Status, IoFault>
+) -> Result<BufferedEnd<R, W, E>, IoFault>
     requires ready { IsReady job }
     requires sound { IfOk streams (λ streams. NoneFailed
         ⟦<BufferedReader<R> as InDevice>⟧.state
         ⟦<TextWriter<Writer<W>> as OutDevice>⟧.state
         ⟦<TextWriter<Writer<E>> as OutDevice>⟧.state
         (record { reader = streams.input; output = streams.output; report = streams.report })) }
-    ensures ran { IfOk streams (λ streams. AnswersBuffered
+    ensures ran { IfOk streams (λ streams. IsOkAnd result (λ end. GivesBuffered
         ⟦<BufferedReader<R> as InDevice>⟧.state
         ⟦<TextWriter<Writer<W>> as OutDevice>⟧.state
         ⟦<TextWriter<Writer<E>> as OutDevice>⟧.state job
         (record { reader = streams.input; output = streams.output; report = streams.report })
-        ⟦<Writer<W> as OutDevice>⟧.state ⟦<Writer<E> as OutDevice>⟧.state result) }
+        end.input (⟦<Writer<W> as OutDevice>⟧.state end.output)
+        (⟦<Writer<E> as OutDevice>⟧.state end.report) end.answer)) }
     ensures lacked { IfErr streams (λ _. result ≡ Err IoFault.Memory) }
 {
     match streams {
-        Ok(streams) => run_buffered(job, streams).answer,
+        Ok(streams) => Ok(run_buffered(job, streams)),
         Err(_) => Err(IoFault::Memory),
     }
 }

@@ -8,7 +8,7 @@ ghost use Rattle.std.specs.Prelude.{◌≡◌, false};
 use crate::rows::{TRANSFER, TRANSFER_LINES};
 use crate::running::stepped;
 use crate::stream::{CONTACT_LINE, joined, text};
-use link_tools::{ListRun, Run, list, run_exit};
+use link_tools::{ListRun, Run, Status, list, run_exit};
 use link_wire::{
     Contact, Filled, InDevice, IoFault, OutDevice, Reader, Session, Source, Stop, Writer,
     write_whole,
@@ -285,6 +285,17 @@ fn failed_flush(rt: HostRuntime) {
         assert_eq!(rt; out.failed(), failed);
         assert!(rt; out.into_inner().written.is_empty());
     }
+}
+
+/// The program's message for a failure has the failure's own text.
+#[test]
+fn texts_of_failures(rt: HostRuntime) -> Result<(), Fail> {
+    for fault in [IoFault::Read, IoFault::InputTooLong, IoFault::Write, IoFault::Memory] {
+        let answer: Result<Status, IoFault> = Err(fault);
+        let text = format!(in rt.alloc(); "tcpclkit: {fault}")?;
+        assert_eq!(rt; text.as_str(), run_exit(&answer).1);
+    }
+    Ok(())
 }
 
 /// A session that is interrupted stops, and does not read on.
