@@ -1,7 +1,8 @@
 # Completions of tcpclkit for bash.
 
 _tcpclkit() {
-  local word=${COMP_WORDS[COMP_CWORD]} before=${COMP_WORDS[COMP_CWORD - 1]} given option words='' values='' flags='-h --help'
+  local word=${COMP_WORDS[COMP_CWORD]} before=${COMP_WORDS[COMP_CWORD - 1]} given option
+  local words='' values='' flags='-h --help'
   COMPREPLY=()
   if ((COMP_CWORD == 1)); then
     words='list unpack pack'
@@ -18,7 +19,7 @@ _tcpclkit() {
       ;;
     *) return ;;
   esac
-  # The value of an option is not known. bash cuts it at `=` and `:`.
+  # No value of an option is suggested. bash cuts a value at `=` and `:`.
   [[ " $values = : " != *" $before "* ]] || return
   given=" ${COMP_WORDS[*]:2:COMP_CWORD - 2} "
   if [[ $word != -* || $given == *' -- '* ]]; then
@@ -26,7 +27,7 @@ _tcpclkit() {
     mapfile -t COMPREPLY < <(compgen -f -- "$word")
     return
   fi
-  # An option is given once.
+  # No option may be given twice.
   for option in $values $flags; do
     [[ $given == *" $option "* ]] || words+=" $option"
   done

@@ -1,13 +1,14 @@
 # Completions of tcpclkit for fish.
 
-# Whether the first word is the tool, and the option was not given after it. Where its VALUE is typed, it is not yet given.
+# Whether the first word is the tool, and the option was not given after it. If the option takes a
+# value, a third argument is given: while the value is typed, the option counts as not given.
 function __tcpclkit_takes -a tool option value
     set -l words (commandline -opc)
     test -n "$value" -a "$words[-1]" = --$option; and set -e words[-1]
     test "$words[2]" = $tool; and not string match -qr -- "^--$option(=|\$)" $words
 end
 
-# Whether there is no tool yet.
+# Whether no tool is given yet.
 function __tcpclkit_begins
     test (count (commandline -opc)) -eq 1
 end
