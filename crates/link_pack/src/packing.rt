@@ -249,7 +249,9 @@ impl<R: InDevice, W: OutDevice, E: OutDevice> PackRun<R, W, E> {
     ghost use Rattle.link_pack.specs.Packing.{pack_tool};
     ghost use Rattle.link_pack.specs.PackRuns.{place_of_pack, tool_of_pack, pack_stands};
 
-    /// A run that has read and written nothing. The cutter is new, as [`cutter_for`](crate::cutter_for) makes it.
+    /// Makes a run that has read and written nothing.
+    ///
+    /// The cutter is new, as [`cutter_for`](crate::cutter_for) makes it.
     pub fn new(
         cutter: Cutter,
         options: PackOptions,
@@ -330,10 +332,12 @@ impl<R: InDevice, W: OutDevice, E: OutDevice> Run<R, W, E> for PackRun<R, W, E> 
     }
 }
 
-/// Packs the bundles of an input into the stream of a sender (RFC 9174) on the output, with a line for each on the report.
-/// What is no bundle, and a bundle that is longer than the peer takes, is reported at the byte that shows it, and stops
-/// the run. `memory` is what [`cutter_for`](crate::cutter_for) returned: where it was refused, the answer is
-/// [`IoFault::Memory`], and the devices come back as they were.
+/// Packs the bundles of an input into the stream of a sender (RFC 9174), to the end of the run.
+///
+/// The stream goes to the output, and a line for each bundle to the report. The first byte that
+/// shows a fault of a bundle, or that the bundle is longer than the peer takes, stops the run and is
+/// reported. `memory` is the result of [`cutter_for`](crate::cutter_for). If it is a refusal, the
+/// answer is [`IoFault::Memory`], and the devices are returned as they were.
 pub fn pack<R: InDevice, W: OutDevice, E: OutDevice>(
     memory: Result<Cutter, AllocError>,
     options: PackOptions,
