@@ -125,14 +125,8 @@ fn unpack_command<'a>(alloc: Global) -> Result<Command<'a>, AllocError>
     ensures { IfOk result (IsTool unpack_words) }
 {
     let tool = tool(alloc, "unpack", UNPACK_ABOUT, UNPACK_HELP);
-    let transfer = number(
-        alloc,
-        "transfer",
-        value_parser!(u64),
-        "The ID of the transfers whose data is written, 0 to 18446744073709551615 [default: all]",
-    );
     let payload = flag(alloc, "payload", "Write the payload of each bundle alone");
-    let one = tool.arg(transfer.value_name("ID"))?;
+    let one = tool.arg(transfer(alloc))?;
     let two = one.arg(payload)?;
     let whole = two.arg(file(alloc))?;
     Ok(whole)
@@ -157,27 +151,9 @@ fn with_sender<'a>(alloc: Global, tool: Command<'a>) -> Result<Command<'a>, Allo
         ∷ number_or (codes "segment-mru") any_u64 (codes "65536")
         ∷ []) tool.entry) }
 {
-    let node = option(
-        alloc,
-        "node",
-        "TEXT",
-        "The sender's node ID, of at most 1024 bytes of UTF-8; empty for none",
-    );
-    let keepalive = number(
-        alloc,
-        "keepalive",
-        value_parser!(u16),
-        "The keepalive interval in seconds, 0 to 65535",
-    );
-    let segment_mru = number(
-        alloc,
-        "segment-mru",
-        value_parser!(u64),
-        "The longest segment that the sender takes, 0 to 18446744073709551615 bytes",
-    );
-    let one = tool.arg(node.required(true))?;
-    let two = one.arg(keepalive.default_value("60"))?;
-    let three = two.arg(segment_mru.default_value("65536"))?;
+    let one = tool.arg(node(alloc))?;
+    let two = one.arg(keepalive(alloc))?;
+    let three = two.arg(segment_mru(alloc))?;
     Ok(three)
 }
 
@@ -189,27 +165,9 @@ fn with_limits<'a>(alloc: Global, tool: Command<'a>) -> Result<Command<'a>, Allo
         ∷ number_or (codes "peer-transfer") any_u64 (codes "18446744073709551615")
         ∷ []) tool.entry) }
 {
-    let transfer_mru = number(
-        alloc,
-        "transfer-mru",
-        value_parser!(u64),
-        "The longest transfer that the sender takes, 0 to 18446744073709551615 bytes",
-    );
-    let peer_segment = number(
-        alloc,
-        "peer-segment",
-        one_or_more(),
-        "The longest segment that the peer takes, 1 to 18446744073709551615 bytes; none has more than 65536",
-    );
-    let peer_transfer = number(
-        alloc,
-        "peer-transfer",
-        value_parser!(u64),
-        "The longest transfer that the peer takes, 0 to 18446744073709551615 bytes",
-    );
-    let one = tool.arg(transfer_mru.default_value("1048576"))?;
-    let two = one.arg(peer_segment.default_value("65536"))?;
-    let three = two.arg(peer_transfer.default_value("18446744073709551615"))?;
+    let one = tool.arg(transfer_mru(alloc))?;
+    let two = one.arg(peer_segment(alloc))?;
+    let three = two.arg(peer_transfer(alloc))?;
     Ok(three)
 }
 
@@ -232,6 +190,98 @@ fn with_form<'a>(alloc: Global, tool: Command<'a>) -> Result<Command<'a>, AllocE
     let two = one.arg(end)?;
     let three = two.arg(file(alloc))?;
     Ok(three)
+}
+
+/// The option `--transfer` of `unpack`.
+fn transfer<'a>(alloc: Global) -> Arg<'a>
+    ensures { HasRule (number (codes "transfer") any_u64) result }
+{
+    let transfer = number(
+        alloc,
+        "transfer",
+        any_u64(),
+        "The ID of the transfers whose data is written, 0 to 18446744073709551615 [default: all]",
+    );
+    transfer.value_name("ID")
+}
+
+/// The option `--node` of `pack`.
+fn node<'a>(alloc: Global) -> Arg<'a>
+    ensures { HasRule (record (option (codes "node")) { required = true }) result }
+{
+    let node = option(
+        alloc,
+        "node",
+        "TEXT",
+        "The sender's node ID, of at most 1024 bytes of UTF-8; empty for none",
+    );
+    node.required(true)
+}
+
+/// The option `--keepalive` of `pack`.
+fn keepalive<'a>(alloc: Global) -> Arg<'a>
+    ensures { HasRule (number_or (codes "keepalive") any_u16 (codes "60")) result }
+{
+    let keepalive = number(
+        alloc,
+        "keepalive",
+        any_u16(),
+        "The keepalive interval in seconds, 0 to 65535",
+    );
+    keepalive.default_value("60")
+}
+
+/// The option `--segment-mru` of `pack`.
+fn segment_mru<'a>(alloc: Global) -> Arg<'a>
+    ensures { HasRule (number_or (codes "segment-mru") any_u64 (codes "65536")) result }
+{
+    let segment_mru = number(
+        alloc,
+        "segment-mru",
+        any_u64(),
+        "The longest segment that the sender takes, 0 to 18446744073709551615 bytes",
+    );
+    segment_mru.default_value("65536")
+}
+
+/// The option `--transfer-mru` of `pack`.
+fn transfer_mru<'a>(alloc: Global) -> Arg<'a>
+    ensures { HasRule (number_or (codes "transfer-mru") any_u64 (codes "1048576")) result }
+{
+    let transfer_mru = number(
+        alloc,
+        "transfer-mru",
+        any_u64(),
+        "The longest transfer that the sender takes, 0 to 18446744073709551615 bytes",
+    );
+    transfer_mru.default_value("1048576")
+}
+
+/// The option `--peer-segment` of `pack`.
+fn peer_segment<'a>(alloc: Global) -> Arg<'a>
+    ensures { HasRule (number_or (codes "peer-segment") one_or_more (codes "65536")) result }
+{
+    let peer_segment = number(
+        alloc,
+        "peer-segment",
+        one_or_more(),
+        "The longest segment that the peer takes, 1 to 18446744073709551615 bytes; none has more than 65536",
+    );
+    peer_segment.default_value("65536")
+}
+
+/// The option `--peer-transfer` of `pack`.
+fn peer_transfer<'a>(alloc: Global) -> Arg<'a>
+    ensures { HasRule (
+        number_or (codes "peer-transfer") any_u64 (codes "18446744073709551615")) result }
+{
+    let peer_transfer = number(
+        alloc,
+        "peer-transfer",
+        any_u64(),
+        "The longest transfer that the peer takes, 0 to 18446744073709551615 bytes",
+    );
+    peer_transfer.default_value("18446744073709551615")
 }
 
 /// A tool without its arguments; `about` and `help` are texts of its `--help`.
@@ -275,6 +325,18 @@ fn number<'a>(alloc: Global, name: &'a str, range: ValueParser<'a>, help: &'a st
     ensures { HasRule (number name.entry.now range.entry) result }
 {
     option(alloc, name, "N", help).value_parser(range)
+}
+
+fn any_u16<'a>() -> ValueParser<'a>
+    ensures { result ≡ any_u16 }
+{
+    value_parser!(u16)
+}
+
+fn any_u64<'a>() -> ValueParser<'a>
+    ensures { result ≡ any_u64 }
+{
+    value_parser!(u64)
 }
 
 fn one_or_more<'a>() -> ValueParser<'a>
