@@ -7,6 +7,6 @@ use link_tools::Options;
 pub struct Invocation {
     /// The tool, with its options.
     pub options: Options,
-    /// The name of the file to read, which may be empty. `None` is standard input.
+    /// The name of the file to read, as it was given. It may be empty; `None` if there is none.
     pub file: Option<String>,
 }

@@ -290,7 +290,12 @@ fn failed_flush(rt: HostRuntime) {
 /// The program's message for a failure has the failure's own text.
 #[test]
 fn texts_of_failures(rt: HostRuntime) -> Result<(), Fail> {
-    for fault in [IoFault::Read, IoFault::InputTooLong, IoFault::Write, IoFault::Memory] {
+    for fault in [
+        IoFault::Read,
+        IoFault::InputTooLong,
+        IoFault::Write,
+        IoFault::Memory,
+    ] {
         let answer: Result<Status, IoFault> = Err(fault);
         let text = format!(in rt.alloc(); "tcpclkit: {fault}")?;
         assert_eq!(rt; text.as_str(), run_exit(&answer).1);
