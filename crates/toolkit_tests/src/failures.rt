@@ -1,20 +1,12 @@
-//! Tests in which each device fails at each of its calls in turn.
+//! Runs in which a device fails: each one in turn, at each of its calls.
 
 ghost use Rattle.std.specs.Prelude.{◌≡◌, ◌<◌, false};
 
-use crate::packings::{ANNOUNCED, IN_HALVES, PAST_LIMIT, Row};
-use crate::rows::{MESSAGES, TRANSFER};
+use crate::checks::{counted, exits, reported, wrote};
 use crate::running::{End, Tool, alike, ended_over};
-use crate::stream::{
-    CHANGED_BACK, CONTACT, CONTACT_LINE, FRONT, NODE, PARAMETERS, Part, SESSION, SESSION_WORDS,
-    WHOLE_TRANSFER, built, joined, text,
-};
-use crate::transfers::{ABANDONED, ALL, PAYLOAD, TWO_BUNDLES};
 use crate::{Failing, TestReader, TestWriter};
-use link_tools::run_exit;
 use link_wire::{InDevice, OutDevice};
 use std::alloc::Global;
-use std::process::Abort;
 use std::test::Fail;
 
 #[derive(Clone, Copy, Debug, PartialEq, Eq)]
@@ -88,13 +80,13 @@ impl<'a> Trial<'a> {
     }
 
     /// Runs the tool in steps, and three more after the end.
-    fn step_through(&self, rt: &(impl Abort + AllocGlobal)) -> Result<End<'a>, Fail> {
+    fn step_through(&self, alloc: Global) -> Result<End<'a>, Fail> {
         self.tool.step_through(
-            rt,
+            alloc,
             self.stream.len().saturating_add(2),
             self.reader(),
-            self.writer(rt.alloc(), Device::Output),
-            self.writer(rt.alloc(), Device::Report),
+            self.writer(alloc, Device::Output),
+            self.writer(alloc, Device::Report),
         )
     }
 }
@@ -103,21 +95,29 @@ impl<'a> Trial<'a> {
 ///
 /// If it fails, each later step returns the same and does no I/O. The whole call stops where the
 /// steps did.
-fn fails(
-    rt: &(impl Abort + AllocGlobal),
-    trial: &Trial<'_>,
-    whole: &End<'_>,
-) -> Result<bool, Fail> {
-    let end = trial.step_through(rt)?;
+fn fails(alloc: Global, trial: &Trial<'_>, whole: &End<'_>) -> Result<bool, Fail> {
+    let end = trial.step_through(alloc)?;
     if end.answer.is_ok() {
         return Ok(false);
     }
-    assert_eq!(rt; run_exit(&end.answer), trial.device.exit());
-    alike(rt, &end, &trial.run(rt.alloc()))?;
-    assert!(rt; whole.output.written().starts_with(end.output.written()));
-    assert!(rt; whole.report.written().starts_with(end.report.written()));
-    determined(rt, trial, &end)?;
+    exits("a failure", &end.answer, trial.device.exit())?;
+    alike(&end, &trial.run(alloc))?;
+    is_prefix("output", end.output.written(), whole.output.written())?;
+    is_prefix("report", end.report.written(), whole.report.written())?;
+    determined(alloc, trial, &end)?;
     Ok(true)
+}
+
+/// Checks that these bytes, which were written, are a prefix of the whole text.
+fn is_prefix(device: &str, written: &[u8], whole: &[u8]) -> Result<(), Fail> {
+    if whole.starts_with(written) {
+        return Ok(());
+    }
+    Err(Fail::new(format_args!(
+        "{device}: {} is no prefix of {}",
+        written.escape_ascii(),
+        whole.escape_ascii()
+    )))
 }
 
 /// The ends of those lines that only the end of the input determines.
@@ -141,34 +141,27 @@ fn lasting(report: &[u8]) -> &[u8] {
 ///
 /// After a failed read, the texts are those that these bytes determine. After a failed write, they
 /// are prefixes of the texts of that run.
-fn determined(
-    rt: &(impl Abort + AllocGlobal),
-    trial: &Trial<'_>,
-    end: &End<'_>,
-) -> Result<(), Fail> {
+fn determined(alloc: Global, trial: &Trial<'_>, end: &End<'_>) -> Result<(), Fail> {
     let given = trial
         .stream
         .get(..end.reader.given())
         .ok_or("more than the stream")?;
-    let alone = ended_over(rt.alloc(), trial.tool, given, usize::MAX);
+    let alone = ended_over(alloc, trial.tool, given, usize::MAX);
+    let (output, report) = (alone.output.written(), alone.report.written());
     if trial.device == Device::Reader {
-        assert!(rt; end.output.written() == alone.output.written());
-        assert_eq!(rt;
-            text(end.report.written())?,
-            text(lasting(alone.report.written()))?
-        );
+        wrote("a failed read", end.output.written(), output)?;
+        reported("a failed read", end.report.written(), lasting(report))
     } else {
-        assert!(rt; alone.output.written().starts_with(end.output.written()));
-        assert!(rt; alone.report.written().starts_with(end.report.written()));
+        is_prefix("output", end.output.written(), output)?;
+        is_prefix("report", end.report.written(), report)
     }
-    Ok(())
 }
 
 /// Checks that the device fails at each of the `calls` calls of a run, and at no later one.
 ///
 /// Between the first and the last hundred calls, only each `stride`-th call is tried.
 fn fails_at_its_calls(
-    rt: &(impl Abort + AllocGlobal),
+    alloc: Global,
     trial: &Trial<'_>,
     whole: &End<'_>,
     calls: usize,
@@ -181,19 +174,20 @@ fn fails_at_its_calls(
         if is_inner && count % stride != 0 {
             continue;
         }
-        assert!(rt;
-            fails(rt, &trial.failing_at(count + 1), whole)?,
-            "at call {count}"
-        );
+        if !fails(alloc, &trial.failing_at(count + 1), whole)? {
+            return Err(Fail::new(format_args!("no failure at call {count}")));
+        }
     }
     let later = trial.failing_at(calls.saturating_add(1));
-    assert!(rt; !fails(rt, &later, whole)?);
+    if fails(alloc, &later, whole)? {
+        return Err(Fail::new("a failure after the last call"));
+    }
     Ok(())
 }
 
 /// Each device fails in turn, in runs over devices that move at most `per_call` bytes a call.
-fn each_fails(
-    rt: &(impl Abort + AllocGlobal),
+pub fn each_fails(
+    alloc: Global,
     tool: Tool,
     stream: &[u8],
     per_call: usize,
@@ -202,7 +196,7 @@ fn each_fails(
     requires moves { 0 < per_call }
     requires stride { 0 < stride }
 {
-    let whole = ended_over(rt.alloc(), tool, stream, per_call);
+    let whole = ended_over(alloc, tool, stream, per_call);
     let calls = [
         (Device::Reader, whole.reader.calls()),
         (Device::Output, whole.output.calls()),
@@ -217,7 +211,7 @@ fn each_fails(
             device,
             failing,
         };
-        fails_at_its_calls(rt, &trial, &whole, calls, stride)?;
+        fails_at_its_calls(alloc, &trial, &whole, calls, stride)?;
     }
     Ok(())
 }
@@ -225,150 +219,28 @@ fn each_fails(
 /// Each device fails in turn at each call, in runs at each pace.
 ///
 /// The devices move all bytes in a call, then seven bytes, then one byte.
-fn each_fails_at_each_pace(
-    rt: &(impl Abort + AllocGlobal),
-    tool: Tool,
-    stream: &[u8],
-) -> Result<(), Fail> {
-    each_fails(rt, tool, stream, usize::MAX, 1)?;
-    each_fails(rt, tool, stream, 7, 1)?;
-    each_fails(rt, tool, stream, 1, 1)
+pub fn each_fails_at_each_pace(alloc: Global, tool: Tool, stream: &[u8]) -> Result<(), Fail> {
+    each_fails(alloc, tool, stream, usize::MAX, 1)?;
+    each_fails(alloc, tool, stream, 7, 1)?;
+    each_fails(alloc, tool, stream, 1, 1)
 }
 
-#[test]
-fn every_message(rt: HostRuntime) -> Result<(), Fail> {
-    let mut stream = joined(rt.alloc(), MESSAGES)?;
-    each_fails_at_each_pace(&rt, Tool::List, &stream)?;
-    // The fault gives the report a line.
-    stream.push(0x16)?;
-    each_fails_at_each_pace(&rt, Tool::List, &stream)
-}
-
-#[test]
-fn two_bundles(rt: HostRuntime) -> Result<(), Fail> {
-    let stream = built(rt.alloc(), TWO_BUNDLES)?;
-    each_fails_at_each_pace(&rt, Tool::Unpack(ALL), &stream)
-}
-
-/// A payload whose check differs.
-#[test]
-fn changed_payload(rt: HostRuntime) -> Result<(), Fail> {
-    let parts = [
-        Part::Bytes(SESSION),
-        Part::Segment(3, 0, &[FRONT, CHANGED_BACK]),
-    ];
-    let stream = built(rt.alloc(), &parts)?;
-    each_fails_at_each_pace(&rt, Tool::Unpack(PAYLOAD), &stream)
-}
-
-/// A transfer that another abandons, without a fault after it and with one.
-#[test]
-fn abandoned_transfer(rt: HostRuntime) -> Result<(), Fail> {
-    let mut stream = built(rt.alloc(), ABANDONED)?;
-    each_fails_at_each_pace(&rt, Tool::Unpack(ALL), &stream)?;
-    stream.push(0x16)?;
-    each_fails_at_each_pace(&rt, Tool::Unpack(ALL), &stream)
-}
-
-/// A SESS_INIT whose extension list is longer than two windows, a segment, and a fault.
-fn long_list(alloc: Global) -> Result<Vec<u8>, Fail> {
-    let value = [0xa5; 9000];
-    let list: &[&[u8]] = &[
-        b"\x00\x00\x46\x5a",
-        b"\x01\x12\x34\x23\x28",
-        &value,
-        b"\x00\xab\xcd\x23\x28",
-        &value,
-    ];
-    let mut stream = joined(alloc, &[CONTACT, PARAMETERS, NODE])?;
-    stream.extend_from_slice(&joined(alloc, list)?)?;
-    let segment: &[&[u8]] = &[
-        WHOLE_TRANSFER,
-        b"\x00\x00\x00\x00\x00\x00\x00\x05",
-        b"hello",
-    ];
-    stream.extend_from_slice(&joined(alloc, segment)?)?;
-    stream.push(0x16)?;
-    Ok(stream)
-}
-
-#[test]
-fn long_list_at_once(rt: HostRuntime) -> Result<(), Fail> {
-    let stream = long_list(rt.alloc())?;
-    let end = ended_over(rt.alloc(), Tool::List, &stream, usize::MAX);
-    let lines: &[&[u8]] = &[
-        CONTACT_LINE,
-        SESSION_WORDS,
-        b" node=ipn:1.0 items=2 item=01:1234:9000 item=00:abcd:9000\n",
-        b"18048 xfer-segment flags=03 id=0 items=0 length=5\n",
-    ];
-    assert_eq!(rt;
-        text(end.output.written())?,
-        text(&joined(rt.alloc(), lines)?)?
-    );
-    assert_eq!(rt;
-        text(end.report.written())?,
-        "tcpclkit: byte 18075: unknown message type 16\n"
-    );
-    assert_eq!(rt; end.reader.calls(), 3);
-    each_fails(&rt, Tool::List, &stream, usize::MAX, 1)
-}
-
-#[test]
-fn long_list_by_sevens(rt: HostRuntime) -> Result<(), Fail> {
-    each_fails(&rt, Tool::List, &long_list(rt.alloc())?, 7, 1)
-}
-
-#[test]
-fn long_list_byte_by_byte(rt: HostRuntime) -> Result<(), Fail> {
-    each_fails(&rt, Tool::List, &long_list(rt.alloc())?, 1, 31)
-}
-
-/// Each device fails in turn while the bundles of a row are packed.
-fn each_fails_in_the_row(rt: &(impl Abort + AllocGlobal), row: &Row) -> Result<(), Fail> {
-    let input = joined(rt.alloc(), row.input)?;
-    each_fails_at_each_pace(rt, Tool::Pack(row.packing), &input)
-}
-
-#[test]
-fn two_bundles_packed(rt: HostRuntime) -> Result<(), Fail> {
-    each_fails_in_the_row(&rt, &IN_HALVES)
-}
-
-/// No segment is written before the bundle has ended.
-#[test]
-fn announced_bundle(rt: HostRuntime) -> Result<(), Fail> {
-    each_fails_in_the_row(&rt, &ANNOUNCED)
-}
-
-/// Segments without END, and a fault.
-#[test]
-fn bundle_past_the_limit(rt: HostRuntime) -> Result<(), Fail> {
-    each_fails_in_the_row(&rt, &PAST_LIMIT)
-}
-
-/// A run writes what the bytes so far determine before it takes any byte after them.
+/// Checks how often a run calls its reader before its output fails, after `written` bytes.
 ///
-/// The text is a line of `list`, a byte of data of `unpack`, or a segment of `pack` after the
-/// beginning of the session.
-#[test]
-fn reads_no_further_than_it_writes(rt: HostRuntime) -> Result<(), Fail> {
-    let stream = joined(rt.alloc(), TRANSFER)?;
-    let bundles = joined(rt.alloc(), IN_HALVES.input)?;
-    let rows = [
-        (Tool::List, &stream, 0, 6),
-        (Tool::Unpack(ALL), &stream, 0, 61),
-        (Tool::Pack(IN_HALVES.packing), &bundles, 38, 17),
-    ];
-    for (tool, input, written, calls) in rows {
-        let end = tool.run(
-            rt.alloc(),
-            TestReader::new(input, 1, Failing::Never),
-            TestWriter::new(rt.alloc(), 1, Failing::Past(written)),
-            TestWriter::new(rt.alloc(), 1, Failing::Never),
-        );
-        assert_eq!(rt; run_exit(&end.answer), Device::Output.exit());
-        assert_eq!(rt; end.reader.calls(), calls);
-    }
-    Ok(())
+/// The devices move one byte a call.
+pub fn reads_before_failure(
+    alloc: Global,
+    tool: Tool,
+    input: &[u8],
+    written: usize,
+    calls: usize,
+) -> Result<(), Fail> {
+    let end = tool.run(
+        alloc,
+        TestReader::new(input, 1, Failing::Never),
+        TestWriter::new(alloc, 1, Failing::Past(written)),
+        TestWriter::new(alloc, 1, Failing::Never),
+    );
+    exits("a failed write", &end.answer, Device::Output.exit())?;
+    counted("calls of the reader", end.reader.calls(), calls)
 }

@@ -1,39 +1,21 @@
-//! Tests that cross crates.
+//! Test devices, worked streams, and checks of runs of the tools over test devices.
 //!
-//! Their devices move bytes in small pieces, and fail at a chosen call. Each worked stream has
-//! the texts that the tools must write for it.
+//! The devices move bytes in small pieces, and fail at a chosen call. The crates `list_tests`,
+//! `unpack_tests` and `pack_tests` have the tests of each tool. A check of this crate returns a
+//! [`std::test::Fail`] that says what differs.
 #![tactic(auto)]
 
+pub mod checks;
 mod device;
-#[cfg(test)]
-mod failures;
-#[cfg(test)]
-mod listings;
-#[cfg(test)]
-mod memory;
+pub mod failures;
 mod pace;
-#[cfg(test)]
-mod packing;
-#[cfg(test)]
-mod packings;
-#[cfg(test)]
-mod rows;
-#[cfg(test)]
-mod running;
-#[cfg(test)]
-mod sessions;
+pub mod packing;
+pub mod rows;
+pub mod running;
 #[cfg(test)]
 mod std_devices;
-#[cfg(test)]
-mod stream;
-#[cfg(test)]
-mod transfers;
-#[cfg(test)]
-mod unpacking;
-#[cfg(test)]
-mod verdicts;
-#[cfg(test)]
-mod windows;
+pub mod stepping;
+pub mod stream;
 
 pub use device::{TestReader, TestWriter};
 pub use pace::Failing;

@@ -1,217 +1,48 @@
-//! Tests that pack the worked bundles, at each pace of the devices and step by step.
+//! The options of `pack` in a form that tables of tests can hold.
 
-use crate::packings::{
-    ANNOUNCED, DEFAULTS, FAULTS, HELD, IN_HALVES, NOT_HELD, PAST_LIMIT, Packing, Row, WHOLE,
-};
-use crate::running::{Expected, Tool, ended_over, gives_at_each_pace, steps_alike};
-use crate::stream::{CONTACT_LINE, PLAIN, SESSION, SESSION_LINE, built, joined, put_segment, text};
-use crate::transfers::{ALL, EMPTY_END, WHOLE_BUNDLES};
-use crate::{Failing, TestReader, TestWriter};
-use link_tools::{PackRun, Progress, Run, Status, cutter_for};
-use std::alloc::Global;
-use std::process::Abort;
-use std::test::Fail;
+use link_tools::PackOptions;
+use link_wire::NodeId;
 
-/// Checks that packing the input gives this result at each pace, in one call and in steps.
-fn gives_in_steps(
-    rt: &(impl Abort + AllocGlobal),
-    name: &str,
-    input: &[u8],
-    want: &Expected<'_>,
-) -> Result<(), Fail> {
-    gives_at_each_pace(rt, name, input, want)?;
-    steps_alike(rt, want.tool, input, 7)?;
-    steps_alike(rt, want.tool, input, 1)
+/// The options of a run of `pack`, as numbers and bytes.
+#[derive(Clone, Copy, Debug, PartialEq, Eq)]
+pub struct Packing {
+    pub node: &'static [u8],
+    pub keepalive: u16,
+    pub segment_mru: u64,
+    pub transfer_mru: u64,
+    pub peer_segment: u64,
+    pub peer_transfer: u64,
+    pub announce: u64,
+    pub send_term: bool,
 }
 
-/// Checks the result of packing for each row.
-fn all_given(rt: &(impl Abort + AllocGlobal), rows: &[Row]) -> Result<(), Fail> {
-    for row in rows {
-        let input = joined(rt.alloc(), row.input)?;
-        let output = built(rt.alloc(), row.output)?;
-        let report = joined(rt.alloc(), row.report)?;
-        let want = Expected {
-            tool: Tool::Pack(row.packing),
-            output: &output,
-            report: &report,
-            status: row.status,
-        };
-        gives_in_steps(rt, row.name, &input, &want)?;
-    }
-    Ok(())
-}
-
-#[test]
-fn whole_bundles(rt: HostRuntime) -> Result<(), Fail> {
-    all_given(&rt, &WHOLE)
-}
-
-#[test]
-fn faults(rt: HostRuntime) -> Result<(), Fail> {
-    all_given(&rt, &FAULTS)
-}
-
-/// A bundle that is cut after each of its bytes but the last.
-#[test]
-fn every_prefix(rt: HostRuntime) -> Result<(), Fail> {
-    let bundle = joined(rt.alloc(), PLAIN)?;
-    let session = joined(rt.alloc(), SESSION)?;
-    for size in 1..=33 {
-        let prefix = bundle.get(..size).ok_or("more than the bundle")?;
-        let report = format!(in rt.alloc();
-            "tcpclkit: bundle 0 byte {size}: B1 input ends inside a bundle\n"
-        )?;
-        let want = Expected {
-            tool: Tool::Pack(DEFAULTS),
-            output: &session,
-            report: report.as_bytes(),
-            status: 3,
-        };
-        gives_in_steps(&rt, "a prefix of a bundle", prefix, &want)?;
-    }
-    Ok(())
-}
-
-/// Packs a row's input in steps, over a reader of one byte a call.
-///
-/// Each entry of `written` is a number of steps, and how many bytes of the output and lines of the
-/// report are written after each of these steps. The step after all of them is the last.
-fn byte_by_byte(
-    rt: &(impl Abort + AllocGlobal),
-    row: &Row,
-    written: &[(usize, usize, usize)],
-) -> Result<(), Fail> {
-    let input = joined(rt.alloc(), row.input)?;
-    let output = built(rt.alloc(), row.output)?;
-    let options = row.packing.options();
-    let cutter = cutter_for(rt.alloc(), &options)?;
-    let mut run = PackRun::new(
-        cutter,
-        options,
-        TestReader::new(&input, 1, Failing::Never),
-        TestWriter::new(rt.alloc(), usize::MAX, Failing::Never),
-        TestWriter::new(rt.alloc(), usize::MAX, Failing::Never),
-    );
-    for (steps, size, lines) in written {
-        let report = row.report.get(..*lines).ok_or("more than the report")?;
-        let report = joined(rt.alloc(), report)?;
-        for _ in 0..*steps {
-            assert_eq!(rt; run.step(), Ok(Progress::More));
-            assert!(rt; Some(run.output().written()) == output.get(..*size));
-            assert_eq!(rt; text(run.report().written())?, text(&report)?);
+impl Packing {
+    /// The same options in the type that `pack` takes.
+    ///
+    /// No row has values that this type cannot hold: a node ID of more than 1,024 bytes, segments
+    /// without data, or announced lengths above 1,048,576.
+    pub fn options(&self) -> PackOptions {
+        PackOptions {
+            node: NodeId::try_from(self.node).unwrap_or_default(),
+            keepalive: self.keepalive,
+            segment_mru: self.segment_mru,
+            transfer_mru: self.transfer_mru,
+            peer_segment: self.peer_segment.max(1),
+            peer_transfer: self.peer_transfer,
+            announce: self.announce.min(1_048_576),
+            send_term: self.send_term,
         }
     }
-    assert_eq!(rt; run.step(), Ok(Progress::Done(Status(row.status))));
-    Ok(())
 }
 
-/// A chunk is written in the step that takes its last byte.
-///
-/// The line of a bundle is written in the same step as its last chunk.
-#[test]
-fn two_bundles_step_by_step(rt: HostRuntime) -> Result<(), Fail> {
-    let written = [
-        (17, 38, 0),
-        (17, 77, 0),
-        (17, 112, 1),
-        (17, 151, 1),
-        (1, 186, 2),
-    ];
-    byte_by_byte(&rt, &IN_HALVES, &written)
-}
-
-/// A bundle whose length may still be announced is written at its end.
-#[test]
-fn announced_step_by_step(rt: HostRuntime) -> Result<(), Fail> {
-    byte_by_byte(&rt, &ANNOUNCED, &[(34, 38, 0), (1, 125, 1)])
-}
-
-/// The chunks of a bundle are written once its length can no longer be announced.
-///
-/// They are written in the step that takes the first byte past the longest length that is
-/// announced. If no length is announced, a chunk is written as soon as it is full.
-#[test]
-fn past_the_limit_step_by_step(rt: HostRuntime) -> Result<(), Fail> {
-    byte_by_byte(&rt, &HELD, &[(34, 38, 0)])?;
-    byte_by_byte(&rt, &NOT_HELD, &[(33, 38, 0), (1, 126, 0)])?;
-    let written = [(10, 38, 0), (10, 70, 0), (10, 98, 0), (4, 126, 0)];
-    byte_by_byte(&rt, &PAST_LIMIT, &written)
-}
-
-/// The stream that a row's input is packed into.
-fn packed(alloc: Global, row: &Row) -> Result<Vec<u8>, Fail> {
-    let input = joined(alloc, row.input)?;
-    let end = ended_over(alloc, Tool::Pack(row.packing), &input, usize::MAX);
-    joined(alloc, &[end.output.written()])
-}
-
-/// Checks that unpacking the packed stream returns the bundles, with these lines.
-fn comes_back(rt: &(impl Abort + AllocGlobal), row: &Row, report: &[&[u8]]) -> Result<(), Fail> {
-    let input = joined(rt.alloc(), row.input)?;
-    let report = joined(rt.alloc(), report)?;
-    let want = Expected {
-        tool: Tool::Unpack(ALL),
-        output: &input,
-        report: &report,
-        status: 0,
-    };
-    gives_at_each_pace(rt, row.name, &packed(rt.alloc(), row)?, &want)
-}
-
-#[test]
-fn unpacked_again(rt: HostRuntime) -> Result<(), Fail> {
-    comes_back(&rt, &IN_HALVES, WHOLE_BUNDLES.report)?;
-    comes_back(&rt, &ANNOUNCED, EMPTY_END.report)
-}
-
-#[test]
-fn announced_length_listed(rt: HostRuntime) -> Result<(), Fail> {
-    let lines: &[&[u8]] = &[
-        CONTACT_LINE,
-        SESSION_LINE,
-        b"38 xfer-segment flags=02 id=0 items=1 item=00:0001:8 length=17\n",
-        b"90 xfer-segment flags=01 id=0 length=17\n",
-    ];
-    let lines = joined(rt.alloc(), lines)?;
-    let want = Expected {
-        tool: Tool::List,
-        output: &lines,
-        report: b"",
-        status: 0,
-    };
-    let stream = packed(rt.alloc(), &ANNOUNCED)?;
-    gives_at_each_pace(&rt, "an announced length", &stream, &want)
-}
-
-/// A bundle of 70,033 bytes whose payload is zeros.
-fn long_bundle(alloc: Global) -> Result<Vec<u8>, Fail> {
-    let mut bundle = joined(alloc, PLAIN)?;
-    bundle.truncate(27);
-    bundle.extend_from_slice(b"\x5a\x00\x01\x11\x70")?;
-    bundle.resize(70_032, 0)?;
-    bundle.push(0xff)?;
-    Ok(bundle)
-}
-
-/// No segment has more than 65,536 bytes of data, whatever the peer takes.
-#[test]
-fn longest_segment(rt: HostRuntime) -> Result<(), Fail> {
-    let bundle = long_bundle(rt.alloc())?;
-    let (first, last) = bundle
-        .split_at_checked(65_536)
-        .ok_or("less than a segment")?;
-    let mut output = joined(rt.alloc(), SESSION)?;
-    put_segment(&mut output, 2, 0, &[first])?;
-    put_segment(&mut output, 1, 0, &[last])?;
-    let packing = Packing {
-        peer_segment: u64::MAX,
-        ..DEFAULTS
-    };
-    let want = Expected {
-        tool: Tool::Pack(packing),
-        output: &output,
-        report: b"bundle 0 segments=2 length=70033 source=ipn:1.1 time=0 sequence=0 destination=ipn:2.1 payload=70000\n",
-        status: 0,
-    };
-    gives_at_each_pace(&rt, "a long bundle", &bundle, &want)
-}
+/// The sender of `SESSION`, and a peer without limits.
+pub const DEFAULTS: Packing = Packing {
+    node: b"ipn:1.0",
+    keepalive: 60,
+    segment_mru: 65_536,
+    transfer_mru: 1_048_576,
+    peer_segment: 65_536,
+    peer_transfer: u64::MAX,
+    announce: 0,
+    send_term: false,
+};

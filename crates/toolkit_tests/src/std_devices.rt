@@ -6,9 +6,9 @@
 ghost use Rattle.std.specs.Prelude.{◌≡◌, false};
 
 use crate::rows::{TRANSFER, TRANSFER_LINES};
-use crate::running::stepped;
+use crate::stepping::ended;
 use crate::stream::{CONTACT_LINE, joined, text};
-use link_tools::{ListRun, Run, Status, list, run_exit};
+use link_tools::{ListRun, Status, list, run_exit};
 use link_wire::{
     Contact, Filled, InDevice, IoFault, OutDevice, Reader, Session, Source, Stop, Writer,
     write_whole,
@@ -136,17 +136,21 @@ fn with_memory(alloc: Global) -> Writer<Vec<u8>>
 /// The number of a call that is never reached, for a device without a hitch.
 const NEVER: usize = usize::MAX;
 
-/// Steps a run to its end, and then three times more. Each of these steps returns the same.
-fn ends<R: InDevice, W: OutDevice, E: OutDevice>(
+/// Steps a run of `list` to its end, checks how the program ends, and returns the devices.
+fn listed<R: InDevice + Drop, W: OutDevice + Drop, E: OutDevice + Drop>(
     rt: &impl Abort,
-    run: &mut ListRun<R, W, E>,
+    reader: R,
+    output: W,
+    report: E,
     exit: (u8, &'static str),
-) -> Result<(), Fail> {
-    for steps in [100, 1, 1, 1] {
-        let answer = stepped(run, steps).ok_or("no end")?;
-        assert_eq!(rt; run_exit(&answer), exit);
-    }
-    Ok(())
+) -> Result<(R, W, E), Fail>
+    requires reader { (R.state reader).failed ≡ false }
+    requires output { (W.state output).failed ≡ false }
+    requires report { (E.state report).failed ≡ false }
+{
+    let end = ended(ListRun::new(reader, output, report), 100)?;
+    assert_eq!(rt; run_exit(&end.answer), exit);
+    Ok((end.reader, end.output, end.report))
 }
 
 /// The number of lines that the first `size` bytes of the stream `TRANSFER` determine.
@@ -164,13 +168,13 @@ fn lines_after(size: usize) -> usize {
 fn interrupted_reader(rt: HostRuntime) -> Result<(), Fail> {
     let stream = joined(rt.alloc(), TRANSFER)?;
     for given in 0..=94 {
-        let mut run = ListRun::new(
+        let (reader, output, report) = listed(
+            &rt,
             reader(&stream, given + 1),
             with_memory(rt.alloc()),
             with_memory(rt.alloc()),
-        );
-        ends(&rt, &mut run, (4, "tcpclkit: read failed"))?;
-        let (reader, output, report) = run.into_parts();
+            (4, "tcpclkit: read failed"),
+        )?;
         assert_eq!(rt; reader.into_inner().calls, given + 1);
         let lines = TRANSFER_LINES
             .get(..lines_after(given))
@@ -190,13 +194,13 @@ fn hitching_output(rt: HostRuntime) -> Result<(), Fail> {
     let lines = joined(rt.alloc(), TRANSFER_LINES)?;
     for hitch in [Hitch::Interrupted, Hitch::TakesNone] {
         for count in 0..lines.len() {
-            let mut run = ListRun::new(
+            let (_, output, report) = listed(
+                &rt,
                 reader(&stream, NEVER),
                 writer(rt.alloc(), hitch, count + 1),
                 with_memory(rt.alloc()),
-            );
-            ends(&rt, &mut run, (4, "tcpclkit: write failed"))?;
-            let (_, output, report) = run.into_parts();
+                (4, "tcpclkit: write failed"),
+            )?;
             let output = output.into_inner();
             assert_eq!(rt; output.calls, count + 1);
             assert_eq!(rt; text(&output.written)?, text(&lines[..count])?);
@@ -214,13 +218,13 @@ fn hitching_report(rt: HostRuntime) -> Result<(), Fail> {
     let prefix = stream.get(..7).ok_or("more than the stream")?;
     for hitch in [Hitch::Interrupted, Hitch::TakesNone] {
         for count in 0..line.len() {
-            let mut run = ListRun::new(
+            let (_, output, report) = listed(
+                &rt,
                 reader(prefix, NEVER),
                 with_memory(rt.alloc()),
                 writer(rt.alloc(), hitch, count + 1),
-            );
-            ends(&rt, &mut run, (4, "tcpclkit: write failed"))?;
-            let (_, output, report) = run.into_parts();
+                (4, "tcpclkit: write failed"),
+            )?;
             let report = report.into_inner();
             assert_eq!(rt; report.calls, count + 1);
             assert_eq!(rt; text(&report.written)?, text(&line[..count])?);

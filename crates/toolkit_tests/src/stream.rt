@@ -65,6 +65,9 @@ pub const SESSION_WORDS: &[u8] = b"6 sess-init keepalive=60 segment-mru=65536 tr
 pub const SESSION_LINE: &[u8] =
     b"6 sess-init keepalive=60 segment-mru=65536 transfer-mru=1048576 node=ipn:1.0 items=0\n";
 
+/// The offset at which the first read of a source ends.
+pub const EDGE: usize = 8192;
+
 /// Appends the pieces, one after another.
 fn append(bytes: &mut Vec<u8>, pieces: &[&[u8]]) -> Result<(), Fail> {
     for piece in pieces {

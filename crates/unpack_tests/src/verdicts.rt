@@ -2,13 +2,13 @@
 
 ghost use Rattle.std.specs.Prelude.{◌≤◌};
 
-use crate::running::{Expected, Tool, gives_at_each_pace};
-use crate::stream::{CHANGED_BACK, CHECKED_BACK, PLAIN, SESSION, joined, put_segment};
-use crate::transfers::{ALL, PAYLOAD};
+use crate::transfers::PAYLOAD;
 use link_tools::Wanted;
 use std::alloc::Global;
-use std::process::Abort;
 use std::test::Fail;
+use toolkit_tests::rows::ALL;
+use toolkit_tests::running::{Expected, Tool, gives_at_each_pace};
+use toolkit_tests::stream::{CHANGED_BACK, CHECKED_BACK, PLAIN, SESSION, joined, put_segment};
 
 /// The range of the bundle's bytes that is replaced, the new bytes, the verdict, and the payload's
 /// bytes.
@@ -143,16 +143,16 @@ const BLOCKS: [Changed; 12] = [
 
 /// Checks that unpacking one transfer gives this output and this verdict.
 fn judged(
-    rt: &(impl Abort + AllocGlobal),
+    alloc: Global,
     wanted: Wanted,
     bundle: &[u8],
     output: &[u8],
     verdict: &str,
 ) -> Result<(), Fail> {
-    let mut stream = joined(rt.alloc(), SESSION)?;
+    let mut stream = joined(alloc, SESSION)?;
     put_segment(&mut stream, 3, 0, &[bundle])?;
     let (written, length) = (output.len(), bundle.len());
-    let report = format!(in rt.alloc();
+    let report = format!(in alloc;
         "transfer 0 start=0 written={written} length={length} {verdict}\n"
     )?;
     let want = Expected {
@@ -161,47 +161,47 @@ fn judged(
         report: report.as_bytes(),
         status: if verdict.starts_with("good ") { 0 } else { 1 },
     };
-    gives_at_each_pace(rt, verdict, &stream, &want)
+    gives_at_each_pace(alloc, verdict, &stream, &want)
 }
 
 /// Checks the verdict, with all data of the bundle written and with only its payload written.
 fn judged_both_ways(
-    rt: &(impl Abort + AllocGlobal),
+    alloc: Global,
     bundle: &[u8],
     verdict: &str,
     payload: &[u8],
 ) -> Result<(), Fail> {
-    judged(rt, ALL, bundle, bundle, verdict)?;
-    judged(rt, PAYLOAD, bundle, payload, verdict)
+    judged(alloc, ALL, bundle, bundle, verdict)?;
+    judged(alloc, PAYLOAD, bundle, payload, verdict)
 }
 
-fn all_judged(rt: &(impl Abort + AllocGlobal), table: &[Changed]) -> Result<(), Fail> {
-    let plain = joined(rt.alloc(), PLAIN)?;
+fn all_judged(alloc: Global, table: &[Changed]) -> Result<(), Fail> {
+    let plain = joined(alloc, PLAIN)?;
     for changed in table {
         let ([from, to], by, verdict, payload) = *changed;
         let front = plain.get(..from).ok_or("more than the bundle")?;
         let back = plain.get(to..).ok_or("more than the bundle")?;
-        let mut bundle = joined(rt.alloc(), &[front])?;
+        let mut bundle = joined(alloc, &[front])?;
         bundle.extend_from_slice(by)?;
         bundle.extend_from_slice(back)?;
-        judged_both_ways(rt, &bundle, verdict, payload)?;
+        judged_both_ways(alloc, &bundle, verdict, payload)?;
     }
     Ok(())
 }
 
 #[test]
 fn primary_blocks(rt: HostRuntime) -> Result<(), Fail> {
-    all_judged(&rt, &PRIMARY)
+    all_judged(rt.alloc(), &PRIMARY)
 }
 
 #[test]
 fn names(rt: HostRuntime) -> Result<(), Fail> {
-    all_judged(&rt, &NAMES)
+    all_judged(rt.alloc(), &NAMES)
 }
 
 #[test]
 fn canonical_blocks(rt: HostRuntime) -> Result<(), Fail> {
-    all_judged(&rt, &BLOCKS)
+    all_judged(rt.alloc(), &BLOCKS)
 }
 
 /// The bundle with this many blocks before its payload block, numbered from 2.
@@ -223,12 +223,17 @@ fn with_blocks(alloc: Global, blocks: u8) -> Result<Vec<u8>, Fail>
 
 #[test]
 fn most_blocks(rt: HostRuntime) -> Result<(), Fail> {
-    judged_both_ways(&rt, &with_blocks(rt.alloc(), 63)?, GOOD, b"hello")
+    judged_both_ways(rt.alloc(), &with_blocks(rt.alloc(), 63)?, GOOD, b"hello")
 }
 
 #[test]
 fn too_many_blocks(rt: HostRuntime) -> Result<(), Fail> {
-    judged_both_ways(&rt, &with_blocks(rt.alloc(), 64)?, "bad=B16 byte=448", b"")
+    judged_both_ways(
+        rt.alloc(),
+        &with_blocks(rt.alloc(), 64)?,
+        "bad=B16 byte=448",
+        b"",
+    )
 }
 
 /// A payload of 9,000 bytes, which is longer than a window.
@@ -242,5 +247,5 @@ fn long_payload(rt: HostRuntime) -> Result<(), Fail> {
     let front = plain.get(..27).ok_or("a short bundle")?;
     let bundle = joined(rt.alloc(), &[front, b"\x59\x23\x28", &payload, b"\xff"])?;
     let verdict = "good source=ipn:1.1 time=0 sequence=0 destination=ipn:2.1 payload=9000";
-    judged_both_ways(&rt, &bundle, verdict, &payload)
+    judged_both_ways(rt.alloc(), &bundle, verdict, &payload)
 }

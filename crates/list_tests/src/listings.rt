@@ -2,45 +2,45 @@
 
 ghost use Rattle.std.specs.Prelude.{◌<◌};
 
-use crate::rows::{FAULTS, MESSAGE_LINES, MESSAGES, Row, SESSIONS, TRANSFER, TRANSFERS};
-use crate::running::{Expected, Tool, ended_over, gives, gives_at_each_pace};
-use crate::stream::{
+use crate::rows::{FAULTS, MESSAGE_LINES, MESSAGES, Row, SESSIONS, TRANSFERS};
+use std::alloc::Global;
+use std::test::Fail;
+use toolkit_tests::rows::TRANSFER;
+use toolkit_tests::running::{Expected, Tool, ended_over, gives, gives_at_each_pace};
+use toolkit_tests::stream::{
     CONTACT, CONTACT_LINE, NO_ITEMS, NODE, PARAMETERS, SESSION_LINE, SESSION_WORDS, WHOLE_TRANSFER,
     joined,
 };
-use std::alloc::Global;
-use std::process::Abort;
-use std::test::Fail;
 
 /// Checks the result of listing for each row.
-fn all_given(rt: &(impl Abort + AllocGlobal), rows: &[Row]) -> Result<(), Fail> {
+fn all_given(alloc: Global, rows: &[Row]) -> Result<(), Fail> {
     for row in rows {
-        let stream = joined(rt.alloc(), row.stream)?;
-        let output = joined(rt.alloc(), row.output)?;
+        let stream = joined(alloc, row.stream)?;
+        let output = joined(alloc, row.output)?;
         let want = Expected {
             tool: Tool::List,
             output: &output,
             report: row.report,
             status: row.status,
         };
-        gives_at_each_pace(rt, row.name, &stream, &want)?;
+        gives_at_each_pace(alloc, row.name, &stream, &want)?;
     }
     Ok(())
 }
 
 #[test]
 fn sessions(rt: HostRuntime) -> Result<(), Fail> {
-    all_given(&rt, &SESSIONS)
+    all_given(rt.alloc(), &SESSIONS)
 }
 
 #[test]
 fn transfers(rt: HostRuntime) -> Result<(), Fail> {
-    all_given(&rt, &TRANSFERS)
+    all_given(rt.alloc(), &TRANSFERS)
 }
 
 #[test]
 fn faults(rt: HostRuntime) -> Result<(), Fail> {
-    all_given(&rt, &FAULTS)
+    all_given(rt.alloc(), &FAULTS)
 }
 
 /// A node ID of 1,024 bytes, all of them escaped.
@@ -63,7 +63,7 @@ fn longest_node(rt: HostRuntime) -> Result<(), Fail> {
         report: b"",
         status: 0,
     };
-    gives_at_each_pace(&rt, "the longest node ID", &stream, &want)
+    gives_at_each_pace(rt.alloc(), "the longest node ID", &stream, &want)
 }
 
 /// An item that fills an extension list of 4,096 bytes.
@@ -79,7 +79,7 @@ fn long_item(rt: HostRuntime) -> Result<(), Fail> {
         report: b"",
         status: 0,
     };
-    gives_at_each_pace(&rt, "a long item", &stream, &want)
+    gives_at_each_pace(rt.alloc(), "a long item", &stream, &want)
 }
 
 /// The offset of the fault at the end of a prefix of the stream with the longest list.
@@ -109,7 +109,7 @@ fn longest_list(rt: HostRuntime) -> Result<(), Fail> {
         report: b"",
         status: 0,
     };
-    gives_at_each_pace(&rt, "the longest list", &stream, &want)?;
+    gives_at_each_pace(rt.alloc(), "the longest list", &stream, &want)?;
     for size in (0..=100).chain([65_573]) {
         let prefix = stream.get(..size).ok_or("more than the stream")?;
         let report = match cut_at(size) {
@@ -122,7 +122,7 @@ fn longest_list(rt: HostRuntime) -> Result<(), Fail> {
             report: report.as_bytes(),
             status: if report.is_empty() { 0 } else { 3 },
         };
-        gives_at_each_pace(&rt, "a prefix of the longest list", prefix, &want)?;
+        gives_at_each_pace(rt.alloc(), "a prefix of the longest list", prefix, &want)?;
     }
     Ok(())
 }
@@ -146,7 +146,7 @@ fn long_segment(rt: HostRuntime) -> Result<(), Fail> {
         report: b"",
         status: 0,
     };
-    gives_at_each_pace(&rt, "a long segment", &stream, &want)
+    gives_at_each_pace(rt.alloc(), "a long segment", &stream, &want)
 }
 
 /// The offsets at which the contact header and each of the messages end.
@@ -174,7 +174,13 @@ fn every_prefix(rt: HostRuntime) -> Result<(), Fail> {
             report: if is_whole { b"" } else { fault.as_bytes() },
             status: if is_whole { 0 } else { 3 },
         };
-        gives(&rt, "a prefix of every message", &stream[..size], 1, &want)?;
+        gives(
+            rt.alloc(),
+            "a prefix of every message",
+            &stream[..size],
+            1,
+            &want,
+        )?;
     }
     Ok(())
 }

@@ -2,11 +2,11 @@
 
 ghost use Rattle.std.specs.Prelude.{◌<◌};
 
-use crate::rows::TRANSFER;
-use crate::stream::{BACK, FRONT, joined};
-use crate::{Failing, TestReader};
 use link_wire::{Contact, Message, Session, Source, Stop, WireFault};
 use std::test::Fail;
+use toolkit_tests::rows::TRANSFER;
+use toolkit_tests::stream::{BACK, FRONT, joined};
+use toolkit_tests::{Failing, TestReader};
 
 #[test]
 fn message_by_message(rt: HostRuntime) -> Result<(), Fail> {

@@ -2,54 +2,48 @@
 
 ghost use Rattle.std.specs.Prelude.{◌<◌};
 
-use crate::rows::TRANSFER;
-use crate::running::{Expected, Tool, gives_at_each_pace};
-use crate::stream::{PLAIN, SESSION, built, joined, put_segment, text};
-use crate::transfers::{
-    ABANDONING, ALL, EMPTY_END, FAULTS, GOOD, PARTS, PAYLOADS, Row, TWO_BUNDLES, WHOLE,
-    WHOLE_BUNDLES,
-};
-use crate::windows::EDGE;
-use crate::{Failing, TestReader, TestWriter};
-use link_tools::{Progress, Run, Status, UnpackRun, Wanted};
+use crate::transfers::{ABANDONING, EMPTY_END, FAULTS, PARTS, PAYLOADS, Row, WHOLE, WHOLE_BUNDLES};
 use std::alloc::Global;
-use std::process::Abort;
 use std::test::Fail;
+use toolkit_tests::rows::{ALL, BUNDLE_REPORT, TRANSFER, TWO_BUNDLES};
+use toolkit_tests::running::{Expected, Tool, gives_at_each_pace};
+use toolkit_tests::stepping::{is_done, unpack_run, unpacks_on};
+use toolkit_tests::stream::{EDGE, PLAIN, SESSION, built, joined, put_segment};
 
 /// Checks that unpacking the stream gives the result of the row.
-fn row_gives(rt: &(impl Abort + AllocGlobal), row: &Row, stream: &[u8]) -> Result<(), Fail> {
-    let output = joined(rt.alloc(), row.output)?;
-    let report = joined(rt.alloc(), row.report)?;
+fn row_gives(alloc: Global, row: &Row, stream: &[u8]) -> Result<(), Fail> {
+    let output = joined(alloc, row.output)?;
+    let report = joined(alloc, row.report)?;
     let want = Expected {
         tool: Tool::Unpack(row.wanted),
         output: &output,
         report: &report,
         status: row.status,
     };
-    gives_at_each_pace(rt, row.name, stream, &want)
+    gives_at_each_pace(alloc, row.name, stream, &want)
 }
 
 /// Checks the result of unpacking for each row.
-fn all_given(rt: &(impl Abort + AllocGlobal), rows: &[Row]) -> Result<(), Fail> {
+fn all_given(alloc: Global, rows: &[Row]) -> Result<(), Fail> {
     for row in rows {
-        row_gives(rt, row, &built(rt.alloc(), row.stream)?)?;
+        row_gives(alloc, row, &built(alloc, row.stream)?)?;
     }
     Ok(())
 }
 
 #[test]
 fn whole_streams(rt: HostRuntime) -> Result<(), Fail> {
-    all_given(&rt, &WHOLE)
+    all_given(rt.alloc(), &WHOLE)
 }
 
 #[test]
 fn wanted_parts(rt: HostRuntime) -> Result<(), Fail> {
-    all_given(&rt, &PARTS)
+    all_given(rt.alloc(), &PARTS)
 }
 
 #[test]
 fn faults(rt: HostRuntime) -> Result<(), Fail> {
-    all_given(&rt, &FAULTS)
+    all_given(rt.alloc(), &FAULTS)
 }
 
 /// Two transfers follow keepalives, and the first read ends at each offset of them in turn.
@@ -62,30 +56,23 @@ fn after_keepalives(rt: HostRuntime) -> Result<(), Fail> {
         let mut stream = joined(rt.alloc(), &[session])?;
         stream.resize(size, 4)?;
         stream.extend_from_slice(transfers)?;
-        row_gives(&rt, &WHOLE_BUNDLES, &stream)?;
-        row_gives(&rt, &PAYLOADS, &stream)?;
+        row_gives(rt.alloc(), &WHOLE_BUNDLES, &stream)?;
+        row_gives(rt.alloc(), &PAYLOADS, &stream)?;
     }
     Ok(())
 }
 
 /// Checks that the stream is unpacked as one transfer, whose data is the bundle.
-fn gives_the_bundle(
-    rt: &(impl Abort + AllocGlobal),
-    name: &str,
-    stream: &[u8],
-) -> Result<(), Fail> {
-    let output = joined(rt.alloc(), PLAIN)?;
-    let report = joined(
-        rt.alloc(),
-        &[b"transfer 0 start=0 written=34 length=34", GOOD],
-    )?;
+fn gives_the_bundle(alloc: Global, name: &str, stream: &[u8]) -> Result<(), Fail> {
+    let output = joined(alloc, PLAIN)?;
+    let report = joined(alloc, BUNDLE_REPORT)?;
     let want = Expected {
         tool: Tool::Unpack(ALL),
         output: &output,
         report: &report,
         status: 0,
     };
-    gives_at_each_pace(rt, name, stream, &want)
+    gives_at_each_pace(alloc, name, stream, &want)
 }
 
 /// An empty segment, and then each byte in a segment of its own with an empty one after it.
@@ -100,7 +87,7 @@ fn byte_segments_and_empty_ones(rt: HostRuntime) -> Result<(), Fail> {
         put_segment(&mut stream, 0, 0, &[&[*byte]])?;
         put_segment(&mut stream, if left == 0 { 1 } else { 0 }, 0, &[])?;
     }
-    gives_the_bundle(&rt, "bytes and empty segments", &stream)
+    gives_the_bundle(rt.alloc(), "bytes and empty segments", &stream)
 }
 
 /// A stream with the bundle in segments of this size; the last may be shorter.
@@ -122,7 +109,7 @@ fn in_segments(alloc: Global, size: usize) -> Result<Vec<u8>, Fail>
 #[test]
 fn segments_of_each_size(rt: HostRuntime) -> Result<(), Fail> {
     for size in 1..=34 {
-        gives_the_bundle(&rt, "segments", &in_segments(rt.alloc(), size)?)?;
+        gives_the_bundle(rt.alloc(), "segments", &in_segments(rt.alloc(), size)?)?;
     }
     Ok(())
 }
@@ -139,61 +126,38 @@ fn cut_data(rt: HostRuntime) -> Result<(), Fail> {
             report: b"tcpclkit: byte 38: truncated\n",
             status: 3,
         };
-        gives_at_each_pace(&rt, "a prefix of one transfer", prefix, &want)?;
+        gives_at_each_pace(rt.alloc(), "a prefix of one transfer", prefix, &want)?;
     }
     Ok(())
-}
-
-/// A run over devices that move all bytes at once.
-fn at_once<'a>(
-    alloc: Global,
-    wanted: Wanted,
-    stream: &'a [u8],
-) -> UnpackRun<TestReader<'a>, TestWriter, TestWriter> {
-    UnpackRun::new(
-        wanted,
-        TestReader::new(stream, usize::MAX, Failing::Never),
-        TestWriter::new(alloc, usize::MAX, Failing::Never),
-        TestWriter::new(alloc, usize::MAX, Failing::Never),
-    )
 }
 
 /// Steps through a row's stream, and checks the texts after each step but the last.
 ///
 /// Each entry of `written` is for one step: how many pieces of the row's output, and how many of
 /// its report, are written after it.
-fn after_each_step(
-    rt: &(impl Abort + AllocGlobal),
-    row: &Row,
-    written: &[(usize, usize)],
-) -> Result<(), Fail> {
-    let stream = built(rt.alloc(), row.stream)?;
-    let mut run = at_once(rt.alloc(), row.wanted, &stream);
+fn after_each_step(alloc: Global, row: &Row, written: &[(usize, usize)]) -> Result<(), Fail> {
+    let stream = built(alloc, row.stream)?;
+    let mut run = unpack_run(alloc, row.wanted, &stream);
     for (of_output, of_report) in written {
-        assert_eq!(rt; run.step(), Ok(Progress::More));
         let output = row.output.get(..*of_output).ok_or("more than the output")?;
-        let output = joined(rt.alloc(), output)?;
-        assert!(rt; run.output().written() == output.as_slice());
         let report = row.report.get(..*of_report).ok_or("more than the report")?;
-        let report = joined(rt.alloc(), report)?;
-        assert_eq!(rt; text(run.report().written())?, text(&report)?);
+        unpacks_on(&mut run, &joined(alloc, output)?, &joined(alloc, report)?)?;
     }
-    assert_eq!(rt; run.step(), Ok(Progress::Done(Status(row.status))));
-    Ok(())
+    is_done(&mut run, row.status)
 }
 
 /// An open transfer is abandoned in the step that takes the head of the next one's first segment.
 #[test]
 fn abandoned_step_by_step(rt: HostRuntime) -> Result<(), Fail> {
     let written = [(0, 0), (0, 0), (0, 0), (1, 0), (1, 1), (3, 3)];
-    after_each_step(&rt, &ABANDONING, &written)
+    after_each_step(rt.alloc(), &ABANDONING, &written)
 }
 
 /// A last segment without data closes its transfer in the step that takes its head.
 #[test]
 fn empty_end_step_by_step(rt: HostRuntime) -> Result<(), Fail> {
     let written = [(0, 0), (0, 0), (0, 0), (2, 0), (2, 2)];
-    after_each_step(&rt, &EMPTY_END, &written)
+    after_each_step(rt.alloc(), &EMPTY_END, &written)
 }
 
 /// A transfer of 100 segments of 1,000 zeros each, and the number of zeros written after each step.
@@ -221,25 +185,25 @@ fn hundred_segments(alloc: Global) -> Result<(Vec<u8>, Vec<usize>), Fail> {
     Ok((stream, written))
 }
 
-/// After each step the output is the data given so far.
+/// After each step the output is the data given so far. The line is written with the last of it.
 #[test]
 fn long_transfer_step_by_step(rt: HostRuntime) -> Result<(), Fail> {
     let (stream, written) = hundred_segments(rt.alloc())?;
     assert_eq!(rt; written.len(), 213);
     let mut zeros = Vec::new(rt.alloc());
     zeros.resize(100_000, 0)?;
-    let mut run = at_once(rt.alloc(), ALL, &stream);
-    for size in &written {
-        assert_eq!(rt; run.step(), Ok(Progress::More));
-        let output = zeros.get(..*size).ok_or("more than the data")?;
-        assert!(rt; run.output().written() == output, "{size} bytes");
-    }
-    assert_eq!(rt; run.step(), Ok(Progress::Done(Status(1))));
     let want = Expected {
         tool: Tool::Unpack(ALL),
         output: &zeros,
         report: b"transfer 0 start=0 written=100000 length=100000 bad=B3 byte=0\n",
         status: 1,
     };
-    gives_at_each_pace(&rt, "100 segments of 1,000 bytes", &stream, &want)
+    let mut run = unpack_run(rt.alloc(), ALL, &stream);
+    for size in &written {
+        let output = zeros.get(..*size).ok_or("more than the data")?;
+        let report = if *size == 100_000 { want.report } else { b"" };
+        unpacks_on(&mut run, output, report)?;
+    }
+    is_done(&mut run, 1)?;
+    gives_at_each_pace(rt.alloc(), "100 segments of 1,000 bytes", &stream, &want)
 }

@@ -1,15 +1,10 @@
 //! Worked streams with transfers, and the texts and the status of unpacking them.
 
-use crate::stream::{
+use link_tools::Wanted;
+use toolkit_tests::rows::{ALL, BUNDLE_REPORT, GOOD, TWO_BUNDLES, TWO_BUNDLES_REPORT};
+use toolkit_tests::stream::{
     BACK, CONTACT, FIRST_10, FIRST_SEGMENT, FRONT, LENGTH_17, LENGTH_34, NO_ITEMS, NODE,
     PARAMETERS, PLAIN, Part, SESSION, WHOLE_TRANSFER,
-};
-use link_tools::Wanted;
-
-/// All data of all transfers.
-pub const ALL: Wanted = Wanted {
-    only: None,
-    payload: false,
 };
 
 /// All data of transfers with ID 1.
@@ -41,23 +36,11 @@ pub struct Row {
     pub status: u8,
 }
 
-/// The end of a transfer's line, if the data of the transfer is the bundle.
-pub const GOOD: &[u8] = b" good source=ipn:1.1 time=0 sequence=0 destination=ipn:2.1 payload=5\n";
-
 /// A transfer with ten bytes of the bundle, and then another transfer.
 pub const ABANDONED: &[Part] = &[
     Part::Bytes(SESSION),
     Part::Segment(2, 0, &[FIRST_10]),
     Part::Segment(3, 1, PLAIN),
-];
-
-/// The bundle in two transfers of two segments each: 186 bytes.
-pub const TWO_BUNDLES: &[Part] = &[
-    Part::Bytes(SESSION),
-    Part::Segment(2, 0, &[FRONT]),
-    Part::Segment(1, 0, &[BACK]),
-    Part::Segment(2, 1, &[FRONT]),
-    Part::Segment(1, 1, &[BACK]),
 ];
 
 /// The bundle in three transfers. The first and the last have the same ID.
@@ -92,7 +75,7 @@ pub const EMPTY_END: Row = Row {
         Part::Segment(1, 0, &[]),
     ],
     output: &[FRONT, BACK],
-    report: &[b"transfer 0 start=0 written=34 length=34", GOOD],
+    report: BUNDLE_REPORT,
     status: 0,
 };
 
@@ -102,12 +85,7 @@ pub const WHOLE_BUNDLES: Row = Row {
     wanted: ALL,
     stream: TWO_BUNDLES,
     output: &[FRONT, BACK, FRONT, BACK],
-    report: &[
-        b"transfer 0 start=0 written=34 length=34",
-        GOOD,
-        b"transfer 1 start=34 written=34 length=34",
-        GOOD,
-    ],
+    report: TWO_BUNDLES_REPORT,
     status: 0,
 };
 
@@ -221,7 +199,7 @@ pub const WHOLE: [Row; 9] = [
             Part::Segment(1, 0, &[BACK]),
         ],
         output: PLAIN,
-        report: &[b"transfer 0 start=0 written=34 length=34", GOOD],
+        report: BUNDLE_REPORT,
         status: 0,
     },
 ];

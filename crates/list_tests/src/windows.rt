@@ -2,14 +2,13 @@
 //!
 //! A source reads 8,192 bytes at a time.
 
-use crate::running::{Expected, Tool, gives, gives_at_each_pace};
-use crate::stream::{
-    BACK, CONTACT, CONTACT_LINE, FIRST_SEGMENT, FRONT, LAST_SEGMENT, LENGTH_17, NODE, PARAMETERS,
-    WHOLE_TRANSFER, joined,
-};
 use std::alloc::Global;
-use std::process::Abort;
 use std::test::Fail;
+use toolkit_tests::running::{Expected, Tool, gives, gives_at_each_pace};
+use toolkit_tests::stream::{
+    BACK, CONTACT, CONTACT_LINE, EDGE, FIRST_SEGMENT, FRONT, LAST_SEGMENT, LENGTH_17, NODE,
+    PARAMETERS, WHOLE_TRANSFER, joined,
+};
 
 /// A message, and its line without the offset.
 struct Part {
@@ -69,9 +68,6 @@ const PARTS: [Part; 9] = [
 /// The number of bytes of the parts.
 const PARTS_SIZE: usize = 168;
 
-/// The offset at which the first read ends.
-pub const EDGE: usize = 8192;
-
 /// A stream and its lines.
 #[derive(Drop)]
 struct Listed {
@@ -122,7 +118,7 @@ fn after_data(rt: HostRuntime) -> Result<(), Fail> {
     for size in 7996..=8164 {
         let whole = segment_of(rt.alloc(), size)?.with_parts(rt.alloc())?;
         let want = whole.listing();
-        gives_at_each_pace(&rt, "parts after data", &whole.stream, &want)?;
+        gives_at_each_pace(rt.alloc(), "parts after data", &whole.stream, &want)?;
     }
     Ok(())
 }
@@ -139,7 +135,7 @@ fn after_keepalives(rt: HostRuntime) -> Result<(), Fail> {
             assert_eq!(rt; whole.stream.len(), offset + PARTS_SIZE);
             let want = whole.listing();
             gives(
-                &rt,
+                rt.alloc(),
                 "parts after keepalives",
                 &whole.stream,
                 usize::MAX,

@@ -6,14 +6,14 @@
 ghost use Rattle.std.specs.Prelude.{◌≡◌, false};
 
 use crate::packings::{ANNOUNCED, IN_HALVES, Row};
-use crate::running::End;
-use crate::stream::{built, joined, text};
-use crate::{Failing, TestReader, TestWriter};
 use link_tools::{cutter_for, pack, run_exit};
 use link_wire::{HeadBuf, InDevice, OutDevice};
 use std::alloc::Global;
 use std::process::Abort;
 use std::test::Fail;
+use toolkit_tests::running::End;
+use toolkit_tests::stream::{built, joined, text};
+use toolkit_tests::{Failing, TestReader, TestWriter};
 
 /// The pieces, joined without a request for memory.
 fn in_place(pieces: &[&[u8]]) -> Result<HeadBuf, Fail> {
