@@ -1,0 +1,3 @@
+pub mod Slice
+pub mod Fault
+pub mod Bundle
