@@ -3,6 +3,8 @@
 use Rattle.std.specs.Prelude.{ℕ}
 use Rattle.link_bundle_types.specs.declared.fault.BundleFault.{BundleFault}
 use Rattle.link_bundle_types.specs.declared.fault.BundleFault.TheVariants.{Cut, Trailing, NotABundle, BadHead, WrongKind, BadCount, BadVersion, BadCheckType, BadScheme, BadSpecificPart, EidTooLong, BadCheckLength, CheckDiffers, BadBlockNumber, RepeatedBlockNumber, TooManyBlocks, NoPayloadLast}
+use Rattle.link_wire.specs.declared.fault.WireFault.{WireFault}
+use Rattle.link_wire.specs.declared.fault.WireFault.TheVariants.{Truncated, BadMagic, BadVersion, UnknownType, NodeIdTooLong, ListTooLong, TooManyItems, ItemsOverrun}
 use Rattle.tcpclkit_c.specs.declared.fault.Fault.{Fault}
 
 abbrev pub no_fault : Fault
@@ -29,3 +31,29 @@ bundle_code NoPayloadLast = 117
 
 abbrev pub bundle_fault : BundleFault → ℕ → Fault
 bundle_fault fault offset = record { code = bundle_code fault; number = 0; offset = offset }
+
+-- the code of a fault of a recording, and the number that it is about
+abbrev pub wire_numbers : WireFault → ℕ × ℕ
+wire_numbers Truncated = (1, 0)
+wire_numbers BadMagic = (2, 0)
+wire_numbers (BadVersion version) = (3, version)
+wire_numbers (UnknownType kind) = (4, kind)
+wire_numbers (NodeIdTooLong size) = (5, size)
+wire_numbers (ListTooLong size) = (6, size)
+wire_numbers TooManyItems = (7, 0)
+wire_numbers ItemsOverrun = (8, 0)
+
+abbrev pub wire_fault : WireFault → ℕ → Fault
+wire_fault fault offset =
+    record { code = (wire_numbers fault).0; number = (wire_numbers fault).1; offset = offset }
+
+-- TCPCLKIT_TRUNCATED or TCPCLKIT_FAULT
+abbrev pub wire_status : WireFault → ℕ
+wire_status Truncated = 2
+wire_status BadMagic = 4
+wire_status (BadVersion version) = 4
+wire_status (UnknownType kind) = 4
+wire_status (NodeIdTooLong size) = 4
+wire_status (ListTooLong size) = 4
+wire_status TooManyItems = 4
+wire_status ItemsOverrun = 4

@@ -1,3 +1,5 @@
 pub mod Slice
 pub mod Fault
 pub mod Bundle
+pub mod Recording
+pub mod Order

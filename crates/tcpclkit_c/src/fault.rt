@@ -1,9 +1,11 @@
 //! Faults as numbers.
 
 ghost use Rattle.std.specs.Prelude.{◌≡◌};
-ghost use Rattle.tcpclkit_c.specs.Fault.{no_fault, bundle_code, bundle_fault};
+ghost use Rattle.tcpclkit_c.specs.Fault.{no_fault, bundle_code, bundle_fault, wire_numbers, wire_fault, wire_status};
 
+use crate::status::{FAULT, TRUNCATED};
 use link_bundle::BundleFault;
+use link_wire::WireFault;
 
 /// `struct tcpclkit_fault`: why bytes are refused.
 #[repr(C)]
@@ -38,6 +40,44 @@ impl Fault {
             number: 0,
             offset,
         }
+    }
+
+    /// The fault of a recording, in the message that begins at this offset.
+    pub fn of_wire(fault: WireFault, offset: u64) -> Fault
+        ensures { result ≡ wire_fault fault offset }
+    {
+        let (code, number) = wire_numbers(fault);
+        Fault {
+            code,
+            number,
+            offset,
+        }
+    }
+}
+
+/// The code of a fault of a recording, and the number that it is about.
+fn wire_numbers(fault: WireFault) -> (u64, u64)
+    ensures { result ≡ wire_numbers fault }
+{
+    match fault {
+        WireFault::Truncated => (1, 0),
+        WireFault::BadMagic => (2, 0),
+        WireFault::BadVersion(version) => (3, u64::from(version)),
+        WireFault::UnknownType(kind) => (4, u64::from(kind)),
+        WireFault::NodeIdTooLong(length) => (5, u64::from(length)),
+        WireFault::ListTooLong(length) => (6, u64::from(length)),
+        WireFault::TooManyItems => (7, 0),
+        WireFault::ItemsOverrun => (8, 0),
+    }
+}
+
+/// The status of a fault of a recording.
+pub fn wire_status(fault: WireFault) -> u32
+    ensures { result ≡ wire_status fault }
+{
+    match fault {
+        WireFault::Truncated => TRUNCATED,
+        _ => FAULT,
     }
 }
 

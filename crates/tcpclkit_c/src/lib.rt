@@ -10,6 +10,8 @@ ghost use Rattle.std.specs.Prelude.{◌≡◌};
 
 mod bundle;
 mod fault;
+mod order;
+mod recording;
 mod slice;
 mod status;
 
