@@ -3,3 +3,4 @@ pub mod Fault
 pub mod Bundle
 pub mod Recording
 pub mod Order
+pub mod Text

@@ -14,6 +14,7 @@ mod order;
 mod recording;
 mod slice;
 mod status;
+mod text;
 
 /// The version of the interface, `TCPCLKIT_ABI`.
 const ABI: u32 = 1;

@@ -171,12 +171,12 @@ pub extern "C" fn tcpclkit_raw_order(
         → HasNumbers message kind flags id → IsOrderAt order.old before → result ≡ 0
         → IsOrderAt order.new (before ++ message ∷ []) }
     ensures refused { 0 < result → order.new ≡ order.old }
-    ensures kind { 7 < kind → result ≡ 6 }
-    ensures no_kind { kind ≡ 0 → result ≡ 6 }
-    ensures flags { 255 < flags → result ≡ 6 }
-    ensures initiated { 1 < order.old.initiated → result ≡ 6 }
-    ensures terminated { 1 < order.old.terminated → result ≡ 6 }
-    ensures is_open { 1 < order.old.is_open → result ≡ 6 }
+    ensures kind { 7 < kind → (result ≡ 6) × (answer.new ≡ answer.old) }
+    ensures no_kind { kind ≡ 0 → (result ≡ 6) × (answer.new ≡ answer.old) }
+    ensures flags { 255 < flags → (result ≡ 6) × (answer.new ≡ answer.old) }
+    ensures initiated { 1 < order.old.initiated → (result ≡ 6) × (answer.new ≡ answer.old) }
+    ensures terminated { 1 < order.old.terminated → (result ≡ 6) × (answer.new ≡ answer.old) }
+    ensures is_open { 1 < order.old.is_open → (result ≡ 6) × (answer.new ≡ answer.old) }
 {
     if kind == 0 || kind > 7 || flags > 255 {
         return RANGE;
