@@ -24,12 +24,14 @@
  * are tested and not proved. A caller that cannot use them, from another language, calls the
  * function `tcpclkit_raw_..` of the same name, and never with a null pointer or with such a length.
  *
- * Threads. The library keeps no state. Every function may be called from any thread at any time, as
- * long as nothing that one call writes is used by another call at that time. All but tcpclkit_pack
- * may be called from a signal handler.
+ * Threads. The library keeps no state. Every function may be called from any thread at any time,
+ * as long as nothing that one call writes is used by another call at that time. A signal handler,
+ * and the forked child of a process with threads, may call all but the whole tools.
  *
- * Memory. tcpclkit_pack calls malloc and free of the C library. No other function takes memory.
- * 128 KiB of stack are enough for every function.
+ * Memory. The whole tools (tcpclkit_list, tcpclkit_unpack and tcpclkit_pack) call malloc, realloc
+ * and free of the C library, which have to be of one allocator. They keep their texts until the run
+ * has ended, and then copy them into the slices. No other function takes memory. 128 KiB of stack
+ * are enough for every function.
  *
  * Fields. Each field of each struct is a uint64_t, so there is no padding. A field that the
  * comments do not name for a status, or for a kind of message, has no meaning then.
@@ -74,7 +76,7 @@ enum {
   TCPCLKIT_RANGE = 6,
   /* A pointer is null that may not be. Nothing was written. */
   TCPCLKIT_NULL = 7,
-  /* The C library refused the memory that tcpclkit_pack asked for. */
+  /* The C library refused the memory that a whole tool asked for. */
   TCPCLKIT_MEMORY = 8
 };
 
@@ -295,9 +297,10 @@ static inline uint32_t tcpclkit_message(const uint8_t *bytes, size_t length, uin
  * Reads the extension item at an offset of a list that ends at the offset `end`.
  *
  * A list that a message has is read from `items_offset`, with `end` = `items_offset` +
- * `items_length`, and then from `next` on: each call returns TCPCLKIT_OK, and the last
- * TCPCLKIT_END. For other places: TCPCLKIT_FAULT if the item does not end within the list, and
- * TCPCLKIT_RANGE if not `offset` <= `end` <= `length`.
+ * `items_length`, and then from `next` on: each call returns TCPCLKIT_OK, and the last one
+ * TCPCLKIT_END. For other places: TCPCLKIT_FAULT if the item does not end within the list,
+ * TCPCLKIT_TRUNCATED if it does not end within the bytes, and TCPCLKIT_RANGE if not `offset` <=
+ * `end` <= `length`, or if the list has more than 65,536 bytes left.
  *
  * Proved: the answer is `item_head_at` and `total_at` of the bytes from the offset on.
  */
@@ -406,11 +409,14 @@ struct tcpclkit_pack_options {
 /*
  * `tcpclkit list`: a line for the contact header and for each message of a recording.
  *
- * TCPCLKIT_OK: the run ended as `exit_status` says, and both slices have the whole texts, as long
- * as `run` says. TCPCLKIT_TOO_SMALL: a slice is too small; the slices have prefixes of the texts,
- * as long as `run` says, and `exit_status` has no meaning. The line of a fault goes to the report.
+ * TCPCLKIT_OK: the run ended as `exit_status` says, and the slices have the whole texts, as long as
+ * `run` says. TCPCLKIT_TOO_SMALL: a slice is too small. TCPCLKIT_MEMORY: memory was refused. In
+ * both cases the slices have prefixes of the texts, as long as `run` says, and `exit_status` has no
+ * meaning. The line of a fault goes to the report.
  *
- * Proved: the texts and the status are `list_tool` of the bytes, or prefixes of these texts.
+ * Proved: after TCPCLKIT_OK the texts and the exit status are those of `list_tool` of the bytes.
+ * After each other status the slices have prefixes of these texts, and after TCPCLKIT_TOO_SMALL one
+ * of the slices is full. When memory is refused is tested, and not proved.
  */
 static inline uint32_t tcpclkit_list(const uint8_t *bytes, size_t length,
                                      uint8_t *output, size_t output_room,
@@ -424,8 +430,7 @@ static inline uint32_t tcpclkit_list(const uint8_t *bytes, size_t length,
  * The statuses are those of tcpclkit_list; TCPCLKIT_RANGE if `only_one` or `payload` is above 1. An
  * output as long as the recording is always large enough.
  *
- * Proved: the texts and the status are `unpack_tool` of the options and the bytes, or prefixes of
- * these texts.
+ * Proved: as for tcpclkit_list, of `unpack_tool` of the options and the bytes.
  */
 static inline uint32_t tcpclkit_unpack(const uint8_t *bytes, size_t length,
                                        const struct tcpclkit_unpack_options *options,
@@ -438,11 +443,9 @@ static inline uint32_t tcpclkit_unpack(const uint8_t *bytes, size_t length,
  * them as the report.
  *
  * `node` is the sender's node ID. The statuses are those of tcpclkit_list; TCPCLKIT_RANGE if an
- * option or the length of `node` is not in its range; TCPCLKIT_MEMORY if memory was refused, and
- * then nothing was written.
+ * option or the length of `node` is not in its range.
  *
- * Proved: the texts and the status are `pack_tool` of the options and the bytes, or prefixes of
- * these texts, unless memory was refused.
+ * Proved: as for tcpclkit_list, of `pack_tool` of the options and the bytes.
  */
 static inline uint32_t tcpclkit_pack(const uint8_t *bytes, size_t length,
                                      const struct tcpclkit_pack_options *options,

@@ -395,7 +395,9 @@ fn fields_at(bytes: &[u8], at: usize, kind: u8) -> Result<MessageAt, WireFault>
     }
 }
 
-/// Reads the message that begins at an offset, without the data of a segment (RFC 9174 section 4.5).
+/// Reads the message that begins at an offset, without the data of a segment.
+///
+/// RFC 9174 section 4.5 has the types of messages.
 #[tactic(auto, unfolding(crate::specs::Message::message_at))]
 pub fn message_in(bytes: &[u8], offset: usize) -> Result<MessageAt, WireFault>
     requires { offset ≤ length bytes.now }

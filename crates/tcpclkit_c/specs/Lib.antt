@@ -4,3 +4,4 @@ pub mod Bundle
 pub mod Recording
 pub mod Order
 pub mod Text
+pub mod Tool

@@ -9,12 +9,14 @@
 ghost use Rattle.std.specs.Prelude.{◌≡◌};
 
 mod bundle;
+mod device;
 mod fault;
 mod order;
 mod recording;
 mod slice;
 mod status;
 mod text;
+mod tool;
 
 /// The version of the interface, `TCPCLKIT_ABI`.
 const ABI: u32 = 1;

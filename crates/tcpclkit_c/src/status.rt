@@ -14,3 +14,5 @@ pub const FAULT: u32 = 4;
 pub const TOO_SMALL: u32 = 5;
 /// A number is out of its range.
 pub const RANGE: u32 = 6;
+/// A request for memory was refused.
+pub const MEMORY: u32 = 8;
