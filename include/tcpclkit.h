@@ -30,8 +30,8 @@
  *
  * Memory. The whole tools (tcpclkit_list, tcpclkit_unpack and tcpclkit_pack) call malloc, realloc
  * and free of the C library, which have to be of one allocator. They keep their texts until the run
- * has ended, and then copy them into the slices. No other function takes memory. 128 KiB of stack
- * are enough for every function.
+ * has ended, and then copy them into the slices. No other function takes memory. On x86-64, 128 KiB
+ * of stack are enough for a whole tool, and 32 KiB for any other function.
  *
  * Fields. Each field of each struct is a uint64_t, so there is no padding. A field that the
  * comments do not name for a status, or for a kind of message, has no meaning then.

@@ -20,6 +20,24 @@ static void count(int holds, int line, const char *what) {
   }
 }
 
+#ifdef REFUSES_MEMORY
+/* Built with --wrap=malloc and --wrap=realloc: the library's request of this number is refused. */
+static unsigned requests, refused_request;
+
+void *__real_malloc(size_t size);
+void *__real_realloc(void *block, size_t size);
+void *__wrap_malloc(size_t size);
+void *__wrap_realloc(void *block, size_t size);
+
+void *__wrap_malloc(size_t size) {
+  return ++requests == refused_request ? NULL : __real_malloc(size);
+}
+
+void *__wrap_realloc(void *block, size_t size) {
+  return ++requests == refused_request ? NULL : __real_realloc(block, size);
+}
+#endif
+
 /* Whether the slice begins with these bytes. */
 static int begins(const uint8_t *slice, const char *text) {
   return memcmp(slice, text, strlen(text)) == 0;
@@ -305,6 +323,31 @@ static void packs(void) {
   CHECK(pack(NULL, 7, output, sizeof output, &run) == TCPCLKIT_NULL);
 }
 
+#ifdef REFUSES_MEMORY
+/* Runs a tool again and again, with one request more let through each time. */
+static void refusals(int tool) {
+  const struct tcpclkit_pack_options usual = {60, 65536, 1048576, 65536, 1048576, 0, 0};
+  const struct tcpclkit_unpack_options all = {0, 0, 0};
+  struct tcpclkit_run run;
+  uint8_t output[300], report[200];
+  uint32_t status;
+  for (refused_request = 1; refused_request < 100; refused_request++) {
+    requests = 0;
+    status = tool == 0   ? tcpclkit_list(recording, sizeof recording, output, sizeof output, report,
+                                         sizeof report, &run)
+             : tool == 1 ? tcpclkit_unpack(recording, sizeof recording, &all, output,
+                                           sizeof output, report, sizeof report, &run)
+                         : pack(&usual, 7, output, sizeof output, &run);
+    if (requests < refused_request)
+      break;
+    CHECK(status == TCPCLKIT_MEMORY);
+    CHECK(tool != 0 || memcmp(output, LINES SEGMENT_LINE, (size_t)run.output_length) == 0);
+  }
+  CHECK(refused_request > 1 && status == TCPCLKIT_OK);
+  refused_request = 0;
+}
+#endif
+
 int main(void) {
   verdicts();
   infos();
@@ -315,6 +358,11 @@ int main(void) {
   lists();
   unpacks();
   packs();
+#ifdef REFUSES_MEMORY
+  refusals(0);
+  refusals(1);
+  refusals(2);
+#endif
   printf("%u passed, %u failed\n", passed, failed);
   return failed > 0;
 }

@@ -9,10 +9,10 @@ impl Joiner {
     ghost use Rattle.link_transfer.specs.Order.{has_sess_init, has_sess_term, open_of};
     ghost use Rattle.link_transfer.specs.Joiner.{IsJoinerAt};
 
-    /// A joiner that has accepted messages of which this is known.
+    /// A joiner that has accepted some messages.
     ///
-    /// It is whether a SESS_INIT and whether a SESS_TERM is among them, and which transfer is open
-    /// after them.
+    /// The parts say whether a SESS_INIT and whether a SESS_TERM is among them, and which transfer
+    /// is open after them.
     pub fn from_parts(initiated: bool, terminated: bool, transfer: Option<u64>) -> Joiner
         ensures { (before : List Message) → initiated ≡ has_sess_init before
             → terminated ≡ has_sess_term before → transfer ≡ open_of before
