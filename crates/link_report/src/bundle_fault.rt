@@ -7,7 +7,7 @@ use link_bundle_types::BundleFault;
 
 /// The code of a bundle's fault, B1 to B17.
 #[tactic(auto, unfolding(crate::specs::BundleFault::code_text))]
-pub(crate) fn code_of(fault: BundleFault) -> &'static str
+pub fn code_of(fault: BundleFault) -> &'static str
     ensures code { result.now ≡ code_text fault }
     ensures short { length result.now ≤ 3 }
 {
@@ -34,7 +34,7 @@ pub(crate) fn code_of(fault: BundleFault) -> &'static str
 
 /// The text of a bundle's fault.
 #[tactic(auto, unfolding(crate::specs::BundleFault::bundle_fault_text))]
-pub(crate) fn words_of(fault: BundleFault) -> &'static str
+pub fn words_of(fault: BundleFault) -> &'static str
     ensures words { result.now ≡ bundle_fault_text fault }
     ensures short { length result.now ≤ 40 }
 {

@@ -29,7 +29,7 @@ pub enum Fault {
 
 /// The text of a fault in the order of messages.
 #[tactic(auto, unfolding(crate::specs::Fault::order_text))]
-fn order_words(fault: OrderFault) -> &'static str
+pub fn order_words(fault: OrderFault) -> &'static str
     ensures words { result.now ≡ order_text fault }
     ensures short { length result.now ≤ 40 }
 {
@@ -42,9 +42,9 @@ fn order_words(fault: OrderFault) -> &'static str
     }
 }
 
-/// Appends the text of a fault of the wire, after `tcpclkit: ` and an offset.
+/// Appends the text of a fault of the wire, to an empty line or after `tcpclkit: ` and an offset.
 #[tactic(auto, unfolding(crate::specs::Fault::wire_text))]
-fn put_wire(line: &mut Line, fault: WireFault)
+pub fn put_wire(line: &mut Line, fault: WireFault)
     requires { array_vec_len line.old ≤ 37 }
     ensures items { line.new.items ≡ line.old.items ++ wire_text fault }
     ensures len { array_vec_len line.new < LINE_MAX }

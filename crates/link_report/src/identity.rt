@@ -15,7 +15,7 @@ use link_bundle_types::{BundleView, EidView};
 ///
 /// It takes at most 4 bytes and an escaped name, or 6 bytes and three numbers.
 #[tactic(auto, using(crate::proofs::Escapes::length_of_escaped), unfolding(crate::specs::Eid::eid_text))]
-fn put_eid(line: &mut Line, eid: &EidView<'_>)
+pub fn put_eid(line: &mut Line, eid: &EidView<'_>)
     requires short { IsShort (viewed_eid eid.now) }
     requires room { array_vec_len line.old + 4100 ≤ LINE_MAX }
     ensures items { line.new.items ≡ line.old.items ++ eid_text (viewed_eid eid.now) }

@@ -36,7 +36,9 @@ mod reason;
 mod tests;
 mod transfer;
 
-pub use fault::{Fault, fault_line};
+pub use bundle_fault::{code_of, words_of};
+pub use fault::{Fault, fault_line, order_words, put_wire};
+pub use identity::put_eid;
 pub use judgement::{Judgement, JudgementView, judge, judge_view};
 pub use kept_digits::KeptDigits;
 pub use message::{MessageText, contact_line, message_line};

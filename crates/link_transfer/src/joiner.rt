@@ -168,5 +168,6 @@ impl Joiner {
     }
 }
 
+mod parts;
 #[cfg(test)]
 mod tests;

@@ -17,3 +17,5 @@ mod Sound
 mod Complete
 mod OneReading
 pub mod Spellings
+mod SliceReads
+mod ItemReads

@@ -17,3 +17,4 @@ pub mod SpelledStream
 pub mod Spelling
 pub mod Plain
 pub mod Here
+pub mod InSlice

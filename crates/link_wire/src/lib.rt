@@ -28,6 +28,7 @@ mod message;
 mod parts;
 mod plain;
 mod session;
+mod slices;
 mod spelling;
 #[cfg(test)]
 mod tests;
@@ -43,6 +44,7 @@ pub use message::{
     MessageBuffer, NodeId, SegmentHead,
 };
 pub use session::Session;
+pub use slices::{ItemAt, MessageAt, Span, contact_in, item_in, message_in};
 pub use spelling::{
     HEAD_MAX, HeadBuf, put_contact, put_segment_head, put_sess_init, put_sess_term,
 };

@@ -1,0 +1,15 @@
+use Rattle.std.proofs.Common.{ℕ, Option, ap, ◌∙◌}
+use Rattle.link_bundle.specs.Bundle.{verdict}
+use Rattle.tcpclkit_c.specs.Bundle.{fault_of, with_span}
+use Rattle.tcpclkit_c.specs.declared.fault.Fault.{Fault}
+use Rattle.tcpclkit_c.proofs.Judging.{verdict_judged, span_judged}
+use Rattle.tcpclkit_c.proofs.bundle.found.Goals as goal
+
+pub returns : goal.returns
+returns c =
+    let judged = c.requires in
+    c.with_span.ensures
+    ∙ ap (λ (fault : Fault). with_span fault c.payload_seen.result)
+    (c.fault_of.ensures ∙ ap fault_of (c.view.ensures.seen judged.seen judged.scanned ∙ verdict_judged _ _ judged))
+    ∙ ap (λ (span : Option (ℕ × ℕ)). with_span (fault_of (verdict c.args.bytes.now)) span)
+    (c.payload_seen.ensures judged.seen judged.scanned ∙ span_judged _ _ judged)

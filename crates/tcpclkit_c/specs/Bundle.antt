@@ -1,0 +1,110 @@
+-- The verdict on a bundle as numbers.
+use Rattle.std.specs.Prelude.{◌≡◌, ℕ, ◌⊎◌, false, ◌&&◌, nat_le, List, [], ◌++◌, length, Option, Some, None, Result, Ok, Err, if◌then◌else◌}
+use Rattle.link_bundle_types.specs.declared.fault.BundleFault.{BundleFault}
+use Rattle.link_bundle_types.specs.declared.eid.Eid as whole
+use Rattle.link_bundle_types.specs.declared.eid.Eid.TheVariants.{DtnNone, Dtn, Ipn, Ipn3}
+use Rattle.link_bundle_types.specs.declared.fault.State.{State}
+use Rattle.link_bundle_types.specs.declared.fault.State.TheVariants.{Going, Ended, Failed}
+use Rattle.link_bundle_types.specs.declared.info.BundleInfo.{BundleInfo}
+use Rattle.link_bundle.specs.Bundle.{state_of}
+use Rattle.link_bundle.specs.Scan.{HasScanned, may_scan}
+use Rattle.link_bundle.specs.declared.scan.BundleScan.{BundleScan}
+use Rattle.tcpclkit_c.specs.Slice.{HoldsFront}
+use Rattle.tcpclkit_c.specs.Fault.{no_fault, bundle_fault}
+use Rattle.tcpclkit_c.specs.declared.fault.Fault.{Fault}
+use Rattle.tcpclkit_c.specs.declared.bundle.Bundle.{Bundle}
+use Rattle.tcpclkit_c.specs.declared.bundle.Eid.{Eid}
+use Rattle.tcpclkit_c.specs.declared.bundle.Verdict.{Verdict}
+
+-- The scan's verdict on these bytes is known: it has seen them, or enough of them that the others
+-- change nothing.
+pub record IsJudged (scan : BundleScan) (bytes : List ℕ) : Type 0 where
+  pub seen : List ℕ
+  pub rest : List ℕ
+  pub parts : seen ++ rest ≡ bytes
+  pub scanned : HasScanned scan seen
+  pub enough : (rest ≡ []) ⊎ (may_scan scan ≡ false)
+
+-- TCPCLKIT_TRUNCATED, TCPCLKIT_OK or TCPCLKIT_FAULT
+abbrev pub state_status : State → ℕ
+state_status Going = 2
+state_status Ended = 0
+state_status (Failed fault place) = 4
+
+abbrev pub fault_of : Result BundleInfo (BundleFault × ℕ) → Fault
+fault_of (Ok info) = no_fault
+fault_of (Err (fault, place)) = bundle_fault fault place
+
+abbrev pub with_span : Fault → Option (ℕ × ℕ) → Verdict
+with_span fault None =
+    record { fault = fault; has_payload = 0; payload_offset = 0; payload_seen = 0 }
+with_span fault (Some (place, count)) =
+    record { fault = fault; has_payload = 1; payload_offset = place; payload_seen = count }
+
+-- a verdict, and where the payload's bytes are, as numbers
+abbrev pub verdict_shown : Result BundleInfo (BundleFault × ℕ) → Option (ℕ × ℕ) → Verdict
+verdict_shown outcome span = with_span (fault_of outcome) span
+
+-- an endpoint ID as its kind and numbers
+abbrev pub eid_shown : whole.Eid → Eid
+eid_shown DtnNone =
+    record { kind = 0; allocator = 0; node = 0; service = 0; name_length = 0 }
+eid_shown (Dtn name) =
+    record { kind = 1; allocator = 0; node = 0; service = 0; name_length = length name.items }
+eid_shown (Ipn node service) =
+    record { kind = 2; allocator = 0; node = node; service = service; name_length = 0 }
+eid_shown (Ipn3 allocator node service) =
+    record { kind = 3; allocator = allocator; node = node; service = service; name_length = 0 }
+
+-- the name of a dtn endpoint ID, which the others do not have
+abbrev pub name_of : whole.Eid → List ℕ
+name_of DtnNone = []
+name_of (Dtn name) = name.items
+name_of (Ipn node service) = []
+name_of (Ipn3 allocator node service) = []
+
+-- whether there is a fragment, its offset, and its total length
+abbrev pub fragment_shown : Option (ℕ × ℕ) → ℕ × (ℕ × ℕ)
+fragment_shown None = (0, (0, 0))
+fragment_shown (Some fragment) = (1, fragment)
+
+-- a good bundle as numbers
+abbrev pub bundle_shown : Verdict → BundleInfo → Bundle
+bundle_shown verdict info =
+    record {
+      verdict = verdict;
+      flags = info.flags;
+      destination = eid_shown info.destination;
+      source = eid_shown info.source;
+      time = info.time;
+      sequence = info.sequence;
+      lifetime = info.lifetime;
+      is_fragment = (fragment_shown info.fragment).0;
+      fragment_offset = (fragment_shown info.fragment).1.0;
+      fragment_total = (fragment_shown info.fragment).1.1;
+      blocks = info.blocks;
+      payload_length = info.payload;
+    }
+
+-- TCPCLKIT_OK, or TCPCLKIT_TOO_SMALL if a name is longer than the slice for it
+abbrev pub names_status : BundleInfo → (destination source : List ℕ) → ℕ
+names_status info destination source =
+    if nat_le (length (name_of info.destination)) (length destination)
+    && nat_le (length (name_of info.source)) (length source) then 0 else 5
+
+-- the numbers are those of the bundle, and the slices have its names
+pub record GivesBundle (info : BundleInfo) (verdict : Verdict) (destination source : List ℕ)
+    (bundle : Bundle) (status : ℕ) : Type 0 where
+  pub numbers : bundle ≡ bundle_shown verdict info
+  pub destination_name : HoldsFront destination (name_of info.destination)
+  pub source_name : HoldsFront source (name_of info.source)
+  pub fits : status ≡ names_status info destination source
+
+-- the answer, by the verdict and by where the payload's bytes are
+abbrev pub GivesInfo : Result BundleInfo (BundleFault × ℕ) → Option (ℕ × ℕ)
+    → (destination source : List ℕ) → Bundle → ℕ → Type 0
+GivesInfo (Ok info) span destination source bundle status =
+    GivesBundle info (verdict_shown (Ok info) span) destination source bundle status
+GivesInfo (Err stop) span destination source bundle status =
+    (bundle.verdict ≡ verdict_shown (Err stop) span)
+    × (status ≡ state_status (state_of (Err stop)))

@@ -1,0 +1,7 @@
+pub mod Slice
+pub mod Fault
+pub mod Bundle
+pub mod Recording
+pub mod Order
+pub mod Text
+pub mod Tool

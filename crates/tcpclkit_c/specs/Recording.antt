@@ -1,0 +1,144 @@
+-- A contact header, a message and an extension item as numbers.
+use Rattle.std.specs.Prelude.{◌≡◌, ℕ, ◌+◌, ◌-◌, nat_le, List, length, drop, Option, Some, None, Ok, Err, if◌then◌else◌}
+use Rattle.link_wire.specs.InSlice.{LiesAt, ItemLies}
+use Rattle.link_wire.specs.Message.{item_head_at, total_at}
+use Rattle.link_wire.specs.Part.{Part, ◌>>=◌}
+use Rattle.link_wire.specs.declared.fault.WireFault.{WireFault}
+use Rattle.link_wire.specs.declared.message.Contact as wire
+use Rattle.link_wire.specs.declared.message.Fields.{Fields}
+use Rattle.link_wire.specs.declared.message.Fields.TheVariants.{SessInit, Segment, Ack, Refuse, Keepalive, SessTerm, MsgReject}
+use Rattle.link_wire.specs.declared.message.ListOf.TheVariants.{Transfer}
+use Rattle.link_wire.specs.declared.message.Message as read
+use Rattle.link_wire.specs.declared.slices.ItemAt.{ItemAt}
+use Rattle.link_wire.specs.declared.slices.MessageAt.{MessageAt}
+use Rattle.tcpclkit_c.specs.Fault.{no_fault, wire_status, wire_fault}
+use Rattle.tcpclkit_c.specs.declared.fault.Fault.{Fault}
+use Rattle.tcpclkit_c.specs.declared.recording.Contact.{Contact}
+use Rattle.tcpclkit_c.specs.declared.recording.Item.{Item}
+use Rattle.tcpclkit_c.specs.declared.recording.Message.{Message}
+
+-- the status and the numbers of a fault at this offset
+pub record GivesFault (fault : WireFault) (offset : ℕ) (shown : Fault) (status : ℕ) : Type 0 where
+  pub gives : status ≡ wire_status fault
+  pub numbers : shown ≡ wire_fault fault offset
+
+-- the answer, by the reading of the contact header
+pub record GivesContact (part : Part wire.Contact) (answer : Contact) (status : ℕ) : Type 0 where
+  pub whole : (contact : wire.Contact) (rest : List ℕ) → part ≡ Ok (contact, rest)
+      → (status ≡ 0) × (answer.flags ≡ contact.flags)
+  pub fault : (fault : WireFault) → part ≡ Err fault → GivesFault fault 0 answer.fault status
+
+abbrev nothing : Message
+nothing =
+    record {
+      fault = no_fault;
+      kind = 0;
+      flags = 0;
+      reason = 0;
+      header = 0;
+      id = 0;
+      acknowledged = 0;
+      keepalive = 0;
+      segment_mru = 0;
+      transfer_mru = 0;
+      node_offset = 0;
+      node_length = 0;
+      items_offset = 0;
+      items_length = 0;
+      data_offset = 0;
+      data_length = 0;
+      next = 0;
+    }
+
+-- the kind and the numbers of a message, without its places
+abbrev pub fields_shown : Fields → Message
+fields_shown (SessInit interval segment_mru transfer_mru) =
+    record nothing {
+      kind = 7;
+      keepalive = interval;
+      segment_mru = segment_mru;
+      transfer_mru = transfer_mru;
+    }
+fields_shown (Segment flags id size) =
+    record nothing { kind = 1; flags = flags; id = id; data_length = size }
+fields_shown (Ack flags id size) =
+    record nothing { kind = 2; flags = flags; id = id; acknowledged = size }
+fields_shown (Refuse reason id) = record nothing { kind = 3; reason = reason; id = id }
+fields_shown Keepalive = record nothing { kind = 4 }
+fields_shown (SessTerm flags reason) =
+    record nothing { kind = 5; flags = flags; reason = reason }
+fields_shown (MsgReject reason header) =
+    record nothing { kind = 6; reason = reason; header = header }
+
+-- the number of data bytes of a message, by its head
+abbrev pub size_of : MessageAt → ℕ
+size_of place = (fields_shown place.fields).data_length
+
+-- a message among this many bytes, with its places
+abbrev pub message_shown : ℕ → MessageAt → Message
+message_shown size place =
+    record (fields_shown place.fields) {
+      node_offset = place.node.offset;
+      node_length = place.node.length;
+      items_offset = place.items.offset;
+      items_length = place.items.length;
+      data_offset = place.end;
+      next = if nat_le (size_of place) (size - place.end) then place.end + size_of place else 0;
+    }
+
+-- TCPCLKIT_OK, or TCPCLKIT_DATA_TRUNCATED if the bytes end inside the data
+abbrev pub data_status : ℕ → MessageAt → ℕ
+data_status size place = if nat_le (size_of place) (size - place.end) then 0 else 3
+
+-- the numbers are those of the message, and its parts lie where they say
+pub record ShowsMessage (bytes : List ℕ) (part : Part read.Message) (answer : Message)
+    (status : ℕ) : Type 0 where
+  pub place : MessageAt
+  pub lies : LiesAt bytes part place
+  pub numbers : answer ≡ message_shown (length bytes) place
+  pub gives : status ≡ data_status (length bytes) place
+
+-- the answer, by the reading of the message at the offset
+pub record GivesMessage (bytes : List ℕ) (offset : ℕ) (part : Part read.Message)
+    (answer : Message) (status : ℕ) : Type 0 where
+  pub whole : (message : read.Message) (rest : List ℕ) → part ≡ Ok (message, rest)
+      → ShowsMessage bytes part answer status
+  pub fault : (fault : WireFault) → part ≡ Err fault → GivesFault fault offset answer.fault status
+
+-- whether there is a total, and which
+abbrev pub total_shown : Option ℕ → ℕ × ℕ
+total_shown None = (0, 0)
+total_shown (Some total) = (1, total)
+
+-- an item with its places
+abbrev pub item_shown : ItemAt → Item
+item_shown place =
+    record {
+      fault = no_fault;
+      flags = place.item.flags;
+      kind = place.item.kind;
+      value_offset = place.value;
+      value_length = place.item.length;
+      has_total = (total_shown place.item.total).0;
+      total = (total_shown place.item.total).1;
+      next = place.value + place.item.length;
+    }
+
+-- the total of the item that begins some bytes, in a list that has `left` more bytes
+abbrev pub item_part : ℕ → List ℕ → Part (Option ℕ)
+item_part left bytes = item_head_at left bytes >>= λ (head, rest). total_at Transfer head.kind head.length rest
+
+-- the numbers are those of the item, and its value lies where they say
+pub record ShowsItem (bytes : List ℕ) (offset left : ℕ) (answer : Item)
+    (status : ℕ) : Type 0 where
+  pub place : ItemAt
+  pub lies : ItemLies Transfer bytes left offset place
+  pub numbers : answer ≡ item_shown place
+  pub gives : status ≡ 0
+
+-- the answer, by the reading of the item at the offset
+pub record GivesItem (bytes : List ℕ) (offset left : ℕ) (part : Part (Option ℕ)) (answer : Item)
+    (status : ℕ) : Type 0 where
+  pub whole : (total : Option ℕ) (rest : List ℕ) → part ≡ Ok (total, rest)
+      → ShowsItem bytes offset left answer status
+  pub fault : (fault : WireFault) → part ≡ Err fault → GivesFault fault offset answer.fault status

@@ -1,0 +1,6 @@
+-- Texts in slices that may be too small.
+use Rattle.std.specs.Prelude.{◌≡◌, ℕ, List, length, take}
+
+-- the slice begins with the text, or has the text's first bytes if it is too small
+abbrev pub HoldsFront : List ℕ → List ℕ → Type 0
+HoldsFront slice text = take (length text) slice ≡ take (length slice) text

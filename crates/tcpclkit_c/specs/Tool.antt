@@ -1,0 +1,84 @@
+-- A run of a whole tool over a slice, into two slices.
+use Rattle.std.specs.Prelude.{◌≡◌, ℕ, ◌≤◌, ◌⊎◌, Bool, ◌&&◌, ◌==◌, nat_le, List, length, take, Option, Some, None, Result, Ok, if◌then◌else◌}
+use Rattle.link_laws.specs.Prefix.{IsFrontOf}
+use Rattle.link_list.specs.Listing.{list_tool}
+use Rattle.link_pack.specs.Packing.{pack_tool}
+use Rattle.link_pack.specs.declared.options.PackOptions as packing
+use Rattle.link_run.specs.Run.{Tool, Outcome}
+use Rattle.link_run.specs.declared.run.Status.{Status}
+use Rattle.link_wire.specs.declared.IoFault.{IoFault}
+use Rattle.link_tools.specs.declared.options.Options.{Options}
+use Rattle.link_tools.specs.declared.options.Options.TheVariants as tool
+use Rattle.link_unpack.specs.Unpacking.{unpack_tool}
+use Rattle.link_unpack.specs.declared.wanted.Wanted.{Wanted}
+use Rattle.tcpclkit_c.specs.declared.tool.PackOptions.{PackOptions}
+use Rattle.tcpclkit_c.specs.declared.tool.Run.{Run}
+use Rattle.tcpclkit_c.specs.declared.tool.UnpackOptions.{UnpackOptions}
+
+-- the tool of these options
+abbrev pub tool_of : Options → Tool
+tool_of tool.List = list_tool
+tool_of (tool.Unpack wanted) = unpack_tool wanted
+tool_of (tool.Pack options) = pack_tool options
+
+-- the texts and the status that the tool makes of these bytes
+abbrev pub whole_of : Options → List ℕ → Outcome
+whole_of options bytes = (tool_of options).whole bytes
+
+-- the texts are prefixes of those of all bytes, and the whole of them if the run has ended
+pub record HasRun (tool : Tool) (bytes output_text report_text : List ℕ)
+    (answer : Result Status IoFault) : Type 0 where
+  pub output : IsFrontOf output_text (tool.whole bytes).texts.output
+  pub report : IsFrontOf report_text (tool.whole bytes).texts.report
+  pub ended : (status : Status) → answer ≡ Ok status
+      → (output_text ≡ (tool.whole bytes).texts.output)
+      × (report_text ≡ (tool.whole bytes).texts.report)
+      × (status.0 ≡ (tool.whole bytes).status)
+
+-- The slices have prefixes of the texts. With TCPCLKIT_OK these are the whole texts, and the exit
+-- status is that of the run. With TCPCLKIT_TOO_SMALL a slice is full. Otherwise the status is
+-- TCPCLKIT_MEMORY.
+pub record GivesTexts (whole : Outcome) (output report : List ℕ) (run : Run)
+    (status : ℕ) : Type 0 where
+  pub output_front : IsFrontOf (take run.output_length output) whole.texts.output
+  pub report_front : IsFrontOf (take run.report_length report) whole.texts.report
+  pub output_within : run.output_length ≤ length output
+  pub report_within : run.report_length ≤ length report
+  pub output_whole : status ≡ 0 → take run.output_length output ≡ whole.texts.output
+  pub report_whole : status ≡ 0 → take run.report_length report ≡ whole.texts.report
+  pub exit : status ≡ 0 → run.exit_status ≡ whole.status
+  pub full : status ≡ 5 → (run.output_length ≡ length output) ⊎ (run.report_length ≡ length report)
+  pub known : (status ≡ 0) ⊎ ((status ≡ 5) ⊎ (status ≡ 8))
+
+-- which data is wanted
+abbrev pub wanted_of : UnpackOptions → Wanted
+wanted_of options =
+    record {
+      only = if options.only_one == 1 then Some options.transfer else None;
+      payload = options.payload == 1;
+    }
+
+-- the options and the length of the node ID are in their ranges
+abbrev pub are_in_range : PackOptions → ℕ → Bool
+are_in_range options size =
+    nat_le options.keepalive 65535 && (nat_le 1 options.peer_segment
+    && (nat_le options.announce 1048576 && (nat_le options.send_term 1 && nat_le size 1024)))
+
+-- the options have these numbers and this node ID
+pub record HasOptions (options : packing.PackOptions) (numbers : PackOptions)
+    (node : List ℕ) : Type 0 where
+  pub node_id : options.node.items ≡ node
+  pub keepalive : options.keepalive ≡ numbers.keepalive
+  pub segment_mru : options.segment_mru ≡ numbers.segment_mru
+  pub transfer_mru : options.transfer_mru ≡ numbers.transfer_mru
+  pub peer_segment : options.peer_segment ≡ numbers.peer_segment
+  pub peer_transfer : options.peer_transfer ≡ numbers.peer_transfer
+  pub announce : options.announce ≡ numbers.announce
+  pub send_term : options.send_term ≡ (numbers.send_term == 1)
+
+-- the bundles were packed with these options
+pub record GivesPacked (numbers : PackOptions) (node bytes output report : List ℕ) (run : Run)
+    (status : ℕ) : Type 0 where
+  pub options : packing.PackOptions
+  pub are : HasOptions options numbers node
+  pub texts : GivesTexts (whole_of (tool.Pack options) bytes) output report run status

@@ -1,0 +1,259 @@
+//! Exports about a bundle that lies in one slice.
+
+ghost use Rattle.std.specs.Prelude.{◌≡◌, [], length, Option};
+ghost use Rattle.link_bundle_types.specs.BundleView.{viewed_info, viewed_verdict};
+ghost use Rattle.link_bundle_types.specs.EidView.{viewed_eid};
+ghost use Rattle.link_bundle.specs.Bundle.{verdict, payload_span, state_of};
+ghost use Rattle.link_bundle.specs.Scan.{HasScanned, scan_size};
+ghost use Rattle.tcpclkit_c.specs.Bundle.{IsJudged, state_status, fault_of, with_span, verdict_shown, eid_shown, name_of, bundle_shown, GivesBundle, GivesInfo};
+
+use crate::fault::Fault;
+use crate::slice::copy_front;
+use crate::status::{FAULT, OK, TOO_SMALL, TRUNCATED};
+use link_bundle::{BundleFault, BundleScan, BundleView, EidView, State};
+use link_cbor::Piecewise;
+
+/// `struct tcpclkit_verdict`: the verdict on bytes as one bundle, and where its payload is.
+#[repr(C)]
+#[derive(Clone, Copy, Debug, PartialEq, Eq)]
+pub struct Verdict {
+    /// The first fault, if there is one.
+    pub fault: Fault,
+    /// 1 if the head of the payload was accepted, and else 0.
+    pub has_payload: u64,
+    /// The offset of the payload's first byte.
+    pub payload_offset: u64,
+    /// The number of the payload's bytes that are there.
+    pub payload_seen: u64,
+}
+
+/// `struct tcpclkit_eid`: an endpoint ID without the bytes of its name.
+#[repr(C)]
+#[derive(Clone, Copy, Debug, PartialEq, Eq)]
+pub struct Eid {
+    /// 0 for `dtn:none`, 1 for a name of dtn, 2 and 3 for ipn with two and three numbers.
+    pub kind: u64,
+    /// The allocator identifier of an ipn endpoint ID of three numbers.
+    pub allocator: u64,
+    /// The node number of an ipn endpoint ID.
+    pub node: u64,
+    /// The service number of an ipn endpoint ID.
+    pub service: u64,
+    /// The length of the name of a dtn endpoint ID.
+    pub name_length: u64,
+}
+
+/// `struct tcpclkit_bundle`: the verdict, and the fields of a good bundle.
+#[repr(C)]
+#[derive(Clone, Copy, Debug, PartialEq, Eq)]
+pub struct Bundle {
+    /// The verdict on the bytes.
+    pub verdict: Verdict,
+    /// The bundle processing control flags.
+    pub flags: u64,
+    /// The endpoint ID of the destination.
+    pub destination: Eid,
+    /// The endpoint ID of the source node.
+    pub source: Eid,
+    /// The creation time.
+    pub time: u64,
+    /// The sequence number of the creation timestamp.
+    pub sequence: u64,
+    /// The lifetime.
+    pub lifetime: u64,
+    /// 1 if the bundle is a fragment, and else 0.
+    pub is_fragment: u64,
+    /// The offset of a fragment.
+    pub fragment_offset: u64,
+    /// The total length of a fragment's bundle.
+    pub fragment_total: u64,
+    /// The number of canonical blocks.
+    pub blocks: u64,
+    /// The payload's length.
+    pub payload_length: u64,
+}
+
+/// Scans the bytes, as far as they change the verdict.
+fn judge(scan: &mut BundleScan, bytes: &[u8])
+    requires seen { HasScanned scan.old [] }
+    requires size { scan_size scan.old ≡ 0 }
+    ensures { IsJudged scan.new bytes.now }
+{
+    let taken = scan.feed(bytes);
+    if taken < bytes.len() && matches!(scan.state(), State::Ended) {
+        scan.step(bytes[taken]);
+    }
+}
+
+/// The status of a state.
+fn state_status(state: State) -> u32
+    ensures { result ≡ state_status state }
+{
+    match state {
+        State::Going => TRUNCATED,
+        State::Ended => OK,
+        State::Failed(..) => FAULT,
+    }
+}
+
+/// The fault of a verdict.
+fn fault_of(view: Result<BundleView<'_>, (BundleFault, u64)>) -> Fault
+    ensures { result ≡ fault_of (viewed_verdict view.entry) }
+{
+    match view {
+        Ok(_) => Fault::none(),
+        Err((fault, offset)) => Fault::of_bundle(fault, offset),
+    }
+}
+
+/// A verdict, and where the payload's bytes are.
+fn with_span(fault: Fault, span: Option<(u64, u64)>) -> Verdict
+    ensures { result ≡ with_span fault span }
+{
+    match span {
+        None => Verdict {
+            fault,
+            has_payload: 0,
+            payload_offset: 0,
+            payload_seen: 0,
+        },
+        Some((payload_offset, payload_seen)) => Verdict {
+            fault,
+            has_payload: 1,
+            payload_offset,
+            payload_seen,
+        },
+    }
+}
+
+/// What a scan has found of these bytes.
+fn found(scan: &BundleScan, bytes: &[u8]) -> Verdict
+    requires { IsJudged scan.now bytes.now }
+    ensures { result ≡ verdict_shown (verdict bytes.now) (payload_span bytes.now) }
+{
+    with_span(fault_of(scan.view()), scan.payload_seen())
+}
+
+/// Judges the bytes as one bundle.
+#[unsafe(no_mangle)]
+pub extern "C" fn tcpclkit_raw_bundle_verdict(bytes: &[u8], answer: &mut Verdict) -> u32
+    ensures status { result ≡ state_status (state_of (verdict bytes.now)) }
+    ensures answer { answer.new ≡ verdict_shown (verdict bytes.now) (payload_span bytes.now) }
+{
+    let mut scan = BundleScan::new();
+    judge(&mut scan, bytes);
+    *answer = found(&scan, bytes);
+    state_status(scan.state())
+}
+
+/// The kind and the numbers of an endpoint ID.
+fn eid_shown(eid: &EidView<'_>) -> Eid
+    ensures { result ≡ eid_shown (viewed_eid eid.now) }
+{
+    let none = Eid {
+        kind: 0,
+        allocator: 0,
+        node: 0,
+        service: 0,
+        name_length: 0,
+    };
+    match *eid {
+        EidView::DtnNone => none,
+        EidView::Dtn(name) => Eid {
+            kind: 1,
+            name_length: name.len() as u64,
+            ..none
+        },
+        EidView::Ipn(node, service) => Eid {
+            kind: 2,
+            node,
+            service,
+            ..none
+        },
+        EidView::Ipn3(allocator, node, service) => Eid {
+            kind: 3,
+            allocator,
+            node,
+            service,
+            ..none
+        },
+    }
+}
+
+/// The name of an endpoint ID; it is empty if the endpoint ID has none.
+fn name_of<'a>(eid: &EidView<'a>) -> &'a [u8]
+    ensures { result.now ≡ name_of (viewed_eid eid.now) }
+{
+    match *eid {
+        EidView::Dtn(name) => name,
+        _ => &[],
+    }
+}
+
+/// The fields of a good bundle, as numbers.
+fn bundle_shown(verdict: Verdict, info: &BundleView<'_>) -> Bundle
+    ensures { result ≡ bundle_shown verdict (viewed_info info.now) }
+{
+    let (is_fragment, (fragment_offset, fragment_total)) = match info.fragment {
+        None => (0, (0, 0)),
+        Some(fragment) => (1, fragment),
+    };
+    Bundle {
+        verdict,
+        flags: info.flags,
+        destination: eid_shown(&info.destination),
+        source: eid_shown(&info.source),
+        time: info.time,
+        sequence: info.sequence,
+        lifetime: info.lifetime,
+        is_fragment,
+        fragment_offset,
+        fragment_total,
+        blocks: info.blocks,
+        payload_length: info.payload,
+    }
+}
+
+/// Gives the fields and the names of a good bundle.
+fn give(
+    info: &BundleView<'_>,
+    verdict: Verdict,
+    destination_name: &mut [u8],
+    source_name: &mut [u8],
+    answer: &mut Bundle,
+) -> u32
+    ensures { GivesBundle (viewed_info info.now) verdict destination_name.new source_name.new
+        answer.new result }
+{
+    *answer = bundle_shown(verdict, info);
+    let destination_fits = copy_front(destination_name, name_of(&info.destination));
+    let source_fits = copy_front(source_name, name_of(&info.source));
+    if destination_fits && source_fits {
+        OK
+    } else {
+        TOO_SMALL
+    }
+}
+
+/// Judges the bytes as one bundle, and gives the fields of a good one.
+#[unsafe(no_mangle)]
+pub extern "C" fn tcpclkit_raw_bundle_info(
+    bytes: &[u8],
+    destination_name: &mut [u8],
+    source_name: &mut [u8],
+    answer: &mut Bundle,
+) -> u32
+    ensures { GivesInfo (verdict bytes.now) (payload_span bytes.now) destination_name.new
+        source_name.new answer.new result }
+{
+    let mut scan = BundleScan::new();
+    judge(&mut scan, bytes);
+    let verdict = found(&scan, bytes);
+    match scan.view() {
+        Ok(info) => give(&info, verdict, destination_name, source_name, answer),
+        Err(_) => {
+            answer.verdict = verdict;
+            state_status(scan.state())
+        }
+    }
+}

@@ -1,0 +1,30 @@
+//! The C library: what a program in C calls, over the libraries of this repository.
+//!
+//! `include/tcpclkit.h` declares every export and says what its caller owes. An export takes
+//! slices, numbers and structs of numbers, which [`fault`] and the other modules define. It tests
+//! what a caller may get wrong, calls one proved function, and writes the answer as numbers. Its
+//! contract has the words of that function's contract, so no export has a condition.
+#![tactic(auto)]
+
+ghost use Rattle.std.specs.Prelude.{◌≡◌};
+
+mod bundle;
+mod device;
+mod fault;
+mod order;
+mod recording;
+mod slice;
+mod status;
+mod text;
+mod tool;
+
+/// The version of the interface, `TCPCLKIT_ABI`.
+const ABI: u32 = 1;
+
+/// The version of the interface of the header that this library belongs to.
+#[unsafe(no_mangle)]
+pub extern "C" fn tcpclkit_abi() -> u32
+    ensures { result ≡ 1 }
+{
+    ABI
+}

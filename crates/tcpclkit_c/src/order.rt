@@ -1,0 +1,188 @@
+//! The export that judges the order of messages.
+
+ghost use Rattle.std.specs.Prelude.{◌≡◌, ◌<◌, ◌≤◌, List, ◌++◌, ◌∷◌, []};
+ghost use Rattle.link_wire.specs.declared.message.Message.{Message};
+ghost use Rattle.link_transfer.specs.Event.{event_of};
+ghost use Rattle.link_transfer.specs.Order.{judged};
+ghost use Rattle.link_transfer.specs.Joiner.{IsJoinerAt};
+ghost use Rattle.tcpclkit_c.specs.Order.{order_code, event_by, turn_shown, HasNumbers, IsOrderAt, GivesTurn};
+
+use crate::status::{FAULT, OK, RANGE};
+use link_transfer::{Event, Joiner, OrderFault, Turn as Effect};
+
+/// `struct tcpclkit_order`: what of the messages so far decides which may come next.
+#[repr(C)]
+#[derive(Clone, Copy, Debug, PartialEq, Eq)]
+pub struct Order {
+    /// 1 after a SESS_INIT, and else 0.
+    pub initiated: u64,
+    /// 1 after a SESS_TERM, and else 0.
+    pub terminated: u64,
+    /// 1 while a transfer is open, and else 0.
+    pub is_open: u64,
+    /// The ID of the open transfer.
+    pub transfer: u64,
+}
+
+/// `struct tcpclkit_turn`: what an accepted message does, or why it is refused.
+#[repr(C)]
+#[derive(Clone, Copy, Debug, PartialEq, Eq)]
+pub struct Turn {
+    /// The code of the fault, or 0.
+    pub fault: u64,
+    /// 0, or 1 for the first segment of a transfer, or 2 for a further one.
+    pub turn: u64,
+    /// 1 for the last segment of a transfer, and else 0.
+    pub last: u64,
+    /// 1 if another transfer was open, and else 0.
+    pub abandons: u64,
+    /// The ID of that transfer.
+    pub abandoned: u64,
+}
+
+/// The event of a message of this kind; no other kind is 7, 5 or 1.
+fn event_by(kind: u64, flags: u8, id: u64) -> Event
+    ensures { result ≡ event_by kind flags id }
+{
+    match kind {
+        7 => Event::SessInit,
+        5 => Event::SessTerm,
+        1 => Event::Segment { flags, id },
+        _ => Event::Other,
+    }
+}
+
+/// The code of a fault of the order.
+fn order_code(fault: OrderFault) -> u64
+    ensures { result ≡ order_code fault }
+{
+    match fault {
+        OrderFault::SecondSessInit => 51,
+        OrderFault::SegmentBeforeSessInit => 52,
+        OrderFault::NoSuchOpenTransfer => 53,
+        OrderFault::StartRepeatsOpenId => 54,
+        OrderFault::StartAfterSessTerm => 55,
+    }
+}
+
+/// What an accepted message does, as numbers.
+fn turn_shown(turn: Effect) -> Turn
+    ensures { result ≡ turn_shown turn }
+{
+    let none = Turn {
+        fault: 0,
+        turn: 0,
+        last: 0,
+        abandons: 0,
+        abandoned: 0,
+    };
+    match turn {
+        Effect::Other => none,
+        Effect::Begin {
+            abandoned: None,
+            last,
+        } => Turn {
+            turn: 1,
+            last: u64::from(last),
+            ..none
+        },
+        Effect::Begin {
+            abandoned: Some(abandoned),
+            last,
+        } => Turn {
+            turn: 1,
+            last: u64::from(last),
+            abandons: 1,
+            abandoned,
+            ..none
+        },
+        Effect::Continue { last } => Turn {
+            turn: 2,
+            last: u64::from(last),
+            ..none
+        },
+    }
+}
+
+/// The joiner that the numbers are of.
+fn joiner_of(order: &Order) -> Joiner
+    ensures { (before : List Message) → IsOrderAt order.now before → IsJoinerAt result before }
+{
+    let transfer = if order.is_open == 1 {
+        Some(order.transfer)
+    } else {
+        None
+    };
+    Joiner::from_parts(order.initiated == 1, order.terminated == 1, transfer)
+}
+
+/// The numbers of a joiner.
+fn order_of(joiner: &Joiner) -> Order
+    ensures { (before : List Message) → IsJoinerAt joiner.now before → IsOrderAt result before }
+{
+    let (is_open, transfer) = match joiner.open() {
+        None => (0, 0),
+        Some(transfer) => (1, transfer),
+    };
+    Order {
+        initiated: u64::from(joiner.initiated()),
+        terminated: u64::from(joiner.terminated()),
+        is_open,
+        transfer,
+    }
+}
+
+/// Judges a message of this event, and counts it among those that came if it may come.
+fn judge(order: &mut Order, event: Event, answer: &mut Turn) -> u32
+    ensures judged { (before : List Message) → IsOrderAt order.old before
+        → GivesTurn (judged before event) answer.new result }
+    ensures accepted { (before : List Message) (message : Message) → event_of message ≡ event
+        → IsOrderAt order.old before → result ≡ 0
+        → IsOrderAt order.new (before ++ message ∷ []) }
+    ensures refused { 0 < result → order.new ≡ order.old }
+{
+    let mut joiner = joiner_of(order);
+    match joiner.event(event) {
+        Ok(turn) => {
+            *order = order_of(&joiner);
+            *answer = turn_shown(turn);
+            OK
+        }
+        Err(fault) => {
+            answer.fault = order_code(fault);
+            FAULT
+        }
+    }
+}
+
+/// Judges whether a message may come now, and if so counts it among those that came.
+#[unsafe(no_mangle)]
+pub extern "C" fn tcpclkit_raw_order(
+    order: &mut Order,
+    kind: u64,
+    flags: u64,
+    id: u64,
+    answer: &mut Turn,
+) -> u32
+    ensures judged { (before : List Message) (message : Message) → HasNumbers message kind flags id
+        → IsOrderAt order.old before
+        → GivesTurn (judged before (event_of message)) answer.new result }
+    ensures accepted { (before : List Message) (message : Message)
+        → HasNumbers message kind flags id → IsOrderAt order.old before → result ≡ 0
+        → IsOrderAt order.new (before ++ message ∷ []) }
+    ensures refused { 0 < result → order.new ≡ order.old }
+    ensures kind { 7 < kind → (result ≡ 6) × (answer.new ≡ answer.old) }
+    ensures no_kind { kind ≡ 0 → (result ≡ 6) × (answer.new ≡ answer.old) }
+    ensures flags { 255 < flags → (result ≡ 6) × (answer.new ≡ answer.old) }
+    ensures initiated { 1 < order.old.initiated → (result ≡ 6) × (answer.new ≡ answer.old) }
+    ensures terminated { 1 < order.old.terminated → (result ≡ 6) × (answer.new ≡ answer.old) }
+    ensures is_open { 1 < order.old.is_open → (result ≡ 6) × (answer.new ≡ answer.old) }
+{
+    if kind == 0 || kind > 7 || flags > 255 {
+        return RANGE;
+    }
+    if order.initiated > 1 || order.terminated > 1 || order.is_open > 1 {
+        return RANGE;
+    }
+    judge(order, event_by(kind, flags as u8, id), answer)
+}

@@ -1,0 +1,281 @@
+//! Exports about a recording that lies in one slice.
+
+ghost use Rattle.std.specs.Prelude.{◌≡◌, ◌-◌, ◌^◌, ◌<◌, ◌≤◌, length, drop};
+ghost use Rattle.link_wire.specs.Message.{contact_at, message_at};
+ghost use Rattle.tcpclkit_c.specs.Recording.{GivesContact, fields_shown, message_shown, data_status, GivesMessage, item_shown, item_part, GivesItem};
+
+use crate::fault::{Fault, wire_status};
+use crate::status::{DATA_TRUNCATED, END, OK, RANGE};
+use link_wire::{
+    Fields, ItemAt, ListOf, MAX_LIST_LENGTH, MessageAt, contact_in, item_in, message_in,
+};
+
+/// `struct tcpclkit_contact`: a contact header, or its fault.
+#[repr(C)]
+#[derive(Clone, Copy, Debug, PartialEq, Eq)]
+pub struct Contact {
+    /// The fault, if there is one.
+    pub fault: Fault,
+    /// The flags.
+    pub flags: u64,
+}
+
+/// `struct tcpclkit_message`: a message, or its fault.
+#[repr(C)]
+#[derive(Clone, Copy, Debug, PartialEq, Eq)]
+pub struct Message {
+    /// The fault, if there is one.
+    pub fault: Fault,
+    /// The type byte.
+    pub kind: u64,
+    /// The flags.
+    pub flags: u64,
+    /// The reason.
+    pub reason: u64,
+    /// The type byte of the message that a MSG_REJECT rejects.
+    pub header: u64,
+    /// The transfer ID.
+    pub id: u64,
+    /// The number of bytes that an XFER_ACK acknowledges.
+    pub acknowledged: u64,
+    /// The keepalive interval.
+    pub keepalive: u64,
+    /// The longest segment that the sender will receive.
+    pub segment_mru: u64,
+    /// The longest transfer that the sender will receive.
+    pub transfer_mru: u64,
+    /// The offset of the node ID.
+    pub node_offset: u64,
+    /// The length of the node ID.
+    pub node_length: u64,
+    /// The offset of the extension items.
+    pub items_offset: u64,
+    /// The length of the extension items.
+    pub items_length: u64,
+    /// The offset after the head.
+    pub data_offset: u64,
+    /// The length of a segment's data, by its head.
+    pub data_length: u64,
+    /// The offset after the message.
+    pub next: u64,
+}
+
+/// `struct tcpclkit_item`: an extension item, or its fault.
+#[repr(C)]
+#[derive(Clone, Copy, Debug, PartialEq, Eq)]
+pub struct Item {
+    /// The fault, if there is one.
+    pub fault: Fault,
+    /// The flags.
+    pub flags: u64,
+    /// The type.
+    pub kind: u64,
+    /// The offset of the value.
+    pub value_offset: u64,
+    /// The length of the value.
+    pub value_length: u64,
+    /// 1 if the value is a total length, and else 0.
+    pub has_total: u64,
+    /// The total length.
+    pub total: u64,
+    /// The offset after the item.
+    pub next: u64,
+}
+
+/// Reads the contact header that the bytes begin with.
+#[unsafe(no_mangle)]
+pub extern "C" fn tcpclkit_raw_contact(bytes: &[u8], answer: &mut Contact) -> u32
+    ensures { GivesContact (contact_at bytes.now) answer.new result }
+{
+    match contact_in(bytes) {
+        Ok((contact, _)) => {
+            answer.flags = u64::from(contact.flags);
+            OK
+        }
+        Err(fault) => {
+            answer.fault = Fault::of_wire(fault, 0);
+            wire_status(fault)
+        }
+    }
+}
+
+/// The kind and the numbers of a message, without its places.
+fn fields_shown(fields: Fields) -> Message
+    ensures { result ≡ fields_shown fields }
+{
+    let none = Message {
+        fault: Fault::none(),
+        kind: 0,
+        flags: 0,
+        reason: 0,
+        header: 0,
+        id: 0,
+        acknowledged: 0,
+        keepalive: 0,
+        segment_mru: 0,
+        transfer_mru: 0,
+        node_offset: 0,
+        node_length: 0,
+        items_offset: 0,
+        items_length: 0,
+        data_offset: 0,
+        data_length: 0,
+        next: 0,
+    };
+    match fields {
+        Fields::SessInit {
+            keepalive,
+            segment_mru,
+            transfer_mru,
+        } => Message {
+            kind: 7,
+            keepalive: u64::from(keepalive),
+            segment_mru,
+            transfer_mru,
+            ..none
+        },
+        Fields::Segment { flags, id, length } => Message {
+            kind: 1,
+            flags: u64::from(flags),
+            id,
+            data_length: length,
+            ..none
+        },
+        Fields::Ack { flags, id, length } => Message {
+            kind: 2,
+            flags: u64::from(flags),
+            id,
+            acknowledged: length,
+            ..none
+        },
+        Fields::Refuse { reason, id } => Message {
+            kind: 3,
+            reason: u64::from(reason),
+            id,
+            ..none
+        },
+        Fields::Keepalive => Message { kind: 4, ..none },
+        Fields::SessTerm { flags, reason } => Message {
+            kind: 5,
+            flags: u64::from(flags),
+            reason: u64::from(reason),
+            ..none
+        },
+        Fields::MsgReject { reason, header } => Message {
+            kind: 6,
+            reason: u64::from(reason),
+            header: u64::from(header),
+            ..none
+        },
+    }
+}
+
+/// A message as numbers, and whether its data is there; `size` is the number of the bytes.
+fn shown(place: &MessageAt, size: usize) -> (Message, u32)
+    requires { place.now.end ≤ size }
+    ensures message { result.0 ≡ message_shown size place.now }
+    ensures status { result.1 ≡ data_status size place.now }
+{
+    let fields = fields_shown(place.fields);
+    let placed = Message {
+        node_offset: place.node.offset as u64,
+        node_length: place.node.length as u64,
+        items_offset: place.items.offset as u64,
+        items_length: place.items.length as u64,
+        data_offset: place.end as u64,
+        ..fields
+    };
+    if fields.data_length <= (size - place.end) as u64 {
+        let next = place.end as u64 + fields.data_length;
+        (Message { next, ..placed }, OK)
+    } else {
+        (placed, DATA_TRUNCATED)
+    }
+}
+
+/// Reads the message that begins at an offset.
+#[unsafe(no_mangle)]
+pub extern "C" fn tcpclkit_raw_message(bytes: &[u8], offset: u64, answer: &mut Message) -> u32
+    ensures range { length bytes.now < offset → (result ≡ 6) × (answer.new ≡ answer.old) }
+    ensures ended { offset ≡ length bytes.now → (result ≡ 1) × (answer.new ≡ answer.old) }
+    ensures message { offset < length bytes.now
+        → GivesMessage bytes.now offset (message_at (drop offset bytes.now)) answer.new result }
+{
+    let size = bytes.len();
+    if offset > size as u64 {
+        return RANGE;
+    }
+    if offset == size as u64 {
+        return END;
+    }
+    match message_in(bytes, offset as usize) {
+        Ok(place) => {
+            let (message, status) = shown(&place, size);
+            *answer = message;
+            status
+        }
+        Err(fault) => {
+            answer.fault = Fault::of_wire(fault, offset);
+            wire_status(fault)
+        }
+    }
+}
+
+/// An item as numbers.
+fn item_shown(place: &ItemAt) -> Item
+    requires { place.now.value ≤ 2 ^ 63 }
+    ensures { result ≡ item_shown place.now }
+{
+    let item = &place.item;
+    let (has_total, total) = match item.total {
+        None => (0, 0),
+        Some(total) => (1, total),
+    };
+    Item {
+        fault: Fault::none(),
+        flags: u64::from(item.flags),
+        kind: u64::from(item.kind),
+        value_offset: place.value as u64,
+        value_length: u64::from(item.length),
+        has_total,
+        total,
+        next: place.value as u64 + u64::from(item.length),
+    }
+}
+
+/// Reads the extension item at an offset of a list that ends before the offset `end`.
+#[unsafe(no_mangle)]
+pub extern "C" fn tcpclkit_raw_item(bytes: &[u8], offset: u64, end: u64, answer: &mut Item) -> u32
+    ensures past { length bytes.now < end → (result ≡ 6) × (answer.new ≡ answer.old) }
+    ensures turned { end < offset → (result ≡ 6) × (answer.new ≡ answer.old) }
+    ensures long { 65536 < end - offset → (result ≡ 6) × (answer.new ≡ answer.old) }
+    ensures ended { offset ≡ end → end ≤ length bytes.now
+        → (result ≡ 1) × (answer.new ≡ answer.old) }
+    ensures item { offset < end → end ≤ length bytes.now → end - offset ≤ 65536
+        → GivesItem bytes.now offset (end - offset)
+        (item_part (end - offset) (drop offset bytes.now)) answer.new result }
+{
+    if end > bytes.len() as u64 {
+        return RANGE;
+    }
+    if offset > end {
+        return RANGE;
+    }
+    let left = end - offset;
+    if left > u64::from(MAX_LIST_LENGTH) {
+        return RANGE;
+    }
+    if left == 0 {
+        return END;
+    }
+    match item_in(bytes, offset as usize, left as u32, ListOf::Transfer) {
+        Ok(place) => {
+            *answer = item_shown(&place);
+            OK
+        }
+        Err(fault) => {
+            answer.fault = Fault::of_wire(fault, offset);
+            wire_status(fault)
+        }
+    }
+}

@@ -1,0 +1,14 @@
+//! Texts that are copied into slices of the caller.
+
+ghost use Rattle.std.specs.Prelude.{◌≡◌, length, nat_le};
+ghost use Rattle.tcpclkit_c.specs.Slice.{HoldsFront};
+
+/// Copies the text into the slice, as far as there is room, and returns whether there was.
+pub fn copy_front(slice: &mut [u8], text: &[u8]) -> bool
+    ensures front { HoldsFront slice.new text.now }
+    ensures fits { result ≡ nat_le (length text.now) (length slice.new) }
+{
+    let count = text.len().min(slice.len());
+    slice[..count].copy_from_slice(&text[..count]);
+    text.len() <= slice.len()
+}

@@ -1,0 +1,368 @@
+/*
+ * Calls each function of include/tcpclkit.h as a program in C does: on worked bytes, and on what a
+ * caller may get wrong. Prints each check that fails, and then `N passed, M failed`.
+ */
+#include "tcpclkit.h"
+
+#include <stdio.h>
+#include <string.h>
+
+static unsigned passed, failed;
+
+#define CHECK(holds) count((holds) != 0, __LINE__, #holds)
+
+static void count(int holds, int line, const char *what) {
+  if (holds) {
+    passed++;
+  } else {
+    failed++;
+    printf("line %d: %s\n", line, what);
+  }
+}
+
+#ifdef REFUSES_MEMORY
+/* Built with --wrap=malloc and --wrap=realloc: the library's request of this number is refused. */
+static unsigned requests, refused_request;
+
+void *__real_malloc(size_t size);
+void *__real_realloc(void *block, size_t size);
+void *__wrap_malloc(size_t size);
+void *__wrap_realloc(void *block, size_t size);
+
+void *__wrap_malloc(size_t size) {
+  return ++requests == refused_request ? NULL : __real_malloc(size);
+}
+
+void *__wrap_realloc(void *block, size_t size) {
+  return ++requests == refused_request ? NULL : __real_realloc(block, size);
+}
+#endif
+
+/* Whether the slice begins with these bytes. */
+static int begins(const uint8_t *slice, const char *text) {
+  return memcmp(slice, text, strlen(text)) == 0;
+}
+
+/* A bundle from ipn:1.1 to ipn:2.1 with the payload `hello`. */
+#define BUNDLE_BYTES                                                                              \
+  0x9f, 0x88, 0x07, 0x00, 0x00, 0x82, 0x02, 0x82, 0x02, 0x01, 0x82, 0x02, 0x82, 0x01, 0x01, 0x82, \
+      0x01, 0x00, 0x82, 0x00, 0x00, 0x00, 0x85, 0x01, 0x01, 0x00, 0x00, 0x45, 'h', 'e', 'l', 'l', \
+      'o', 0xff
+
+static const uint8_t bundle[] = {BUNDLE_BYTES, 0x00};
+#define BUNDLE_LENGTH (sizeof bundle - 1)
+
+/* A bundle from dtn://a to dtn://bc without payload bytes. */
+static const uint8_t named[] = {
+    0x9f, 0x88, 0x07, 0x00, 0x00, 0x82, 0x01, 0x64, '/',  '/',  'b',  'c',  0x82, 0x01, 0x63,
+    '/',  '/',  'a',  0x82, 0x01, 0x00, 0x82, 0x05, 0x06, 0x07, 0x85, 0x01, 0x01, 0x00, 0x00,
+    0x40, 0xff};
+
+/* A contact header, a SESS_INIT, and the bundle in one segment. */
+static const uint8_t recording[] = {
+    0x64, 0x74, 0x6e, 0x21, 0x04, 0x00, 0x07, 0x00, 0x3c, 0x00, 0x00, 0x00, 0x00, 0x00, 0x01,
+    0x00, 0x00, 0x00, 0x00, 0x00, 0x00, 0x00, 0x10, 0x00, 0x00, 0x00, 0x07, 'i',  'p',  'n',
+    ':',  '1',  '.',  '0',  0x00, 0x00, 0x00, 0x00, 0x01, 0x03, 0x00, 0x00, 0x00, 0x00, 0x00,
+    0x00, 0x00, 0x00, 0x00, 0x00, 0x00, 0x00, 0x00, 0x00, 0x00, 0x00, 0x00, 0x00, 0x00, 0x22,
+    BUNDLE_BYTES};
+
+/* The head of a segment with a Transfer Length item, and no data. */
+static const uint8_t announcing[] = {0x01, 0x02, 0, 0, 0, 0, 0, 0, 0, 5, 0, 0, 0, 0x0d,
+                                     0x01, 0, 1, 0, 8, 0, 0, 0, 0, 0, 0, 1, 0,
+                                     0, 0, 0, 0, 0, 0, 0, 3};
+
+static void verdicts(void) {
+  struct tcpclkit_verdict verdict;
+  CHECK(tcpclkit_abi() == TCPCLKIT_ABI);
+  CHECK(tcpclkit_bundle_verdict(bundle, BUNDLE_LENGTH, &verdict) == TCPCLKIT_OK);
+  CHECK(verdict.fault.code == TCPCLKIT_NO_FAULT && verdict.has_payload == 1);
+  CHECK(verdict.payload_offset == 28 && verdict.payload_seen == 5);
+  CHECK(tcpclkit_bundle_verdict(bundle, 30, &verdict) == TCPCLKIT_TRUNCATED);
+  CHECK(verdict.fault.code == TCPCLKIT_BUNDLE_CUT && verdict.fault.offset == 30);
+  CHECK(verdict.has_payload == 1 && verdict.payload_offset == 28 && verdict.payload_seen == 2);
+  CHECK(tcpclkit_bundle_verdict(bundle, sizeof bundle, &verdict) == TCPCLKIT_FAULT);
+  CHECK(verdict.fault.code == TCPCLKIT_BUNDLE_TRAILING && verdict.fault.offset == 34);
+  CHECK(verdict.payload_seen == 5);
+  CHECK(tcpclkit_bundle_verdict(bundle + 1, 8, &verdict) == TCPCLKIT_FAULT);
+  CHECK(verdict.fault.code == TCPCLKIT_BUNDLE_NOT_A_BUNDLE && verdict.has_payload == 0);
+  CHECK(tcpclkit_bundle_verdict(bundle, 0, &verdict) == TCPCLKIT_TRUNCATED);
+  CHECK(tcpclkit_bundle_verdict(NULL, 0, &verdict) == TCPCLKIT_TRUNCATED);
+  CHECK(tcpclkit_bundle_verdict(NULL, 1, &verdict) == TCPCLKIT_NULL);
+  CHECK(tcpclkit_bundle_verdict(bundle, BUNDLE_LENGTH, NULL) == TCPCLKIT_NULL);
+  CHECK(tcpclkit_bundle_verdict(bundle, SIZE_MAX, &verdict) == TCPCLKIT_RANGE);
+}
+
+static void infos(void) {
+  struct tcpclkit_bundle info;
+  uint8_t to[TCPCLKIT_EID_LIMIT], from[TCPCLKIT_EID_LIMIT];
+  CHECK(tcpclkit_bundle_info(bundle, BUNDLE_LENGTH, NULL, 0, NULL, 0, &info) == TCPCLKIT_OK);
+  CHECK(info.verdict.payload_offset == 28 && info.payload_length == 5 && info.blocks == 1);
+  CHECK(info.destination.kind == TCPCLKIT_EID_IPN && info.destination.node == 2);
+  CHECK(info.source.kind == TCPCLKIT_EID_IPN && info.source.node == 1 && info.source.service == 1);
+  CHECK(info.flags == 0 && info.is_fragment == 0 && info.lifetime == 0);
+  CHECK(tcpclkit_bundle_info(named, sizeof named, to, sizeof to, from, sizeof from, &info) ==
+        TCPCLKIT_OK);
+  CHECK(info.destination.kind == TCPCLKIT_EID_DTN && info.destination.name_length == 4);
+  CHECK(begins(to, "//bc") && info.source.name_length == 3 && begins(from, "//a"));
+  CHECK(info.time == 5 && info.sequence == 6 && info.lifetime == 7 && info.payload_length == 0);
+  to[2] = from[2] = 'x';
+  CHECK(tcpclkit_bundle_info(named, sizeof named, to, 2, from, 3, &info) == TCPCLKIT_TOO_SMALL);
+  CHECK(info.destination.name_length == 4 && begins(to, "//x") && begins(from, "//a"));
+  CHECK(tcpclkit_bundle_info(named, sizeof named, to, 4, from, 0, &info) == TCPCLKIT_TOO_SMALL);
+  CHECK(tcpclkit_bundle_info(named, 9, to, 4, from, 3, &info) == TCPCLKIT_TRUNCATED);
+  CHECK(info.verdict.fault.code == TCPCLKIT_BUNDLE_CUT && info.verdict.fault.offset == 9);
+  CHECK(tcpclkit_bundle_info(named, sizeof named, NULL, 4, from, 3, &info) == TCPCLKIT_NULL);
+}
+
+static void messages(void) {
+  struct tcpclkit_contact contact;
+  struct tcpclkit_message message;
+  uint8_t other[sizeof recording];
+  CHECK(tcpclkit_contact(recording, sizeof recording, &contact) == TCPCLKIT_OK);
+  CHECK(contact.flags == 0);
+  CHECK(tcpclkit_contact(recording, 5, &contact) == TCPCLKIT_TRUNCATED);
+  CHECK(contact.fault.code == TCPCLKIT_WIRE_TRUNCATED && contact.fault.offset == 0);
+  CHECK(tcpclkit_contact(NULL, 0, &contact) == TCPCLKIT_TRUNCATED);
+  memcpy(other, recording, sizeof recording);
+  other[4] = 3;
+  CHECK(tcpclkit_contact(other, sizeof other, &contact) == TCPCLKIT_FAULT);
+  CHECK(contact.fault.code == TCPCLKIT_WIRE_BAD_VERSION && contact.fault.number == 3);
+  CHECK(tcpclkit_message(recording, sizeof recording, TCPCLKIT_CONTACT_LENGTH, &message) ==
+        TCPCLKIT_OK);
+  CHECK(message.kind == TCPCLKIT_SESS_INIT && message.keepalive == 60);
+  CHECK(message.segment_mru == 65536 && message.transfer_mru == 1048576);
+  CHECK(message.node_length == 7 && begins(recording + message.node_offset, "ipn:1.0"));
+  CHECK(message.items_length == 0 && message.data_length == 0 && message.next == 38);
+  CHECK(tcpclkit_message(recording, sizeof recording, 38, &message) == TCPCLKIT_OK);
+  CHECK(message.kind == TCPCLKIT_XFER_SEGMENT && message.id == 0);
+  CHECK(message.flags == (TCPCLKIT_SEGMENT_START | TCPCLKIT_SEGMENT_END));
+  CHECK(message.data_offset == 60 && message.data_length == 34 && message.next == 94);
+  CHECK(tcpclkit_message(recording, sizeof recording, 94, &message) == TCPCLKIT_END);
+  CHECK(tcpclkit_message(recording, sizeof recording, 95, &message) == TCPCLKIT_RANGE);
+  CHECK(tcpclkit_message(recording, sizeof recording, UINT64_MAX, &message) == TCPCLKIT_RANGE);
+  CHECK(tcpclkit_message(recording, 93, 38, &message) == TCPCLKIT_DATA_TRUNCATED);
+  CHECK(message.data_offset == 60 && message.data_length == 34);
+  CHECK(tcpclkit_message(recording, 59, 38, &message) == TCPCLKIT_TRUNCATED);
+  CHECK(message.fault.code == TCPCLKIT_WIRE_TRUNCATED && message.fault.offset == 38);
+  CHECK(tcpclkit_message(recording, sizeof recording, 0, &message) == TCPCLKIT_FAULT);
+  CHECK(message.fault.code == TCPCLKIT_WIRE_UNKNOWN_TYPE && message.fault.number == 0x64);
+  CHECK(tcpclkit_message(NULL, 0, 0, &message) == TCPCLKIT_END);
+  CHECK(tcpclkit_message(NULL, 1, 0, &message) == TCPCLKIT_NULL);
+}
+
+static void items(void) {
+  struct tcpclkit_message message;
+  struct tcpclkit_item item;
+  uint64_t end;
+  CHECK(tcpclkit_message(announcing, sizeof announcing, 0, &message) == TCPCLKIT_DATA_TRUNCATED);
+  CHECK(message.items_offset == 14 && message.items_length == 13 && message.data_length == 3);
+  end = message.items_offset + message.items_length;
+  CHECK(tcpclkit_item(announcing, sizeof announcing, message.items_offset, end, &item) ==
+        TCPCLKIT_OK);
+  CHECK(item.flags == 1 && item.type == 1 && item.value_offset == 19 && item.value_length == 8);
+  CHECK(item.has_total == 1 && item.total == 256 && item.next == end);
+  CHECK(tcpclkit_item(announcing, sizeof announcing, end, end, &item) == TCPCLKIT_END);
+  CHECK(tcpclkit_item(announcing, sizeof announcing, 14, 26, &item) == TCPCLKIT_FAULT);
+  CHECK(item.fault.code == TCPCLKIT_WIRE_ITEMS_OVERRUN && item.fault.offset == 14);
+  CHECK(tcpclkit_item(announcing, sizeof announcing, 15, 14, &item) == TCPCLKIT_RANGE);
+  CHECK(tcpclkit_item(announcing, sizeof announcing, 14, 36, &item) == TCPCLKIT_RANGE);
+  CHECK(tcpclkit_item(NULL, 0, 0, 0, &item) == TCPCLKIT_END);
+}
+
+static void orders(void) {
+  struct tcpclkit_order order = {0, 0, 0, 0};
+  struct tcpclkit_turn turn;
+  CHECK(tcpclkit_order(&order, TCPCLKIT_XFER_SEGMENT, 3, 1, &turn) == TCPCLKIT_FAULT);
+  CHECK(turn.fault == TCPCLKIT_ORDER_SEGMENT_BEFORE_SESS_INIT);
+  CHECK(tcpclkit_order(&order, TCPCLKIT_SESS_INIT, 0, 0, &turn) == TCPCLKIT_OK);
+  CHECK(turn.turn == TCPCLKIT_TURN_OTHER && order.initiated == 1);
+  CHECK(tcpclkit_order(&order, TCPCLKIT_SESS_INIT, 0, 0, &turn) == TCPCLKIT_FAULT);
+  CHECK(turn.fault == TCPCLKIT_ORDER_SECOND_SESS_INIT);
+  CHECK(tcpclkit_order(&order, TCPCLKIT_XFER_SEGMENT, 2, 7, &turn) == TCPCLKIT_OK);
+  CHECK(turn.turn == TCPCLKIT_TURN_BEGIN && turn.last == 0 && turn.abandons == 0);
+  CHECK(order.is_open == 1 && order.transfer == 7);
+  CHECK(tcpclkit_order(&order, TCPCLKIT_XFER_SEGMENT, 0, 8, &turn) == TCPCLKIT_FAULT);
+  CHECK(turn.fault == TCPCLKIT_ORDER_NO_SUCH_OPEN_TRANSFER && order.transfer == 7);
+  CHECK(tcpclkit_order(&order, TCPCLKIT_XFER_SEGMENT, 3, 8, &turn) == TCPCLKIT_OK);
+  CHECK(turn.abandons == 1 && turn.abandoned == 7 && turn.last == 1 && order.is_open == 0);
+  CHECK(tcpclkit_order(&order, TCPCLKIT_SESS_TERM, 0, 0, &turn) == TCPCLKIT_OK);
+  CHECK(tcpclkit_order(&order, TCPCLKIT_XFER_SEGMENT, 2, 9, &turn) == TCPCLKIT_FAULT);
+  CHECK(turn.fault == TCPCLKIT_ORDER_START_AFTER_SESS_TERM);
+  CHECK(tcpclkit_order(&order, 0, 0, 0, &turn) == TCPCLKIT_RANGE);
+  CHECK(tcpclkit_order(&order, 8, 0, 0, &turn) == TCPCLKIT_RANGE);
+  CHECK(tcpclkit_order(&order, TCPCLKIT_KEEPALIVE, 256, 0, &turn) == TCPCLKIT_RANGE);
+  order.initiated = 2;
+  CHECK(tcpclkit_order(&order, TCPCLKIT_KEEPALIVE, 0, 0, &turn) == TCPCLKIT_RANGE);
+  CHECK(tcpclkit_order(NULL, TCPCLKIT_KEEPALIVE, 0, 0, &turn) == TCPCLKIT_NULL);
+}
+
+static void texts(void) {
+  struct tcpclkit_eid eid = {TCPCLKIT_EID_IPN3, 1, 2, 3, 0};
+  uint8_t text[4100];
+  uint64_t written = 99, code, known = 0;
+  CHECK(tcpclkit_fault_text(113, 0, text, sizeof text, &written) == TCPCLKIT_OK);
+  CHECK(written == 17 && begins(text, "B13 check differs"));
+  CHECK(tcpclkit_fault_text(4, 0x64, text, sizeof text, &written) == TCPCLKIT_OK);
+  CHECK(written == 23 && begins(text, "unknown message type 64"));
+  CHECK(tcpclkit_fault_text(51, 0, text, 6, &written) == TCPCLKIT_TOO_SMALL);
+  CHECK(written == 6 && begins(text, "second"));
+  CHECK(tcpclkit_fault_text(51, 0, NULL, 0, &written) == TCPCLKIT_TOO_SMALL && written == 0);
+  CHECK(tcpclkit_fault_text(3, 256, text, sizeof text, &written) == TCPCLKIT_RANGE);
+  for (code = 0; code < 200; code++)
+    known += tcpclkit_fault_text(code, 0, text, 64, &written) == TCPCLKIT_OK;
+  CHECK(known == 8 + 5 + 17);
+  CHECK(tcpclkit_fault_text(UINT64_MAX, 0, text, 64, &written) == TCPCLKIT_RANGE);
+  CHECK(tcpclkit_eid_text(&eid, NULL, text, sizeof text, &written) == TCPCLKIT_OK);
+  CHECK(written == 9 && begins(text, "ipn:1.2.3"));
+  eid.kind = TCPCLKIT_EID_DTN;
+  eid.name_length = 4;
+  CHECK(tcpclkit_eid_text(&eid, (const uint8_t *)"//\n\\", text, sizeof text, &written) ==
+        TCPCLKIT_OK);
+  CHECK(written == 14 && begins(text, "dtn://\\x0a\\x5c"));
+  CHECK(tcpclkit_eid_text(&eid, NULL, text, sizeof text, &written) == TCPCLKIT_NULL);
+  eid.name_length = TCPCLKIT_EID_LIMIT + 1;
+  CHECK(tcpclkit_eid_text(&eid, text, text, 0, &written) == TCPCLKIT_RANGE);
+  eid.kind = TCPCLKIT_EID_DTN_NONE;
+  CHECK(tcpclkit_eid_text(&eid, NULL, text, 4, &written) == TCPCLKIT_TOO_SMALL && written == 4);
+  eid.kind = 4;
+  CHECK(tcpclkit_eid_text(&eid, NULL, text, sizeof text, &written) == TCPCLKIT_RANGE);
+}
+
+#define CONTACT_LINE "0 contact version=4 flags=00\n"
+#define LINES                                                                                     \
+  CONTACT_LINE                                                                                    \
+  "6 sess-init keepalive=60 segment-mru=65536 transfer-mru=1048576 node=ipn:1.0 items=0\n"
+#define SEGMENT_LINE "38 xfer-segment flags=03 id=0 items=0 length=34\n"
+#define TRANSFER_LINE                                                                             \
+  "transfer 0 start=0 written=34 length=34 good source=ipn:1.1 time=0 sequence=0 "                \
+  "destination=ipn:2.1 payload=5\n"
+
+static void lists(void) {
+  struct tcpclkit_run run;
+  uint8_t output[300], report[100];
+  CHECK(tcpclkit_list(recording, sizeof recording, output, sizeof output, report, sizeof report,
+                      &run) == TCPCLKIT_OK);
+  CHECK(run.exit_status == 0 && run.report_length == 0);
+  CHECK(run.output_length == strlen(LINES SEGMENT_LINE) && begins(output, LINES SEGMENT_LINE));
+  CHECK(tcpclkit_list(recording, 70, output, sizeof output, report, sizeof report, &run) ==
+        TCPCLKIT_OK);
+  CHECK(run.exit_status == 3 && run.output_length == strlen(LINES) && begins(output, LINES));
+  CHECK(run.report_length == 29 && begins(report, "tcpclkit: byte 38: truncated\n"));
+  CHECK(tcpclkit_list(recording, 70, output, 9, report, sizeof report, &run) ==
+        TCPCLKIT_TOO_SMALL);
+  CHECK(run.output_length == 9 && begins(output, "0 contact"));
+  CHECK(tcpclkit_list(recording, 70, output, sizeof output, report, 28, &run) ==
+        TCPCLKIT_TOO_SMALL);
+  CHECK(run.report_length == 28 && begins(report, "tcpclkit: byte 38: truncated"));
+  CHECK(tcpclkit_list(recording, 70, output, sizeof output, report, 29, &run) == TCPCLKIT_OK);
+  CHECK(tcpclkit_list(recording, 6, NULL, 0, NULL, 0, &run) == TCPCLKIT_TOO_SMALL);
+  CHECK(run.output_length == 0 && run.report_length == 0);
+  CHECK(tcpclkit_list(NULL, 0, output, sizeof output, report, sizeof report, &run) ==
+        TCPCLKIT_OK);
+  CHECK(run.exit_status == 3 && begins(report, "tcpclkit: byte 0: truncated\n"));
+  CHECK(tcpclkit_list(recording, 6, NULL, 1, NULL, 0, &run) == TCPCLKIT_NULL);
+  CHECK(tcpclkit_list(recording, 6, output, 1, report, 1, NULL) == TCPCLKIT_NULL);
+}
+
+static void unpacks(void) {
+  struct tcpclkit_unpack_options options = {0, 0, 0};
+  struct tcpclkit_run run;
+  uint8_t output[sizeof recording], report[200];
+  CHECK(tcpclkit_unpack(recording, sizeof recording, &options, output, sizeof output, report,
+                        sizeof report, &run) == TCPCLKIT_OK);
+  CHECK(run.exit_status == 0 && run.output_length == BUNDLE_LENGTH);
+  CHECK(memcmp(output, bundle, BUNDLE_LENGTH) == 0);
+  CHECK(run.report_length == strlen(TRANSFER_LINE) && begins(report, TRANSFER_LINE));
+  options.payload = 1;
+  CHECK(tcpclkit_unpack(recording, sizeof recording, &options, output, sizeof output, report,
+                        sizeof report, &run) == TCPCLKIT_OK);
+  CHECK(run.output_length == 5 && begins(output, "hello"));
+  options.only_one = 1;
+  options.transfer = 1;
+  CHECK(tcpclkit_unpack(recording, sizeof recording, &options, output, sizeof output, report,
+                        sizeof report, &run) == TCPCLKIT_OK);
+  CHECK(run.output_length == 0);
+  options.only_one = 2;
+  CHECK(tcpclkit_unpack(recording, sizeof recording, &options, output, sizeof output, report,
+                        sizeof report, &run) == TCPCLKIT_RANGE);
+}
+
+static uint32_t pack(const struct tcpclkit_pack_options *options, size_t node_length,
+                     uint8_t *output, size_t room, struct tcpclkit_run *run) {
+  static const uint8_t node[TCPCLKIT_NODE_ID_LIMIT + 1] = "ipn:1.0";
+  static uint8_t report[200];
+  return tcpclkit_pack(bundle, BUNDLE_LENGTH, options, node, node_length, output, room, report,
+                       sizeof report, run);
+}
+
+static void packs(void) {
+  const struct tcpclkit_pack_options usual = {60, 65536, 1048576, 65536, 1048576, 0, 0};
+  struct tcpclkit_pack_options options = usual;
+  struct tcpclkit_run run;
+  uint8_t output[sizeof recording + 3];
+  CHECK(pack(&options, 7, output, sizeof output, &run) == TCPCLKIT_OK);
+  CHECK(run.exit_status == 0 && run.output_length == sizeof recording);
+  CHECK(memcmp(output, recording, sizeof recording) == 0);
+  CHECK(pack(&options, 7, output, 50, &run) == TCPCLKIT_TOO_SMALL && run.output_length == 50);
+  options.send_term = 1;
+  CHECK(pack(&options, 7, output, sizeof output, &run) == TCPCLKIT_OK);
+  CHECK(run.output_length == sizeof recording + 3);
+  options.send_term = 2;
+  CHECK(pack(&options, 7, output, sizeof output, &run) == TCPCLKIT_RANGE);
+  options = usual;
+  options.peer_segment = 0;
+  CHECK(pack(&options, 7, output, sizeof output, &run) == TCPCLKIT_RANGE);
+  options = usual;
+  options.keepalive = 65536;
+  CHECK(pack(&options, 7, output, sizeof output, &run) == TCPCLKIT_RANGE);
+  options = usual;
+  options.announce = 1048577;
+  CHECK(pack(&options, 7, output, sizeof output, &run) == TCPCLKIT_RANGE);
+  CHECK(pack(&usual, TCPCLKIT_NODE_ID_LIMIT, NULL, 0, &run) == TCPCLKIT_TOO_SMALL);
+  CHECK(pack(&usual, TCPCLKIT_NODE_ID_LIMIT + 1, NULL, 0, &run) == TCPCLKIT_RANGE);
+  CHECK(pack(NULL, 7, output, sizeof output, &run) == TCPCLKIT_NULL);
+}
+
+#ifdef REFUSES_MEMORY
+/* Runs a tool again and again, with one request more let through each time. */
+static void refusals(int tool) {
+  const struct tcpclkit_pack_options usual = {60, 65536, 1048576, 65536, 1048576, 0, 0};
+  const struct tcpclkit_unpack_options all = {0, 0, 0};
+  struct tcpclkit_run run;
+  uint8_t output[300], report[200];
+  uint32_t status;
+  for (refused_request = 1; refused_request < 100; refused_request++) {
+    requests = 0;
+    status = tool == 0   ? tcpclkit_list(recording, sizeof recording, output, sizeof output, report,
+                                         sizeof report, &run)
+             : tool == 1 ? tcpclkit_unpack(recording, sizeof recording, &all, output,
+                                           sizeof output, report, sizeof report, &run)
+                         : pack(&usual, 7, output, sizeof output, &run);
+    if (requests < refused_request)
+      break;
+    CHECK(status == TCPCLKIT_MEMORY);
+    CHECK(tool != 0 || memcmp(output, LINES SEGMENT_LINE, (size_t)run.output_length) == 0);
+  }
+  CHECK(refused_request > 1 && status == TCPCLKIT_OK);
+  refused_request = 0;
+}
+#endif
+
+int main(void) {
+  verdicts();
+  infos();
+  messages();
+  items();
+  orders();
+  texts();
+  lists();
+  unpacks();
+  packs();
+#ifdef REFUSES_MEMORY
+  refusals(0);
+  refusals(1);
+  refusals(2);
+#endif
+  printf("%u passed, %u failed\n", passed, failed);
+  return failed > 0;
+}
