@@ -3,6 +3,7 @@
  *
  *     example bundle < BUNDLE      writes the endpoint IDs of a bundle, or its fault
  *     example data < RECORDING     writes the data of a recording
+ *     example pack < BUNDLES       writes bundles as the stream of a sender
  */
 #include <inttypes.h>
 #include <stdio.h>
@@ -64,10 +65,26 @@ static int copy_data(const uint8_t *bytes, size_t length, FILE *output) {
   return status == TCPCLKIT_END;
 }
 
+/* Writes bundles as the stream of a sender whose peer takes segments of 20 bytes. */
+static int pack_bundles(const uint8_t *bytes, size_t length, FILE *output) {
+  static const uint8_t node[7] = "ipn:1.0";
+  static uint8_t stream[1 << 24], report[1 << 20];
+  struct tcpclkit_pack_options options = {60, 65536, 1048576, 20, UINT64_MAX, 0, 0};
+  struct tcpclkit_run run;
+  if (tcpclkit_pack(bytes, length, &options, node, sizeof node, stream, sizeof stream, report,
+                    sizeof report, &run) != TCPCLKIT_OK)
+    return 0;
+  fwrite(stream, 1, run.output_length, output);
+  fwrite(report, 1, run.report_length, stderr);
+  return run.exit_status == 0;
+}
+
 int main(int count, char **words) {
   static uint8_t bytes[1 << 20];
   size_t length = fread(bytes, 1, sizeof bytes, stdin);
   if (count == 2 && strcmp(words[1], "bundle") == 0)
     return !show_bundle(bytes, length);
+  if (count == 2 && strcmp(words[1], "pack") == 0)
+    return !pack_bundles(bytes, length, stdout);
   return !copy_data(bytes, length, stdout);
 }

@@ -2,6 +2,7 @@
 
     example.py bundle < BUNDLE      writes the endpoint IDs of a bundle, or its fault
     example.py data < RECORDING     writes the data of a recording
+    example.py pack < BUNDLES       writes bundles as the stream of a sender
 """
 
 import sys
@@ -23,17 +24,28 @@ def copy_data(recording, output):
             output.write(message.data)
 
 
+def pack_bundles(bundles):
+    """Packs bundles as the stream of a sender whose peer takes segments of 20 bytes."""
+    return tcpclkit.pack(bundles, b"ipn:1.0", peer_segment=20)
+
+
 def main():
-    """Does what the argument asks for."""
+    """Does what the argument asks for. Returns the exit status, or the text of a fault."""
     content = sys.stdin.buffer.read()
     try:
         if sys.argv[1:] == ["bundle"]:
             print(show_bundle(content))
+        elif sys.argv[1:] == ["pack"]:
+            run = pack_bundles(content)
+            sys.stdout.buffer.write(run.output)
+            sys.stderr.buffer.write(run.report)
+            return run.exit_status
         else:
             copy_data(content, sys.stdout.buffer)
     except tcpclkit.Fault as fault:
-        sys.exit(f"byte {fault.offset}: {fault}")
+        return f"byte {fault.offset}: {fault}"
+    return 0
 
 
 if __name__ == "__main__":
-    main()
+    sys.exit(main())
