@@ -1,0 +1,90 @@
+/*
+ * Examples of how the C library is called, which docs/LIBRARIES.md shows word for word.
+ *
+ *     example bundle < BUNDLE      writes the endpoint IDs of a bundle, or its fault
+ *     example data < RECORDING     writes the data of a recording
+ *     example pack < BUNDLES       writes bundles as the stream of a sender
+ */
+#include <inttypes.h>
+#include <stdio.h>
+#include <string.h>
+
+#include <tcpclkit.h>
+
+/* Writes a fault and its offset on standard error. */
+static void show_fault(const struct tcpclkit_fault *fault) {
+  uint8_t text[64];
+  uint64_t length;
+  if (tcpclkit_fault_text(fault->code, fault->number, text, sizeof text, &length) == TCPCLKIT_OK)
+    fprintf(stderr, "byte %" PRIu64 ": %.*s\n", fault->offset, (int)length, text);
+}
+
+static void show_eid(const struct tcpclkit_eid *eid, const uint8_t *name) {
+  uint8_t text[4100];
+  uint64_t length;
+  if (tcpclkit_eid_text(eid, name, text, sizeof text, &length) == TCPCLKIT_OK)
+    printf("%.*s", (int)length, text);
+}
+
+/* Writes the endpoint IDs and the length of the payload. Returns whether the bundle is good. */
+static int show_bundle(const uint8_t *bytes, size_t length) {
+  uint8_t destination[TCPCLKIT_EID_LIMIT], source[TCPCLKIT_EID_LIMIT];
+  struct tcpclkit_bundle bundle;
+  if (tcpclkit_bundle_info(bytes, length, destination, sizeof destination, source, sizeof source,
+                           &bundle) != TCPCLKIT_OK) {
+    show_fault(&bundle.verdict.fault);
+    return 0;
+  }
+  show_eid(&bundle.source, source);
+  printf(" -> ");
+  show_eid(&bundle.destination, destination);
+  printf(": %" PRIu64 " bytes\n", bundle.payload_length);
+  return 1;
+}
+
+/* Writes the data of a recording's segments, joined. Returns whether the recording has no fault. */
+static int copy_data(const uint8_t *bytes, size_t length, FILE *output) {
+  struct tcpclkit_contact contact;
+  struct tcpclkit_message message;
+  uint64_t offset = TCPCLKIT_CONTACT_LENGTH;
+  uint32_t status;
+  if (tcpclkit_contact(bytes, length, &contact) != TCPCLKIT_OK) {
+    show_fault(&contact.fault);
+    return 0;
+  }
+  while ((status = tcpclkit_message(bytes, length, offset, &message)) == TCPCLKIT_OK) {
+    fwrite(bytes + message.data_offset, 1, message.data_length, output);
+    offset = message.next;
+  }
+  if (status == TCPCLKIT_DATA_TRUNCATED) {
+    fwrite(bytes + message.data_offset, 1, length - message.data_offset, output);
+    message.fault = (struct tcpclkit_fault){TCPCLKIT_WIRE_TRUNCATED, 0, offset};
+  }
+  if (status != TCPCLKIT_END)
+    show_fault(&message.fault);
+  return status == TCPCLKIT_END;
+}
+
+/* Writes bundles as the stream of a sender whose peer takes segments of 20 bytes. */
+static int pack_bundles(const uint8_t *bytes, size_t length, FILE *output) {
+  static const uint8_t node[7] = "ipn:1.0";
+  static uint8_t stream[1 << 24], report[1 << 20];
+  struct tcpclkit_pack_options options = {60, 65536, 1048576, 20, UINT64_MAX, 0, 0};
+  struct tcpclkit_run run;
+  if (tcpclkit_pack(bytes, length, &options, node, sizeof node, stream, sizeof stream, report,
+                    sizeof report, &run) != TCPCLKIT_OK)
+    return 0;
+  fwrite(stream, 1, run.output_length, output);
+  fwrite(report, 1, run.report_length, stderr);
+  return run.exit_status == 0;
+}
+
+int main(int count, char **words) {
+  static uint8_t bytes[1 << 20];
+  size_t length = fread(bytes, 1, sizeof bytes, stdin);
+  if (count == 2 && strcmp(words[1], "bundle") == 0)
+    return !show_bundle(bytes, length);
+  if (count == 2 && strcmp(words[1], "pack") == 0)
+    return !pack_bundles(bytes, length, stdout);
+  return !copy_data(bytes, length, stdout);
+}

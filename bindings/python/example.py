@@ -1,0 +1,51 @@
+"""Examples of how the module is called, which docs/LIBRARIES.md shows word for word.
+
+    example.py bundle < BUNDLE      writes the endpoint IDs of a bundle, or its fault
+    example.py data < RECORDING     writes the data of a recording
+    example.py pack < BUNDLES       writes bundles as the stream of a sender
+"""
+
+import sys
+
+import tcpclkit
+
+
+def show_bundle(content):
+    """Returns the endpoint IDs and the length of the payload of a good bundle, as a text."""
+    it = tcpclkit.bundle(content)
+    return f"{it.source} -> {it.destination}: {len(it.payload)} bytes"
+
+
+def copy_data(recording, output):
+    """Writes the data of a recording's segments, joined."""
+    tcpclkit.contact(recording)
+    for message in tcpclkit.messages(recording):
+        if message.kind == tcpclkit.Kind.XFER_SEGMENT:
+            output.write(message.data)
+
+
+def pack_bundles(bundles):
+    """Packs bundles as the stream of a sender whose peer takes segments of 20 bytes."""
+    return tcpclkit.pack(bundles, b"ipn:1.0", peer_segment=20)
+
+
+def main():
+    """Does what the argument asks for. Returns the exit status, or the text of a fault."""
+    content = sys.stdin.buffer.read()
+    try:
+        if sys.argv[1:] == ["bundle"]:
+            print(show_bundle(content))
+        elif sys.argv[1:] == ["pack"]:
+            run = pack_bundles(content)
+            sys.stdout.buffer.write(run.output)
+            sys.stderr.buffer.write(run.report)
+            return run.exit_status
+        else:
+            copy_data(content, sys.stdout.buffer)
+    except tcpclkit.Fault as fault:
+        return f"byte {fault.offset}: {fault}"
+    return 0
+
+
+if __name__ == "__main__":
+    sys.exit(main())

@@ -1,0 +1,534 @@
+"""Bundles of the Bundle Protocol 7 (RFC 9171) and recorded sessions of TCPCLv4 (RFC 9174).
+
+    import tcpclkit
+    try:
+        bundle = tcpclkit.bundle(content)
+        print(bundle.source, bundle.destination, len(bundle.payload))
+    except tcpclkit.Fault as fault:
+        print("more bytes are needed" if fault.is_truncated else f"byte {fault.offset}: {fault}")
+
+Each function calls functions of the C library `libtcpclkit`, which are proved to do what their
+definitions say; `tcpclkit.h` says what is proved of each of them. This module itself is tested and
+not proved. It needs python 3.8 or later and nothing but its standard library.
+
+The shared object `libtcpclkit.so.1` is the one that the environment variable TCPCLKIT_LIBRARY names
+if it is set, or else the one of the folder in which this module was installed, or else the one that
+the system's loader finds. Bytes that are read may be any object with a contiguous buffer, such as
+bytes, a bytearray, or a memoryview of a mapped file.
+"""
+
+import ctypes
+import os
+from ctypes import POINTER, byref, c_size_t, c_uint32, c_uint64, c_void_p
+from enum import IntEnum
+from typing import NamedTuple, Optional, Tuple, Union
+
+ABI = 1
+OK, END, TRUNCATED, DATA_TRUNCATED, FAULT, TOO_SMALL, RANGE, NULL, MEMORY = range(9)
+
+CONTACT_LENGTH = 6
+SEGMENT_END, SEGMENT_START = 1, 2
+EID_LIMIT = 1024
+FAULT_ROOM, EID_ROOM = 64, 4100
+
+
+class Code(IntEnum):
+    """What is wrong. docs/FORMATS.md has the rule that each one breaks."""
+    WIRE_TRUNCATED = 1
+    WIRE_BAD_MAGIC = 2
+    WIRE_BAD_VERSION = 3
+    WIRE_UNKNOWN_TYPE = 4
+    WIRE_NODE_ID_TOO_LONG = 5
+    WIRE_LIST_TOO_LONG = 6
+    WIRE_TOO_MANY_ITEMS = 7
+    WIRE_ITEMS_OVERRUN = 8
+    ORDER_SECOND_SESS_INIT = 51
+    ORDER_SEGMENT_BEFORE_SESS_INIT = 52
+    ORDER_NO_SUCH_OPEN_TRANSFER = 53
+    ORDER_START_REPEATS_OPEN_ID = 54
+    ORDER_START_AFTER_SESS_TERM = 55
+    BUNDLE_CUT = 101
+    BUNDLE_TRAILING = 102
+    BUNDLE_NOT_A_BUNDLE = 103
+    BUNDLE_BAD_HEAD = 104
+    BUNDLE_WRONG_KIND = 105
+    BUNDLE_BAD_COUNT = 106
+    BUNDLE_BAD_VERSION = 107
+    BUNDLE_BAD_CHECK_TYPE = 108
+    BUNDLE_BAD_SCHEME = 109
+    BUNDLE_BAD_SPECIFIC_PART = 110
+    BUNDLE_EID_TOO_LONG = 111
+    BUNDLE_BAD_CHECK_LENGTH = 112
+    BUNDLE_CHECK_DIFFERS = 113
+    BUNDLE_BAD_BLOCK_NUMBER = 114
+    BUNDLE_REPEATED_BLOCK_NUMBER = 115
+    BUNDLE_TOO_MANY_BLOCKS = 116
+    BUNDLE_NO_PAYLOAD_LAST = 117
+
+
+class Kind(IntEnum):
+    """The kind of a message, which is its type byte."""
+    XFER_SEGMENT = 1
+    XFER_ACK = 2
+    XFER_REFUSE = 3
+    KEEPALIVE = 4
+    SESS_TERM = 5
+    MSG_REJECT = 6
+    SESS_INIT = 7
+
+
+# ---- the structs of tcpclkit.h
+
+
+def _struct(name, fields):
+    """Returns a struct of the header. A field is a number, or a struct after a colon."""
+    pairs = [field.split(":") for field in fields.split()]
+    kinds = [(it[0], globals()[it[1]] if it[1:] else c_uint64) for it in pairs]
+    return type(name, (ctypes.Structure,), {"_fields_": kinds})
+
+
+_Fault = _struct("_Fault", "code number offset")
+_Verdict = _struct("_Verdict", "fault:_Fault has_payload payload_offset payload_seen")
+_Eid = _struct("_Eid", "kind allocator node service name_length")
+_Bundle = _struct(
+    "_Bundle",
+    "verdict:_Verdict flags destination:_Eid source:_Eid time sequence lifetime is_fragment "
+    "fragment_offset fragment_total blocks payload_length",
+)
+_Contact = _struct("_Contact", "fault:_Fault flags")
+_Message = _struct(
+    "_Message",
+    "fault:_Fault kind flags reason header id acknowledged keepalive segment_mru transfer_mru "
+    "node_offset node_length items_offset items_length data_offset data_length next",
+)
+_Item = _struct(
+    "_Item", "fault:_Fault flags type value_offset value_length has_total total next"
+)
+_Order = _struct("_Order", "initiated terminated is_open transfer")
+_Turn = _struct("_Turn", "fault turn last abandons abandoned")
+_Run = _struct("_Run", "exit_status output_length report_length")
+_UnpackOptions = _struct("_UnpackOptions", "only_one transfer payload")
+_PackOptions = _struct(
+    "_PackOptions",
+    "keepalive segment_mru transfer_mru peer_segment peer_transfer announce send_term",
+)
+
+_SLICE = [c_void_p, c_size_t]
+_PARAMETERS = {
+    "bundle_verdict": [*_SLICE, POINTER(_Verdict)],
+    "bundle_info": [*_SLICE, *_SLICE, *_SLICE, POINTER(_Bundle)],
+    "contact": [*_SLICE, POINTER(_Contact)],
+    "message": [*_SLICE, c_uint64, POINTER(_Message)],
+    "item": [*_SLICE, c_uint64, c_uint64, POINTER(_Item)],
+    "order": [POINTER(_Order), c_uint64, c_uint64, c_uint64, POINTER(_Turn)],
+    "fault_text": [c_uint64, c_uint64, *_SLICE, POINTER(c_uint64)],
+    "eid_text": [POINTER(_Eid), *_SLICE, *_SLICE, POINTER(c_uint64)],
+    "list": [*_SLICE, *_SLICE, *_SLICE, POINTER(_Run)],
+    "unpack": [*_SLICE, POINTER(_UnpackOptions), *_SLICE, *_SLICE, POINTER(_Run)],
+    "pack": [*_SLICE, POINTER(_PackOptions), *_SLICE, *_SLICE, *_SLICE, POINTER(_Run)],
+}
+
+
+# ---- the library
+
+
+def _path():
+    """Returns the path of the shared object, or its name for the system's loader."""
+    name = f"libtcpclkit.so.{ABI}"
+    here = os.path.dirname(os.path.realpath(__file__))
+    installed = os.path.join(here, "..", "..", name)  # below lib/python3/dist-packages
+    return os.environ.get("TCPCLKIT_LIBRARY") or (installed if os.path.exists(installed) else name)
+
+
+def _load():
+    """Loads the library, and declares what its functions take and return."""
+    library = ctypes.CDLL(_path())
+    library.tcpclkit_abi.restype = c_uint32
+    found = library.tcpclkit_abi()
+    if found != ABI:
+        raise ImportError(f"libtcpclkit has version {found} of the interface, and not {ABI}")
+    calls = {}
+    for name, parameters in _PARAMETERS.items():
+        call = calls[name] = library[f"tcpclkit_raw_{name}"]
+        call.argtypes, call.restype = parameters, c_uint32
+    return calls
+
+
+_CALLS = _load()
+
+
+def _call(name, *arguments):
+    """Calls a function of the library, and returns its status."""
+    return _CALLS[name](*arguments)
+
+
+class _Lent:
+    """Bytes that are lent to the library: a pointer that is never null, and a length.
+
+    An object whose buffer can be written is lent as it is, and any other is copied unless it is of
+    type bytes.
+    """
+
+    def __init__(self, content):
+        view = memoryview(content).cast("B")
+        self.length = view.nbytes
+        if self.length == 0:
+            self.kept = ctypes.create_string_buffer(1)
+        elif isinstance(content, bytes):
+            self.kept = content
+        elif view.readonly:
+            self.kept = view.tobytes()
+        else:
+            self.kept = (ctypes.c_char * self.length).from_buffer(view)
+        self.view = view
+        self.slice = self.kept, self.length
+
+    def __getitem__(self, place):
+        return bytes(self.view[place])
+
+
+def _number(value):
+    """Returns a number that the library is handed, or raises a ValueError if it is out of range."""
+    if not 0 <= value < 2**64:
+        raise ValueError(f"{value} is no number of 64 bits")
+    return value
+
+
+def _room(length):
+    """Returns a buffer that the library writes into, of at least one byte."""
+    return ctypes.create_string_buffer(length or 1)
+
+
+# ---- faults
+
+
+class Fault(Exception):
+    """The first fault of some bytes: a code, the number that it is about, and an offset.
+
+    The offset is that of the fault in a bundle, or that of the message with the fault in a
+    recording. The text is that of the program.
+    """
+
+    def __init__(self, code, number=0, offset=0):
+        super().__init__(code, number, offset)
+        self.code, self.number, self.offset = Code(code), number, offset
+
+    @property
+    def is_truncated(self):
+        """Whether the bytes are cut, so that more bytes may complete them."""
+        return self.code in (Code.WIRE_TRUNCATED, Code.BUNDLE_CUT)
+
+    def __eq__(self, other):
+        return isinstance(other, Fault) and self.args == other.args
+
+    def __hash__(self):
+        return hash(self.args)
+
+    def __str__(self):
+        text, written = _room(FAULT_ROOM), c_uint64()
+        number = _number(self.number)
+        status = _call("fault_text", self.code, number, text, FAULT_ROOM, byref(written))
+        if status != OK:
+            return repr(self)
+        return text.raw[:written.value].decode()
+
+
+def _fault(it):
+    """Returns the fault that the library wrote."""
+    return Fault(it.code, it.number, it.offset)
+
+
+# ---- bundles
+
+
+class Dtn(NamedTuple):
+    """An endpoint ID of the scheme dtn: its name, or None for dtn:none."""
+    name: Optional[bytes]
+
+    def __str__(self):
+        if self.name is None:
+            return _eid_text(_Eid(kind=0), b"")
+        return _eid_text(_Eid(kind=1, name_length=len(self.name)), self.name)
+
+
+class Ipn(NamedTuple):
+    """An endpoint ID of the scheme ipn. One of two numbers has no allocator."""
+    allocator: Optional[int]
+    node: int
+    service: int
+
+    def __str__(self):
+        kind = 2 if self.allocator is None else 3
+        numbers = map(_number, (self.allocator or 0, self.node, self.service))
+        return _eid_text(_Eid(kind, *numbers, 0), b"")
+
+
+EndpointId = Union[Dtn, Ipn]
+
+
+def _eid_text(eid, name):
+    """Returns an endpoint ID as the program shows it."""
+    text, written, lent = _room(EID_ROOM), c_uint64(), _Lent(name)
+    status = _call("eid_text", byref(eid), *lent.slice, text, EID_ROOM, byref(written))
+    if status != OK:
+        raise ValueError(f"the name of an endpoint ID has more than {EID_LIMIT} bytes")
+    return text.raw[:written.value].decode()
+
+
+def _eid(it, name):
+    """Returns the endpoint ID that the library wrote. Its name is at the beginning of `name`."""
+    if it.kind < 2:
+        return Dtn(name.raw[:it.name_length] if it.kind == 1 else None)
+    return Ipn(it.allocator if it.kind == 3 else None, it.node, it.service)
+
+
+class Verdict(NamedTuple):
+    """The verdict on bytes as one bundle: the first fault, or None of a good bundle.
+
+    `payload` is the place of the payload's bytes that are there, or None if the head of the payload
+    was not accepted. A bad bundle may have it too.
+    """
+    fault: Optional[Fault]
+    payload: Optional[slice]
+
+
+class Bundle(NamedTuple):
+    """A good bundle. Times are in milliseconds, and `time` counts from 2000-01-01 UTC.
+
+    `fragment` is the offset of a fragment and the total length, or None.
+    """
+    flags: int
+    destination: EndpointId
+    source: EndpointId
+    time: int
+    sequence: int
+    lifetime: int
+    fragment: Optional[Tuple[int, int]]
+    blocks: int
+    payload: bytes
+
+
+def _verdict(status, it):
+    """Returns the verdict that the library wrote."""
+    end = it.payload_offset + it.payload_seen
+    place = slice(it.payload_offset, end) if it.has_payload else None
+    return Verdict(None if status == OK else _fault(it.fault), place)
+
+
+def verdict(content):
+    """Judges the bytes as one bundle."""
+    lent, it = _Lent(content), _Verdict()
+    return _verdict(_call("bundle_verdict", *lent.slice, byref(it)), it)
+
+
+def bundle(content):
+    """Judges the bytes as one bundle, and returns a good one. Raises the Fault of any other."""
+    lent, it = _Lent(content), _Bundle()
+    names = _room(EID_LIMIT), _room(EID_LIMIT)
+    status = _call(
+        "bundle_info", *lent.slice, names[0], EID_LIMIT, names[1], EID_LIMIT, byref(it)
+    )
+    judged = _verdict(status, it.verdict)
+    if judged.fault is not None:
+        raise judged.fault
+    return Bundle(
+        it.flags, _eid(it.destination, names[0]), _eid(it.source, names[1]), it.time, it.sequence,
+        it.lifetime, (it.fragment_offset, it.fragment_total) if it.is_fragment else None,
+        it.blocks, lent[judged.payload],
+    )
+
+
+# ---- recordings
+
+
+class Item(NamedTuple):
+    """An extension item. `total` is its value as a number, if it is of type 1 and has 8 bytes."""
+    flags: int
+    type: int
+    value: bytes
+    total: Optional[int]
+
+
+class Message(NamedTuple):
+    """A message. A field that its kind has not is None.
+
+    `length` is the length of a segment's data by its head, or the number of bytes that an XFER_ACK
+    acknowledges. `data` is shorter if the recording ends inside it. `items` is None of a segment
+    without START. `header` is the type byte of a rejected message.
+    """
+    offset: int
+    kind: Kind
+    flags: Optional[int] = None
+    reason: Optional[int] = None
+    header: Optional[int] = None
+    id: Optional[int] = None
+    length: Optional[int] = None
+    keepalive: Optional[int] = None
+    segment_mru: Optional[int] = None
+    transfer_mru: Optional[int] = None
+    node: Optional[bytes] = None
+    items: Optional[Tuple[Item, ...]] = None
+    data: Optional[bytes] = None
+
+    @property
+    def is_cut(self):
+        """Whether the recording ends inside the data of this segment."""
+        return self.data is not None and len(self.data) < self.length
+
+
+# The fields of each kind that have the name of the library for them
+_FIELDS = {
+    Kind.XFER_SEGMENT: ["flags", "id"],
+    Kind.XFER_ACK: ["flags", "id"],
+    Kind.XFER_REFUSE: ["reason", "id"],
+    Kind.KEEPALIVE: [],
+    Kind.SESS_TERM: ["flags", "reason"],
+    Kind.MSG_REJECT: ["reason", "header"],
+    Kind.SESS_INIT: ["keepalive", "segment_mru", "transfer_mru"],
+}
+
+
+def contact(content):
+    """Returns the flags of the contact header that a recording begins with, or raises a Fault."""
+    lent, it = _Lent(content), _Contact()
+    if _call("contact", *lent.slice, byref(it)) != OK:
+        raise _fault(it.fault)
+    return it.flags
+
+
+def messages(content, offset=CONTACT_LENGTH):
+    """Yields the messages of a recording, from the one that begins at an offset.
+
+    A fault is raised after the messages before it. If the recording ends inside the data of a
+    segment, the segment comes with the data that is there, and then the fault is raised. No message
+    is at an offset past the end.
+    """
+    lent, it = _Lent(content), _Message()
+    while True:
+        status = _call("message", *lent.slice, _number(offset), byref(it))
+        if status in (END, RANGE):
+            return
+        if status in (OK, DATA_TRUNCATED):
+            yield _message(lent, offset, it)
+        if status == DATA_TRUNCATED:
+            raise Fault(Code.WIRE_TRUNCATED, 0, offset)
+        if status != OK:
+            raise _fault(it.fault)
+        offset = it.next
+
+
+def _message(lent, offset, it):
+    """Returns the message that the library wrote."""
+    kind = Kind(it.kind)
+    fields = {name: getattr(it, name) for name in _FIELDS[kind]}
+    if kind == Kind.XFER_ACK:
+        fields["length"] = it.acknowledged
+    if kind == Kind.XFER_SEGMENT:
+        fields["length"] = it.data_length
+        fields["data"] = lent[it.data_offset:it.data_offset + it.data_length]
+    if kind == Kind.SESS_INIT:
+        fields["node"] = lent[it.node_offset:it.node_offset + it.node_length]
+    if kind == Kind.SESS_INIT or kind == Kind.XFER_SEGMENT and it.flags & SEGMENT_START:
+        fields["items"] = tuple(_items(lent, it.items_offset, it.items_length))
+    return Message(offset, kind, **fields)
+
+
+def _items(lent, offset, length):
+    """Yields the items of a list that was judged with its message."""
+    end, it = offset + length, _Item()
+    while _call("item", *lent.slice, offset, end, byref(it)) == OK:
+        value = lent[it.value_offset:it.value_offset + it.value_length]
+        yield Item(it.flags, it.type, value, it.total if it.has_total else None)
+        offset = it.next
+
+
+# ---- the order of messages
+
+
+class Turn(NamedTuple):
+    """What an accepted message does to the transfers of its session.
+
+    `begins` is True for the first segment of a transfer, False for a further one, and None for any
+    other message. `is_last` says whether it is the last segment of its transfer. `abandoned` is the
+    transfer that was open until then and stays without an end, or None.
+    """
+    begins: Optional[bool]
+    is_last: bool
+    abandoned: Optional[int]
+
+
+class Order:
+    """The messages of a session so far, as far as they decide which may come next."""
+
+    def __init__(self):
+        self._order = _Order()
+
+    def judge(self, message):
+        """Counts a message among those that came, and returns its Turn.
+
+        Raises a Fault if the message may not come now. The order is then as it was.
+        """
+        it = _Turn()
+        numbers = map(_number, (message.kind, message.flags or 0, message.id or 0))
+        status = _call("order", byref(self._order), *numbers, byref(it))
+        if status == RANGE:
+            raise ValueError("the flags of a message are at most 255")
+        if status != OK:
+            raise Fault(it.fault, 0, message.offset)
+        begins = {0: None, 1: True, 2: False}[it.turn]
+        is_last = begins is not None and it.last == 1
+        return Turn(begins, is_last, it.abandoned if begins and it.abandons else None)
+
+
+# ---- whole tools
+
+
+class Run(NamedTuple):
+    """What a tool wrote on standard output and on standard error, and its exit status."""
+    output: bytes
+    report: bytes
+    exit_status: int
+
+
+def _run(name, content, *arguments):
+    """Calls a tool with more and more room until both texts fit."""
+    lent, it = _Lent(content), _Run()
+    room = 2 * lent.length + 4096
+    while True:
+        output, report = _room(room), _room(room)
+        status = _call(name, *lent.slice, *arguments, output, room, report, room, byref(it))
+        if status == RANGE:
+            raise ValueError("an option is out of its range")
+        if status == MEMORY:
+            raise MemoryError
+        if status == OK:
+            written = output.raw[:it.output_length], report.raw[:it.report_length]
+            return Run(*written, it.exit_status)
+        room *= 2
+
+
+def list_messages(content):
+    """`tcpclkit list`: a line for the contact header and for each message of a recording."""
+    return _run("list", content)
+
+
+def unpack(content, transfer=None, payload=False):
+    """`tcpclkit unpack`: the data of a recording's transfers, and a line for each as the report.
+
+    With `transfer`, only the transfers with this ID are written. With `payload`, only the payloads
+    of their bundles are.
+    """
+    options = _UnpackOptions(transfer is not None, _number(transfer or 0), bool(payload))
+    return _run("unpack", content, byref(options))
+
+
+def pack(content, node, keepalive=60, segment_mru=65536, transfer_mru=1048576, peer_segment=65536,
+         peer_transfer=2**64 - 1, announce=0, end=False):
+    """`tcpclkit pack`: bundles, one after another, as the stream of a sender with this node ID.
+
+    A line for each bundle is the report. Raises ValueError if an option or the length of the node
+    ID is out of its range.
+    """
+    numbers = keepalive, segment_mru, transfer_mru, peer_segment, peer_transfer, announce
+    lent, options = _Lent(node), _PackOptions(*map(_number, numbers), bool(end))
+    return _run("pack", content, byref(options), *lent.slice)

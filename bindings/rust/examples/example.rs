@@ -1,0 +1,70 @@
+//! Examples of how the crate is called, which docs/LIBRARIES.md shows word for word.
+//!
+//!     example bundle < BUNDLE      writes the endpoint IDs of a bundle, or its fault
+//!     example data < RECORDING     writes the data of a recording
+//!     example pack < BUNDLES       writes bundles as the stream of a sender
+
+use std::error::Error;
+use std::io::{self, Read, Write};
+use std::process::ExitCode;
+use tcpclkit::{
+    bundle, contact, messages, pack, Fault, Fields, PackOptions, Run, ToolError, CONTACT_LENGTH,
+};
+
+/// Returns the endpoint IDs and the length of the payload of a good bundle, as a text.
+fn show_bundle(bytes: &[u8]) -> Result<String, Fault> {
+    let it = bundle(bytes)?;
+    let length = it.payload.len();
+    Ok(format!(
+        "{} -> {}: {length} bytes",
+        it.source, it.destination
+    ))
+}
+
+/// Writes the data of a recording's segments, joined.
+fn copy_data(recording: &[u8], output: &mut impl Write) -> Result<(), Box<dyn Error>> {
+    contact(recording)?;
+    for message in messages(recording, CONTACT_LENGTH) {
+        if let Fields::Segment { data, .. } = message?.fields {
+            output.write_all(data)?;
+        }
+    }
+    Ok(())
+}
+
+/// Packs bundles as the stream of a sender whose peer takes segments of 20 bytes.
+fn pack_bundles(bundles: &[u8]) -> Result<Run, ToolError> {
+    let options = PackOptions {
+        peer_segment: 20,
+        ..PackOptions::default()
+    };
+    pack(bundles, b"ipn:1.0", &options)
+}
+
+/// Does what the argument asks for. Returns the exit status.
+fn run() -> Result<u8, Box<dyn Error>> {
+    let mut bytes = Vec::new();
+    io::stdin().read_to_end(&mut bytes)?;
+    match std::env::args().nth(1).as_deref() {
+        Some("bundle") => println!("{}", show_bundle(&bytes)?),
+        Some("pack") => {
+            let run = pack_bundles(&bytes)?;
+            io::stdout().write_all(&run.output)?;
+            io::stderr().write_all(&run.report)?;
+            return Ok(run.exit_status);
+        }
+        _ => copy_data(&bytes, &mut io::stdout())?,
+    }
+    Ok(0)
+}
+
+fn main() -> ExitCode {
+    match run() {
+        Ok(status) => return ExitCode::from(status),
+        Err(error) => match error.downcast_ref::<Fault>() {
+            Some(fault) => eprintln!("byte {}: {fault}", fault.offset),
+            None => eprintln!("{error}"),
+        },
+    }
+    ExitCode::FAILURE
+}

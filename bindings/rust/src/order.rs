@@ -1,0 +1,70 @@
+//! The order of a session's messages.
+
+use crate::fault::{Code, Fault};
+use crate::raw;
+use crate::recording::{Fields, Message};
+
+/// The messages of a session so far, as far as they decide which may come next.
+#[derive(Clone, Copy, Debug, Default, PartialEq, Eq)]
+pub struct Order(raw::Order);
+
+/// What an accepted message does to the transfers of its session.
+#[derive(Clone, Copy, Debug, PartialEq, Eq, Hash)]
+pub enum Turn {
+    /// Nothing: it is no segment.
+    Other,
+    /// It begins a transfer.
+    Begin {
+        /// Whether it is the last segment of the transfer, too.
+        last: bool,
+        /// The transfer that was open until then, and stays without an end.
+        abandoned: Option<u64>,
+    },
+    /// It goes on with the open transfer.
+    Continue {
+        /// Whether it is the last segment of the transfer.
+        last: bool,
+    },
+}
+
+impl Order {
+    /// The order of a session before its first message.
+    pub fn new() -> Order {
+        Order::default()
+    }
+
+    /// Judges whether a message may come now, and if so counts it among those that came.
+    ///
+    /// # Errors
+    ///
+    /// The fault, if it may not. The order is then as it was.
+    pub fn judge(&mut self, message: &Message<'_>) -> Result<Turn, Fault> {
+        let (kind, flags, id) = match message.fields {
+            Fields::Segment { flags, id, .. } => (raw::XFER_SEGMENT, flags, id),
+            Fields::Ack { flags, id, .. } => (raw::XFER_ACK, flags, id),
+            Fields::Refuse { id, .. } => (raw::XFER_REFUSE, 0, id),
+            Fields::Keepalive => (raw::KEEPALIVE, 0, 0),
+            Fields::SessTerm { flags, .. } => (raw::SESS_TERM, flags, 0),
+            Fields::Reject { .. } => (raw::MSG_REJECT, 0, 0),
+            Fields::SessInit { .. } => (raw::SESS_INIT, 0, 0),
+        };
+        let (status, it) = raw::answer(|turn: &mut raw::Turn| {
+            // SAFETY: the structs are valid, and do not overlap.
+            unsafe { raw::tcpclkit_raw_order(&mut self.0, kind, flags.into(), id, turn) }
+        });
+        let last = it.last == 1;
+        match it.turn {
+            _ if status != raw::OK => Err(Fault {
+                code: Code::of(it.fault),
+                number: 0,
+                offset: message.offset as u64,
+            }),
+            raw::TURN_BEGIN => Ok(Turn::Begin {
+                last,
+                abandoned: (it.abandons == 1).then_some(it.abandoned),
+            }),
+            raw::TURN_CONTINUE => Ok(Turn::Continue { last }),
+            _ => Ok(Turn::Other),
+        }
+    }
+}

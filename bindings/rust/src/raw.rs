@@ -1,0 +1,173 @@
+//! The names of `tcpclkit.h` that the safe functions use: structs, numbers and functions.
+//!
+//! A slice of Rust is never null, also where it is empty, and never longer than `isize::MAX`. So
+//! the functions `tcpclkit_raw_..` take it as it is.
+
+#![allow(dead_code)] // The header is here whole.
+
+/// The version of the interface that these declarations are of.
+pub const ABI: u32 = 1;
+
+pub const OK: u32 = 0;
+pub const END: u32 = 1;
+pub const TRUNCATED: u32 = 2;
+pub const DATA_TRUNCATED: u32 = 3;
+pub const FAULT: u32 = 4;
+pub const TOO_SMALL: u32 = 5;
+pub const RANGE: u32 = 6;
+pub const MEMORY: u32 = 8;
+
+pub const EID_DTN_NONE: u64 = 0;
+pub const EID_DTN: u64 = 1;
+pub const EID_IPN: u64 = 2;
+pub const EID_IPN3: u64 = 3;
+pub const EID_LIMIT: usize = 1024;
+
+pub const XFER_SEGMENT: u64 = 1;
+pub const XFER_ACK: u64 = 2;
+pub const XFER_REFUSE: u64 = 3;
+pub const KEEPALIVE: u64 = 4;
+pub const SESS_TERM: u64 = 5;
+pub const MSG_REJECT: u64 = 6;
+pub const SESS_INIT: u64 = 7;
+
+pub const TURN_OTHER: u64 = 0;
+pub const TURN_BEGIN: u64 = 1;
+pub const TURN_CONTINUE: u64 = 2;
+
+/// Declares structs of the header. Each of their fields is a `u64` or such a struct.
+macro_rules! structs {
+    ($($name:ident { $($field:ident: $type:ty),* $(,)? })*) => {$(
+        #[repr(C)]
+        #[derive(Clone, Copy, Debug, Default, PartialEq, Eq)]
+        pub struct $name { $(pub $field: $type),* }
+    )*};
+}
+
+structs! {
+    Fault { code: u64, number: u64, offset: u64 }
+    Verdict { fault: Fault, has_payload: u64, payload_offset: u64, payload_seen: u64 }
+    Eid { kind: u64, allocator: u64, node: u64, service: u64, name_length: u64 }
+    Bundle {
+        verdict: Verdict, flags: u64, destination: Eid, source: Eid, time: u64, sequence: u64,
+        lifetime: u64, is_fragment: u64, fragment_offset: u64, fragment_total: u64, blocks: u64,
+        payload_length: u64,
+    }
+    Contact { fault: Fault, flags: u64 }
+    Message {
+        fault: Fault, kind: u64, flags: u64, reason: u64, header: u64, id: u64, acknowledged: u64,
+        keepalive: u64, segment_mru: u64, transfer_mru: u64, node_offset: u64, node_length: u64,
+        items_offset: u64, items_length: u64, data_offset: u64, data_length: u64, next: u64,
+    }
+    Item {
+        fault: Fault, flags: u64, kind: u64, value_offset: u64, value_length: u64, has_total: u64,
+        total: u64, next: u64,
+    }
+    Order { initiated: u64, terminated: u64, is_open: u64, transfer: u64 }
+    Turn { fault: u64, turn: u64, last: u64, abandons: u64, abandoned: u64 }
+    Run { exit_status: u64, output_length: u64, report_length: u64 }
+    UnpackOptions { only_one: u64, transfer: u64, payload: u64 }
+    PackOptions {
+        keepalive: u64, segment_mru: u64, transfer_mru: u64, peer_segment: u64, peer_transfer: u64,
+        announce: u64, send_term: u64,
+    }
+}
+
+extern "C" {
+    pub fn tcpclkit_abi() -> u32;
+    pub fn tcpclkit_raw_bundle_verdict(
+        bytes: *const u8,
+        length: usize,
+        verdict: *mut Verdict,
+    ) -> u32;
+    pub fn tcpclkit_raw_bundle_info(
+        bytes: *const u8,
+        length: usize,
+        destination_name: *mut u8,
+        destination_room: usize,
+        source_name: *mut u8,
+        source_room: usize,
+        bundle: *mut Bundle,
+    ) -> u32;
+    pub fn tcpclkit_raw_contact(bytes: *const u8, length: usize, contact: *mut Contact) -> u32;
+    pub fn tcpclkit_raw_message(
+        bytes: *const u8,
+        length: usize,
+        offset: u64,
+        message: *mut Message,
+    ) -> u32;
+    pub fn tcpclkit_raw_item(
+        bytes: *const u8,
+        length: usize,
+        offset: u64,
+        end: u64,
+        item: *mut Item,
+    ) -> u32;
+    pub fn tcpclkit_raw_order(
+        order: *mut Order,
+        kind: u64,
+        flags: u64,
+        id: u64,
+        turn: *mut Turn,
+    ) -> u32;
+    pub fn tcpclkit_raw_fault_text(
+        code: u64,
+        number: u64,
+        text: *mut u8,
+        room: usize,
+        written: *mut u64,
+    ) -> u32;
+    pub fn tcpclkit_raw_eid_text(
+        eid: *const Eid,
+        name: *const u8,
+        name_length: usize,
+        text: *mut u8,
+        room: usize,
+        written: *mut u64,
+    ) -> u32;
+    pub fn tcpclkit_raw_list(
+        bytes: *const u8,
+        length: usize,
+        output: *mut u8,
+        output_room: usize,
+        report: *mut u8,
+        report_room: usize,
+        run: *mut Run,
+    ) -> u32;
+    pub fn tcpclkit_raw_unpack(
+        bytes: *const u8,
+        length: usize,
+        options: *const UnpackOptions,
+        output: *mut u8,
+        output_room: usize,
+        report: *mut u8,
+        report_room: usize,
+        run: *mut Run,
+    ) -> u32;
+    pub fn tcpclkit_raw_pack(
+        bytes: *const u8,
+        length: usize,
+        options: *const PackOptions,
+        node: *const u8,
+        node_length: usize,
+        output: *mut u8,
+        output_room: usize,
+        report: *mut u8,
+        report_room: usize,
+        run: *mut Run,
+    ) -> u32;
+}
+
+/// Returns the status of a call, and what it wrote into the struct that it was lent.
+///
+/// # Panics
+///
+/// If the library that is linked has another version of the interface.
+pub fn answer<T: Default>(call: impl FnOnce(&mut T) -> u32) -> (u32, T) {
+    // SAFETY: the function takes nothing and returns a number.
+    let abi = unsafe { tcpclkit_abi() };
+    assert_eq!(abi, ABI, "libtcpclkit has another version of the interface");
+    let mut answer = T::default();
+    let status = call(&mut answer);
+    (status, answer)
+}

@@ -1,0 +1,204 @@
+//! The tools of the program, over slices.
+
+use crate::raw;
+use std::fmt;
+
+/// What a run of a tool wrote, and how it ended.
+#[derive(Clone, Debug, PartialEq, Eq)]
+pub struct Run {
+    /// What the program writes on standard output.
+    pub output: Vec<u8>,
+    /// What the program writes on standard error.
+    pub report: Vec<u8>,
+    /// The exit status of the program: 0, 1 or 3.
+    pub exit_status: u8,
+}
+
+/// Which data `unpack` writes. The default is all of it.
+#[derive(Clone, Copy, Debug, Default, PartialEq, Eq)]
+pub struct UnpackOptions {
+    /// Only the transfers with this ID.
+    pub transfer: Option<u64>,
+    /// Of each transfer only the payload of its bundle.
+    pub payload: bool,
+}
+
+/// What the stream of `pack` says. `docs/MANUAL.md` has each option.
+#[derive(Clone, Copy, Debug, PartialEq, Eq)]
+pub struct PackOptions {
+    /// The keepalive interval, in seconds.
+    pub keepalive: u16,
+    /// The longest data of a segment that the sender receives.
+    pub segment_mru: u64,
+    /// The longest transfer that the sender receives.
+    pub transfer_mru: u64,
+    /// The longest data of a segment that the peer receives: at least 1.
+    pub peer_segment: u64,
+    /// The longest transfer that the peer receives.
+    pub peer_transfer: u64,
+    /// The length up to which a bundle's length is announced: at most 1,048,576.
+    pub announce: u64,
+    /// Whether a SESS_TERM ends the stream.
+    pub send_term: bool,
+}
+
+impl Default for PackOptions {
+    /// The defaults of the program.
+    fn default() -> PackOptions {
+        PackOptions {
+            keepalive: 60,
+            segment_mru: 65536,
+            transfer_mru: 1048576,
+            peer_segment: 65536,
+            peer_transfer: u64::MAX,
+            announce: 0,
+            send_term: false,
+        }
+    }
+}
+
+/// Why a tool did not run to its end.
+#[derive(Clone, Copy, Debug, PartialEq, Eq, Hash)]
+pub enum ToolError {
+    /// An option of `pack` or the length of its node ID is out of its range.
+    Range,
+    /// The memory that the tool asked for was refused.
+    Memory,
+}
+
+impl fmt::Display for ToolError {
+    fn fmt(&self, formatter: &mut fmt::Formatter<'_>) -> fmt::Result {
+        formatter.write_str(match self {
+            ToolError::Range => "an option is out of its range",
+            ToolError::Memory => "out of memory",
+        })
+    }
+}
+
+impl std::error::Error for ToolError {}
+
+/// Room for a text.
+struct Room {
+    start: *mut u8,
+    length: usize,
+}
+
+/// Calls a tool with more and more room until both texts fit.
+fn run(
+    first_room: usize,
+    call: impl Fn(Room, Room, &mut raw::Run) -> u32,
+) -> Result<Run, ToolError> {
+    let mut room = first_room;
+    loop {
+        let (mut output, mut report) = (vec![0; room], vec![0; room]);
+        let (status, it) = raw::answer(|run| call(lent(&mut output), lent(&mut report), run));
+        match status {
+            raw::TOO_SMALL => room *= 2,
+            raw::RANGE => return Err(ToolError::Range),
+            raw::MEMORY => return Err(ToolError::Memory),
+            _ => {
+                output.truncate(it.output_length as usize);
+                report.truncate(it.report_length as usize);
+                let exit_status = it.exit_status as u8;
+                return Ok(Run {
+                    output,
+                    report,
+                    exit_status,
+                });
+            }
+        }
+    }
+}
+
+/// The room of a text.
+fn lent(text: &mut [u8]) -> Room {
+    Room {
+        start: text.as_mut_ptr(),
+        length: text.len(),
+    }
+}
+
+/// `tcpclkit list`: a line for the contact header and for each message of a recording.
+///
+/// # Errors
+///
+/// Memory was refused.
+pub fn list(bytes: &[u8]) -> Result<Run, ToolError> {
+    run(bytes.len() * 2 + 4096, |output, report, run| {
+        // SAFETY: the slices and the struct are valid, and do not overlap.
+        unsafe {
+            raw::tcpclkit_raw_list(
+                bytes.as_ptr(),
+                bytes.len(),
+                output.start,
+                output.length,
+                report.start,
+                report.length,
+                run,
+            )
+        }
+    })
+}
+
+/// `tcpclkit unpack`: the data of a recording's transfers, and a line for each as the report.
+///
+/// # Errors
+///
+/// Memory was refused.
+pub fn unpack(bytes: &[u8], options: &UnpackOptions) -> Result<Run, ToolError> {
+    let lent = raw::UnpackOptions {
+        only_one: options.transfer.is_some().into(),
+        transfer: options.transfer.unwrap_or_default(),
+        payload: options.payload.into(),
+    };
+    run(bytes.len() + 4096, |output, report, run| {
+        // SAFETY: the slices and the structs are valid, and do not overlap.
+        unsafe {
+            raw::tcpclkit_raw_unpack(
+                bytes.as_ptr(),
+                bytes.len(),
+                &lent,
+                output.start,
+                output.length,
+                report.start,
+                report.length,
+                run,
+            )
+        }
+    })
+}
+
+/// `tcpclkit pack`: bundles, one after another, as the stream of a sender with this node ID, and a
+/// line for each as the report.
+///
+/// # Errors
+///
+/// An option or the length of the node ID is out of its range, or memory was refused.
+pub fn pack(bytes: &[u8], node: &[u8], options: &PackOptions) -> Result<Run, ToolError> {
+    let lent = raw::PackOptions {
+        keepalive: options.keepalive.into(),
+        segment_mru: options.segment_mru,
+        transfer_mru: options.transfer_mru,
+        peer_segment: options.peer_segment,
+        peer_transfer: options.peer_transfer,
+        announce: options.announce,
+        send_term: options.send_term.into(),
+    };
+    run(bytes.len() * 2 + 4096, |output, report, run| {
+        // SAFETY: the slices and the structs are valid, and do not overlap.
+        unsafe {
+            raw::tcpclkit_raw_pack(
+                bytes.as_ptr(),
+                bytes.len(),
+                &lent,
+                node.as_ptr(),
+                node.len(),
+                output.start,
+                output.length,
+                report.start,
+                report.length,
+                run,
+            )
+        }
+    })
+}

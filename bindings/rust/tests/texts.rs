@@ -1,0 +1,73 @@
+//! Texts of faults and endpoint IDs.
+
+use tcpclkit::{Code, EndpointId, Fault};
+
+#[test]
+fn faults_have_the_words_of_the_program() {
+    for (code, number, text) in [
+        (Code::WireTruncated, 0, "truncated"),
+        (Code::WireBadVersion, 3, "unsupported version 3"),
+        (Code::WireUnknownType, 0x16, "unknown message type 16"),
+        (
+            Code::WireListTooLong,
+            u32::MAX.into(),
+            "extension list too long: 4294967295",
+        ),
+        (
+            Code::WireItemsOverrun,
+            0,
+            "extension items overrun their list",
+        ),
+        (
+            Code::OrderStartRepeatsOpenId,
+            0,
+            "start repeats the open transfer",
+        ),
+        (Code::BundleCheckDiffers, 0, "B13 check differs"),
+        (
+            Code::BundleNoPayloadLast,
+            0,
+            "B17 no payload block at the end",
+        ),
+    ] {
+        assert_eq!(
+            Fault {
+                code,
+                number,
+                offset: 7
+            }
+            .to_string(),
+            text
+        );
+    }
+}
+
+#[test]
+fn endpoint_ids_are_shown_as_by_the_program() {
+    let longest = EndpointId::Dtn(vec![0; 1024].into());
+    for (eid, text) in [
+        (EndpointId::DtnNone, "dtn:none"),
+        (
+            EndpointId::Dtn(b"//a b\\\xff/"[..].into()),
+            r"dtn://a\x20b\x5c\xff/",
+        ),
+        (
+            EndpointId::Ipn {
+                node: 0,
+                service: u64::MAX,
+            },
+            "ipn:0.18446744073709551615",
+        ),
+        (
+            EndpointId::Ipn3 {
+                allocator: 1,
+                node: 2,
+                service: 3,
+            },
+            "ipn:1.2.3",
+        ),
+        (longest, &format!("dtn:{}", r"\x00".repeat(1024))),
+    ] {
+        assert_eq!(eid.to_string(), text);
+    }
+}

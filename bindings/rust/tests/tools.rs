@@ -1,0 +1,72 @@
+//! The tools, over slices.
+
+use tcpclkit::{list, pack, unpack, PackOptions, ToolError, UnpackOptions};
+
+fn example(name: &str) -> Vec<u8> {
+    let path = format!("{}/../../examples/{name}", env!("CARGO_MANIFEST_DIR"));
+    std::fs::read(path).unwrap()
+}
+
+#[test]
+fn list_writes_a_line_for_each_message() {
+    let run = list(&example("prelude-and-transfer.tcpcl")).unwrap();
+    let text = String::from_utf8(run.output).unwrap();
+    assert_eq!((text.lines().count(), run.exit_status), (3, 0));
+    assert!(
+        text.ends_with("38 xfer-segment flags=03 id=0 items=0 length=34\n"),
+        "{text}"
+    );
+    assert_eq!(run.report, b"");
+}
+
+#[test]
+fn list_reports_a_fault() {
+    let run = list(b"").unwrap();
+    assert_eq!(run.exit_status, 3);
+    assert_eq!(
+        (run.output, run.report),
+        (vec![], b"tcpclkit: byte 0: truncated\n".to_vec())
+    );
+}
+
+#[test]
+fn texts_much_longer_than_the_input_are_whole() {
+    let mut bytes = b"dtn!\x04\x00".to_vec();
+    bytes.extend([4; 20000]);
+    let text = String::from_utf8(list(&bytes).unwrap().output).unwrap();
+    assert_eq!(text.lines().count(), 20001);
+    assert!(text.ends_with("20005 keepalive\n"));
+}
+
+#[test]
+fn unpack_gives_back_what_pack_was_given() {
+    let bundles = example("two.bundles");
+    let options = PackOptions {
+        peer_segment: 20,
+        ..PackOptions::default()
+    };
+    let packed = pack(&bundles, b"ipn:1.0", &options).unwrap();
+    assert_eq!(packed.exit_status, 0);
+    let unpacked = unpack(&packed.output, &UnpackOptions::default()).unwrap();
+    assert_eq!((unpacked.output, unpacked.exit_status), (bundles, 0));
+    let options = UnpackOptions {
+        transfer: Some(0),
+        payload: true,
+    };
+    assert_eq!(unpack(&packed.output, &options).unwrap().output, b"hello");
+}
+
+#[test]
+fn pack_refuses_options_out_of_range() {
+    let options = PackOptions {
+        peer_segment: 0,
+        ..PackOptions::default()
+    };
+    assert_eq!(pack(b"", b"n", &options), Err(ToolError::Range));
+    let longest = PackOptions {
+        announce: 1 << 20,
+        ..PackOptions::default()
+    };
+    assert!(pack(b"", &[b'n'; 1024], &longest).is_ok());
+    assert_eq!(pack(b"", &[b'n'; 1025], &longest), Err(ToolError::Range));
+}

@@ -1,0 +1,491 @@
+/*
+ * A driver for libFuzzer: any bytes into each function of the C library. fuzz/run builds it and
+ * runs it.
+ *
+ * Each call is made twice, into structs and slices that were filled with other bytes, and both
+ * answers have to be the same. A call is made again of a prefix of the bytes, of the bytes from an
+ * offset on, or with less room, and the answers have to agree.
+ *
+ * The archive has no instruments of its own. So each slice that is lent ends at a page that may not
+ * be touched, and begins after bytes that are compared afterwards. What the library returned is
+ * counted for libFuzzer in place of the branches that it took.
+ */
+#define _GNU_SOURCE
+#include <stdio.h>
+#include <stdlib.h>
+#include <string.h>
+#include <sys/mman.h>
+#include <unistd.h>
+
+#include <tcpclkit.h>
+
+/* The slices that are lent at the same time, and the most bytes of each. */
+enum { INPUT, FIRST, SECOND, SLICES };
+#define MOST ((size_t)1 << 20)
+/* The greatest length of an extension list. */
+#define LIST_MOST 65536
+/* Bytes before a slice that no call may change, and what they are. */
+#define BEFORE 64
+#define MARK 0x5a
+
+#define CHECK(holds) check(holds, __func__, __LINE__)
+#define SAME(one, other) CHECK(memcmp(&(one), &(other), sizeof(one)) == 0)
+/* Two answers with one status are the same. After a fault only the field `fault` has a meaning. */
+#define SAME_ANSWER(status, one, other)                                      \
+  do {                                                                       \
+    if ((status) == TCPCLKIT_OK || (status) == TCPCLKIT_DATA_TRUNCATED)      \
+      SAME(one, other);                                                      \
+    if ((status) == TCPCLKIT_TRUNCATED || (status) == TCPCLKIT_FAULT)        \
+      SAME((one).fault, (other).fault);                                      \
+  } while (0)
+
+static uint8_t *ends[SLICES];
+
+#define COUNTERS 8192
+__attribute__((section("__libfuzzer_extra_counters"))) static uint8_t counters[COUNTERS];
+
+static void check(int holds, const char *function, int line) {
+  if (holds)
+    return;
+  fprintf(stderr, "%s: line %d does not hold\n", function, line);
+  abort();
+}
+
+/* Counts an answer: what was asked, a status or a kind, a code, and the size of a number. */
+static void count(unsigned question, uint64_t status, uint64_t code, uint64_t number) {
+  unsigned bits = 0;
+  while (number >> bits && bits < 63)
+    bits++;
+  counters[(question * 1021 + status * 509 + code * 67 + bits) % COUNTERS] = 1;
+}
+
+/* -- slices */
+
+static void make_slices(void) {
+  size_t page = (size_t)sysconf(_SC_PAGESIZE), size = MOST + BEFORE + page;
+  int which;
+  size -= size % page;
+  for (which = 0; which < SLICES; which++) {
+    uint8_t *start = mmap(NULL, size + page, PROT_READ | PROT_WRITE,
+                          MAP_PRIVATE | MAP_ANONYMOUS, -1, 0);
+    CHECK(start != MAP_FAILED);
+    CHECK(mprotect(start + size, page, PROT_NONE) == 0);
+    ends[which] = start + size;
+  }
+}
+
+/* A slice whose bytes are all `fill`. */
+static uint8_t *lend(int which, size_t length, int fill) {
+  CHECK(length <= MOST);
+  memset(ends[which] - length - BEFORE, MARK, BEFORE);
+  memset(ends[which] - length, fill, length);
+  return ends[which] - length;
+}
+
+static void give_back(int which, size_t length) {
+  const uint8_t *before = ends[which] - length - BEFORE;
+  size_t at;
+  for (at = 0; at < BEFORE; at++)
+    CHECK(before[at] == MARK);
+}
+
+static size_t least(size_t one, size_t other) { return one < other ? one : other; }
+
+/* -- bundles */
+
+static uint32_t ask_verdict(const uint8_t *bytes, size_t length, struct tcpclkit_verdict *it) {
+  struct tcpclkit_verdict again;
+  uint32_t status;
+  memset(it, 0x11, sizeof *it);
+  memset(&again, 0xee, sizeof again);
+  status = tcpclkit_bundle_verdict(bytes, length, it);
+  CHECK(tcpclkit_bundle_verdict(bytes, length, &again) == status);
+  SAME(*it, again);
+  CHECK(status == TCPCLKIT_OK || status == TCPCLKIT_TRUNCATED || status == TCPCLKIT_FAULT);
+  if (it->has_payload)
+    CHECK(it->payload_offset <= length && it->payload_seen <= length - it->payload_offset);
+  return status;
+}
+
+/* The verdict on a prefix agrees with that on the whole. */
+static void ask_prefix(const uint8_t *bytes, size_t length, size_t cut, uint32_t status,
+                       const struct tcpclkit_verdict *whole) {
+  struct tcpclkit_verdict prefix;
+  uint32_t before = ask_verdict(bytes, cut, &prefix);
+  if (before == TCPCLKIT_FAULT) {
+    CHECK(status == TCPCLKIT_FAULT);
+    SAME(prefix, *whole);
+  }
+  if (before == TCPCLKIT_TRUNCATED)
+    CHECK(prefix.fault.code == TCPCLKIT_BUNDLE_CUT && prefix.fault.offset == cut);
+  if (before == TCPCLKIT_OK && cut < length)
+    CHECK(whole->fault.code == TCPCLKIT_BUNDLE_TRAILING && whole->fault.offset == cut);
+  if (prefix.has_payload)
+    CHECK(whole->has_payload && prefix.payload_offset == whole->payload_offset &&
+          prefix.payload_seen <= whole->payload_seen);
+}
+
+struct names {
+  struct tcpclkit_bundle bundle;
+  size_t rooms[2];
+  uint8_t bytes[2][TCPCLKIT_EID_LIMIT];
+};
+
+static uint32_t ask_info(const uint8_t *bytes, size_t length, int fill, struct names *it) {
+  uint8_t *destination = lend(FIRST, it->rooms[0], fill);
+  uint8_t *source = lend(SECOND, it->rooms[1], fill);
+  uint32_t status;
+  memset(&it->bundle, fill, sizeof it->bundle);
+  status = tcpclkit_bundle_info(bytes, length, destination, it->rooms[0], source, it->rooms[1],
+                                &it->bundle);
+  give_back(FIRST, it->rooms[0]);
+  give_back(SECOND, it->rooms[1]);
+  memcpy(it->bytes[0], destination, it->rooms[0]);
+  memcpy(it->bytes[1], source, it->rooms[1]);
+  return status;
+}
+
+/* With less room each name is cut, and nothing else changes. */
+static void ask_cut_names(const uint8_t *bytes, size_t length, const struct names *whole,
+                          size_t room) {
+  const struct tcpclkit_eid *eids[2] = {&whole->bundle.destination, &whole->bundle.source};
+  struct names cut;
+  uint32_t status, wanted = TCPCLKIT_OK;
+  int which;
+  cut.rooms[0] = room % (TCPCLKIT_EID_LIMIT + 1);
+  cut.rooms[1] = room / 7 % (TCPCLKIT_EID_LIMIT + 1);
+  status = ask_info(bytes, length, 0x33, &cut);
+  SAME(cut.bundle, whole->bundle);
+  for (which = 0; which < 2; which++) {
+    size_t name = eids[which]->kind == TCPCLKIT_EID_DTN ? eids[which]->name_length : 0;
+    CHECK(memcmp(cut.bytes[which], whole->bytes[which], least(name, cut.rooms[which])) == 0);
+    if (name > cut.rooms[which])
+      wanted = TCPCLKIT_TOO_SMALL;
+  }
+  CHECK(status == wanted);
+}
+
+static void ask_texts_of_eid(const struct tcpclkit_eid *eid, const uint8_t *name, size_t room);
+static void ask_texts_of_fault(uint64_t code, uint64_t number, size_t room);
+
+static void ask_bundle(const uint8_t *bytes, size_t length, size_t cut, size_t room) {
+  struct names it = {.rooms = {TCPCLKIT_EID_LIMIT, TCPCLKIT_EID_LIMIT}}, again = it;
+  struct tcpclkit_verdict verdict;
+  uint32_t status = ask_verdict(bytes, length, &verdict);
+  CHECK(ask_info(bytes, length, 0x11, &it) == status);
+  CHECK(ask_info(bytes, length, 0xee, &again) == status);
+  SAME(it.bundle.verdict, verdict);
+  SAME(again.bundle.verdict, verdict);
+  ask_prefix(bytes, length, cut, status, &verdict);
+  count(1, status, verdict.fault.code, verdict.fault.offset);
+  if (status != TCPCLKIT_OK) {
+    ask_texts_of_fault(verdict.fault.code, verdict.fault.number, room);
+    return;
+  }
+  SAME(it.bundle, again.bundle);
+  ask_cut_names(bytes, length, &it, room);
+  ask_texts_of_eid(&it.bundle.destination, it.bytes[0], room);
+  ask_texts_of_eid(&it.bundle.source, it.bytes[1], room);
+  count(2, it.bundle.source.kind, it.bundle.is_fragment, it.bundle.blocks);
+  count(3, it.bundle.destination.kind, it.bundle.flags & 255, it.bundle.payload_length);
+}
+
+/* -- texts */
+
+/* A text with less room is cut. */
+static void compare_texts(const uint8_t *text, uint64_t written, uint32_t status,
+                          const uint8_t *cut, uint64_t cut_written, size_t room) {
+  CHECK(cut_written == least(written, room));
+  CHECK(status == (written > room ? TCPCLKIT_TOO_SMALL : TCPCLKIT_OK));
+  CHECK(memcmp(text, cut, cut_written) == 0);
+}
+
+static void ask_texts_of_fault(uint64_t code, uint64_t number, size_t room) {
+  uint64_t written = 0, cut = 0;
+  uint8_t *text = lend(FIRST, 64, 0x11), *other = lend(SECOND, room %= 66, 0xee);
+  uint32_t status = tcpclkit_fault_text(code, number, text, 64, &written);
+  uint32_t again = tcpclkit_fault_text(code, number, other, room, &cut);
+  give_back(FIRST, 64);
+  give_back(SECOND, room);
+  count(4, status, code, number);
+  CHECK(status == TCPCLKIT_OK || (status == TCPCLKIT_RANGE && again == TCPCLKIT_RANGE));
+  if (status == TCPCLKIT_OK)
+    compare_texts(text, written, again, other, cut, room);
+}
+
+static void ask_texts_of_eid(const struct tcpclkit_eid *eid, const uint8_t *name, size_t room) {
+  uint64_t written = 0, cut = 0;
+  uint8_t *text = lend(FIRST, 4100, 0x11), *other = lend(SECOND, room %= 4200, 0xee);
+  uint32_t status = tcpclkit_eid_text(eid, name, text, 4100, &written);
+  uint32_t again = tcpclkit_eid_text(eid, name, other, room, &cut);
+  give_back(FIRST, 4100);
+  give_back(SECOND, room);
+  count(5, status, eid->kind, written);
+  CHECK(status == TCPCLKIT_OK || (status == TCPCLKIT_RANGE && again == TCPCLKIT_RANGE));
+  if (status == TCPCLKIT_OK)
+    compare_texts(text, written, again, other, cut, room);
+}
+
+/* -- recordings */
+
+/* Two contact headers with one status are the same. */
+static void same_contact(uint32_t status, const struct tcpclkit_contact *one,
+                         const struct tcpclkit_contact *other) {
+  if (status == TCPCLKIT_OK)
+    CHECK(one->flags == other->flags);
+  else
+    SAME(one->fault, other->fault);
+}
+
+static void ask_contact(const uint8_t *bytes, size_t length, size_t cut) {
+  struct tcpclkit_contact it, again;
+  uint32_t status, before;
+  memset(&it, 0x11, sizeof it);
+  memset(&again, 0xee, sizeof again);
+  status = tcpclkit_contact(bytes, length, &it);
+  CHECK(tcpclkit_contact(bytes, length, &again) == status);
+  same_contact(status, &it, &again);
+  if (status == TCPCLKIT_OK)
+    count(6, status, 0, it.flags);
+  else
+    count(6, status, it.fault.code, it.fault.number);
+  before = tcpclkit_contact(bytes, cut, &again);
+  CHECK(before == (cut < TCPCLKIT_CONTACT_LENGTH ? TCPCLKIT_TRUNCATED : status));
+  if (before == status)
+    same_contact(status, &it, &again);
+}
+
+static uint32_t ask_message(const uint8_t *bytes, size_t length, uint64_t offset,
+                            struct tcpclkit_message *it) {
+  struct tcpclkit_message again;
+  uint32_t status;
+  memset(it, 0x11, sizeof *it);
+  memset(&again, 0xee, sizeof again);
+  status = tcpclkit_message(bytes, length, offset, it);
+  CHECK(tcpclkit_message(bytes, length, offset, &again) == status);
+  CHECK((status == TCPCLKIT_RANGE) == (offset > length));
+  CHECK((status == TCPCLKIT_END) == (offset == length));
+  if (status == TCPCLKIT_OK || status == TCPCLKIT_DATA_TRUNCATED)
+    CHECK(it->data_offset <= length && it->data_offset > offset);
+  if (status == TCPCLKIT_OK)
+    CHECK(it->next <= length && it->next - it->data_offset == it->data_length);
+  SAME_ANSWER(status, *it, again);
+  return status;
+}
+
+/* A message that a prefix has whole is that of all bytes, and so is a fault of a prefix. */
+static void ask_message_of_prefix(const uint8_t *bytes, size_t length, uint64_t offset, size_t cut,
+                                  uint32_t status, const struct tcpclkit_message *whole) {
+  struct tcpclkit_message prefix;
+  uint32_t before;
+  if (cut < offset || cut > length)
+    return;
+  before = ask_message(bytes, cut, offset, &prefix);
+  if (before == TCPCLKIT_OK || before == TCPCLKIT_FAULT) {
+    CHECK(status == before);
+    SAME_ANSWER(status, prefix, *whole);
+  }
+  if (before == TCPCLKIT_DATA_TRUNCATED) {
+    CHECK(status == TCPCLKIT_OK || status == TCPCLKIT_DATA_TRUNCATED);
+    CHECK(prefix.data_offset == whole->data_offset && prefix.data_length == whole->data_length);
+  }
+}
+
+/* The message is also there if the bytes before it are not. */
+static void ask_message_alone(const uint8_t *bytes, size_t length, uint64_t offset, uint32_t status,
+                              const struct tcpclkit_message *whole) {
+  struct tcpclkit_message alone;
+  CHECK(ask_message(bytes + offset, length - offset, 0, &alone) == status);
+  CHECK(alone.kind == whole->kind && alone.flags == whole->flags && alone.id == whole->id);
+  CHECK(alone.reason == whole->reason && alone.acknowledged == whole->acknowledged);
+  CHECK(alone.items_length == whole->items_length && alone.node_length == whole->node_length);
+  CHECK(alone.data_offset + offset == whole->data_offset);
+  CHECK(alone.data_length == whole->data_length);
+}
+
+/* Reads all items of a message, or the bytes of a list that was not judged. */
+static void ask_items(const uint8_t *bytes, size_t length, uint64_t offset, uint64_t end,
+                      int is_judged) {
+  struct tcpclkit_item it, again;
+  uint32_t status;
+  for (;;) {
+    memset(&it, 0x11, sizeof it);
+    memset(&again, 0xee, sizeof again);
+    status = tcpclkit_item(bytes, length, offset, end, &it);
+    CHECK(tcpclkit_item(bytes, length, offset, end, &again) == status);
+    CHECK((status == TCPCLKIT_RANGE) ==
+          (offset > end || end > length || end - offset > LIST_MOST));
+    SAME_ANSWER(status, it, again);
+    if (status != TCPCLKIT_OK)
+      break;
+    count(7, it.type & 15, it.has_total, it.value_length);
+    CHECK(it.next <= end && it.next - it.value_length == it.value_offset);
+    CHECK(it.value_offset == offset + 5);
+    offset = it.next;
+  }
+  if (is_judged)
+    CHECK(status == TCPCLKIT_END);
+}
+
+/* -- the order of messages */
+
+static void ask_order(struct tcpclkit_order *order, const struct tcpclkit_message *message) {
+  struct tcpclkit_order before = *order, again = *order;
+  struct tcpclkit_turn it, other;
+  uint32_t status;
+  memset(&it, 0x11, sizeof it);
+  memset(&other, 0xee, sizeof other);
+  status = tcpclkit_order(order, message->kind, message->flags, message->id, &it);
+  CHECK(tcpclkit_order(&again, message->kind, message->flags, message->id, &other) == status);
+  SAME(*order, again);
+  SAME_ANSWER(status, it, other);
+  if (status == TCPCLKIT_OK)
+    count(8, it.turn, it.abandons, order->is_open);
+  else
+    SAME(*order, before);
+  if (status == TCPCLKIT_FAULT)
+    count(8, status, it.fault, 0);
+}
+
+/* Reads messages from an offset on, and judges their order from some state on. */
+static void ask_recording(const uint8_t *bytes, size_t length, uint64_t offset, size_t cut,
+                          struct tcpclkit_order order) {
+  struct tcpclkit_message it;
+  uint32_t status;
+  unsigned messages = 0;
+  while ((status = ask_message(bytes, length, offset, &it)) == TCPCLKIT_OK ||
+         status == TCPCLKIT_DATA_TRUNCATED) {
+    count(9, it.kind, status, it.data_length);
+    count(10, messages < 9 ? messages++ : 9, it.kind, it.flags);
+    ask_message_alone(bytes, length, offset, status, &it);
+    ask_message_of_prefix(bytes, length, offset, cut, status, &it);
+    if (it.kind == TCPCLKIT_XFER_ACK || it.kind == TCPCLKIT_XFER_REFUSE)
+      it.flags &= 255;
+    ask_order(&order, &it);
+    if (it.kind == TCPCLKIT_SESS_INIT || (it.kind == TCPCLKIT_XFER_SEGMENT && it.flags & 2))
+      ask_items(bytes, length, it.items_offset, it.items_offset + it.items_length, 1);
+    if (status != TCPCLKIT_OK)
+      return;
+    offset = it.next;
+  }
+  if (status == TCPCLKIT_FAULT || status == TCPCLKIT_TRUNCATED) {
+    count(11, status, it.fault.code, it.fault.number);
+    ask_message_of_prefix(bytes, length, offset, cut, status, &it);
+    ask_texts_of_fault(it.fault.code, it.fault.number, cut);
+  }
+}
+
+/* -- whole tools */
+
+/* More room than most runs need, and the texts of a run with that room. */
+#define ROOM 65536
+static uint8_t kept[2][ROOM];
+
+struct texts {
+  uint8_t *bytes[2];
+  size_t rooms[2];
+  struct tcpclkit_run run;
+};
+
+static uint32_t call_tool(const uint8_t *bytes, size_t length, const uint64_t *numbers,
+                          struct texts *it) {
+  struct tcpclkit_unpack_options unpack = {numbers[1] % 3, numbers[2] % 5, numbers[3] % 3};
+  struct tcpclkit_pack_options pack = {
+      numbers[1] % 65537, numbers[2],           numbers[3],    numbers[4] % 4096,
+      numbers[5],         numbers[1] % 1048577, numbers[2] % 3};
+  size_t node = least(numbers[3] % 1026, length);
+  if (numbers[0] % 3 == 0)
+    return tcpclkit_list(bytes, length, it->bytes[0], it->rooms[0], it->bytes[1], it->rooms[1],
+                         &it->run);
+  if (numbers[0] % 3 == 1)
+    return tcpclkit_unpack(bytes, length, &unpack, it->bytes[0], it->rooms[0], it->bytes[1],
+                           it->rooms[1], &it->run);
+  return tcpclkit_pack(bytes, length, &pack, bytes, node, it->bytes[0], it->rooms[0], it->bytes[1],
+                       it->rooms[1], &it->run);
+}
+
+static uint32_t run_tool(const uint8_t *bytes, size_t length, const uint64_t *numbers, int fill,
+                         struct texts *it) {
+  uint32_t status;
+  it->bytes[0] = lend(FIRST, it->rooms[0], fill);
+  it->bytes[1] = lend(SECOND, it->rooms[1], fill);
+  memset(&it->run, fill, sizeof it->run);
+  status = call_tool(bytes, length, numbers, it);
+  give_back(FIRST, it->rooms[0]);
+  give_back(SECOND, it->rooms[1]);
+  if (status == TCPCLKIT_RANGE)
+    return status;
+  CHECK(status == TCPCLKIT_OK || status == TCPCLKIT_TOO_SMALL);
+  CHECK(it->run.output_length <= it->rooms[0] && it->run.report_length <= it->rooms[1]);
+  if (status == TCPCLKIT_TOO_SMALL)
+    CHECK(it->run.output_length == it->rooms[0] || it->run.report_length == it->rooms[1]);
+  return status;
+}
+
+/* With less room the texts are prefixes. */
+static void ask_tool(const uint8_t *bytes, size_t length, const uint64_t *numbers, size_t room) {
+  struct texts it = {.rooms = {ROOM, ROOM}};
+  struct texts cut = {.rooms = {room % 2048, room / 16 % 512}};
+  uint32_t status = run_tool(bytes, length, numbers, 0x11, &it), again;
+  if (status == TCPCLKIT_RANGE) {
+    CHECK(run_tool(bytes, length, numbers, 0xee, &cut) == status);
+    return;
+  }
+  memcpy(kept[0], it.bytes[0], it.run.output_length);
+  memcpy(kept[1], it.bytes[1], it.run.report_length);
+  again = run_tool(bytes, length, numbers, 0xee, &cut);
+  CHECK(cut.run.output_length <= it.run.output_length);
+  CHECK(cut.run.report_length <= it.run.report_length);
+  CHECK(memcmp(kept[0], cut.bytes[0], cut.run.output_length) == 0);
+  CHECK(memcmp(kept[1], cut.bytes[1], cut.run.report_length) == 0);
+  if (again == TCPCLKIT_OK)
+    SAME(it.run, cut.run);
+  else
+    CHECK(status == TCPCLKIT_TOO_SMALL || it.run.output_length > cut.rooms[0] ||
+          it.run.report_length > cut.rooms[1]);
+  if (status == TCPCLKIT_OK)
+    count(12 + numbers[0] % 3, it.run.exit_status, it.run.report_length, it.run.output_length);
+}
+
+/* -- any numbers */
+
+/* Asks about numbers that no bytes lead to. */
+static void ask_numbers(const uint8_t *bytes, size_t length, const uint64_t *numbers) {
+  struct tcpclkit_eid eid = {numbers[0] % 6, numbers[1], numbers[2], numbers[3],
+                             least(numbers[4] % 1200, length)};
+  struct tcpclkit_order order = {numbers[0] % 3, numbers[1] % 3, numbers[2] % 3, numbers[3]};
+  struct tcpclkit_message message = {.kind = numbers[4] % 10, .flags = numbers[5] % 300,
+                                     .id = numbers[3]};
+  ask_texts_of_eid(&eid, bytes, numbers[5] & 8191);
+  ask_texts_of_fault(numbers[0] % 130, numbers[1] >> numbers[2] % 64, numbers[5] & 127);
+  ask_order(&order, &message);
+  ask_items(bytes, length, numbers[2] % (length + 3), numbers[3] % (length + 3), 0);
+  ask_message(bytes, length, numbers[4], &message);
+}
+
+int LLVMFuzzerInitialize(int *count_of_arguments, char ***arguments) {
+  (void)count_of_arguments;
+  (void)arguments;
+  make_slices();
+  CHECK(tcpclkit_abi() == TCPCLKIT_ABI);
+  return 0;
+}
+
+int LLVMFuzzerTestOneInput(const uint8_t *data, size_t size) {
+  static const struct tcpclkit_order begun = {1, 0, 0, 0}, none = {0, 0, 0, 0};
+  uint64_t numbers[6] = {0};
+  size_t length = least(size, MOST), cut;
+  uint8_t *bytes = lend(INPUT, length, 0);
+  memcpy(bytes, data, length);
+  memcpy(numbers, data + (size - least(size, sizeof numbers)), least(size, sizeof numbers));
+  cut = (numbers[0] >> 5) % (length + 1);
+  ask_bundle(bytes, length, cut, numbers[1] & 8191);
+  ask_contact(bytes, length, cut);
+  ask_recording(bytes, length, TCPCLKIT_CONTACT_LENGTH, cut, none);
+  ask_recording(bytes, length, 0, cut, begun);
+  ask_numbers(bytes, length, numbers);
+  ask_tool(bytes, length, numbers, numbers[5] & 65535);
+  give_back(INPUT, length);
+  CHECK(memcmp(bytes, data, length) == 0);
+  return 0;
+}

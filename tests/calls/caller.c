@@ -1,0 +1,424 @@
+/*
+ * Does what tests/callers asks for on standard input, with the C library.
+ *
+ * A job is a line, `NAME NUMBER.. LENGTH`, and LENGTH bytes. The answer is a line, `STATUS OUTPUT
+ * REPORT`, and the bytes of two texts, as long as OUTPUT and REPORT say. Each job but the tools has
+ * no number:
+ *
+ *   judge   the verdict on the bytes, where the payload is, and further fields of a good bundle
+ *   read    what `list` writes of a recording, made of its messages
+ *   walk    what `unpack` writes of a recording, made of its messages and bundles
+ *   list, unpack, pack   the tools; NUMBER.. are the options in the order of their struct. The
+ *           bytes of `pack` begin with the node ID, and its last number is the length of that.
+ *
+ * Reasons are written without their names.
+ */
+#include <inttypes.h>
+#include <stdarg.h>
+#include <stdio.h>
+#include <stdlib.h>
+#include <string.h>
+
+#include <tcpclkit.h>
+
+enum { NUMBERS = 8 };
+
+/* A text that grows. */
+struct text {
+  uint8_t *bytes;
+  size_t length, room;
+};
+
+struct job {
+  char name[16];
+  uint64_t numbers[NUMBERS];
+  const uint8_t *bytes;
+  size_t length;
+};
+
+/* The two texts of an answer. */
+static struct text output, report;
+
+static void die(const char *why) {
+  fprintf(stderr, "caller: %s\n", why);
+  exit(2);
+}
+
+static void make_room(struct text *text, size_t more) {
+  if (text->room - text->length >= more)
+    return;
+  text->room = 2 * (text->length + more);
+  text->bytes = realloc(text->bytes, text->room);
+  if (text->bytes == NULL)
+    die("out of memory");
+}
+
+static void put_bytes(struct text *text, const uint8_t *bytes, size_t length) {
+  make_room(text, length);
+  if (length > 0)
+    memcpy(text->bytes + text->length, bytes, length);
+  text->length += length;
+}
+
+/* Appends words of less than 500 bytes. */
+static void put(struct text *text, const char *format, ...) {
+  char words[500];
+  va_list values;
+  int length;
+  va_start(values, format);
+  length = vsnprintf(words, sizeof words, format, values);
+  va_end(values);
+  put_bytes(text, (const uint8_t *)words, (size_t)length);
+}
+
+static void put_escaped(struct text *text, const uint8_t *bytes, uint64_t length) {
+  uint64_t at;
+  for (at = 0; at < length; at++) {
+    if (bytes[at] > 0x20 && bytes[at] < 0x7f && bytes[at] != '\\')
+      put_bytes(text, bytes + at, 1);
+    else
+      put(text, "\\x%02x", bytes[at]);
+  }
+}
+
+static void put_eid(struct text *text, const struct tcpclkit_eid *eid, const uint8_t *name) {
+  uint64_t written;
+  make_room(text, 4100);
+  if (tcpclkit_eid_text(eid, name, text->bytes + text->length, 4100, &written) != TCPCLKIT_OK)
+    die("no text of an endpoint ID");
+  text->length += written;
+}
+
+/* The words of a fault: the code of a bundle's fault, and of any other the line. */
+static void put_fault(struct text *text, const struct tcpclkit_fault *fault) {
+  uint8_t words[64];
+  uint64_t written;
+  if (tcpclkit_fault_text(fault->code, fault->number, words, sizeof words, &written) != TCPCLKIT_OK)
+    die("no text of a fault");
+  if (fault->code > 100)
+    put(text, "bad=%.*s byte=%" PRIu64, (int)strcspn((char *)words, " "), words, fault->offset);
+  else
+    put(text, "tcpclkit: byte %" PRIu64 ": %.*s\n", fault->offset, (int)written, words);
+}
+
+/* -- bundles */
+
+static void put_identity(struct text *text, const struct tcpclkit_bundle *it,
+                         const uint8_t *destination, const uint8_t *source) {
+  put(text, "good source=");
+  put_eid(text, &it->source, source);
+  put(text, " time=%" PRIu64 " sequence=%" PRIu64 " destination=", it->time, it->sequence);
+  put_eid(text, &it->destination, destination);
+  put(text, " payload=%" PRIu64, it->payload_length);
+  if (it->is_fragment)
+    put(text, " fragment=%" PRIu64 "/%" PRIu64, it->fragment_offset, it->fragment_total);
+}
+
+/* Appends the judgement of a bundle as `unpack` writes it. Returns whether the bundle is good. */
+static int put_judgement(struct text *text, const uint8_t *bytes, size_t length,
+                         struct tcpclkit_bundle *it) {
+  uint8_t destination[TCPCLKIT_EID_LIMIT], source[TCPCLKIT_EID_LIMIT];
+  uint32_t status = tcpclkit_bundle_info(bytes, length, destination, sizeof destination, source,
+                                         sizeof source, it);
+  if (status == TCPCLKIT_OK)
+    put_identity(text, it, destination, source);
+  else if (status == TCPCLKIT_FAULT || status == TCPCLKIT_TRUNCATED)
+    put_fault(text, &it->verdict.fault);
+  else
+    die("a bundle has another status");
+  return status == TCPCLKIT_OK;
+}
+
+static int judge(const struct job *job) {
+  struct tcpclkit_bundle it;
+  struct tcpclkit_verdict same;
+  int is_good = put_judgement(&output, job->bytes, job->length, &it);
+  if ((tcpclkit_bundle_verdict(job->bytes, job->length, &same) == TCPCLKIT_OK) != is_good ||
+      memcmp(&same, &it.verdict, sizeof same) != 0)
+    die("the verdict differs from that of tcpclkit_bundle_info");
+  put(&output, "\n");
+  if (same.has_payload)
+    put(&output, "payload %" PRIu64 " %" PRIu64 "\n", same.payload_offset, same.payload_seen);
+  if (is_good)
+    put(&output, "flags=%" PRIu64 " lifetime=%" PRIu64 " blocks=%" PRIu64 "\n", it.flags,
+        it.lifetime, it.blocks);
+  return is_good ? 0 : 1;
+}
+
+/* -- messages */
+
+/* Appends the number of items and each of them. */
+static void put_items(struct text *text, const struct job *job,
+                      const struct tcpclkit_message *message) {
+  struct text listed = {NULL, 0, 0};
+  struct tcpclkit_item item;
+  uint64_t end = message->items_offset + message->items_length, count = 0;
+  item.next = message->items_offset;
+  while (tcpclkit_item(job->bytes, job->length, item.next, end, &item) == TCPCLKIT_OK) {
+    put(&listed, " item=%02x:%04x:%" PRIu64, (unsigned)item.flags, (unsigned)item.type,
+        item.value_length);
+    count++;
+  }
+  put(text, " items=%" PRIu64, count);
+  put_bytes(text, listed.bytes, listed.length);
+  free(listed.bytes);
+}
+
+static void put_segment(const struct job *job, const struct tcpclkit_message *it) {
+  put(&output, "xfer-segment flags=%02x id=%" PRIu64, (unsigned)it->flags, it->id);
+  if (it->flags & TCPCLKIT_SEGMENT_START)
+    put_items(&output, job, it);
+  put(&output, " length=%" PRIu64, it->data_length);
+}
+
+static void put_init(const struct job *job, const struct tcpclkit_message *it) {
+  put(&output, "sess-init keepalive=%" PRIu64 " segment-mru=%" PRIu64, it->keepalive,
+      it->segment_mru);
+  put(&output, " transfer-mru=%" PRIu64 " node=", it->transfer_mru);
+  put_escaped(&output, job->bytes + it->node_offset, it->node_length);
+  put_items(&output, job, it);
+}
+
+/* Appends the line of a message. */
+static void put_message(const struct job *job, uint64_t offset, const struct tcpclkit_message *it) {
+  unsigned flags = (unsigned)it->flags, reason = (unsigned)it->reason;
+  put(&output, "%" PRIu64 " ", offset);
+  if (it->kind == TCPCLKIT_XFER_SEGMENT)
+    put_segment(job, it);
+  else if (it->kind == TCPCLKIT_XFER_ACK)
+    put(&output, "xfer-ack flags=%02x id=%" PRIu64 " length=%" PRIu64, flags, it->id,
+        it->acknowledged);
+  else if (it->kind == TCPCLKIT_XFER_REFUSE)
+    put(&output, "xfer-refuse reason=%02x id=%" PRIu64, reason, it->id);
+  else if (it->kind == TCPCLKIT_KEEPALIVE)
+    put(&output, "keepalive");
+  else if (it->kind == TCPCLKIT_SESS_TERM)
+    put(&output, "sess-term flags=%02x reason=%02x", flags, reason);
+  else if (it->kind == TCPCLKIT_MSG_REJECT)
+    put(&output, "msg-reject reason=%02x header=%02x", reason, (unsigned)it->header);
+  else
+    put_init(job, it);
+  put(&output, "\n");
+}
+
+/* Appends the line of the fault that ends a recording, by the status of its last message. */
+static void put_end(uint32_t status, uint64_t offset, const struct tcpclkit_message *it) {
+  struct tcpclkit_fault truncated = {TCPCLKIT_WIRE_TRUNCATED, 0, offset};
+  put_fault(&report, status == TCPCLKIT_DATA_TRUNCATED ? &truncated : &it->fault);
+}
+
+/* Reads the contact header. Returns its flags, or -1 after it has appended a fault. */
+static int read_contact(const struct job *job) {
+  struct tcpclkit_contact it;
+  if (tcpclkit_contact(job->bytes, job->length, &it) == TCPCLKIT_OK)
+    return (int)it.flags;
+  put_fault(&report, &it.fault);
+  return -1;
+}
+
+static int read_messages(const struct job *job) {
+  struct tcpclkit_message it;
+  uint64_t offset = TCPCLKIT_CONTACT_LENGTH;
+  uint32_t status;
+  int flags = read_contact(job);
+  if (flags < 0)
+    return 3;
+  put(&output, "0 contact version=4 flags=%02x\n", (unsigned)flags);
+  while ((status = tcpclkit_message(job->bytes, job->length, offset, &it)) == TCPCLKIT_OK) {
+    put_message(job, offset, &it);
+    offset = it.next;
+  }
+  if (status == TCPCLKIT_END)
+    return 0;
+  put_end(status, offset, &it);
+  return 3;
+}
+
+/* -- transfers */
+
+/* The transfer that is open, or was the last one. */
+struct transfer {
+  uint64_t id, announced, length_items, bad_items;
+  size_t start; /* of its data in the output */
+  int is_open;
+};
+
+/* Notes what the items of a first segment announce. */
+static void begin(struct transfer *transfer, const struct job *job,
+                  const struct tcpclkit_message *message) {
+  struct tcpclkit_item item;
+  uint64_t end = message->items_offset + message->items_length;
+  memset(transfer, 0, sizeof *transfer);
+  transfer->id = message->id;
+  transfer->start = output.length;
+  item.next = message->items_offset;
+  while (tcpclkit_item(job->bytes, job->length, item.next, end, &item) == TCPCLKIT_OK) {
+    transfer->length_items += item.type == 1;
+    transfer->bad_items += item.type == 1 && !item.has_total;
+    if (item.has_total)
+      transfer->announced = item.total;
+  }
+}
+
+/* Appends the line of a transfer that is over. Returns whether the transfer is good. */
+static int put_transfer(const struct transfer *it) {
+  struct tcpclkit_bundle bundle;
+  size_t length = output.length - it->start;
+  int is_good = 0;
+  put(&report, "transfer %" PRIu64 " start=%zu written=%zu length=%zu ", it->id, it->start, length,
+      length);
+  if (it->is_open)
+    put(&report, "abandoned");
+  else if (it->length_items > 1 || it->bad_items > 0)
+    put(&report, "bad-length-item");
+  else if (it->length_items == 1 && it->announced != length)
+    put(&report, "length-differs announced=%" PRIu64, it->announced);
+  else
+    is_good = put_judgement(&report, output.bytes == NULL ? NULL : output.bytes + it->start, length,
+                            &bundle);
+  put(&report, "\n");
+  return is_good;
+}
+
+/* Takes a message. Returns the exit status that it leads to: 1, or 3 at a fault. */
+static int take(struct transfer *transfer, struct tcpclkit_order *order, const struct job *job,
+                uint64_t offset, const struct tcpclkit_message *it, int is_cut) {
+  struct tcpclkit_turn turn;
+  struct tcpclkit_fault fault = {0, 0, 0};
+  uint64_t there = is_cut ? job->length - it->data_offset : it->data_length;
+  int status = 0;
+  if (tcpclkit_order(order, it->kind, it->flags, it->id, &turn) != TCPCLKIT_OK) {
+    fault.code = turn.fault;
+    fault.offset = offset;
+    put_fault(&report, &fault);
+    return 3;
+  }
+  if (turn.turn == TCPCLKIT_TURN_OTHER)
+    return 0;
+  if (turn.turn == TCPCLKIT_TURN_BEGIN) {
+    if (turn.abandons)
+      status = !put_transfer(transfer);
+    begin(transfer, job, it);
+  }
+  put_bytes(&output, job->bytes + it->data_offset, there);
+  transfer->is_open = !turn.last;
+  if (!is_cut && turn.last && !put_transfer(transfer))
+    status = 1;
+  return status;
+}
+
+static int walk(const struct job *job) {
+  struct tcpclkit_order order = {0, 0, 0, 0};
+  struct transfer transfer = {0, 0, 0, 0, 0, 0};
+  struct tcpclkit_message it;
+  uint64_t offset = TCPCLKIT_CONTACT_LENGTH;
+  uint32_t status;
+  int ended = read_contact(job) < 0 ? 3 : 0, taken;
+  if (ended == 3)
+    return 3;
+  for (;;) {
+    status = tcpclkit_message(job->bytes, job->length, offset, &it);
+    if (status == TCPCLKIT_END)
+      return transfer.is_open && !put_transfer(&transfer) ? 1 : ended;
+    if (status != TCPCLKIT_OK && status != TCPCLKIT_DATA_TRUNCATED)
+      break;
+    taken = take(&transfer, &order, job, offset, &it, status != TCPCLKIT_OK);
+    if (taken == 3)
+      return 3;
+    if (status != TCPCLKIT_OK)
+      break;
+    ended = taken == 1 ? 1 : ended;
+    offset = it.next;
+  }
+  put_end(status, offset, &it);
+  return 3;
+}
+
+/* -- whole tools */
+
+/* Calls a tool once, with the room that the texts have. */
+static uint32_t call_tool(const struct job *job, struct tcpclkit_run *run) {
+  const uint64_t *numbers = job->numbers;
+  struct tcpclkit_unpack_options unpack = {numbers[0], numbers[1], numbers[2]};
+  struct tcpclkit_pack_options pack = {numbers[0], numbers[1], numbers[2], numbers[3],
+                                       numbers[4], numbers[5], numbers[6]};
+  size_t node = (size_t)numbers[7];
+  if (strcmp(job->name, "list") == 0)
+    return tcpclkit_list(job->bytes, job->length, output.bytes, output.room, report.bytes,
+                         report.room, run);
+  if (strcmp(job->name, "unpack") == 0)
+    return tcpclkit_unpack(job->bytes, job->length, &unpack, output.bytes, output.room,
+                           report.bytes, report.room, run);
+  return tcpclkit_pack(job->bytes + node, job->length - node, &pack, job->bytes, node,
+                       output.bytes, output.room, report.bytes, report.room, run);
+}
+
+static int run_tool(const struct job *job) {
+  struct tcpclkit_run run;
+  uint32_t status;
+  while ((status = call_tool(job, &run)) == TCPCLKIT_TOO_SMALL) {
+    make_room(&output, 2 * output.room + 64);
+    make_room(&report, 2 * report.room + 64);
+  }
+  if (status != TCPCLKIT_OK)
+    die("a tool has another status");
+  output.length = run.output_length;
+  report.length = run.report_length;
+  return (int)run.exit_status;
+}
+
+/* -- jobs */
+
+/* Reads a job. Returns whether there is one. */
+static int read_job(struct job *job, struct text *bytes) {
+  char line[300], *rest;
+  int count, name_length;
+  if (fgets(line, sizeof line, stdin) == NULL)
+    return 0;
+  if (sscanf(line, "%15s%n", job->name, &name_length) != 1)
+    die("a job has no name");
+  for (count = 0, rest = line + name_length; count < NUMBERS && strchr(rest + 1, ' '); count++)
+    job->numbers[count] = strtoull(rest, &rest, 10);
+  job->length = (size_t)strtoull(rest, NULL, 10);
+  bytes->length = 0;
+  make_room(bytes, job->length + 1);
+  if (fread(bytes->bytes, 1, job->length, stdin) != job->length)
+    die("the bytes of a job are cut");
+  job->bytes = bytes->bytes;
+  return 1;
+}
+
+static int answer(const struct job *job) {
+  if (strcmp(job->name, "judge") == 0)
+    return judge(job);
+  if (strcmp(job->name, "read") == 0)
+    return read_messages(job);
+  if (strcmp(job->name, "walk") == 0)
+    return walk(job);
+  return run_tool(job);
+}
+
+static void write_text(const struct text *text) {
+  if (text->length > 0)
+    fwrite(text->bytes, 1, text->length, stdout);
+}
+
+int main(void) {
+  struct text bytes = {NULL, 0, 0};
+  struct job job;
+  int status;
+  if (tcpclkit_abi() != TCPCLKIT_ABI)
+    die("the library has another version of the interface");
+  while (read_job(&job, &bytes)) {
+    output.length = report.length = 0;
+    status = answer(&job);
+    printf("%d %zu %zu\n", status, output.length, report.length);
+    write_text(&output);
+    write_text(&report);
+    fflush(stdout);
+  }
+  free(bytes.bytes);
+  free(output.bytes);
+  free(report.bytes);
+  return 0;
+}

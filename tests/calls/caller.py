@@ -1,0 +1,179 @@
+#!/usr/bin/env python3
+"""Does what tests/callers asks for on standard input, with the module `tcpclkit`.
+
+The jobs and the answers are those of caller.c beside this file.
+"""
+
+import sys
+
+import tcpclkit
+from tcpclkit import Kind
+
+
+def escaped(content):
+    """Returns bytes as the program's lines show them."""
+    return "".join(chr(it) if 0x20 < it < 0x7F and it != 0x5C else f"\\x{it:02x}" for it in content)
+
+
+def fault_line(fault):
+    """Returns the line of a fault of a recording."""
+    return f"tcpclkit: byte {fault.offset}: {fault}\n"
+
+
+# ---- bundles
+
+
+def judgement(content):
+    """Returns the judgement of a bundle as `unpack` writes it, and the bundle or None."""
+    try:
+        it = tcpclkit.bundle(content)
+    except tcpclkit.Fault as fault:
+        return f"bad={str(fault).split()[0]} byte={fault.offset}", None
+    text = f"good source={it.source} time={it.time} sequence={it.sequence}"
+    text += f" destination={it.destination} payload={len(it.payload)}"
+    return text + (f" fragment={it.fragment[0]}/{it.fragment[1]}" if it.fragment else ""), it
+
+
+def judge(content):
+    """The verdict, where the payload is, and further fields of a good bundle."""
+    text, it = judgement(content)
+    lines, verdict = [text], tcpclkit.verdict(content)
+    if (verdict.fault is None) != (it is not None):
+        raise ValueError("the verdict differs from that of `bundle`")
+    if verdict.payload is not None:
+        start, end = verdict.payload.start, verdict.payload.stop
+        lines.append(f"payload {start} {end - start}")
+    if it is not None:
+        lines.append(f"flags={it.flags} lifetime={it.lifetime} blocks={it.blocks}")
+    return 0 if it else 1, "".join(f"{line}\n" for line in lines).encode(), b""
+
+
+# ---- messages
+
+
+def items(it):
+    """Returns the number of extension items of a message and each of them."""
+    each = "".join(f" item={one.flags:02x}:{one.type:04x}:{len(one.value)}" for one in it.items)
+    return f" items={len(it.items)}{each}"
+
+
+def line(it):
+    """Returns the line of a message."""
+    if it.kind == Kind.XFER_SEGMENT:
+        listed = "" if it.items is None else items(it)
+        words = f"xfer-segment flags={it.flags:02x} id={it.id}{listed} length={it.length}"
+    elif it.kind == Kind.XFER_ACK:
+        words = f"xfer-ack flags={it.flags:02x} id={it.id} length={it.length}"
+    elif it.kind == Kind.XFER_REFUSE:
+        words = f"xfer-refuse reason={it.reason:02x} id={it.id}"
+    elif it.kind == Kind.KEEPALIVE:
+        words = "keepalive"
+    elif it.kind == Kind.SESS_TERM:
+        words = f"sess-term flags={it.flags:02x} reason={it.reason:02x}"
+    elif it.kind == Kind.MSG_REJECT:
+        words = f"msg-reject reason={it.reason:02x} header={it.header:02x}"
+    else:
+        words = f"sess-init keepalive={it.keepalive} segment-mru={it.segment_mru}"
+        words += f" transfer-mru={it.transfer_mru} node={escaped(it.node)}{items(it)}"
+    return f"{it.offset} {words}\n"
+
+
+def read(content):
+    """What `list` writes, made of the messages."""
+    lines, status, report = [], 0, ""
+    try:
+        lines.append(f"0 contact version=4 flags={tcpclkit.contact(content):02x}\n")
+        for it in tcpclkit.messages(content):
+            if not it.is_cut:
+                lines.append(line(it))
+    except tcpclkit.Fault as fault:
+        status, report = 3, fault_line(fault)
+    return status, "".join(lines).encode(), report.encode()
+
+
+# ---- transfers
+
+
+class Walk:
+    """What `unpack` writes, made of messages and bundles."""
+
+    def __init__(self):
+        self.output, self.report, self.status = bytearray(), [], 0
+        self.first, self.start, self.is_open = None, 0, False
+
+    def end(self):
+        """Adds the line of the transfer that is over."""
+        data = bytes(self.output[self.start:])
+        totals = [it.total for it in self.first.items if it.type == 1]
+        if self.is_open:
+            words = "abandoned"
+        elif len(totals) > 1 or None in totals:
+            words = "bad-length-item"
+        elif totals and totals[0] != len(data):
+            words = f"length-differs announced={totals[0]}"
+        else:
+            words = judgement(data)[0]
+        length = f"written={len(data)} length={len(data)}"
+        self.report.append(f"transfer {self.first.id} start={self.start} {length} {words}\n")
+        if not words.startswith("good "):
+            self.status = 1
+
+    def take(self, it, turn):
+        """Takes a message that may come, and its turn."""
+        if turn.begins is None:
+            return
+        if turn.begins:
+            if turn.abandoned is not None:
+                self.end()
+            self.first, self.start = it, len(self.output)
+        self.output += it.data
+        self.is_open = not turn.is_last
+        if turn.is_last and not it.is_cut:
+            self.end()
+
+
+def walk(content):
+    """What `unpack` writes, made of messages and bundles."""
+    it, order = Walk(), tcpclkit.Order()
+    try:
+        tcpclkit.contact(content)
+        for message in tcpclkit.messages(content):
+            it.take(message, order.judge(message))
+        if it.is_open:
+            it.end()
+    except tcpclkit.Fault as fault:
+        it.report.append(fault_line(fault))
+        it.status = 3
+    return it.status, bytes(it.output), "".join(it.report).encode()
+
+
+# ---- jobs
+
+
+def tool(name, numbers, content):
+    """What a tool writes."""
+    if name == "list":
+        run = tcpclkit.list_messages(content)
+    elif name == "unpack":
+        run = tcpclkit.unpack(content, numbers[1] if numbers[0] else None, numbers[2] == 1)
+    else:
+        length = numbers[-1]
+        run = tcpclkit.pack(content[length:], content[:length], *numbers[:-2], numbers[-2] == 1)
+    return run.exit_status, run.output, run.report
+
+
+def main():
+    """Answers each job."""
+    jobs, answers = sys.stdin.buffer, sys.stdout.buffer
+    for words in iter(jobs.readline, b""):
+        name, *numbers, length = words.decode().split()
+        content = jobs.read(int(length))
+        by_hand = {"judge": judge, "read": read, "walk": walk}.get(name)
+        answer = by_hand(content) if by_hand else tool(name, [*map(int, numbers)], content)
+        status, output, report = answer
+        answers.write(b"%d %d %d\n" % (status, len(output), len(report)) + output + report)
+        answers.flush()
+
+
+if __name__ == "__main__":
+    main()

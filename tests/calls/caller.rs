@@ -1,0 +1,306 @@
+//! Does what tests/callers asks for on standard input, with the crate `tcpclkit`.
+//!
+//! The jobs and the answers are those of `caller.c` beside this file.
+
+use std::fmt::Write as _;
+use std::io::{BufRead, Read, Write};
+use tcpclkit::{
+    bundle, contact, list, messages, pack, unpack, verdict, Bundle, Fault, Fields, Items, Message,
+    Order, PackOptions, Run, ToolError, Turn, UnpackOptions, CONTACT_LENGTH, SEGMENT_START,
+};
+
+/// A status and two texts.
+type Answer = (u8, Vec<u8>, Vec<u8>);
+
+/// Bytes as the program's lines show them.
+fn escaped(bytes: &[u8]) -> String {
+    let byte = |it: &u8| match *it {
+        b'\\' => r"\x5c".to_string(),
+        0x21..=0x7e => char::from(*it).to_string(),
+        _ => format!(r"\x{it:02x}"),
+    };
+    bytes.iter().map(byte).collect()
+}
+
+/// The line of a fault of a recording.
+fn fault_line(fault: &Fault) -> String {
+    format!("tcpclkit: byte {}: {fault}\n", fault.offset)
+}
+
+/// The judgement of a bundle as `unpack` writes it.
+fn judgement(it: &Result<Bundle<'_>, Fault>) -> String {
+    match it {
+        Ok(it) => {
+            let mut text = format!("good source={} time={}", it.source, it.time);
+            let (sequence, payload) = (it.sequence, it.payload.len());
+            let _ = write!(text, " sequence={sequence} destination={}", it.destination);
+            let _ = write!(text, " payload={payload}");
+            if let Some(part) = it.fragment {
+                let _ = write!(text, " fragment={}/{}", part.offset, part.total);
+            }
+            text
+        }
+        Err(fault) => {
+            let words = fault.to_string();
+            format!(
+                "bad={} byte={}",
+                words.split(' ').next().unwrap_or_default(),
+                fault.offset
+            )
+        }
+    }
+}
+
+/// The verdict, where the payload is, and further fields of a good bundle.
+fn judge(bytes: &[u8]) -> Answer {
+    let (it, verdict) = (bundle(bytes), verdict(bytes));
+    assert_eq!(it.as_ref().err(), verdict.fault.as_ref());
+    let mut text = judgement(&it) + "\n";
+    if let Some(payload) = verdict.payload {
+        let offset = payload.as_ptr() as usize - bytes.as_ptr() as usize;
+        let _ = writeln!(text, "payload {offset} {}", payload.len());
+    }
+    if let Ok(it) = &it {
+        let _ = writeln!(
+            text,
+            "flags={} lifetime={} blocks={}",
+            it.flags, it.lifetime, it.blocks
+        );
+    }
+    (it.is_err().into(), text.into(), vec![])
+}
+
+/// The number of extension items and each of them.
+fn items(items: &Items<'_>) -> String {
+    let mut each = String::new();
+    for it in items.clone() {
+        let _ = write!(
+            each,
+            " item={:02x}:{:04x}:{}",
+            it.flags,
+            it.kind,
+            it.value.len()
+        );
+    }
+    format!(" items={}{each}", items.clone().count())
+}
+
+/// The line of a SESS_INIT after its offset.
+fn session_line(it: &Fields<'_>) -> String {
+    let Fields::SessInit {
+        keepalive,
+        segment_mru,
+        transfer_mru,
+        node,
+        items: listed,
+    } = it
+    else {
+        return String::new();
+    };
+    let numbers = format!("keepalive={keepalive} segment-mru={segment_mru}");
+    let (node, listed) = (escaped(node), items(listed));
+    format!("sess-init {numbers} transfer-mru={transfer_mru} node={node}{listed}")
+}
+
+/// The line of a message after its offset.
+fn line(it: &Message<'_>) -> String {
+    match &it.fields {
+        Fields::Segment {
+            flags,
+            id,
+            items: listed,
+            length,
+            ..
+        } => {
+            let listed = if flags & SEGMENT_START != 0 {
+                items(listed)
+            } else {
+                String::new()
+            };
+            format!("xfer-segment flags={flags:02x} id={id}{listed} length={length}")
+        }
+        Fields::Ack { flags, id, length } => {
+            format!("xfer-ack flags={flags:02x} id={id} length={length}")
+        }
+        Fields::Refuse { reason, id } => format!("xfer-refuse reason={reason:02x} id={id}"),
+        Fields::Keepalive => "keepalive".to_string(),
+        Fields::SessTerm { flags, reason } => {
+            format!("sess-term flags={flags:02x} reason={reason:02x}")
+        }
+        Fields::Reject { reason, header } => {
+            format!("msg-reject reason={reason:02x} header={header:02x}")
+        }
+        Fields::SessInit { .. } => session_line(&it.fields),
+    }
+}
+
+/// What `list` writes, made of the messages.
+fn read(bytes: &[u8]) -> Answer {
+    let mut output = String::new();
+    let mut lines = || {
+        let _ = writeln!(
+            output,
+            "0 contact version=4 flags={:02x}",
+            contact(bytes)?.flags
+        );
+        for message in messages(bytes, CONTACT_LENGTH) {
+            let it = message?;
+            if !it.is_cut() {
+                let _ = writeln!(output, "{} {}", it.offset, line(&it));
+            }
+        }
+        Ok(())
+    };
+    match lines() {
+        Ok(()) => (0, output.into(), vec![]),
+        Err(fault) => (3, output.into(), fault_line(&fault).into()),
+    }
+}
+
+/// What `unpack` writes, made of messages and bundles.
+#[derive(Default)]
+struct Walk {
+    output: Vec<u8>,
+    report: String,
+    is_bad: bool,
+    id: u64,
+    start: usize,
+    /// The length of each Transfer Length item, or `None` of a malformed one.
+    totals: Vec<Option<u64>>,
+    is_open: bool,
+}
+
+impl Walk {
+    /// Adds the line of the transfer that is over.
+    fn end(&mut self) {
+        let data = &self.output[self.start..];
+        let (length, start, id) = (data.len(), self.start, self.id);
+        let words = match self.totals[..] {
+            _ if self.is_open => "abandoned".to_string(),
+            [] => judgement(&bundle(data)),
+            [Some(total)] if total == length as u64 => judgement(&bundle(data)),
+            [Some(total)] => format!("length-differs announced={total}"),
+            _ => "bad-length-item".to_string(),
+        };
+        self.is_bad |= !words.starts_with("good ");
+        let place = format!("start={start} written={length} length={length}");
+        let _ = writeln!(self.report, "transfer {id} {place} {words}");
+    }
+
+    /// Takes a message that may come, and its turn.
+    fn take(&mut self, message: &Message<'_>, turn: Turn) {
+        let Fields::Segment {
+            id,
+            ref items,
+            data,
+            ..
+        } = message.fields
+        else {
+            return;
+        };
+        if let Turn::Begin { abandoned, .. } = turn {
+            if abandoned.is_some() {
+                self.end();
+            }
+            (self.id, self.start) = (id, self.output.len());
+            self.totals = items
+                .clone()
+                .filter(|it| it.kind == 1)
+                .map(|it| it.total)
+                .collect();
+        }
+        self.output.extend(data);
+        self.is_open = !matches!(
+            turn,
+            Turn::Begin { last: true, .. } | Turn::Continue { last: true }
+        );
+        if !self.is_open && !message.is_cut() {
+            self.end();
+        }
+    }
+
+    /// Takes all messages of a recording.
+    fn take_all(&mut self, bytes: &[u8]) -> Result<(), Fault> {
+        let mut order = Order::new();
+        contact(bytes)?;
+        for message in messages(bytes, CONTACT_LENGTH) {
+            let message = message?;
+            let turn = order.judge(&message)?;
+            self.take(&message, turn);
+        }
+        if self.is_open {
+            self.end();
+        }
+        Ok(())
+    }
+}
+
+/// What `unpack` writes, made of messages and bundles.
+fn walk(bytes: &[u8]) -> Answer {
+    let mut it = Walk::default();
+    let mut status = 3;
+    match it.take_all(bytes) {
+        Ok(()) => status = it.is_bad.into(),
+        Err(fault) => it.report += &fault_line(&fault),
+    }
+    (status, it.output, it.report.into())
+}
+
+/// What a tool writes.
+fn tool(numbers: &[u64], bytes: &[u8]) -> Result<Run, ToolError> {
+    match *numbers {
+        [] => list(bytes),
+        [only_one, transfer, payload] => {
+            let transfer = (only_one == 1).then_some(transfer);
+            let payload = payload == 1;
+            unpack(bytes, &UnpackOptions { transfer, payload })
+        }
+        [keepalive, segment_mru, transfer_mru, peer_segment, peer_transfer, announce, term, node] =>
+        {
+            let (node, bytes) = bytes.split_at(node as usize);
+            let options = PackOptions {
+                keepalive: keepalive as u16,
+                segment_mru,
+                transfer_mru,
+                peer_segment,
+                peer_transfer,
+                announce,
+                send_term: term == 1,
+            };
+            pack(bytes, node, &options)
+        }
+        _ => panic!("no tool has {} numbers", numbers.len()),
+    }
+}
+
+/// Answers a job.
+fn answer(name: &str, numbers: &[u64], bytes: &[u8]) -> Answer {
+    match name {
+        "judge" => judge(bytes),
+        "read" => read(bytes),
+        "walk" => walk(bytes),
+        _ => {
+            let run = tool(numbers, bytes).expect("the options are in range");
+            (run.exit_status, run.output, run.report)
+        }
+    }
+}
+
+fn main() -> std::io::Result<()> {
+    let (mut jobs, mut answers) = (std::io::stdin().lock(), std::io::stdout().lock());
+    let mut line = String::new();
+    while jobs.read_line(&mut line)? > 0 {
+        let mut words = line.split_whitespace();
+        let name = words.next().expect("a job has a name");
+        let mut numbers: Vec<u64> = words.map(|it| it.parse().expect("a number")).collect();
+        let mut bytes = vec![0; numbers.pop().expect("a length") as usize];
+        jobs.read_exact(&mut bytes)?;
+        let (status, output, report) = answer(name, &numbers, &bytes);
+        writeln!(answers, "{status} {} {}", output.len(), report.len())?;
+        answers.write_all(&output)?;
+        answers.write_all(&report)?;
+        answers.flush()?;
+        line.clear();
+    }
+    Ok(())
+}

@@ -1,0 +1,181 @@
+"""Tests of the module `tcpclkit`, on the examples of the repository.
+
+PYTHONPATH names the folder of the module. tests/callers runs them with an installed one.
+"""
+
+import array
+import mmap
+import os
+import unittest
+
+import tcpclkit
+from tcpclkit import Code, Dtn, Fault, Ipn, Kind
+
+EXAMPLES = f"{os.path.dirname(os.path.realpath(__file__))}/../../examples"
+NUMBER = 2**64 - 1
+
+
+def example(name):
+    """Returns the bytes of an example."""
+    with open(f"{EXAMPLES}/{name}", "rb") as it:
+        return it.read()
+
+
+HELLO = example("two.bundles")[:34]
+FRAGMENT = bytes.fromhex(
+    "9f8b07010282028202018201632f2f78820100820009001a000111701a000222e04469890dbe"
+    "8501010000466d6964646c65ff"
+)
+
+
+class Bundles(unittest.TestCase):
+    """Bundles, whole, cut and changed."""
+
+    def test_a_good_bundle(self):
+        it = tcpclkit.bundle(HELLO)
+        self.assertEqual((it.source, it.destination), (Ipn(None, 1, 1), Ipn(None, 2, 1)))
+        self.assertEqual((it.flags, it.time, it.sequence, it.lifetime), (0, 0, 0, 0))
+        self.assertEqual((it.fragment, it.blocks, it.payload), (None, 1, b"hello"))
+        self.assertEqual(tcpclkit.verdict(HELLO), (None, slice(28, 33)))
+
+    def test_a_fragment_with_a_name(self):
+        it = tcpclkit.bundle(FRAGMENT)
+        self.assertEqual((it.source, it.fragment), (Dtn(b"//x"), (70000, 140000)))
+        self.assertEqual((it.sequence, it.payload), (9, b"middle"))
+
+    def test_prefixes(self):
+        for length in range(len(HELLO)):
+            payload = slice(28, min(length, 33)) if length >= 28 else None
+            judged = tcpclkit.verdict(HELLO[:length])
+            self.assertEqual(judged, (Fault(Code.BUNDLE_CUT, 0, length), payload))
+            self.assertTrue(judged.fault.is_truncated)
+
+    def test_faults(self):
+        for content, code, offset in [
+            (HELLO + b"\0", Code.BUNDLE_TRAILING, 34),
+            (HELLO[:2] + b"\6" + HELLO[3:], Code.BUNDLE_BAD_VERSION, 2),
+            (b"hello", Code.BUNDLE_NOT_A_BUNDLE, 0),
+        ]:
+            with self.assertRaises(Fault) as raised:
+                tcpclkit.bundle(content)
+            self.assertEqual(raised.exception, Fault(code, 0, offset))
+            self.assertFalse(raised.exception.is_truncated)
+
+    def test_buffers(self):
+        with mmap.mmap(-1, len(HELLO)) as mapped:
+            mapped[:] = HELLO
+            same = [bytearray(HELLO), memoryview(HELLO), array.array("B", HELLO), mapped]
+            for content in same + [memoryview(b"--" + HELLO + b"--")[2:-2]]:
+                self.assertEqual(tcpclkit.bundle(content), tcpclkit.bundle(HELLO))
+        for content in (b"", bytearray(), memoryview(b"")):
+            self.assertEqual(tcpclkit.verdict(content).fault, Fault(Code.BUNDLE_CUT))
+        for content in (None, "text", memoryview(HELLO)[::2]):
+            self.assertRaises(TypeError, tcpclkit.bundle, content)
+
+
+class Recordings(unittest.TestCase):
+    """Messages, items and their order."""
+
+    def test_contact_headers(self):
+        self.assertEqual(tcpclkit.contact(b"dtn!\4\x80more"), 0x80)
+        for content, code, number in [
+            (b"", Code.WIRE_TRUNCATED, 0), (b"dtn!\4", Code.WIRE_TRUNCATED, 0),
+            (b"dtn?\4\0", Code.WIRE_BAD_MAGIC, 0), (b"dtn!\3\0", Code.WIRE_BAD_VERSION, 3),
+        ]:
+            with self.assertRaises(Fault) as raised:
+                tcpclkit.contact(content)
+            self.assertEqual(raised.exception, Fault(code, number, 0))
+
+    def test_every_message(self):
+        content = example("every-message.tcpcl")
+        found = list(tcpclkit.messages(content))
+        self.assertEqual([it.offset for it in found], [6, 49, 101, 136, 154, 164, 165, 168, 171])
+        init, segment, ack = found[0], found[1], found[3]
+        self.assertEqual((init.keepalive, init.node), (60, b"ipn:1.0"))
+        self.assertEqual([it[:2] for it in init.items], [(1, 0x1234), (0, 0xABCD)])
+        self.assertEqual([it.total for it in segment.items], [34])
+        self.assertEqual((segment.length, segment.data), (17, content[84:101]))
+        self.assertEqual(ack[:3] + (ack.id, ack.length), (136, Kind.XFER_ACK, 1, 0, 34))
+        self.assertEqual((found[4].reason, found[7].header), (2, 0x16))
+
+    def test_a_cut_segment(self):
+        content = example("prelude-and-transfer.tcpcl")
+        for length in range(60, len(content)):
+            found = tcpclkit.messages(content[:length], 38)
+            cut = next(found)
+            self.assertEqual((cut.is_cut, cut.data), (True, content[60:length]))
+            with self.assertRaises(Fault) as raised:
+                next(found)
+            self.assertEqual(raised.exception, Fault(Code.WIRE_TRUNCATED, 0, 38))
+
+    def test_no_message(self):
+        content = example("prelude-and-transfer.tcpcl")
+        for offset in (len(content), len(content) + 1, NUMBER):
+            self.assertEqual(list(tcpclkit.messages(content, offset)), [])
+        for offset in (-1, NUMBER + 1):
+            self.assertRaises(ValueError, list, tcpclkit.messages(content, offset))
+
+    def test_the_order(self):
+        content = example("transfers.tcpcl")
+        order = tcpclkit.Order()
+        turns = [order.judge(it) for it in tcpclkit.messages(content)]
+        self.assertEqual([it.abandoned for it in turns if it.begins], [None, None, None, 2])
+        init, start = list(tcpclkit.messages(content))[:2]
+        self.assertRaises(Fault, tcpclkit.Order().judge, start)
+        self.assertRaises(Fault, order.judge, init)
+        self.assertRaises(ValueError, order.judge, start._replace(flags=256))
+
+
+class Texts(unittest.TestCase):
+    """Texts of faults and endpoint IDs."""
+
+    def test_faults(self):
+        for code, number, text in [
+            (Code.WIRE_TRUNCATED, 0, "truncated"),
+            (Code.WIRE_UNKNOWN_TYPE, 0x16, "unknown message type 16"),
+            (Code.ORDER_NO_SUCH_OPEN_TRANSFER, 0, "no such open transfer"),
+            (Code.BUNDLE_CHECK_DIFFERS, 0, "B13 check differs"),
+        ]:
+            self.assertEqual(str(Fault(code, number, 7)), text)
+
+    def test_endpoint_ids(self):
+        for eid, text in [
+            (Dtn(None), "dtn:none"), (Dtn(b"//a b\\\xff/"), r"dtn://a\x20b\x5c\xff/"),
+            (Dtn(bytes(1024)), "dtn:" + 1024 * r"\x00"), (Dtn(b""), "dtn:"),
+            (Ipn(None, 0, NUMBER), f"ipn:0.{NUMBER}"), (Ipn(1, 2, 3), "ipn:1.2.3"),
+        ]:
+            self.assertEqual(str(eid), text)
+        self.assertRaises(ValueError, str, Dtn(bytes(1025)))
+        self.assertRaises(ValueError, str, Ipn(None, 0, NUMBER + 1))
+
+
+class Tools(unittest.TestCase):
+    """The tools, over bytes."""
+
+    def test_list(self):
+        run = tcpclkit.list_messages(example("prelude-and-transfer.tcpcl"))
+        self.assertEqual((run.output.count(b"\n"), run.report, run.exit_status), (3, b"", 0))
+        self.assertEqual(tcpclkit.list_messages(b""), (b"", b"tcpclkit: byte 0: truncated\n", 3))
+
+    def test_long_texts(self):
+        lines = tcpclkit.list_messages(b"dtn!\4\0" + 20000 * b"\4").output.split(b"\n")
+        self.assertEqual((len(lines), lines[-2]), (20002, b"20005 keepalive"))
+
+    def test_pack_and_unpack(self):
+        bundles = example("two.bundles")
+        packed = tcpclkit.pack(bundles, b"ipn:1.0", peer_segment=20)
+        unpacked = tcpclkit.unpack(packed.output)
+        self.assertEqual((unpacked.output, unpacked.exit_status), (bundles, 0))
+        self.assertEqual(tcpclkit.unpack(packed.output, 0, payload=True).output, b"hello")
+
+    def test_ranges(self):
+        for options in [
+            {"peer_segment": 0}, {"keepalive": 65536}, {"announce": 2**20 + 1},
+            {"segment_mru": -1}, {"peer_transfer": 2**64}, {"node": bytes(1025)},
+        ]:
+            self.assertRaises(ValueError, tcpclkit.pack, HELLO, **{"node": b"n", **options})
+        self.assertRaises(ValueError, tcpclkit.unpack, b"", 2**64)
+
+
+if __name__ == "__main__":
+    unittest.main()
