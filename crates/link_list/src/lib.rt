@@ -1,6 +1,6 @@
 //! `list`: what a recorded TCPCLv4 session (RFC 9174) has, message by message.
 //!
-//! [`list`] is the whole run, and [`ListRun`] the same step by step.
+//! [`list`] is the whole run. [`list_run`] makes the same run, to be taken step by step.
 //!
 //! ```ignore
 //! let end = list(reader, output, report);
@@ -9,4 +9,4 @@
 
 mod listing;
 
-pub use listing::{ListRun, list};
+pub use listing::{ListRun, Listing, list, list_run};

@@ -1,215 +1,252 @@
 //! `list`: a line for the contact header and for each message of a recorded stream.
 
-ghost use Rattle.std.specs.Prelude.{◌≡◌, false, IsTrue, List, ℕ, Err, OnOk, IfErr};
-ghost use Rattle.link_wire.specs.Session.{may_open, may_read, is_opened, left_of};
-ghost use Rattle.link_run.specs.Run.{Devices, GivesAnswer};
-ghost use Rattle.link_list.specs.Listing.{list_tool};
-ghost use Rattle.link_list.specs.ListRun.{may_go_on, may_go_next, latest_line, IsListing, GivesStage, GivesRead, GivesLine, GoesOn, GivesEnd};
+ghost use Rattle.std.specs.Prelude.{◌≡◌, ◌<◌, true, false, [], IsTrue, List, ℕ, Err};
+ghost use Rattle.link_wire.specs.Session.{may_open, may_read, is_opened, left_of, source_of};
+ghost use Rattle.link_run.specs.Reading.{inner_of, HasEnough};
+ghost use Rattle.link_run.specs.Run.{Devices, devices_at, looks, GivesAnswer};
+ghost use Rattle.link_run.specs.Stages.{Stands, GivesStage, HandedOn, IsMore};
+ghost use Rattle.link_run.specs.Writers.{GivesTexts, on_output, place_of};
+ghost use Rattle.link_list.specs.Listing.{listing_of, list_tool};
+ghost use Rattle.link_list.specs.ListRun.{may_go_on, may_follow, latest_line, most_given, IsListing, Begins, Lists, GivesRead, GoesOn};
 
-use link_report::{Fault, KeptDigits, MessageText, contact_line};
-use link_run::{Progress, Run, RunEnd, Status, Writers, load_data, next_message};
-use link_wire::{InDevice, IoFault, MessageBuffer, OutDevice, Session, Source, Stop};
+use link_report::{KeptDigits, MessageText, contact_line};
+use link_run::{Input, Progress, Run, RunEnd, Stages, Status, ToolRun, Writers};
+use link_wire::{InDevice, IoFault, MessageBuffer, OutDevice, Session, Source};
 
 /// How many bytes of a segment's data one step is given at most.
 const PIECE: usize = 4096;
 
-/// What a run does next.
+/// What a step reads.
 #[derive(Clone, Copy, Debug, PartialEq, Eq)]
 enum Stage {
-    /// Read the contact header.
+    /// The contact header.
     Contact,
-    /// Read a message.
+    /// A message.
     Message,
-    /// Read data of a segment, whose line waits.
+    /// Data of a segment, whose line waits.
     Data,
-    /// Nothing: the run has ended.
-    Ended(Result<Status, IoFault>),
 }
 
-impl Stage {
-    ghost use Rattle.link_list.specs.ListRun.{progress_of};
-
-    /// What the step that leads to this stage returns.
-    fn progress(self) -> Result<Progress, IoFault>
-        ensures { result ≡ progress_of self }
-    {
-        match self {
-            Stage::Ended(Ok(status)) => Ok(Progress::Done(status)),
-            Stage::Ended(Err(fault)) => Err(fault),
-            _ => Ok(Progress::More),
-        }
-    }
-}
-
-/// What comes next in a step.
+/// What the first part of a step has read.
 #[derive(Clone, Copy, Debug, PartialEq, Eq)]
-enum Next {
-    /// The line of a message, which is whole.
-    Line,
-    /// Nothing: the step leads to this stage.
-    Stage(Stage),
+enum Read {
+    /// The last byte of a message, whose line is due.
+    Whole,
+    /// A head or data, after which data is to come.
+    Waits,
+    /// Nothing more: the run has ended.
+    Ended(Result<Status, IoFault>),
 }
 
 /// The message that was read last.
 #[derive(Drop)]
 struct Latest {
-    /// Where its type byte stands.
+    /// The offset of its type byte.
     offset: u64,
     /// Digits of that offset.
     kept: KeptDigits,
     message: MessageBuffer,
 }
 
-/// A run of `list`, step by step.
+/// The stages of `list`.
 #[derive(Drop)]
-pub struct ListRun<R, W, E> {
-    session: Session<R>,
-    writers: Writers<W, E>,
+pub struct Listing {
+    stage: Stage,
     latest: Latest,
-    stage: Stage,
-    ghost fits: { IsTrue (may_go_on stage session) },
 }
 
-/// Does what comes at this stage, and returns the next. The line of a message is written in one place, which is inlined once.
-fn take<R: InDevice, W: OutDevice, E: OutDevice>(
-    stage: Stage,
-    session: &mut Session<R>,
-    writers: &mut Writers<W, E>,
-    latest: &mut Latest,
-) -> Stage
-    requires { IsTrue (may_go_on stage session.old) }
-    ensures fits { IsTrue (may_go_on result session.new) }
-    ensures gives { (start : Devices R W E) (history : List ℕ)
-        → IsListing R.state W.state E.state start stage session.old writers.old
-        (latest_line latest.old) history
-        → GivesStage R.state W.state E.state start stage session.old session.new writers.new
-        (latest_line latest.new) history result }
-    ensures ended { (answer : _) → stage ≡ Stage.Ended answer
-        → (session.new ≡ session.old) × (writers.new ≡ writers.old)
-        × (latest.new ≡ latest.old) × (result ≡ stage) }
-{
-    match read(stage, session, writers, latest) {
-        Next::Line => write_line(writers, latest),
-        Next::Stage(stage) => stage,
-    }
-}
+/// A run of `list`, step by step.
+pub type ListRun<R, W, E> = ToolRun<Session<R>, W, E, Listing>;
 
-/// Does what comes at this stage, but for the line of a message that is whole.
-#[inline(always)]
-fn read<R: InDevice, W: OutDevice, E: OutDevice>(
-    stage: Stage,
-    session: &mut Session<R>,
-    writers: &mut Writers<W, E>,
-    latest: &mut Latest,
-) -> Next
-    requires { IsTrue (may_go_on stage session.old) }
-    ensures fits { IsTrue (may_go_next result session.new) }
-    ensures gives { (start : Devices R W E) (history : List ℕ)
-        → IsListing R.state W.state E.state start stage session.old writers.old
-        (latest_line latest.old) history
-        → GivesRead R.state W.state E.state start stage session.old session.new writers.new
-        (latest_line latest.new) history result }
-    ensures ended { (answer : _) → stage ≡ Stage.Ended answer
-        → (session.new ≡ session.old) × (writers.new ≡ writers.old) × (latest.new ≡ latest.old)
-        × (result ≡ Next.Stage stage) }
-{
-    match stage {
-        Stage::Contact => Next::Stage(take_contact(session, writers)),
-        Stage::Message => read_message(session, writers, latest),
-        Stage::Data => pass_data(session, writers),
-        Stage::Ended(answer) => Next::Stage(Stage::Ended(answer)),
+impl<R: InDevice, W: OutDevice, E: OutDevice> Stages<Session<R>, W, E> for Listing {
+    ghost use Rattle.std.specs.Prelude.{true};
+    ghost use Rattle.link_list.specs.Listing.{listing_of};
+    ghost use Rattle.link_list.specs.ListRun.{may_go_on, latest_line, most_given, IsListing};
+
+    ghost made = { λ tool. listing_of };
+
+    ghost begun = { λ tool. true };
+
+    ghost fits = { λ tool. may_go_on tool.stage };
+
+    ghost knows = { λ tool. IsListing R.state tool.stage (latest_line tool.latest) };
+
+    ghost most = { λ tool. most_given tool.stage };
+
+    /// The line of a message is written in one place, which is inlined once.
+    #[inline(always)]
+    fn stage(
+        &mut self,
+        input: &mut Input<Session<R>>,
+        writers: &mut Writers<W, E>,
+    ) -> Result<Progress, IoFault> {
+        if let Stage::Contact = self.stage {
+            self.stage = Stage::Message;
+            return list_contact(input, writers);
+        }
+        match advance(self.stage, input, writers, &mut self.latest) {
+            Read::Waits => {
+                self.stage = Stage::Data;
+                Ok(Progress::More)
+            }
+            Read::Ended(answer) => Progress::ended(answer),
+            Read::Whole => {
+                self.stage = Stage::Message;
+                Progress::after(write_line(writers, &mut self.latest))
+            }
+        }
     }
 }
 
 /// Reads the contact header, and writes its line.
 #[cold]
 #[inline(never)]
-fn take_contact<R: InDevice, W: OutDevice, E: OutDevice>(
-    session: &mut Session<R>,
+fn list_contact<R: InDevice, W: OutDevice, E: OutDevice>(
+    input: &mut Input<Session<R>>,
     writers: &mut Writers<W, E>,
-) -> Stage
-    requires { IsTrue (may_open session.old) }
-    ensures fits { IsTrue (may_go_on result session.new) }
+) -> Result<Progress, IoFault>
+    requires { IsTrue (may_open (inner_of input.old)) }
+    ensures fits { IsMore result → IsTrue (may_read (inner_of input.new)) }
     ensures gives { (start : Devices R W E) (line history : List ℕ)
-        → IsListing R.state W.state E.state start Stage.Contact session.old writers.old line history
-        → GivesStage R.state W.state E.state start Stage.Contact session.old session.new
-        writers.new line history result }
+        → Stands (looks R.state W.state E.state) listing_of start true
+        (place_of (source_of (inner_of input.old)) writers.old) history
+        → Begins R.state (inner_of input.old) history
+        → GivesStage (looks R.state W.state E.state) listing_of start true
+        (place_of (source_of (inner_of input.old)) writers.old)
+        (place_of (source_of (inner_of input.new)) writers.new)
+        (Lists R.state Stage.Message line (inner_of input.new)) 6 history result }
+    ensures handed { (result ≡ Err IoFault.Write → ⊥)
+        → HandedOn (looks R.state W.state E.state) W.handed E.handed
+        (HasEnough R.state (inner_of input.old))
+        (place_of (source_of (inner_of input.old)) writers.old)
+        (place_of (source_of (inner_of input.new)) writers.new) }
 {
-    match session.open() {
+    match input.open() {
         Ok(contact) => {
             writers.clear_line();
             contact_line(&mut writers.line, &contact);
-            after_line(writers.write_line())
+            Progress::after(writers.write_line())
         }
-        Err(stop) => end(writers, stop),
+        Err(stop) => Progress::ended(writers.end(stop)),
+    }
+}
+
+/// Reads the head of a message, or a piece of its data.
+#[inline(always)]
+fn advance<R: InDevice, W: OutDevice, E: OutDevice>(
+    stage: Stage,
+    input: &mut Input<Session<R>>,
+    writers: &mut Writers<W, E>,
+    latest: &mut Latest,
+) -> Read
+    requires going { stage ≡ Stage.Contact → ⊥ }
+    requires fits { IsTrue (may_go_on stage (inner_of input.old)) }
+    ensures fits { IsTrue (may_follow result (inner_of input.new)) }
+    ensures gives { (start : Devices R W E) (history : List ℕ)
+        → Stands (looks R.state W.state E.state) listing_of start true
+        (place_of (source_of (inner_of input.old)) writers.old) history
+        → IsListing R.state stage (latest_line latest.old) (inner_of input.old) history
+        → GivesRead (looks R.state W.state E.state) start stage (inner_of input.old)
+        (inner_of input.new) writers.new (latest_line latest.new) history result }
+    ensures handed { (history : List ℕ)
+        → IsListing R.state stage (latest_line latest.old) (inner_of input.old) history
+        → (result ≡ Read.Ended (Err IoFault.Write) → ⊥)
+        → HandedOn (looks R.state W.state E.state) W.handed E.handed
+        (HasEnough R.state (inner_of input.old))
+        (place_of (source_of (inner_of input.old)) writers.old)
+        (place_of (source_of (inner_of input.new)) writers.new) }
+{
+    match stage {
+        Stage::Data => pass_data(input, writers),
+        _ => read_message(input, writers, latest),
     }
 }
 
 /// Reads the head of a message.
 #[inline(always)]
 fn read_message<R: InDevice, W: OutDevice, E: OutDevice>(
-    session: &mut Session<R>,
+    input: &mut Input<Session<R>>,
     writers: &mut Writers<W, E>,
     latest: &mut Latest,
-) -> Next
-    requires { IsTrue (may_read session.old) }
-    ensures fits { IsTrue (may_go_next result session.new) }
+) -> Read
+    requires { IsTrue (may_read (inner_of input.old)) }
+    ensures fits { IsTrue (may_follow result (inner_of input.new)) }
     ensures gives { (start : Devices R W E) (history : List ℕ)
-        → IsListing R.state W.state E.state start Stage.Message session.old writers.old
-        (latest_line latest.old) history
-        → GivesRead R.state W.state E.state start Stage.Message session.old session.new writers.new
-        (latest_line latest.new) history result }
+        → Stands (looks R.state W.state E.state) listing_of start true
+        (place_of (source_of (inner_of input.old)) writers.old) history
+        → Lists R.state Stage.Message (latest_line latest.old) (inner_of input.old) history
+        → GivesRead (looks R.state W.state E.state) start Stage.Message (inner_of input.old)
+        (inner_of input.new) writers.new (latest_line latest.new) history result }
+    ensures handed { (history : List ℕ)
+        → Lists R.state Stage.Message (latest_line latest.old) (inner_of input.old) history
+        → (result ≡ Read.Ended (Err IoFault.Write) → ⊥)
+        → HandedOn (looks R.state W.state E.state) W.handed E.handed
+        (HasEnough R.state (inner_of input.old))
+        (place_of (source_of (inner_of input.old)) writers.old)
+        (place_of (source_of (inner_of input.new)) writers.new) }
 {
-    match next_message(session, writers, &mut latest.message) {
+    match input.next_message(writers, &mut latest.message) {
         Ok(Some(offset)) => {
             latest.offset = offset;
-            go_on(session)
+            go_on(input)
         }
-        Ok(None) => Next::Stage(Stage::Ended(Ok(Status::CLEAN))),
-        Err(stop) => Next::Stage(end(writers, stop)),
+        Ok(None) => Read::Ended(Ok(Status::CLEAN)),
+        Err(stop) => Read::Ended(writers.end(stop)),
     }
 }
 
 /// Passes over a piece of a segment's data.
 #[inline(always)]
 fn pass_data<R: InDevice, W: OutDevice, E: OutDevice>(
-    session: &mut Session<R>,
+    input: &mut Input<Session<R>>,
     writers: &mut Writers<W, E>,
-) -> Next
-    requires { IsTrue (is_opened session.old) }
-    ensures fits { IsTrue (may_go_next result session.new) }
+) -> Read
+    requires { IsTrue (is_opened (inner_of input.old)) }
+    ensures fits { IsTrue (may_follow result (inner_of input.new)) }
     ensures gives { (start : Devices R W E) (line history : List ℕ)
-        → IsListing R.state W.state E.state start Stage.Data session.old writers.old line history
-        → GivesRead R.state W.state E.state start Stage.Data session.old session.new
-        writers.new line history result }
+        → Stands (looks R.state W.state E.state) listing_of start true
+        (place_of (source_of (inner_of input.old)) writers.old) history
+        → Lists R.state Stage.Data line (inner_of input.old) history
+        → GivesRead (looks R.state W.state E.state) start Stage.Data (inner_of input.old)
+        (inner_of input.new) writers.new line history result }
+    ensures handed { (line history : List ℕ)
+        → Lists R.state Stage.Data line (inner_of input.old) history
+        → (result ≡ Read.Ended (Err IoFault.Write) → ⊥)
+        → HandedOn (looks R.state W.state E.state) W.handed E.handed
+        (HasEnough R.state (inner_of input.old))
+        (place_of (source_of (inner_of input.old)) writers.old)
+        (place_of (source_of (inner_of input.new)) writers.new) }
 {
-    match load_data(session, writers) {
+    match input.load_data(writers) {
         Ok(ready) => {
-            session.pass(ready.min(PIECE));
-            go_on(session)
+            input.pass(ready.min(PIECE));
+            go_on(input)
         }
-        Err(stop) => Next::Stage(end(writers, stop)),
+        Err(stop) => Read::Ended(writers.end(stop)),
     }
 }
 
-/// The line of the message that was read last comes next, unless data of it is to come.
+/// The line of the message that was read last is due, unless data of it is to come.
 #[inline(always)]
-fn go_on<R: InDevice>(session: &Session<R>) -> Next
-    requires { IsTrue (is_opened session.now) }
-    ensures fits { IsTrue (may_go_next result session.now) }
-    ensures goes { GoesOn (left_of session.now) result }
+fn go_on<R: InDevice>(input: &Input<Session<R>>) -> Read
+    requires { IsTrue (is_opened (inner_of input.now)) }
+    ensures fits { IsTrue (may_follow result (inner_of input.now)) }
+    ensures goes { GoesOn (left_of (inner_of input.now)) result }
 {
-    if session.left() > 0 {
-        return Next::Stage(Stage::Data);
+    if input.left() > 0 {
+        return Read::Waits;
     }
-    Next::Line
+    Read::Whole
 }
 
 /// Writes the line of the message that was read last.
 #[inline(always)]
-fn write_line<W: OutDevice, E: OutDevice>(writers: &mut Writers<W, E>, latest: &mut Latest) -> Stage
-    ensures line { GivesLine W.state E.state (latest_line latest.old)
-        writers.old writers.new result }
+fn write_line<W: OutDevice, E: OutDevice>(
+    writers: &mut Writers<W, E>,
+    latest: &mut Latest,
+) -> Result<(), IoFault>
+    ensures line { GivesTexts W.state E.state writers.old writers.new
+        (on_output (latest_line latest.old)) result }
     ensures latest { latest_line latest.new ≡ latest_line latest.old }
 {
     latest.kept.keep(latest.offset);
@@ -218,111 +255,33 @@ fn write_line<W: OutDevice, E: OutDevice>(writers: &mut Writers<W, E>, latest: &
         message: &latest.message,
         kept: &latest.kept,
     };
-    after_line(writers.write_text(&line))
+    writers.write_text(&line)
 }
 
-/// After a line was written a message comes next.
-#[inline(always)]
-fn after_line(written: Result<(), IoFault>) -> Stage
-    ensures ok { OnOk written (result ≡ Stage.Message) }
-    ensures err { IfErr written (λ fault. result ≡ Stage.Ended (Err fault)) }
+/// Makes a run of `list` that has read and written nothing.
+pub fn list_run<R: InDevice, W: OutDevice, E: OutDevice>(
+    reader: R,
+    output: W,
+    report: E,
+) -> ListRun<R, W, E>
+    requires reader { (R.state reader).failed ≡ false }
+    requires output { (W.state output).failed ≡ false }
+    requires report { (E.state report).failed ≡ false }
+    ensures stands { ⟦<ListRun<R, W, E> as Run<R, W, E>>⟧.stands result
+        (record { reader = reader; output = output; report = report }) [] }
+    ensures tool { ⟦<ListRun<R, W, E> as Run<R, W, E>>⟧.tool result ≡ list_tool }
+    ensures devices { devices_at (⟦<ListRun<R, W, E> as Run<R, W, E>>⟧.place result)
+        ≡ record { reader = reader; output = output; report = report } }
 {
-    match written {
-        Ok(()) => Stage::Message,
-        Err(fault) => Stage::Ended(Err(fault)),
-    }
-}
-
-/// The session has stopped: the report has the line of a fault of the wire.
-#[cold]
-fn end<W: OutDevice, E: OutDevice>(writers: &mut Writers<W, E>, stop: Stop) -> Stage
-    ensures { GivesEnd W.state E.state stop writers.old writers.new result }
-{
-    match stop {
-        Stop::Io(fault) => Stage::Ended(Err(fault)),
-        Stop::Wire(offset, fault) => {
-            Stage::Ended(writers.report_fault(&Fault::Wire(offset, fault)))
-        }
-    }
-}
-
-impl<R: InDevice, W: OutDevice, E: OutDevice> ListRun<R, W, E> {
-    ghost use Rattle.std.specs.Prelude.{◌≡◌, [], false};
-    ghost use Rattle.link_run.specs.Run.{devices_at};
-    ghost use Rattle.link_list.specs.ListRuns.{place_of_list, list_stands};
-
-    /// A run that has read and written nothing.
-    pub fn new(reader: R, output: W, report: E) -> ListRun<R, W, E>
-        requires reader { (R.state reader).failed ≡ false }
-        requires output { (W.state output).failed ≡ false }
-        requires report { (E.state report).failed ≡ false }
-        ensures start { list_stands R.state W.state E.state result
-            (devices_at (place_of_list result)) [] }
-        ensures devices { devices_at (place_of_list result)
-            ≡ record { reader = reader; output = output; report = report } }
-    {
-        ListRun {
-            session: Session::new(Source::new(reader)),
-            writers: Writers::new(output, report),
-            latest: Latest {
-                offset: 0,
-                kept: KeptDigits::new(),
-                message: MessageBuffer::new(),
-            },
-            stage: Stage::Contact,
-        }
-    }
-
-    /// Where the output goes.
-    pub fn output(&self) -> &W
-        ensures { result.now ≡ (place_of_list self.now).output }
-    {
-        &self.writers.output
-    }
-
-    /// Where the report goes.
-    pub fn report(&self) -> &E
-        ensures { result.now ≡ (place_of_list self.now).report }
-    {
-        &self.writers.report
-    }
-}
-
-impl<R: InDevice, W: OutDevice, E: OutDevice> Run<R, W, E> for ListRun<R, W, E> {
-    ghost use Rattle.link_list.specs.Listing.{list_tool};
-    ghost use Rattle.link_list.specs.ListRuns.{place_of_list, list_stands, list_most, list_has_ended};
-
-    ghost tool = { λ run. list_tool };
-
-    ghost place = { place_of_list };
-
-    ghost stands = { list_stands R.state W.state E.state };
-
-    ghost most = { list_most };
-
-    ghost has_ended = { list_has_ended };
-
-    fn step(&mut self) -> Result<Progress, IoFault> {
-        let next = take(
-            self.stage,
-            &mut self.session,
-            &mut self.writers,
-            &mut self.latest,
-        );
-        self.stage = next;
-        next.progress()
-    }
-
-    fn into_parts(self) -> (R, W, E) {
-        let ListRun {
-            session,
-            writers,
-            latest: _,
-            stage: _,
-        } = self;
-        let (output, report) = writers.into_parts();
-        (session.into_source().into_reader(), output, report)
-    }
+    let tool = Listing {
+        stage: Stage::Contact,
+        latest: Latest {
+            offset: 0,
+            kept: KeptDigits::new(),
+            message: MessageBuffer::new(),
+        },
+    };
+    ToolRun::new(tool, Session::new(Source::new(reader)), output, report)
 }
 
 /// Lists a recorded stream: the output has the line of the contact header and of each message, the
@@ -336,10 +295,10 @@ pub fn list<R: InDevice, W: OutDevice, E: OutDevice>(
     requires reader { (R.state reader).failed ≡ false }
     requires output { (W.state output).failed ≡ false }
     requires report { (E.state report).failed ≡ false }
-    ensures { GivesAnswer R.state W.state E.state list_tool
+    ensures { GivesAnswer (looks R.state W.state E.state) list_tool
         (record { reader = reader; output = output; report = report })
         (record { reader = result.reader; output = result.output; report = result.report })
         result.answer }
 {
-    ListRun::new(reader, output, report).run()
+    list_run(reader, output, report).run()
 }

@@ -1,217 +1,248 @@
--- What a step of a run of `pack` gives, by what its bytes make of the bundle.
-use Rattle.std.proofs.Common.{◌≡◌, ℕ, ◌<◌, ◌≤◌, inl, inr, true, false, List, [], ◌∷◌, ◌++◌, length, Option, Some, None, Ok, refl, ap, sym, ◌∙◌, subst, append-nil, append_assoc, length-append, arith}
-use Rattle.link_wire.specs.Device.{Input, Output}
-use Rattle.link_wire.specs.Source.{IsLive, IsOver, Takes}
+-- What a step of `pack` gives, by what its bytes make of the bundle.
+use Rattle.std.proofs.Common.{◌≡◌, ℕ, ◌+◌, ◌-◌, ◌^◌, ◌<◌, ◌≤◌, min, inl, inr, true, false, List, [], ◌∷◌, ◌++◌, length, take, drop, OnOk, Option, Some, None, Result, Ok, Err, refl, ap, sym, ◌∙◌, subst, append-nil, append_assoc, length-append, length-take, arith}
+use Rattle.std.proofs.lemmas.List.{take-take}
+use Rattle.link_wire.specs.Device.{Input}
+use Rattle.link_wire.specs.Limits.{window_size}
+use Rattle.link_wire.specs.Source.{window_of, IsLive, IsOver, Takes, Readies}
+use Rattle.link_wire.specs.declared.IoFault.{IoFault}
 use Rattle.link_wire.specs.declared.Source.{Source}
+use Rattle.link_io.proofs.Sources.{IsSourceAt-then, Takes-none}
 use Rattle.link_bundle.specs.Bundle.{verdict, bundle_goes}
 use Rattle.link_bundle_types.specs.declared.info.BundleInfo.{BundleInfo}
 use Rattle.link_report.specs.Fault.{fault_text}
 use Rattle.link_report.specs.declared.fault.Fault.{Fault}
-use Rattle.link_run.specs.Run.{Texts, Outcome, Devices}
-use Rattle.link_run.specs.Writers.{on_output, on_report}
+use Rattle.link_run.specs.Made.{Made, with_fault, is_shown}
+use Rattle.link_run.specs.Run.{Texts, Outcome, ◌then◌, Looks, Devices, devices_at, LastStep, progress_after}
+use Rattle.link_run.specs.Stages.{Stands, GivesStage}
+use Rattle.link_run.specs.Writers.{place_of, on_output, on_report, GivesTexts, GivesLast}
+use Rattle.link_run.specs.declared.run.Progress.{Progress}
+use Rattle.link_run.specs.declared.run.Status.{Status}
 use Rattle.link_run.specs.declared.writers.Writers.{Writers}
-use Rattle.link_run.proofs.Runs.{◌then◌, few_over}
-use Rattle.link_pack.specs.Bundles.{Packed, Faulty, divided, joined}
-use Rattle.link_pack.specs.Packing.{end_bytes, line_of, refusal_line, packing}
+use Rattle.link_run.proofs.Runs.{few_over}
+use Rattle.link_run.proofs.Sessions.{then_fault}
+use Rattle.link_run.proofs.Stands.{goes_on, loses, ends, last_step, written}
+use Rattle.link_pack.specs.Bundles.{Packed, Refusal, Faulty, front_of, divided, joined}
+use Rattle.link_pack.specs.Packing.{prelude_bytes, end_bytes, line_of, refusal_fault, packing_of, packing_by, pack_tool}
 use Rattle.link_pack.specs.Packer.{Holds, Grows, Refuses, MakesOf, IsCut, CutShort}
-use Rattle.link_pack.specs.PackRun.{texts_of, run_segments, Packs, GivesStage, GivesWritten, GivesLast, GivesFound, GivesShort, GivesFinish}
+use Rattle.link_pack.specs.PackRun.{texts_of, run_segments, Packs, IsPacking, WritesOn, WritesLast, GivesFound, GivesShort, GivesFinish}
 use Rattle.link_pack.specs.declared.options.PackOptions.{PackOptions}
 use Rattle.link_pack.specs.declared.packer.Found.{Found}
 use Rattle.link_pack.specs.declared.packer.Found.TheVariants as found
 use Rattle.link_pack.specs.declared.packer.Packer.{Packer}
-use Rattle.link_pack.specs.declared.packing.Stage.{Stage}
 use Rattle.link_pack.specs.declared.packing.Stage.TheVariants as stage
 use Rattle.link_pack.proofs.Dividing.{divided_whole, joined_push, none_front, none_goes}
 use Rattle.link_pack.proofs.Grown.{texts_grown, texts_refused, texts_whole}
-use Rattle.link_pack.proofs.Outcomes.{stopped, clean, refused_so, sofar_going, whole_clean, whole_cut, whole_refused, sofar_refused}
-use Rattle.link_pack.proofs.Steps.{divided_so, goes_on, ended}
+use Rattle.link_pack.proofs.Outcomes.{made_as, made_none, prelude_texts, refused_so, stopped, clean, whole_of, texts_going, unshown_going, whole_clean, whole_cut}
 
-module _ {R W E : Type 0} (in_look : R → Input) (out_look : W → Output) (report_look : E → Output)
-    (start : Devices R W E) where
-  module _ (old : Source R) (before : Writers W E) (packer : Packer) (history : List ℕ)
-      (at : Packs in_look out_look report_look start old before packer history) where
-    abbrev pub options : PackOptions
-    options = packer.options
+-- the first step: nothing is given
+pub prelude_written : {R W E : Type 0} {look : Looks R W E} {start : Devices R W E} (source : Source R)
+    (before after : Writers W E) (packer : Packer) {history : List ℕ}
+    → Stands look (packing_of packer.options) start false (place_of source before) history
+    → IsPacking look.input packer source history stage.Prelude → (result : Result (Unit {0}) IoFault)
+    → GivesTexts look.output look.report before after (on_output (prelude_bytes packer.options)) result
+    → GivesStage look (packing_of packer.options) start true (place_of source before) (place_of source after) (Packs look.input packer source) 0 history (progress_after result)
+prelude_written {look = look} {start = start} source before after packer {history} stood at result gives =
+    let P : List ℕ → Type 0 = λ h. Stands look (packing_of packer.options) start false (place_of source before) h in
+    let Q : List ℕ → Type 0 = λ h. Packs look.input packer source h in
+    let S : List ℕ → Type 0 = λ h. GivesStage look (packing_of packer.options) start true (place_of source before) (place_of source after) (Packs look.input packer source) 0 h (progress_after result) in
+    let none = ap length at.1 in
+    subst S (sym at.0)
+    (written 0 source source before (subst P at.0 stood) (Takes-none look.input source) (omega arith) (omega arith) after (on_output (prelude_bytes packer.options)) (sym (prelude_texts packer.options))
+    (ap (λ (m : Made). is_shown m.stop) (made_none packer.options)) (Packs look.input packer source) (λ is. absurd (cc)) (subst Q at.0 at.2) (λ some. absurd (omega arith)) result gives)
 
-    abbrev pub limit : ℕ
-    limit = packer.options.peer_transfer
+module _ {R W E : Type 0} {look : Looks R W E} {start : Devices R W E} (old : Source R)
+    (before after : Writers W E) (packer : Packer) {history : List ℕ}
+    (stood : Stands look (packing_of packer.options) start true (place_of old before) history)
+    (at : Packs look.input packer old history) where
+  abbrev options : PackOptions
+  options = packer.options
 
-    abbrev pub texts : Texts
-    texts = texts_of options at.bundles at.begun
+  abbrev limit : ℕ
+  limit = packer.options.peer_transfer
 
-    -- ---- a run of bytes was given
+  texts_now : (packing_of options history).texts ≡ texts_of options at.bundles at.begun
+  texts_now = texts_going options history at.bundles at.begun at.holds.front at.holds.goes at.holds.within at.divides
 
-    module _ (new : Source R) (run : List ℕ) (takes : Takes in_look old new run)
-        (live : IsLive in_look new) (some : 0 < length run) (size : length run ≤ 4096)
-        (mid : Packer) (same : mid.options ≡ options) (numbered : mid.number ≡ packer.number) (after : Writers W E) (packed : Packer) (kept : packed.options ≡ mid.options) (next : Stage) where
-      number : mid.number ≡ length at.bundles
-      number = numbered ∙ at.holds.number
+  -- ---- a run of bytes was given
 
-      divides : (rest : List ℕ)
-          → divided limit ((history ++ run) ++ rest)
-          ≡ joined at.bundles (divided limit ((at.begun ++ run) ++ rest))
-      divides rest =
-          ap (divided limit) (append_assoc history run rest) ∙ at.divides (run ++ rest)
-          ∙ ap (λ (bytes : List ℕ). joined at.bundles (divided limit bytes)) (sym (append_assoc at.begun run rest))
+  module _ (new : Source R) (run : List ℕ) (takes : Takes look.input old new run)
+      (live : IsLive look.input new) (some : 0 < length run) (size : length run ≤ 4096)
+      (mid : Packer) (same : mid.options ≡ options) (numbered : mid.number ≡ packer.number)
+      (packed : Packer) (kept : packed.options ≡ mid.options) (result : Result Progress IoFault) where
+    abbrev Gives : Result Progress IoFault → Type 0
+    Gives = GivesStage look (packing_of options) start true (place_of old before) (place_of new after) (Packs look.input packed new) 4096 history
 
-      -- with the options and the number as they stood
-      as_stood : (P : PackOptions → ℕ → Type 0) → P mid.options mid.number
-          → P options (length at.bundles)
-      as_stood P is = subst (λ o. P o (length at.bundles)) same (subst (λ n. P mid.options n) number is)
+    divides : (rest : List ℕ)
+        → divided limit ((history ++ run) ++ rest)
+        ≡ joined at.bundles (divided limit ((at.begun ++ run) ++ rest))
+    divides rest =
+        ap (divided limit) (append_assoc history run rest) ∙ at.divides (run ++ rest)
+        ∙ ap (λ (bytes : List ℕ). joined at.bundles (divided limit bytes)) (sym (append_assoc at.begun run rest))
 
-      within : length (at.begun ++ run) ≤ mid.options.peer_transfer
-          → length (at.begun ++ run) ≤ limit
-      within is = subst (λ (o : PackOptions). length (at.begun ++ run) ≤ o.peer_transfer) same is
+    -- with the options and the number as they stood
+    as_stood : (P : PackOptions → ℕ → Type 0) → P mid.options mid.number
+        → P options (length at.bundles)
+    as_stood P is = subst (λ o. P o (length at.bundles)) same (subst (λ n. P mid.options n) (numbered ∙ at.holds.number) is)
 
-      part_came : Grows mid at.begun run false → bundle_goes (at.begun ++ run) ≡ true
-          → GivesWritten out_look report_look before after
-          (record {
-            output = run_segments mid.options mid.number at.begun run false;
-            report = [];
-          }) (Holds packed at.bundles (at.begun ++ run)) next
-          → GivesStage in_look out_look report_look start options stage.Bundles old new
-          after packed history next
-      part_came grows goes gives =
-          let few = at.few in
-          goes_on in_look out_look report_look start old before packer history at new run takes live some size
-          (on_output (run_segments options (length at.bundles) at.begun run false)) at.bundles (at.begun ++ run)
-          (texts_grown options at.bundles at.begun run) divides
-          (omega (arith, length-append at.begun run, length-append history run))
-          (sofar_going options (history ++ run) at.bundles (at.begun ++ run) grows.front goes (within grows.within)
-          (ap (divided limit) (sym (append-nil (history ++ run))) ∙ divides [] ∙ ap (λ (bytes : List ℕ). joined at.bundles (divided limit bytes)) (append-nil (at.begun ++ run))))
-          after packed next (kept ∙ same)
-          (as_stood (λ o n. GivesWritten out_look report_look before after (record { output = run_segments o n at.begun run false; report = [] }) (Holds packed at.bundles (at.begun ++ run)) next) gives)
+    within : length (at.begun ++ run) ≤ mid.options.peer_transfer
+        → length (at.begun ++ run) ≤ limit
+    within is = subst (λ (o : PackOptions). length (at.begun ++ run) ≤ o.peer_transfer) same is
 
-      -- the bundle that has come
-      abbrev bundle_of : BundleInfo → Packed
-      bundle_of info = record { bytes = at.begun ++ run; info = info }
+    -- the run goes on
+    module _ (more : Texts) (bundles : List Packed) (begun : List ℕ)
+        (front : front_of begun ≡ begun) (goes : bundle_goes begun ≡ true) (fits : length begun ≤ limit)
+        (grown : texts_of options at.bundles at.begun then more ≡ texts_of options bundles begun)
+        (come : (rest : List ℕ) → divided limit ((history ++ run) ++ rest) ≡ joined bundles (divided limit (begun ++ rest)))
+        (few : length bundles + length begun ≤ length (history ++ run)) where
+      packs : Holds packed bundles begun → Packs look.input packed new (history ++ run)
+      packs holds =
+          let Q : PackOptions → Type 0 = λ o. (rest : List ℕ) → divided o.peer_transfer ((history ++ run) ++ rest) ≡ joined bundles (divided o.peer_transfer (begun ++ rest)) in
+          record {
+            source = IsSourceAt-then look.input old new history run takes at.source;
+            live = live;
+            bundles = bundles;
+            begun = begun;
+            holds = holds;
+            divides = subst Q (sym (kept ∙ same)) come;
+            few = few;
+          }
 
-      whole_divides : Grows mid at.begun run true → (info : BundleInfo)
-          → verdict (at.begun ++ run) ≡ Ok info
-          → (rest : List ℕ) → divided limit ((history ++ run) ++ rest)
-          ≡ joined (at.bundles ++ bundle_of info ∷ []) (divided limit rest)
-      whole_divides grows info is rest =
-          divides rest ∙ ap (joined at.bundles) (divided_whole limit (at.begun ++ run) rest info grows.front is (within grows.within))
-          ∙ joined_push at.bundles (bundle_of info) (divided limit rest)
+      due : (packing_of options history).texts then more ≡ (packing_of options (history ++ run)).texts
+      due = ap (λ t. t then more) texts_now ∙ grown ∙ sym (texts_going options (history ++ run) bundles begun front goes fits come)
 
-      whole_came : Grows mid at.begun run true → (info : BundleInfo)
-          → verdict (at.begun ++ run) ≡ Ok info
-          → GivesWritten out_look report_look before after
-          (record {
-            output = run_segments mid.options mid.number at.begun run true;
-            report = line_of mid.options mid.number (bundle_of info);
-          })
-          (Holds packed (at.bundles ++ bundle_of info ∷ []) []) next
-          → GivesStage in_look out_look report_look start options stage.Bundles old new
-          after packed history next
-      whole_came grows info is gives =
-          let few = at.few in
-          let come = whole_divides grows info is in
-          goes_on in_look out_look report_look start old before packer history at new run takes live some size
-          (record { output = run_segments options (length at.bundles) at.begun run true; report = line_of options (length at.bundles) (bundle_of info) })
-          (at.bundles ++ bundle_of info ∷ []) []
-          (texts_whole options at.bundles at.begun run (bundle_of info) refl some) come
-          (omega (arith, length-append at.bundles (bundle_of info ∷ []), length-append history run))
-          (sofar_going options (history ++ run) (at.bundles ++ bundle_of info ∷ []) [] none_front none_goes (omega arith)
-          (ap (divided limit) (sym (append-nil (history ++ run))) ∙ come []))
-          after packed next (kept ∙ same)
-          (as_stood (λ o n. GivesWritten out_look report_look before after (record { output = run_segments o n at.begun run true; report = line_of o n (bundle_of info) }) (Holds packed (at.bundles ++ bundle_of info ∷ []) []) next) gives)
+      by_write : (write : Result (Unit {0}) IoFault) → GivesTexts look.output look.report before after more write
+          → OnOk write (Holds packed bundles begun) → Gives (progress_after write)
+      by_write (Ok done) writes holds =
+          goes_on 4096 old new before stood takes size (takes.window.less some) after more due (unshown_going options (history ++ run) bundles begun front goes fits come)
+          (Packs look.input packed new) (λ is. some) (packs holds) writes (λ may. refl)
+      by_write (Err fault) part holds =
+          loses 4096 old new before stood takes size (takes.window.less some) after more due (unshown_going options (history ++ run) bundles begun front goes fits come) fault part
 
-      module _ (fault : Fault) (refuses : Refuses mid at.begun run fault) where
-        refused_divides : (rest : List ℕ)
-            → divided limit ((history ++ run) ++ rest)
-            ≡ refused_so options at.bundles (at.begun ++ refuses.accepted) refuses.refusal
-        refused_divides rest =
-            divides rest
-            ∙ ap (joined at.bundles) (subst (λ (o : PackOptions). divided o.peer_transfer ((at.begun ++ run) ++ rest) ≡ refused_so options [] (at.begun ++ refuses.accepted) refuses.refusal) same (refuses.divides rest))
-            ∙ ap (λ (all : List Packed). refused_so options all (at.begun ++ refuses.accepted) refuses.refusal) (append-nil at.bundles)
+      going : WritesOn look.output look.report before after more (Holds packed bundles begun) result → Gives result
+      going gave = subst Gives (sym gave.is) (by_write gave.written gave.gives gave.holds)
 
-        refused_now : divided limit (history ++ run)
-            ≡ refused_so options at.bundles (at.begun ++ refuses.accepted) refuses.refusal
-        refused_now = ap (divided limit) (sym (append-nil (history ++ run))) ∙ refused_divides []
+    part_came : Grows mid at.begun run false → bundle_goes (at.begun ++ run) ≡ true
+        → WritesOn look.output look.report before after (on_output (run_segments mid.options mid.number at.begun run false)) (Holds packed at.bundles (at.begun ++ run)) result
+        → Gives result
+    part_came grows goes gave =
+        let few = at.few in
+        going (on_output (run_segments options (length at.bundles) at.begun run false)) at.bundles (at.begun ++ run) grows.front goes (within grows.within)
+        (texts_grown options at.bundles at.begun run) divides (omega (arith, length-append at.begun run, length-append history run))
+        (as_stood (λ o n. WritesOn look.output look.report before after (on_output (run_segments o n at.begun run false)) (Holds packed at.bundles (at.begun ++ run)) result) gave)
 
-        line_is : fault_text fault ≡ refusal_line (length at.bundles) refuses.refusal
-        line_is = refuses.text ∙ ap (λ n. refusal_line n refuses.refusal) number
+    -- the bundle that has come
+    abbrev bundle_of : BundleInfo → Packed
+    bundle_of info = record { bytes = at.begun ++ run; info = info }
 
-        abbrev refused_texts : Texts
-        refused_texts = record { output = run_segments options (length at.bundles) at.begun refuses.accepted false; report = fault_text fault }
+    whole_came : Grows mid at.begun run true → (info : BundleInfo) → verdict (at.begun ++ run) ≡ Ok info
+        → WritesOn look.output look.report before after (record { output = run_segments mid.options mid.number at.begun run true; report = line_of mid.options mid.number (bundle_of info) })
+        (Holds packed (at.bundles ++ bundle_of info ∷ []) []) result
+        → Gives result
+    whole_came grows info is gave =
+        let few = at.few in
+        going (record { output = run_segments options (length at.bundles) at.begun run true; report = line_of options (length at.bundles) (bundle_of info) })
+        (at.bundles ++ bundle_of info ∷ []) [] none_front none_goes (omega arith) (texts_whole options at.bundles at.begun run (bundle_of info) refl some)
+        (λ rest. divides rest ∙ ap (joined at.bundles) (divided_whole limit (at.begun ++ run) rest info grows.front is (within grows.within)) ∙ joined_push at.bundles (bundle_of info) (divided limit rest))
+        (omega (arith, length-append at.bundles (bundle_of info ∷ []), length-append history run))
+        (as_stood (λ o n. WritesOn look.output look.report before after (record { output = run_segments o n at.begun run true; report = line_of o n (bundle_of info) }) (Holds packed (at.bundles ++ bundle_of info ∷ []) []) result) gave)
 
-        written : texts then refused_texts
-            ≡ texts_of options at.bundles (at.begun ++ refuses.accepted)
-            then on_report (refusal_line (length at.bundles) refuses.refusal)
-        written =
-            texts_refused options at.bundles at.begun refuses.accepted (fault_text fault)
-            ∙ ap (λ (line : List ℕ). texts_of options at.bundles (at.begun ++ refuses.accepted) then on_report line) line_is
+    module _ (fault : Fault) (refuses : Refuses mid at.begun run fault) where
+      made_refused : (rest : List ℕ)
+          → packing_of options ((history ++ run) ++ rest)
+          ≡ packing_by options (refused_so options at.bundles (at.begun ++ refuses.accepted) refuses.refusal)
+      made_refused rest =
+          made_as options _ _ (divides rest
+          ∙ ap (joined at.bundles) (subst (λ (o : PackOptions). divided o.peer_transfer ((at.begun ++ run) ++ rest) ≡ refused_so options [] (at.begun ++ refuses.accepted) refuses.refusal) same (refuses.divides rest))
+          ∙ ap (λ (all : List Packed). refused_so options all (at.begun ++ refuses.accepted) refuses.refusal) (append-nil at.bundles))
 
-        whole_is : (bytes : List ℕ)
-            → divided limit bytes
-            ≡ refused_so options at.bundles (at.begun ++ refuses.accepted) refuses.refusal
-            → packing options bytes
-            ≡ stopped options (texts_of options at.bundles (at.begun ++ refuses.accepted))
-            (refusal_line (length at.bundles) refuses.refusal)
-        whole_is bytes is = whole_refused options bytes at.bundles (at.begun ++ refuses.accepted) refuses.refusal refuses.lasts is
+      made_now : packing_of options (history ++ run)
+          ≡ packing_by options (refused_so options at.bundles (at.begun ++ refuses.accepted) refuses.refusal)
+      made_now = ap (packing_of options) (sym (append-nil (history ++ run))) ∙ made_refused []
 
-        refused_came : GivesLast out_look report_look before after
-            (record {
-              output = run_segments mid.options mid.number at.begun refuses.accepted false;
-              report = fault_text fault;
-            }) 3 next
-            → GivesStage in_look out_look report_look start options stage.Bundles old new
-            after packed history next
-        refused_came gives =
-            let now = whole_is (history ++ run) refused_now in
-            ended in_look out_look report_look start old before packer history at new run takes size refused_texts 3
-            (written ∙ sym (ap (λ (o : Outcome). o.texts) now))
-            (ap (λ (o : Outcome). o.status) now)
-            (inr (
-              written ∙ sym (sofar_refused options (history ++ run) at.bundles (at.begun ++ refuses.accepted) refuses.refusal refuses.lasts refused_now),
-              λ rest. whole_is ((history ++ run) ++ rest) (refused_divides rest) ∙ sym now,
-            ))
-            (takes.window.less some) after packed next
-            (as_stood (λ o n. GivesLast out_look report_look before after (record { output = run_segments o n at.begun refuses.accepted false; report = fault_text fault }) 3 next) gives)
+      refused_came : WritesLast look.output look.report before after (record { output = run_segments mid.options mid.number at.begun refuses.accepted false; report = fault_text fault }) 3 result
+          → Gives result
+      refused_came gave =
+          let line : fault ≡ refusal_fault (length at.bundles) refuses.refusal = refuses.is ∙ ap (λ n. refusal_fault n refuses.refusal) (numbered ∙ at.holds.number) in
+          let now = ap whole_of made_now in
+          let texts : Texts = record { output = run_segments options (length at.bundles) at.begun refuses.accepted false; report = fault_text fault } in
+          let gave_now = as_stood (λ o n. GivesLast look.output look.report before after (record { output = run_segments o n at.begun refuses.accepted false; report = fault_text fault }) 3 gave.answer) gave.gives in
+          let P : ℕ → Type 0 = λ status. GivesLast look.output look.report before after texts status gave.answer in
+          subst Gives (sym gave.is)
+          (last_step (packing_of options) (place_of old before) (place_of new after) _ gave.answer
+          (ends 4096 old new before stood takes size (takes.window.less some) after texts
+          (ap (λ t. t then texts) texts_now ∙ texts_refused options at.bundles at.begun refuses.accepted (fault_text fault) ∙ then_fault fault _
+          ∙ ap (λ f. with_fault f (texts_of options at.bundles (at.begun ++ refuses.accepted))) line ∙ sym (ap (λ (o : Outcome). o.texts) now))
+          (inr (ap (λ (m : Made). is_shown m.stop) made_now ∙ refuses.lasts, λ rest. made_refused rest ∙ sym made_now))
+          gave.answer (subst P (sym (ap (λ (o : Outcome). o.status) now)) gave_now)))
 
-      pub came : (what : Found) (took : MakesOf mid at.begun run what)
-          → GivesFound out_look report_look mid at.bundles at.begun run before
-          after packed what took next
-          → GivesStage in_look out_look report_look start options stage.Bundles old new
-          after packed history next
-      came found.Part took gives = part_came took.0 took.1 gives
-      came found.Whole took gives = whole_came took.0 took.1.0 took.1.1 gives
-      came (found.Refused fault) took gives = refused_came fault took gives
+    pub came : (what : Found) (took : MakesOf mid at.begun run what)
+        → GivesFound look.output look.report before after mid at.bundles at.begun run packed what took result
+        → Gives result
+    came found.Part took gave = part_came took.0 took.1 gave
+    came found.Whole took gave = whole_came took.0 took.1.0 took.1.1 gave
+    came (found.Refused fault) took gave = refused_came fault took gave
 
-    -- ---- the input has ended
+  -- ---- the input has ended
 
-    module _ (new : Source R) (takes : Takes in_look old new []) (over : IsOver in_look new)
-        (after : Writers W E) (next : Stage) where
-      at_end : {A : Type 0} (f : List ℕ → A) → f (history ++ []) ≡ f history
-      at_end f = ap f (append-nil history)
+  module _ (new : Source R) (takes : Takes look.input old new []) (over : IsOver look.input new)
+      (answer : Result Status IoFault) where
+    ended_by : (more : Texts) (outcome : Outcome) → whole_of (packing_of options history) ≡ outcome
+        → texts_of options at.bundles at.begun then more ≡ outcome.texts
+        → GivesLast look.output look.report before after more outcome.status answer
+        → LastStep look (pack_tool options) start (devices_at (place_of new after)) 4096 history answer
+    ended_by more outcome is same gives =
+        let now : whole_of (packing_of options (history ++ [])) ≡ outcome = ap (λ bytes. whole_of (packing_of options bytes)) (append-nil history) ∙ is in
+        let P : ℕ → Type 0 = λ status. GivesLast look.output look.report before after more status answer in
+        ends 4096 old new before stood takes (omega arith) (few_over look.input new over) after more
+        (ap (λ t. t then more) texts_now ∙ same ∙ sym (ap (λ (o : Outcome). o.texts) now)) (inl over)
+        answer (subst P (sym (ap (λ (o : Outcome). o.status) now)) gives)
 
-      finished_by : (more : Texts) (outcome : Outcome) → packing options history ≡ outcome → texts
-          then more ≡ outcome.texts
-          → GivesLast out_look report_look before after more outcome.status next
-          → GivesStage in_look out_look report_look start options stage.Bundles old new
-          after packer history next
-      finished_by more outcome is same gives =
-          let now : packing options (history ++ []) ≡ outcome = at_end (packing options) ∙ is in
-          ended in_look out_look report_look start old before packer history at new [] takes (omega arith) more outcome.status
-          (same ∙ sym (ap (λ (o : Outcome). o.texts) now)) (ap (λ (o : Outcome). o.status) now) (inl over) (few_over in_look new over) after packer next gives
+    ended_short : (short : Option Fault) → CutShort packer.number at.begun short
+        → GivesShort look.output look.report before after options short answer
+        → LastStep look (pack_tool options) start (devices_at (place_of new after)) 4096 history answer
+    ended_short None why gives =
+        ended_by (on_output (end_bytes options)) (clean options at.bundles at.begun)
+        (whole_clean options history at.bundles at.begun at.holds.front at.holds.goes at.holds.within at.divides why) refl gives
+    ended_short (Some fault) why gives =
+        let cut : IsCut at.begun = why.1.0 in
+        let line : fault ≡ refusal_fault (length at.bundles) (Faulty cut.fault cut.place) = why.1.1 ∙ ap (λ n. refusal_fault n (Faulty cut.fault cut.place)) at.holds.number in
+        ended_by (on_report (fault_text fault)) (stopped options at.bundles at.begun (Faulty cut.fault cut.place))
+        (whole_cut options history at.bundles at.begun at.holds.front at.holds.goes at.holds.within at.divides cut why.0)
+        (then_fault fault _ ∙ ap (λ f. with_fault f (texts_of options at.bundles at.begun)) line) gives
 
-      finished_short : (short : Option Fault) → CutShort packer.number at.begun short
-          → GivesShort out_look report_look options before after short next
-          → GivesStage in_look out_look report_look start options stage.Bundles old new
-          after packer history next
-      finished_short None why gives =
-          finished_by (on_output (end_bytes options None)) (clean options at.bundles at.begun)
-          (whole_clean options history at.bundles at.begun at.holds.front at.holds.goes at.holds.within (divided_so in_look out_look report_look start old before packer history at) why)
-          refl gives
-      finished_short (Some fault) why gives =
-          let cut : IsCut at.begun = why.1.0 in
-          let line : fault_text fault ≡ refusal_line (length at.bundles) (Faulty cut.fault cut.place) = why.1.1 ∙ ap (λ n. refusal_line n (Faulty cut.fault cut.place)) at.holds.number in
-          finished_by (on_report (fault_text fault)) (stopped options texts (refusal_line (length at.bundles) (Faulty cut.fault cut.place)))
-          (whole_cut options history at.bundles at.begun at.holds.front at.holds.goes at.holds.within (divided_so in_look out_look report_look start old before packer history at) cut why.0)
-          (ap (λ (xs : List ℕ). texts then on_report xs) line) gives
+    pub finished : GivesFinish look.output look.report before after packer at.begun answer
+        → LastStep look (pack_tool options) start (devices_at (place_of new after)) 4096 history answer
+    finished gives = ended_short gives.short gives.why gives.gave
 
-      pub finished : GivesFinish out_look report_look packer at.begun before after next
-          → GivesStage in_look out_look report_look start options stage.Bundles old new
-          after packer history next
-      finished gives = finished_short gives.short gives.why gives.gave
+-- ---- the bytes that the packer takes of the window
+
+-- what it took of these bytes
+pub record Took (packer : Packer) (begun window : List ℕ) (count : ℕ) (what : Found) : Type 0 where
+  pub some : 0 < length (take count window)
+  pub size : length (take count window) ≤ 4096
+  pub makes : MakesOf packer begun (take count window) what
+
+-- an input of at most 2 ^ 63 - 1 bytes has room for the window
+pub window_bound : {R : Type 0} {look : R → Input} (packer : Packer) (old mid : Source R) {history : List ℕ}
+    (at : Packs look packer old history) → Readies look old mid → (shown : List ℕ) (most : ℕ)
+    → shown ≡ window_of mid → length at.begun + length (take most shown) < 2 ^ 63
+window_bound packer old mid at ready shown most is =
+    let few = at.few in
+    let room = mid.within in
+    let given = ready.count in
+    let before = at.source.given in
+    let ahead = length-take (mid.end - mid.start) (drop mid.start mid.window) in
+    let size : length shown ≡ length (window_of mid) = ap length is in
+    omega (arith, size, length-take most shown, ahead)
+
+pub window_taken : (packer : Packer) (begun window shown : List ℕ) (most count : ℕ) (what : Found)
+    → shown ≡ window → most ≤ 4096 → count ≤ length (take most shown) → 0 < count
+    → MakesOf packer begun (take count (take most shown)) what → Took packer begun window count what
+window_taken packer begun window shown most count what is size within some makes =
+    let sizes : length (take most shown) ≡ min most (length window) = length-take most shown ∙ ap (λ (w : List ℕ). min most (length w)) is in
+    let same : take count (take most shown) ≡ take count window = take-take count most shown (omega (arith, length-take most shown)) ∙ ap (take count) is in
+    record {
+      some = omega (arith, sizes, length-take count window);
+      size = omega (arith, sizes, length-take count window);
+      makes = subst (λ (run : List ℕ). MakesOf packer begun run what) same makes;
+    }

@@ -1,26 +1,30 @@
 -- What is written once bytes of a bundle have come.
-use Rattle.std.proofs.Common.{◌≡◌, ℕ, ◌+◌, ◌<◌, true, false, List, [], ◌∷◌, ◌++◌, length, Result, Ok, Err, refl, ap, sym, ◌∙◌, append-nil, length-append, arith}
+use Rattle.std.proofs.Common.{◌≡◌, ◌⊎◌, ℕ, ◌+◌, ◌<◌, true, false, List, [], ◌∷◌, ◌++◌, length, OnOk, Option, Some, None, Result, Ok, Err, refl, ap, sym, ◌∙◌, subst, append-nil, length-append, arith}
 use Rattle.link_wire.specs.Device.{Output}
 use Rattle.link_wire.specs.declared.IoFault.{IoFault}
+use Rattle.link_wire.specs.declared.IoFault.TheVariants as io
+use Rattle.link_wire.specs.declared.Source.{Source}
 use Rattle.link_bundle.specs.Scan.{HasScanned}
 use Rattle.link_report.specs.Fault.{fault_text}
 use Rattle.link_report.specs.declared.fault.Fault.{Fault}
 use Rattle.link_transfer.specs.Cutter.{IsCutterAt}
 use Rattle.link_transfer.specs.Cutting.{Cutting, with_bytes}
-use Rattle.link_run.specs.Writers.{on_output, on_report, Writes, WritesPart, GivesReport}
+use Rattle.link_run.specs.Run.{Texts, ◌then◌, Looks, answer_of, progress_after}
+use Rattle.link_run.specs.Stages.{HandedOn}
+use Rattle.link_run.specs.Writers.{place_of, on_output, on_report, Writes, WritesPart, GivesTexts, GivesLast, HasHandedOn}
+use Rattle.link_run.specs.declared.run.Progress.{Progress}
 use Rattle.link_run.specs.declared.run.Status.{Status}
 use Rattle.link_run.specs.declared.writers.Writers.{Writers}
-use Rattle.link_run.proofs.Runs.{◌then◌, texts_as, writes_then, part_of_more, part_behind}
+use Rattle.link_run.proofs.Handing.{handed_by, handed_written}
+use Rattle.link_run.proofs.Runs.{texts_as, writes_then, part_of_more, part_behind}
 use Rattle.link_pack.specs.Bundles.{Packed}
 use Rattle.link_pack.specs.Packing.{segment_size, line_of}
-use Rattle.link_pack.specs.Packer.{cutting, MakesOf}
-use Rattle.link_pack.specs.PackRun.{GivesWritten, GivesFound}
+use Rattle.link_pack.specs.Packer.{cutting, Holds, MakesOf}
+use Rattle.link_pack.specs.PackRun.{GivesFound, GivesShort, GivesFinish}
 use Rattle.link_pack.specs.Segments.{segments_left, all_given}
 use Rattle.link_pack.specs.declared.packer.Found.{Found}
 use Rattle.link_pack.specs.declared.packer.Found.TheVariants as found
 use Rattle.link_pack.specs.declared.packer.Packer.{Packer}
-use Rattle.link_pack.specs.declared.packing.Stage.{Stage}
-use Rattle.link_pack.specs.declared.packing.Stage.TheVariants as stage
 use Rattle.link_pack.proofs.Dividing.{none_front, none_goes}
 use Rattle.link_pack.proofs.Sending.{all_given_open, all_given_ended, open_none}
 
@@ -36,18 +40,19 @@ module _ {W E : Type 0} (out_look : W → Output) (report_look : E → Output) w
       → WritesPart out_look report_look old new (record { output = segments; report = line }) fault
   segments_lost old new segments line fault part = rw (sym (segments_then segments line)) (part_of_more out_look report_look old new (on_output segments) (on_report line) fault (λ none. refl) part)
 
-  -- the segments were written, and a writer failed in the line
-  line_lost : (old mid new : Writers W E) (segments line : List ℕ) (fault : IoFault)
-      → Writes out_look report_look old mid (on_output segments)
-      → WritesPart out_look report_look mid new (on_report line) fault
-      → WritesPart out_look report_look old new (record { output = segments; report = line }) fault
-  line_lost old mid new segments line fault writes part = rw (sym (segments_then segments line)) (part_behind out_look report_look old mid new segments (on_report line) fault writes part)
+  module _ (old mid new : Writers W E) (segments line : List ℕ)
+      (writes : Writes out_look report_look old mid (on_output segments)) where
+    line_given : (result : Result (Unit {0}) IoFault)
+        → GivesTexts out_look report_look mid new (on_report line) result
+        → GivesTexts out_look report_look old new (record { output = segments; report = line }) result
+    line_given (Ok done) more = rw (sym (segments_then segments line)) (writes_then out_look report_look old mid new (on_output segments) (on_report line) writes more)
+    line_given (Err fault) part = rw (sym (segments_then segments line)) (part_behind out_look report_look old mid new segments (on_report line) fault writes part)
 
-  line_written : (old mid new : Writers W E) (segments line : List ℕ)
-      → Writes out_look report_look old mid (on_output segments)
-      → Writes out_look report_look mid new (on_report line)
-      → Writes out_look report_look old new (record { output = segments; report = line })
-  line_written old mid new segments line first second = rw (sym (segments_then segments line)) (writes_then out_look report_look old mid new (on_output segments) (on_report line) first second)
+    last_given : (answer : Result Status IoFault)
+        → GivesLast out_look report_look mid new (on_report line) 3 answer
+        → GivesLast out_look report_look old new (record { output = segments; report = line }) 3 answer
+    last_given (Ok status) gives = (line_given (Ok tt) gives.0, gives.1)
+    last_given (Err fault) part = line_given (Err fault) part
 
   module _ (old : Packer) (bundles : List Packed) (begun run : List ℕ)
       (numbered : old.number ≡ length bundles) (some : 0 < length run)
@@ -58,68 +63,102 @@ module _ {W E : Type 0} (out_look : W → Output) (report_look : E → Output) w
         → ((so_far : Cutting) → IsCutterAt old.cutter so_far
         → WritesPart out_look report_look before mid
         (on_output (segments_left old.number so_far)) fault)
-        → GivesFound out_look report_look old bundles begun run before mid packed what took
-        (stage.Ended (Err fault))
-    lost found.Part took packed fault gives = gives _ took.0.cut
-    lost found.Whole took packed fault gives = segments_lost before mid _ _ fault (gives _ took.0.cut)
-    lost (found.Refused why) took packed fault gives = segments_lost before mid _ _ fault (gives _ took.cut)
+        → GivesFound out_look report_look before mid old bundles begun run packed what took
+        (Err fault)
+    lost found.Part took packed fault gives =
+        record { written = Err fault; is = refl; gives = gives _ took.0.cut; holds = tt }
+    lost found.Whole took packed fault gives =
+        record { written = Err fault; is = refl; gives = segments_lost before mid _ _ fault (gives _ took.0.cut); holds = tt }
+    lost (found.Refused why) took packed fault gives =
+        record { answer = Err fault; is = refl; gives = segments_lost before mid _ _ fault (gives _ took.cut) }
 
     -- the bundle goes on
     pub grown : (took : MakesOf old begun run found.Part) (packed : Packer)
         → packed.options ≡ old.options → packed.number ≡ old.number → packed.scan ≡ old.scan
         → IsCutterAt packed.cutter (all_given (with_bytes run false (cutting old.options begun)))
-        → Writes out_look report_look before mid
-        (on_output (segments_left old.number
-        (with_bytes run false (cutting old.options begun))))
-        → GivesFound out_look report_look old bundles begun run before mid packed
-        found.Part took stage.Bundles
-    grown took packed options number scan cut writes = (
-      writes,
-      record {
-        number = number ∙ numbered;
-        scanned = rw scan took.0.scanned;
-        cut = rw (options, sym (all_given_open (segment_size old.options) old.options.announce begun run some)) cut;
-        front = took.0.front;
-        goes = took.1;
-        within = rw options took.0.within;
-      },
-    )
+        → Holds packed bundles (begun ++ run)
+    grown took packed options number scan cut = record {
+      number = number ∙ numbered;
+      scanned = rw scan took.0.scanned;
+      cut = rw (options, sym (all_given_open (segment_size old.options) old.options.announce begun run some)) cut;
+      front = took.0.front;
+      goes = took.1;
+      within = rw options took.0.within;
+    }
 
     -- it is whole
-    pub ended : (took : MakesOf old begun run found.Whole) (after : Writers W E) (packed : Packer)
-        (next : Stage) → packed.options ≡ old.options
+    pub next_begun : (took : MakesOf old begun run found.Whole) (packed : Packer)
+        (result : Result (Unit {0}) IoFault) → packed.options ≡ old.options
         → IsCutterAt packed.cutter (all_given (with_bytes run true (cutting old.options begun)))
+        → OnOk result (HasScanned packed.scan []) → OnOk result (packed.number ≡ old.number + 1)
+        → OnOk result (Holds packed (bundles ++ record { bytes = begun ++ run; info = took.1.0 } ∷ []) [])
+    next_begun took packed (Ok done) options cut scanned number = record {
+      number = number ∙ ap (λ n. n + 1) numbered ∙ sym (length-append bundles (record { bytes = begun ++ run; info = took.1.0 } ∷ []));
+      scanned = scanned;
+      cut = rw (options, open_none (segment_size old.options) old.options.announce, sym (all_given_ended (segment_size old.options) old.options.announce begun run some)) cut;
+      front = none_front;
+      goes = none_goes;
+      within = omega arith;
+    }
+    next_begun took packed (Err fault) options cut scanned number = tt
+
+    pub ended : (took : MakesOf old begun run found.Whole) (after : Writers W E) (packed : Packer)
+        (written : Result (Unit {0}) IoFault) (result : Result Progress IoFault) → result ≡ progress_after written
+        → OnOk written (Holds packed (bundles ++ record { bytes = begun ++ run; info = took.1.0 } ∷ []) [])
         → Writes out_look report_look before mid
         (on_output (segments_left old.number (with_bytes run true (cutting old.options begun))))
-        → GivesWritten out_look report_look mid after
-        (on_report (line_of old.options old.number
-        (record { bytes = begun ++ run; info = took.1.0 }))) (HasScanned packed.scan []
-        × (packed.number ≡ old.number + 1)) next
-        → GivesFound out_look report_look old bundles begun run before after
-        packed found.Whole took next
-    ended took after packed stage.Prelude options cut writes gives = absurd gives
-    ended took after packed stage.Bundles options cut writes gives = (
-      line_written before mid after _ _ writes gives.0,
-      record {
-        number = gives.1.1 ∙ ap (λ n. n + 1) numbered ∙ sym (length-append bundles (record { bytes = begun ++ run; info = took.1.0 } ∷ []));
-        scanned = gives.1.0;
-        cut = rw (options, open_none (segment_size old.options) old.options.announce, sym (all_given_ended (segment_size old.options) old.options.announce begun run some)) cut;
-        front = none_front;
-        goes = none_goes;
-        within = omega arith;
-      },
-    )
-    ended took after packed (stage.Ended (Ok status)) options cut writes gives = absurd gives
-    ended took after packed (stage.Ended (Err fault)) options cut writes gives = line_lost before mid after _ _ fault writes gives
+        → GivesTexts out_look report_look mid after
+        (on_report (line_of old.options old.number (record { bytes = begun ++ run; info = took.1.0 }))) written
+        → GivesFound out_look report_look before after old bundles begun run packed found.Whole took result
+    ended took after packed written result is holds writes gives =
+        record { written = written; is = is; gives = line_given before mid after _ _ writes written gives; holds = holds }
 
     -- it is refused
     pub refused : (why : Fault) (took : MakesOf old begun run (found.Refused why))
         (after : Writers W E) (packed : Packer) (answer : Result Status IoFault)
+        (result : Result Progress IoFault) → result ≡ answer_of answer
         → Writes out_look report_look before mid
         (on_output (segments_left old.number
         (with_bytes took.accepted false (cutting old.options begun))))
-        → GivesReport out_look report_look mid after (fault_text why) answer
-        → GivesFound out_look report_look old bundles begun run before after packed
-        (found.Refused why) took (stage.Ended answer)
-    refused why took after packed (Ok status) writes gives = (line_written before mid after _ _ writes gives.writes, gives.ends)
-    refused why took after packed (Err fault) writes gives = line_lost before mid after _ _ fault writes gives
+        → GivesLast out_look report_look mid after (on_report (fault_text why)) 3 answer
+        → GivesFound out_look report_look before after old bundles begun run packed (found.Refused why) took result
+    refused why took after packed answer result is writes gives =
+        record { answer = answer; is = is; gives = last_given before mid after _ _ writes answer gives }
+
+-- ---- what was written is handed on before the read
+
+module _ {R W E : Type 0} (look : Looks R W E) {out_handed : W → Option (List ℕ)}
+    {report_handed : E → Option (List ℕ)} {enough : Type 0} (old new : Source R) (before mid after : Writers W E)
+    (kept : Writes look.output look.report before mid (on_output []))
+    (held : HasHandedOn look.output look.report out_handed report_handed mid ⊎ enough) where
+  abbrev Handed : Type 0
+  Handed = HandedOn look out_handed report_handed enough (place_of old before) (place_of new after)
+
+  handed_last : (texts : Texts) (status : ℕ) (answer : Result Status IoFault)
+      → GivesLast look.output look.report mid after texts status answer
+      → (answer_of answer ≡ Err io.Write → ⊥) → Handed
+  handed_last texts status (Ok ended) gives other = handed_by look old new before mid after texts kept held gives.0
+  handed_last texts status (Err fault) part other = absurd (other (ap Err part.kind))
+
+  module _ (packer : Packer) where
+    pub found_handed : (bundles : List Packed) (begun run : List ℕ) (packed : Packer) (what : Found)
+        (took : MakesOf packer begun run what) (result : Result Progress IoFault)
+        → GivesFound look.output look.report mid after packer bundles begun run packed what took result
+        → (result ≡ Err io.Write → ⊥) → Handed
+    found_handed bundles begun run packed found.Part took result gave other =
+        handed_written look old new before mid after _ gave.written kept held gave.gives (λ e. other (gave.is ∙ e))
+    found_handed bundles begun run packed found.Whole took result gave other =
+        handed_written look old new before mid after _ gave.written kept held gave.gives (λ e. other (gave.is ∙ e))
+    found_handed bundles begun run packed (found.Refused fault) took result gave other =
+        handed_last _ 3 gave.answer gave.gives (λ e. other (gave.is ∙ e))
+
+    short_handed : (short : Option Fault) (answer : Result Status IoFault)
+        → GivesShort look.output look.report mid after packer.options short answer
+        → (answer_of answer ≡ Err io.Write → ⊥) → Handed
+    short_handed None answer gives other = handed_last _ 0 answer gives other
+    short_handed (Some fault) answer gives other = handed_last _ 3 answer gives other
+
+    pub finish_handed : (begun : List ℕ) (answer : Result Status IoFault)
+        → GivesFinish look.output look.report mid after packer begun answer
+        → (answer_of answer ≡ Err io.Write → ⊥) → Handed
+    finish_handed begun answer gives other = short_handed gives.short answer gives.gave other

@@ -1,7 +1,8 @@
 -- What is written once a run of bytes more has come.
 use Rattle.std.proofs.Common.{◌≡◌, ℕ, ◌+◌, ◌<◌, Bool, true, false, List, [], ◌∷◌, ◌++◌, length, refl, ap, sym, ◌∙◌, append-nil, append_assoc, arith}
 use Rattle.link_run.specs.Writers.{on_output, on_report}
-use Rattle.link_run.proofs.Runs.{◌then◌, texts_as}
+use Rattle.link_run.specs.Run.{◌then◌}
+use Rattle.link_run.proofs.Runs.{texts_as}
 use Rattle.link_pack.specs.Bundles.{Packed}
 use Rattle.link_pack.specs.Packing.{prelude_bytes, segment_size, sending, transfers_of, line_of, lines_of}
 use Rattle.link_pack.specs.PackRun.{texts_of, run_segments}

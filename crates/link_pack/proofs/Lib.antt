@@ -5,8 +5,5 @@ mod Writing
 mod Taking
 pub mod Outcomes
 mod Grown
-mod Steps
 mod Founds
 mod Goings
-mod Preludes
-mod Settling

@@ -39,7 +39,7 @@ too_long packer bundles begun (byte ∷ bytes) holds some full = record {
   accepted = [];
   refusal = Longer packer.options.peer_transfer;
   cut = holds.cut;
-  text = refl;
+  is = refl;
   lasts = refl;
   divides = λ more. rw (append_assoc begun (byte ∷ []) more, append-nil begun)
       (divided_longer packer.options.peer_transfer begun byte more holds.front holds.goes full);
@@ -120,7 +120,7 @@ module _ (packer : Packer) (begun run : List ℕ) (here : Comes packer begun run
     accepted = take (length run - 1) run;
     refusal = Faulty fault place;
     cut = cut;
-    text = refl;
+    is = refl;
     lasts = lasting;
     divides = λ more. rw (sym (but_last begun run here.some))
         (divided_faulty packer.options.peer_transfer (begun ++ run) more fault place here.front outcome lasting here.within);

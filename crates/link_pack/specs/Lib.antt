@@ -3,4 +3,3 @@ pub mod Segments
 pub mod Packing
 pub mod Packer
 pub mod PackRun
-pub mod PackRuns

@@ -10,12 +10,11 @@ use Rattle.link_bundle_types.specs.declared.info.BundleInfo.{BundleInfo}
 use Rattle.link_transfer.specs.Cutter.{IsCutterAt, cut_waits}
 use Rattle.link_transfer.specs.Cutting.{Cutting, beginning, with_bytes}
 use Rattle.link_transfer.specs.declared.cutter.Cutter.{Cutter}
-use Rattle.link_report.specs.Fault.{fault_text}
 use Rattle.link_report.specs.declared.fault.Fault.{Fault}
 use Rattle.link_report.specs.declared.fault.Fault.TheVariants.{Bundle}
 use Rattle.link_pack.specs.Bundles.{Packed, Refusal, Faulty, front_of, divided}
 use Rattle.link_pack.specs.Segments.{going}
-use Rattle.link_pack.specs.Packing.{segment_size, lasting, refusal_line}
+use Rattle.link_pack.specs.Packing.{segment_size, lasting, refusal_fault}
 use Rattle.link_pack.specs.declared.options.PackOptions.{PackOptions}
 use Rattle.link_pack.specs.declared.packer.Found.{Found}
 use Rattle.link_pack.specs.declared.packer.Found.TheVariants as found
@@ -55,7 +54,7 @@ pub record Refuses (packer : Packer) (begun run : List ℕ) (fault : Fault) : Ty
   pub accepted : List ℕ
   pub refusal : Refusal
   pub cut : IsCutterAt packer.cutter (with_bytes accepted false (cutting packer.options begun))
-  pub text : fault_text fault ≡ refusal_line packer.number refusal
+  pub is : fault ≡ refusal_fault packer.number refusal
   pub lasts : lasting refusal ≡ true
   pub divides : (more : List ℕ)
       → divided packer.options.peer_transfer ((begun ++ run) ++ more)
@@ -84,7 +83,7 @@ abbrev pub CutShort : (number : ℕ) → (begun : List ℕ) → Option Fault →
 CutShort number begun None = begun ≡ []
 CutShort number begun (Some fault) =
     (0 < length begun) × ((cut : IsCut begun)
-    × (fault_text fault ≡ refusal_line number (Faulty cut.fault cut.place)))
+    × (fault ≡ refusal_fault number (Faulty cut.fault cut.place)))
 
 -- what the state of the scan shows of the bundle
 abbrev pub found_by : (number : ℕ) → State → Found

@@ -3,10 +3,11 @@ use Rattle.std.specs.Prelude.{ℕ, suc, min, Bool, true, false, List, [], ◌∷
 use Rattle.link_bundle_types.specs.Faults.{lasts}
 use Rattle.link_wire.specs.Spelling.{contact_bytes, sess_init_bytes, sess_term_bytes}
 use Rattle.link_transfer.specs.Chunks.{chunk_count}
-use Rattle.link_report.specs.Fault.{fault_text}
+use Rattle.link_report.specs.declared.fault.Fault.{Fault}
 use Rattle.link_report.specs.declared.fault.Fault.TheVariants.{Bundle, TooLong}
 use Rattle.link_report.specs.Packed.{packed_text}
-use Rattle.link_run.specs.Run.{Texts, Outcome, Tool}
+use Rattle.link_run.specs.Made.{StreamStop, Made, tool_of}
+use Rattle.link_run.specs.Run.{Tool}
 use Rattle.link_pack.specs.Bundles.{Packed, Refusal, Longer, Faulty, Rest, Divided, divided}
 use Rattle.link_pack.specs.Segments.{Sending, segments_of}
 use Rattle.link_pack.specs.declared.options.PackOptions.{PackOptions}
@@ -44,10 +45,9 @@ abbrev pub rest_segments : PackOptions → (number : ℕ) → Option Rest → Li
 rest_segments options number None = []
 rest_segments options number (Some rest) = segments_of number (sending options false rest.accepted)
 
--- after the last of the bundles, where nothing else follows it, SESS_TERM (section 6.1), if it is asked for
-abbrev pub end_bytes : PackOptions → Option Rest → List ℕ
-end_bytes options None = if options.send_term then sess_term_bytes 0 0 else []
-end_bytes options (Some rest) = []
+-- after the last bundle of an input that does not stop, SESS_TERM (section 6.1), if it is asked for
+abbrev pub end_bytes : PackOptions → List ℕ
+end_bytes options = if options.send_term then sess_term_bytes 0 0 else []
 
 -- ---- the report
 
@@ -65,63 +65,46 @@ lines_of options number [] = []
 lines_of options number (bundle ∷ more) =
     line_of options number bundle ++ lines_of options (suc number) more
 
-abbrev pub refusal_line : (number : ℕ) → Refusal → List ℕ
-refusal_line number (Longer limit) = fault_text (TooLong number limit)
-refusal_line number (Faulty fault place) = fault_text (Bundle number place fault)
+-- ---- where an input stops
 
-abbrev pub rest_line : (number : ℕ) → Option Rest → List ℕ
-rest_line number None = []
-rest_line number (Some rest) = refusal_line number rest.refusal
+abbrev pub refusal_fault : (number : ℕ) → Refusal → Fault
+refusal_fault number (Longer limit) = TooLong number limit
+refusal_fault number (Faulty fault place) = Bundle number place fault
 
 -- more bytes do not mend it: all but that the bytes end inside a bundle
 abbrev pub lasting : Refusal → Bool
 lasting (Longer limit) = true
 lasting (Faulty fault place) = lasts fault
 
-abbrev pub is_shown : Option Rest → Bool
-is_shown None = false
-is_shown (Some rest) = lasting rest.refusal
+abbrev pub stop_by : (number : ℕ) → Option Rest → Option StreamStop
+stop_by number None = None
+stop_by number (Some rest) =
+    Some (record { fault = refusal_fault number rest.refusal; lasts = lasting rest.refusal })
 
 -- ---- the whole
-
-abbrev pub rest_status : Option Rest → ℕ
-rest_status None = 0
-rest_status (Some rest) = 3
 
 abbrev pub bundles_output : PackOptions → Divided → List ℕ
 bundles_output options input =
     prelude_bytes options ++ transfers_of options 0 input.bundles
     ++ rest_segments options (length input.bundles) input.rest
 
-abbrev pub packing_by : PackOptions → Divided → Outcome
+abbrev pub packing_by : PackOptions → Divided → Made
 packing_by options input = record {
   texts = record {
-    output = bundles_output options input ++ end_bytes options input.rest;
-    report = lines_of options 0 input.bundles ++ rest_line (length input.bundles) input.rest;
+    output = bundles_output options input;
+    report = lines_of options 0 input.bundles;
   };
-  status = rest_status input.rest;
+  stop = stop_by (length input.bundles) input.rest;
+  ended = record {
+    output = bundles_output options input ++ end_bytes options;
+    report = lines_of options 0 input.bundles;
+  };
+  good = true;
 }
 
--- what comes of an input
-unfoldable pub packing : PackOptions → List ℕ → Outcome
-packing options bytes = packing_by options (divided options.peer_transfer bytes)
-
-abbrev pub packing_sofar_by : PackOptions → Divided → Texts
-packing_sofar_by options input = record {
-  output = bundles_output options input;
-  report =
-      lines_of options 0 input.bundles ++ (if is_shown input.rest
-      then rest_line (length input.bundles) input.rest else []);
-}
-
--- what of it these bytes determine, however they go on
-unfoldable pub packing_sofar : PackOptions → List ℕ → Texts
-packing_sofar options bytes = packing_sofar_by options (divided options.peer_transfer bytes)
-
--- whether these bytes show that they are no bundles that the peer takes
-unfoldable pub packing_shows : PackOptions → List ℕ → Bool
-packing_shows options bytes = is_shown (divided options.peer_transfer bytes).rest
+-- what `pack` makes of an input
+unfoldable pub packing_of : PackOptions → List ℕ → Made
+packing_of options bytes = packing_by options (divided options.peer_transfer bytes)
 
 abbrev pub pack_tool : PackOptions → Tool
-pack_tool options =
-    record { whole = packing options; sofar = packing_sofar options; shows = packing_shows options }
+pack_tool options = tool_of (packing_of options)

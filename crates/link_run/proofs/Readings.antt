@@ -1,25 +1,25 @@
 -- What a run reads of a session.
 use Rattle.std.proofs.Common.{ℕ, inl, List, [], Option, Result, Ok, Err}
-use Rattle.link_wire.specs.Device.{Input, Output}
 use Rattle.link_wire.specs.Session.{GivesNext, GivesLoad}
 use Rattle.link_wire.specs.declared.fault.Stop.{Stop}
 use Rattle.link_wire.specs.declared.message.Message.{Message}
 use Rattle.link_wire.specs.declared.session.Session.{Session}
+use Rattle.link_run.specs.Run.{Looks}
 use Rattle.link_run.specs.Reading.{ReadsMessage, ReadsData}
 use Rattle.link_run.specs.Writers.{on_output, Writes}
 use Rattle.link_run.specs.declared.writers.Writers.{Writers}
 
 -- what the session gives, once what was written was handed on
-module _ {R W E : Type 0} (in_look : R → Input) (out_look : W → Output) (report_look : E → Output)
+module _ {R W E : Type 0} (look : Looks R W E)
     (old new : Session R) (before after : Writers W E) (history : List ℕ)
-    (writes : Writes out_look report_look before after (on_output [])) where
+    (writes : Writes look.output look.report before after (on_output [])) where
   pub message_given : (next : Result (Option (ℕ × Message)) Stop)
-      → GivesNext in_look old new history next
-      → ReadsMessage in_look out_look report_look old new before after history next
+      → GivesNext look.input old new history next
+      → ReadsMessage look old new before after history next
   message_given (Ok next) gives = (writes, gives)
   message_given (Err why) gives = inl (writes, gives)
 
-  pub data_given : (next : Result ℕ Stop) → GivesLoad in_look old new history next
-      → ReadsData in_look out_look report_look old new before after history next
+  pub data_given : (next : Result ℕ Stop) → GivesLoad look.input old new history next
+      → ReadsData look old new before after history next
   data_given (Ok n) gives = (writes, gives)
   data_given (Err why) gives = inl (writes, gives)

@@ -12,18 +12,10 @@ use Rattle.link_wire.specs.Source.{reader_of, window_of, ahead, Takes, StopsAfte
 use Rattle.link_wire.specs.declared.IoFault.{IoFault}
 use Rattle.link_wire.specs.declared.IoFault.TheVariants as io
 use Rattle.link_wire.specs.declared.Source.{Source}
-use Rattle.link_run.specs.Run.{Texts, Tool, Devices, Place, devices_at, NoneFailed, Moves, HasWritten, HandedBack, AllGiven, FinishedRun, AreDue, IsBehind, EndedRun, GivesAnswer}
+use Rattle.link_run.specs.Run.{Texts, no_texts, ◌then◌, Tool, Looks, Devices, Place, devices_at, NoneFailed, Moves, HasWritten, HandedBack, AllGiven, FinishedRun, AreDue, IsBehind, EndedRun, GivesAnswer}
 use Rattle.link_run.specs.Writers.{place_of, on_output, Writes, WritesPart, Unsettled}
 use Rattle.link_run.specs.declared.run.Status.{Status}
 use Rattle.link_run.specs.declared.writers.Writers.{Writers}
-
-abbrev pub no_texts : Texts
-no_texts = record { output = []; report = [] }
-
--- one text after another
-infixr 30 ◌then◌
-abbrev pub ◌then◌ : Texts → Texts → Texts
-first then second = record { output = first.output ++ second.output; report = first.report ++ second.report }
 
 -- what is ahead is the window and then what the reader has left
 Consumes-ahead : (window : List ℕ) (left : Option (List ℕ))
@@ -53,51 +45,50 @@ ReportsFaults tool =
     → ((tool.shows given ≡ true) × (tool.sofar given ≡ (tool.whole given).texts))
     ⊎ (length (tool.sofar given).report < length (tool.whole given).texts.report)
 
-module _ {R W E : Type 0} (in_look : R → Input) (out_look : W → Output)
-    (report_look : E → Output) where
-  pub moves_none : (p : Place R W E) → Moves in_look out_look report_look p p [] no_texts
+module _ {R W E : Type 0} (look : Looks R W E) where
+  pub moves_none : (p : Place R W E) → Moves look p p [] no_texts
   moves_none p = record {
-    takes = Consumes-nil (ahead in_look p.source);
+    takes = Consumes-nil (ahead look.input p.source);
     count = omega arith;
-    writes = Appends-nil (out_look p.output).written;
-    reports = Appends-nil (report_look p.report).written;
+    writes = Appends-nil (look.output p.output).written;
+    reports = Appends-nil (look.report p.report).written;
   }
 
   pub moves_then : (old mid new : Place R W E) (xs ys : List ℕ) (p q : Texts)
-      → Moves in_look out_look report_look old mid xs p
-      → Moves in_look out_look report_look mid new ys q
-      → Moves in_look out_look report_look old new (xs ++ ys) (p then q)
+      → Moves look old mid xs p
+      → Moves look mid new ys q
+      → Moves look old new (xs ++ ys) (p then q)
   moves_then old mid new xs ys p q first second =
       let one = first.count in
       let two = second.count in
       record {
-        takes = Consumes-trans (ahead in_look old.source) (ahead in_look mid.source) (ahead in_look new.source) xs ys first.takes second.takes;
+        takes = Consumes-trans (ahead look.input old.source) (ahead look.input mid.source) (ahead look.input new.source) xs ys first.takes second.takes;
         count = omega (arith, length-append xs ys);
-        writes = Appends-trans (out_look old.output).written (out_look mid.output).written (out_look new.output).written p.output q.output first.writes second.writes;
-        reports = Appends-trans (report_look old.report).written (report_look mid.report).written (report_look new.report).written p.report q.report first.reports second.reports;
+        writes = Appends-trans (look.output old.output).written (look.output mid.output).written (look.output new.output).written p.output q.output first.writes second.writes;
+        reports = Appends-trans (look.report old.report).written (look.report mid.report).written (look.report new.report).written p.report q.report first.reports second.reports;
       }
 
   pub written_then : (start : Devices R W E) (mid new : Place R W E) (xs ys : List ℕ) (p q : Texts)
-      → HasWritten in_look out_look report_look start mid xs p
-      → Moves in_look out_look report_look mid new ys q
-      → HasWritten in_look out_look report_look start new (xs ++ ys) (p then q)
+      → HasWritten look start mid xs p
+      → Moves look mid new ys q
+      → HasWritten look start new (xs ++ ys) (p then q)
   written_then start mid new xs ys p q first second =
       let one = first.count in
       let two = second.count in
       record {
-        takes = Consumes-trans (in_look start.reader).left (ahead in_look mid.source) (ahead in_look new.source) xs ys first.takes second.takes;
+        takes = Consumes-trans (look.input start.reader).left (ahead look.input mid.source) (ahead look.input new.source) xs ys first.takes second.takes;
         count = omega (arith, length-append xs ys);
-        writes = Appends-trans (out_look start.output).written (out_look mid.output).written (out_look new.output).written p.output q.output first.writes second.writes;
-        reports = Appends-trans (report_look start.report).written (report_look mid.report).written (report_look new.report).written p.report q.report first.reports second.reports;
+        writes = Appends-trans (look.output start.output).written (look.output mid.output).written (look.output new.output).written p.output q.output first.writes second.writes;
+        reports = Appends-trans (look.report start.report).written (look.report mid.report).written (look.report new.report).written p.report q.report first.reports second.reports;
       }
 
   -- the devices as they are handed back, with what was read and not given
   pub written_left : (start : Devices R W E) (now : Place R W E) (bytes : List ℕ) (texts : Texts)
-      → HasWritten in_look out_look report_look start now bytes texts
-      → HandedBack in_look out_look report_look start (devices_at now) (bytes
+      → HasWritten look start now bytes texts
+      → HandedBack look start (devices_at now) (bytes
       ++ window_of now.source) texts
   written_left start now bytes texts written = record {
-    takes = Consumes-trans (in_look start.reader).left (ahead in_look now.source) (in_look (reader_of now.source)).left bytes (window_of now.source) written.takes (Consumes-ahead (window_of now.source) (in_look (reader_of now.source)).left);
+    takes = Consumes-trans (look.input start.reader).left (ahead look.input now.source) (look.input (reader_of now.source)).left bytes (window_of now.source) written.takes (Consumes-ahead (window_of now.source) (look.input (reader_of now.source)).left);
     writes = written.writes;
     reports = written.reports;
   }
@@ -105,13 +96,13 @@ module _ {R W E : Type 0} (in_look : R → Input) (out_look : W → Output)
   -- the answer with the devices that were handed back
   pub handed_back : (tool other : Tool) (start now devices : Devices R W E) (given : List ℕ)
       (answer result : Result Status IoFault)
-      → EndedRun in_look out_look report_look tool start now given answer → tool ≡ other
+      → EndedRun look tool start now given answer → tool ≡ other
       → devices ≡ now → result ≡ answer
-      → GivesAnswer in_look out_look report_look other start devices result
+      → GivesAnswer look other start devices result
   handed_back tool other start now devices given answer result gave same back is =
-      let P : Tool → Type 0 = λ t. GivesAnswer in_look out_look report_look t start devices result in
-      let Q : Devices R W E → Type 0 = λ d. GivesAnswer in_look out_look report_look tool start d result in
-      let S : Result Status IoFault → Type 0 = λ r. GivesAnswer in_look out_look report_look tool start now r in
+      let P : Tool → Type 0 = λ t. GivesAnswer look t start devices result in
+      let Q : Devices R W E → Type 0 = λ d. GivesAnswer look tool start d result in
+      let S : Result Status IoFault → Type 0 = λ r. GivesAnswer look tool start now r in
       subst P same (subst Q (sym back) (subst S (sym is) (record { given = given; gave = gave })))
 
 -- a source that has ended has given all that it read
@@ -137,88 +128,87 @@ pub record StoodAt (tool : Tool) (given : List ℕ) (texts : Texts) : Type 0 whe
 abbrev pub Stood : Tool → (given : List ℕ) → Texts → Type 0
 Stood tool given texts = (texts.report ≡ []) ⊎ StoodAt tool given texts
 
-module _ {R W E : Type 0} (in_look : R → Input) (out_look : W → Output)
-    (report_look : E → Output) where
+module _ {R W E : Type 0} (look : Looks R W E) where
   -- bytes were given, and nothing was written
   pub takes_moves : (old new : Source R) (w : Writers W E) (bytes : List ℕ)
-      → Takes in_look old new bytes
-      → Moves in_look out_look report_look (place_of old w) (place_of new w) bytes no_texts
+      → Takes look.input old new bytes
+      → Moves look (place_of old w) (place_of new w) bytes no_texts
   takes_moves old new w bytes takes = record {
     takes = takes.next;
     count = takes.count;
-    writes = Appends-nil (out_look w.output).written;
-    reports = Appends-nil (report_look w.report).written;
+    writes = Appends-nil (look.output w.output).written;
+    reports = Appends-nil (look.report w.report).written;
   }
 
   -- texts were written, and nothing was given
   pub writes_moves : (s : Source R) (old new : Writers W E) (texts : Texts)
-      → Writes out_look report_look old new texts
-      → Moves in_look out_look report_look (place_of s old) (place_of s new) [] texts
+      → Writes look.output look.report old new texts
+      → Moves look (place_of s old) (place_of s new) [] texts
   writes_moves s old new texts writes = record {
-    takes = Consumes-nil (ahead in_look s);
+    takes = Consumes-nil (ahead look.input s);
     count = omega arith;
     writes = writes.output;
     reports = writes.report;
   }
 
   pub written_as : {start : Devices R W E} {now : Place R W E} {xs ys : List ℕ} {p q : Texts}
-      → HasWritten in_look out_look report_look start now xs p → xs ≡ ys → p ≡ q
-      → HasWritten in_look out_look report_look start now ys q
+      → HasWritten look start now xs p → xs ≡ ys → p ≡ q
+      → HasWritten look start now ys q
   written_as {start} {now} {xs} {ys} {p} {q} written bytes texts =
-      let P : List ℕ → Type 0 = λ b. HasWritten in_look out_look report_look start now b q in
-      let Q : Texts → Type 0 = λ t. HasWritten in_look out_look report_look start now xs t in
+      let P : List ℕ → Type 0 = λ b. HasWritten look start now b q in
+      let Q : Texts → Type 0 = λ t. HasWritten look start now xs t in
       subst P bytes (subst Q texts written)
 
   -- given bytes and written texts, after what was written before
   pub written_given : (start : Devices R W E) (old new : Source R) (w : Writers W E)
       (history bytes : List ℕ) (texts : Texts)
-      → HasWritten in_look out_look report_look start (place_of old w) history texts
-      → Takes in_look old new bytes
-      → HasWritten in_look out_look report_look start (place_of new w) (history ++ bytes) texts
+      → HasWritten look start (place_of old w) history texts
+      → Takes look.input old new bytes
+      → HasWritten look start (place_of new w) (history ++ bytes) texts
   written_given start old new w history bytes texts written takes =
-      written_as (written_then in_look out_look report_look start (place_of old w) (place_of new w) history bytes texts no_texts written (takes_moves old new w bytes takes)) refl (then_none texts)
+      written_as (written_then look start (place_of old w) (place_of new w) history bytes texts no_texts written (takes_moves old new w bytes takes)) refl (then_none texts)
 
   pub written_more : (start : Devices R W E) (s : Source R) (old new : Writers W E)
       (history : List ℕ) (before texts : Texts)
-      → HasWritten in_look out_look report_look start (place_of s old) history before
-      → Writes out_look report_look old new texts
-      → HasWritten in_look out_look report_look start (place_of s new) history (before then texts)
+      → HasWritten look start (place_of s old) history before
+      → Writes look.output look.report old new texts
+      → HasWritten look start (place_of s new) history (before then texts)
   written_more start s old new history before texts written writes =
-      written_as (written_then in_look out_look report_look start (place_of s old) (place_of s new) history [] before texts written (writes_moves s old new texts writes)) (append-nil history) refl
+      written_as (written_then look start (place_of s old) (place_of s new) history [] before texts written (writes_moves s old new texts writes)) (append-nil history) refl
 
   pub sound_given : (old new : Source R) (w : Writers W E) (bytes : List ℕ)
-      → NoneFailed in_look out_look report_look (devices_at (place_of old w))
-      → Takes in_look old new bytes
-      → NoneFailed in_look out_look report_look (devices_at (place_of new w))
+      → NoneFailed look (devices_at (place_of old w))
+      → Takes look.input old new bytes
+      → NoneFailed look (devices_at (place_of new w))
   sound_given old new w bytes sound takes = record { reader = takes.device ∙ sound.reader; output = sound.output; report = sound.report }
 
   pub sound_written : (s : Source R) (old new : Writers W E) (texts : Texts)
-      → NoneFailed in_look out_look report_look (devices_at (place_of s old))
-      → Writes out_look report_look old new texts
-      → NoneFailed in_look out_look report_look (devices_at (place_of s new))
+      → NoneFailed look (devices_at (place_of s old))
+      → Writes look.output look.report old new texts
+      → NoneFailed look (devices_at (place_of s new))
   sound_written s old new texts sound writes = record { reader = sound.reader; output = writes.output_sound ∙ sound.output; report = writes.report_sound ∙ sound.report }
 
   -- ---- how a run ends
 
   -- all of the input was given
-  pub all_given : (s : Source R) (w : Writers W E) → IsOver in_look s
-      → AllGiven in_look out_look report_look (devices_at (place_of s w)) (window_of s)
+  pub all_given : (s : Source R) (w : Writers W E) → IsOver look.input s
+      → AllGiven look (devices_at (place_of s w)) (window_of s)
   all_given s w over = (none_between s.window s.start s.end over.ended.1, over.empty)
 
   -- the run has written all that there is
   pub answered : (tool : Tool) (start : Devices R W E) (s : Source R) (w : Writers W E)
       (given : List ℕ) (status : Status)
-      → HasWritten in_look out_look report_look start (place_of s w) given (tool.whole given).texts
-      → NoneFailed in_look out_look report_look (devices_at (place_of s w))
+      → HasWritten look start (place_of s w) given (tool.whole given).texts
+      → NoneFailed look (devices_at (place_of s w))
       → status.0 ≡ (tool.whole given).status
-      → AllGiven in_look out_look report_look (devices_at (place_of s w)) (window_of s)
+      → AllGiven look (devices_at (place_of s w)) (window_of s)
       ⊎ ((more : List ℕ) → tool.whole (given ++ more) ≡ tool.whole given)
       → length (window_of s) < window_size
-      → FinishedRun in_look out_look report_look tool start (devices_at (place_of s w)) given status
+      → FinishedRun look tool start (devices_at (place_of s w)) given status
   answered tool start s w given status written sound ends settled few = record {
     unread = window_of s;
     few = few;
-    written = written_left in_look out_look report_look start (place_of s w) given (tool.whole given).texts written;
+    written = written_left look start (place_of s w) given (tool.whole given).texts written;
     sound = sound;
     ends = ends;
     settled = settled;
@@ -244,7 +234,7 @@ module _ {R W E : Type 0} (in_look : R → Input) (out_look : W → Output)
   -- where a text that is due lacks some bytes, and the input ends in a fault, one of the whole texts does
   lacking : (tool : Tool) (now : Devices R W E) (given unread : List ℕ) (due : Texts)
       (output report : ℕ) → ReportsFaults tool
-      → AreDue in_look out_look report_look tool now given unread due
+      → AreDue look tool now given unread due
       → report ≤ length due.report → (output < length due.output) ⊎ (report < length due.report)
       → (tool.whole given).status ≡ 3
       → (output < length (tool.whole given).texts.output)
@@ -262,18 +252,18 @@ module _ {R W E : Type 0} (in_look : R → Input) (out_look : W → Output)
   -- a writer failed in texts that are due
   pub writer_lost : (tool : Tool) → ReportsFaults tool → (start : Devices R W E) (s : Source R)
       (old new : Writers W E) (given : List ℕ) (before texts due : Texts) (fault : IoFault)
-      → HasWritten in_look out_look report_look start (place_of s old) given before
-      → NoneFailed in_look out_look report_look (devices_at (place_of s old))
+      → HasWritten look start (place_of s old) given before
+      → NoneFailed look (devices_at (place_of s old))
       → before then texts ≡ due
-      → AreDue in_look out_look report_look tool (devices_at (place_of s new)) given (window_of s)
+      → AreDue look tool (devices_at (place_of s new)) given (window_of s)
       due
       → length (window_of s) < window_size → (0 < length texts.output → Stood tool given before)
-      → WritesPart out_look report_look old new texts fault
-      → EndedRun in_look out_look report_look tool start (devices_at (place_of s new)) given
+      → WritesPart look.output look.report old new texts fault
+      → EndedRun look tool start (devices_at (place_of s new)) given
       (Err fault)
   writer_lost tool faults start s old new given before texts due fault written sound same are_due few stood part =
-      let last : Moves in_look out_look report_look (place_of s old) (place_of s new) [] (record { output = take part.output_count texts.output; report = take part.report_count texts.report }) = record {
-        takes = Consumes-nil (ahead in_look s);
+      let last : Moves look (place_of s old) (place_of s new) [] (record { output = take part.output_count texts.output; report = take part.report_count texts.report }) = record {
+        takes = Consumes-nil (ahead look.input s);
         count = omega arith;
         writes = part.output;
         reports = part.report;
@@ -286,7 +276,7 @@ module _ {R W E : Type 0} (in_look : R → Input) (out_look : W → Output)
       texts_as
       (sym (ap (λ (t : Texts). take output t.output) (sym same) ∙ take-append-add before.output texts.output part.output_count))
       (sym (ap (λ (t : Texts). take report t.report) (sym same) ∙ take-append-add before.report texts.report part.report_count)) in
-      let cut_off = written_as (written_then in_look out_look report_look start (place_of s old) (place_of s new) given [] before _ written last) (append-nil given) cut in
+      let cut_off = written_as (written_then look start (place_of s old) (place_of s new) given [] before _ written last) (append-nil given) cut in
       rw part.kind (record {
         unread = window_of s;
         few = few;
@@ -294,7 +284,7 @@ module _ {R W E : Type 0} (in_look : R → Input) (out_look : W → Output)
         are_due = are_due;
         output = output;
         report = report;
-        written = written_left in_look out_look report_look start (place_of s new) given _ cut_off;
+        written = written_left look start (place_of s new) given _ cut_off;
         reader = sound.reader;
         failed = ⊎_elim
             (λ lost. let less = lost.part in inl (lost.failed, lost.report_sound ∙ sound.report, behind tool given before part.output_count part.report_count (stood (omega arith)) lost.none))
@@ -312,16 +302,16 @@ module _ {R W E : Type 0} (in_look : R → Input) (out_look : W → Output)
   -- a writer failed when what was written was handed on
   pub settle_lost : (tool : Tool) → ReportsFaults tool → (start : Devices R W E) (s : Source R)
       (old new : Writers W E) (given : List ℕ) (fault : IoFault)
-      → HasWritten in_look out_look report_look start (place_of s old) given (tool.sofar given)
-      → NoneFailed in_look out_look report_look (devices_at (place_of s old))
+      → HasWritten look start (place_of s old) given (tool.sofar given)
+      → NoneFailed look (devices_at (place_of s old))
       → tool.shows given ≡ false → length (window_of s) < window_size
-      → Unsettled out_look report_look old new fault
-      → EndedRun in_look out_look report_look tool start (devices_at (place_of s new)) given
+      → Unsettled look.output look.report old new fault
+      → EndedRun look tool start (devices_at (place_of s new)) given
       (Err fault)
   settle_lost tool faults start s old new given fault written sound unshown few part =
       let due = tool.sofar given in
-      let kept : Moves in_look out_look report_look (place_of s old) (place_of s new) [] no_texts = record {
-        takes = Consumes-nil (ahead in_look s);
+      let kept : Moves look (place_of s old) (place_of s new) [] no_texts = record {
+        takes = Consumes-nil (ahead look.input s);
         count = omega arith;
         writes = part.output;
         reports = part.report;
@@ -335,11 +325,11 @@ module _ {R W E : Type 0} (in_look : R → Input) (out_look : W → Output)
         are_due = inl refl;
         output = length due.output;
         report = length due.report;
-        written = written_left in_look out_look report_look start (place_of s new) given _
-            (written_as (written_then in_look out_look report_look start (place_of s old) (place_of s new) given [] due no_texts written kept) (append-nil given) all);
+        written = written_left look start (place_of s new) given _
+            (written_as (written_then look start (place_of s old) (place_of s new) given [] due no_texts written kept) (append-nil given) all);
         reader = sound.reader;
         failed = ⊎_elim
-            (λ is. inl (is.0, ap (λ e. (report_look e).failed) is.1 ∙ sound.report, inr (record { front = given; rest = []; parts = sym (append-nil given); output = omega arith; report = omega arith })))
+            (λ is. inl (is.0, ap (λ e. (look.report e).failed) is.1 ∙ sound.report, inr (record { front = given; rest = []; parts = sym (append-nil given); output = omega arith; report = omega arith })))
             (λ is. inr (is.0, is.1 ∙ sound.output, omega arith))
             part.failed;
         unended = λ shown. absurd (cc);
@@ -349,18 +339,18 @@ module _ {R W E : Type 0} (in_look : R → Input) (out_look : W → Output)
   -- the source stopped after some bytes, and what is due was written
   pub reader_lost : (tool : Tool) (start : Devices R W E) (old new : Source R) (w : Writers W E)
       (history given : List ℕ) (texts : Texts) (fault : IoFault)
-      → HasWritten in_look out_look report_look start (place_of old w) history texts
-      → NoneFailed in_look out_look report_look (devices_at (place_of old w))
+      → HasWritten look start (place_of old w) history texts
+      → NoneFailed look (devices_at (place_of old w))
       → texts ≡ tool.sofar (history ++ given) → tool.shows (history ++ given) ≡ false
-      → StopsAfter in_look old new given fault
-      → EndedRun in_look out_look report_look tool start (devices_at (place_of new w))
+      → StopsAfter look.input old new given fault
+      → EndedRun look tool start (devices_at (place_of new w))
       (history ++ given) (Err fault)
   reader_lost tool start old new w history given texts io.Read written sound due unshown stops =
       let none : given ++ stops.past ≡ given = rw stops.cause.0 (append-nil given) in
       record {
         unshown = unshown;
         written = record {
-          takes = rw none at (Consumes-trans (in_look start.reader).left (ahead in_look old) (in_look new.reader).left history (given ++ stops.past) written.takes stops.next);
+          takes = rw none at (Consumes-trans (look.input start.reader).left (ahead look.input old) (look.input new.reader).left history (given ++ stops.past) written.takes stops.next);
           writes = rw due at written.writes;
           reports = rw due at written.reports;
         };
@@ -378,7 +368,7 @@ module _ {R W E : Type 0} (in_look : R → Input) (out_look : W → Output)
         few = stops.cause.0;
         limit = omega (arith, length-append history given);
         written = record {
-          takes = rw (← append_assoc history given stops.past) at (Consumes-trans (in_look start.reader).left (ahead in_look old) (in_look new.reader).left history (given ++ stops.past) written.takes stops.next);
+          takes = rw (← append_assoc history given stops.past) at (Consumes-trans (look.input start.reader).left (ahead look.input old) (look.input new.reader).left history (given ++ stops.past) written.takes stops.next);
           writes = rw due at written.writes;
           reports = rw due at written.reports;
         };
@@ -454,11 +444,12 @@ module _ {W E : Type 0} (out_look : W → Output) (report_look : E → Output) w
         part.failed;
   }
 
+module _ {R W E : Type 0} (look : Looks R W E) where
   -- what was written was handed on: it is written still
-  pub settle_kept : {R : Type 0} (in_look : R → Input) (start : Devices R W E) (s : Source R)
-      (old new : Writers W E) (history : List ℕ) (texts : Texts)
-      → HasWritten in_look out_look report_look start (place_of s old) history texts
-      → Writes out_look report_look old new no_texts
-      → HasWritten in_look out_look report_look start (place_of s new) history texts
-  settle_kept in_look start s old new history texts written writes =
-      written_as in_look out_look report_look (written_more in_look out_look report_look start s old new history texts no_texts written writes) refl (then_none texts)
+  pub settle_kept : (start : Devices R W E) (s : Source R) (old new : Writers W E)
+      (history : List ℕ) (texts : Texts)
+      → HasWritten look start (place_of s old) history texts
+      → Writes look.output look.report old new no_texts
+      → HasWritten look start (place_of s new) history texts
+  settle_kept start s old new history texts written writes =
+      written_as look (written_more look start s old new history texts no_texts written writes) refl (then_none texts)

@@ -1,4 +1,5 @@
 pub mod Run
+pub mod Made
 pub mod Writers
-pub mod Ends
 pub mod Reading
+pub mod Stages

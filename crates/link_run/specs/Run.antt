@@ -16,6 +16,15 @@ pub record Texts : Type 0 where
   pub output : List ℕ
   pub report : List ℕ
 
+abbrev pub no_texts : Texts
+no_texts = record { output = []; report = [] }
+
+-- one text after another
+infixr 30 ◌then◌
+abbrev pub ◌then◌ : Texts → Texts → Texts
+first then second =
+    record { output = first.output ++ second.output; report = first.report ++ second.report }
+
 -- what comes of a whole input
 pub record Outcome : Type 0 where
   pub texts : Texts
@@ -34,6 +43,15 @@ pub record Devices (R W E : Type 0) : Type 0 where
   pub output : W
   pub report : E
 
+-- What is seen of the three devices: the bytes left or written, and whether the device has failed.
+pub record Looks (R W E : Type 0) : Type 0 where
+  pub input : R → Input
+  pub output : W → Output
+  pub report : E → Output
+
+abbrev pub looks : {R W E : Type 0} → (R → Input) → (W → Output) → (E → Output) → Looks R W E
+looks input output report = record { input = input; output = output; report = report }
+
 -- where a run stands: what it reads, over the reader, and what it writes to
 pub record Place (R W E : Type 0) : Type 0 where
   pub source : Source R
@@ -48,6 +66,11 @@ devices_at place =
 abbrev pub answer_of : Result Status IoFault → Result Progress IoFault
 answer_of (Ok status) = Ok (Done status)
 answer_of (Err fault) = Err fault
+
+-- a step that has written what was due goes on
+abbrev pub progress_after : Result (Unit {0}) IoFault → Result Progress IoFault
+progress_after (Ok done) = Ok More
+progress_after (Err fault) = Err fault
 
 -- The first `report_count` bytes of the report are not ahead of the output: a prefix of the bytes given determines at least
 -- as much of the report, and the first `output_count` bytes of the output hold all output that this prefix determines.
@@ -70,42 +93,40 @@ module _ {R : Type 0} where
     pub window : length (window_of new) < window_size
     pub at : stands (history ++ given)
 
--- `in_look`, `out_look` and `report_look` are what a contract sees of the devices.
-module _ {R W E : Type 0} (in_look : R → Input) (out_look : W → Output)
-    (report_look : E → Output) where
+module _ {R W E : Type 0} (look : Looks R W E) where
   -- no device has failed
   pub record NoneFailed (devices : Devices R W E) : Type 0 where
-    pub reader : (in_look devices.reader).failed ≡ false
-    pub output : (out_look devices.output).failed ≡ false
-    pub report : (report_look devices.report).failed ≡ false
+    pub reader : (look.input devices.reader).failed ≡ false
+    pub output : (look.output devices.output).failed ≡ false
+    pub report : (look.report devices.report).failed ≡ false
 
   -- from old to new these bytes were given, and these texts were written
   pub record Moves (old new : Place R W E) (bytes : List ℕ) (texts : Texts) : Type 0 where
-    pub takes : Consumes (ahead in_look old.source) (ahead in_look new.source) bytes
+    pub takes : Consumes (ahead look.input old.source) (ahead look.input new.source) bytes
     pub count : given_by new.source ≡ given_by old.source + length bytes
-    pub writes : Appends (out_look old.output).written (out_look new.output).written texts.output
-    pub reports : Appends (report_look old.report).written
-        (report_look new.report).written texts.report
+    pub writes : Appends (look.output old.output).written (look.output new.output).written texts.output
+    pub reports : Appends (look.report old.report).written
+        (look.report new.report).written texts.report
 
   -- since the devices stood as in `start`, these bytes were given, and these texts were written
   pub record HasWritten (start : Devices R W E) (now : Place R W E) (bytes : List ℕ)
       (texts : Texts) : Type 0 where
-    pub takes : Consumes (in_look start.reader).left (ahead in_look now.source) bytes
+    pub takes : Consumes (look.input start.reader).left (ahead look.input now.source) bytes
     pub count : given_by now.source ≡ length bytes
-    pub writes : Appends (out_look start.output).written (out_look now.output).written texts.output
-    pub reports : Appends (report_look start.report).written
-        (report_look now.report).written texts.report
+    pub writes : Appends (look.output start.output).written (look.output now.output).written texts.output
+    pub reports : Appends (look.report start.report).written
+        (look.report now.report).written texts.report
 
   -- the same of devices that were handed back: these bytes were taken
   pub record HandedBack (start now : Devices R W E) (bytes : List ℕ) (texts : Texts) : Type 0 where
-    pub takes : Consumes (in_look start.reader).left (in_look now.reader).left bytes
-    pub writes : Appends (out_look start.output).written (out_look now.output).written texts.output
-    pub reports : Appends (report_look start.report).written
-        (report_look now.report).written texts.report
+    pub takes : Consumes (look.input start.reader).left (look.input now.reader).left bytes
+    pub writes : Appends (look.output start.output).written (look.output now.output).written texts.output
+    pub reports : Appends (look.report start.report).written
+        (look.report now.report).written texts.report
 
   -- all of the input was given
   abbrev pub AllGiven : Devices R W E → (unread : List ℕ) → Type 0
-  AllGiven now unread = (unread ≡ []) × IsAtEnd (in_look now.reader).left
+  AllGiven now unread = (unread ≡ []) × IsAtEnd (look.input now.reader).left
 
   -- The run has written what comes of the bytes that it was given, and no device failed. They are all of the input, or what comes of
   -- them is the same however they go on. Nothing was read that was not needed: less than a window of bytes was read and not given.
@@ -124,9 +145,9 @@ module _ {R W E : Type 0} (in_look : R → Input) (out_look : W → Output)
   pub record LostReader (tool : Tool) (start now : Devices R W E) (given : List ℕ) : Type 0 where
     pub unshown : tool.shows given ≡ false
     pub written : HandedBack start now given (tool.sofar given)
-    pub failed : (in_look now.reader).failed ≡ true
-    pub output : (out_look now.output).failed ≡ false
-    pub report : (report_look now.report).failed ≡ false
+    pub failed : (look.input now.reader).failed ≡ true
+    pub output : (look.output now.output).failed ≡ false
+    pub report : (look.report now.report).failed ≡ false
 
   -- A byte past the limit was read, and no device failed: the bytes `past` of the last read were not given, those before them
   -- show no fault, and the texts are those that these determine.
@@ -136,9 +157,9 @@ module _ {R W E : Type 0} (in_look : R → Input) (out_look : W → Output)
     pub few : length past ≤ window_size
     pub limit : longest_input < length given + length past
     pub written : HandedBack start now (given ++ past) (tool.sofar given)
-    pub reader : (in_look now.reader).failed ≡ false
-    pub output : (out_look now.output).failed ≡ false
-    pub report : (report_look now.report).failed ≡ false
+    pub reader : (look.input now.reader).failed ≡ false
+    pub output : (look.output now.output).failed ≡ false
+    pub report : (look.report now.report).failed ≡ false
 
   -- the texts that the bytes given determine; where they are all of the input, it may be those of the whole input
   abbrev pub AreDue : Tool → Devices R W E → (given unread : List ℕ) → Texts → Type 0
@@ -150,9 +171,9 @@ module _ {R W E : Type 0} (in_look : R → Input) (out_look : W → Output)
   abbrev pub IsLost : Tool → Devices R W E → (given : List ℕ) → (due : Texts)
       → (output report : ℕ) → Type 0
   IsLost tool now given due output report =
-      (((out_look now.output).failed ≡ true) × ((report_look now.report).failed ≡ false)
+      (((look.output now.output).failed ≡ true) × ((look.report now.report).failed ≡ false)
       × ((report ≡ 0) ⊎ IsBehind tool given output report))
-      ⊎ (((report_look now.report).failed ≡ true) × ((out_look now.output).failed ≡ false)
+      ⊎ (((look.report now.report).failed ≡ true) × ((look.output now.output).failed ≡ false)
       × (length due.output ≤ output))
 
   -- One writer failed, and not the reader: the texts are prefixes of those that are due (`AreDue`). Where the bytes given show a
@@ -167,11 +188,11 @@ module _ {R W E : Type 0} (in_look : R → Input) (out_look : W → Output)
     pub report : ℕ
     pub written : HandedBack start now (given ++ unread)
         (record { output = take output due.output; report = take report due.report })
-    pub reader : (in_look now.reader).failed ≡ false
+    pub reader : (look.input now.reader).failed ≡ false
     pub failed : IsLost tool now given due output report
     pub unended : tool.shows given ≡ true
         → (output < length due.output)
-        ⊎ (((report_look now.report).failed ≡ true) × (report < length due.report))
+        ⊎ (((look.report now.report).failed ≡ true) × (report < length due.report))
     pub unreported : AllGiven now unread → (tool.whole given).status ≡ 3
         → (output < length (tool.whole given).texts.output)
         ⊎ (report < length (tool.whole given).texts.report)

@@ -5,6 +5,10 @@ use Rattle.link_wire.specs.Device.{Output}
 use Rattle.link_wire.specs.declared.IoFault.{IoFault}
 use Rattle.link_wire.specs.declared.IoFault.TheVariants as io
 use Rattle.link_wire.specs.declared.Source.{Source}
+use Rattle.link_wire.specs.declared.fault.Stop.{Stop}
+use Rattle.link_wire.specs.declared.fault.Stop.TheVariants as stop
+use Rattle.link_report.specs.Fault.{fault_text}
+use Rattle.link_report.specs.declared.fault.Fault.TheVariants.{Wire}
 use Rattle.link_run.specs.Run.{Texts, Place}
 use Rattle.link_run.specs.declared.run.Status.{Status}
 use Rattle.link_run.specs.declared.writers.Writers.{Writers}
@@ -65,14 +69,22 @@ module _ {W E : Type 0} (out_look : W → Output) (report_look : E → Output) w
   GivesTexts old new texts (Ok done) = Writes old new texts
   GivesTexts old new texts (Err fault) = WritesPart old new texts fault
 
-  -- a fault's line was written to the report, and the run ends with the status of a fault
-  pub record Reports (old new : Writers W E) (text : List ℕ) (status : Status) : Type 0 where
-    pub writes : Writes old new (on_report text)
-    pub ends : status.0 ≡ 3
+  -- some texts were written, or a writer failed
+  abbrev pub WritesSome : {A : Type 0} → Writers W E → Writers W E → Result A IoFault → Type 0
+  WritesSome old new (Ok value) = (texts : Texts) × Writes old new texts
+  WritesSome old new (Err fault) = fault ≡ io.Write
 
-  abbrev pub GivesReport : Writers W E → Writers W E → List ℕ → Result Status IoFault → Type 0
-  GivesReport old new text (Ok status) = Reports old new text status
-  GivesReport old new text (Err fault) = WritesPart old new (on_report text) fault
+  -- these texts were written, and the run ends with this status; or a writer failed in them
+  abbrev pub GivesLast : Writers W E → Writers W E → Texts → (status : ℕ)
+      → Result Status IoFault → Type 0
+  GivesLast old new texts status (Ok ended) = Writes old new texts × (ended.0 ≡ status)
+  GivesLast old new texts status (Err fault) = WritesPart old new texts fault
+
+  -- the line of a fault of the wire was written; a failure is returned as it is
+  abbrev pub GivesEnd : Stop → Writers W E → Writers W E → Result Status IoFault → Type 0
+  GivesEnd (stop.Wire offset fault) old new answer =
+      GivesLast old new (on_report (fault_text (Wire offset fault))) 3 answer
+  GivesEnd (stop.Io fault) old new answer = (answer ≡ Err fault) × (new ≡ old)
 
   -- What was written stays, and a writer failed. The output is handed on before the report.
   pub record Unsettled (old new : Writers W E) (fault : IoFault) : Type 0 where

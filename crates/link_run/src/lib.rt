@@ -1,22 +1,26 @@
-//! What the runs of the tools have in common: each reads a device step by step, and writes an output and a report.
+//! What the runs of the tools have in common: each reads an input step by step, and writes an
+//! output and a report.
 //!
-//! A tool is a [`Run`]: it gives the steps, and `run` is the whole of them. A step reads messages by [`next_message`] and data by
-//! [`load_data`], or bytes by [`ready_bytes`]; each hands on what was written before it may have to wait. It writes by its [`Writers`].
+//! A tool is its [`Stages`]: what it does in a step, and what it keeps between two steps. A
+//! [`ToolRun`] has all that is the same in every tool: the devices, the answer, and what comes after
+//! the end. A stage reads by the calls of an [`Input`], which hand on what was written before a
+//! read that may have to wait. It writes by its [`Writers`].
 //!
 //! ```ignore
-//! match next_message(&mut session, &mut writers, &mut message) {
+//! match input.next_message(writers, &mut message) {
 //!     Ok(Some(offset)) => {}               // its head was read; its data is still to come
 //!     Ok(None) => {}                       // the stream has ended between two messages
-//!     Err(Stop::Wire(offset, fault)) => {} // a fault of the stream
-//!     Err(Stop::Io(fault)) => {}           // a device failed
+//!     Err(stop) => return writers.end(stop), // a fault of the stream, or a device failed
 //! }
 //! ```
 #![tactic(auto)]
 
-mod reading;
+mod input;
 mod run;
+mod stages;
 mod writers;
 
-pub use reading::{load_data, next_message, ready_bytes};
+pub use input::{Feed, Input};
 pub use run::{Progress, Run, RunEnd, Status};
+pub use stages::{Stages, ToolRun};
 pub use writers::Writers;

@@ -1,8 +1,9 @@
 //! What every run of a tool is: steps, and the whole of them.
 
-ghost use Rattle.std.specs.Prelude.{◌≡◌, ℕ, List, [], Result};
+ghost use Rattle.std.specs.Prelude.{◌≡◌, ◌<◌, ℕ, List, [], Result, Err};
 ghost use Rattle.link_wire.specs.declared.IoFault.{IoFault};
-ghost use Rattle.link_run.specs.Run.{Tool, Devices, Place, devices_at, GivesStep, GivesAnswer, IsEnd};
+ghost use Rattle.link_run.specs.Run.{Tool, Devices, Place, devices_at, looks, GivesStep, GivesAnswer, IsEnd};
+ghost use Rattle.link_run.specs.Stages.{HandedOn};
 ghost use Rattle.link_run.specs.declared.run.Progress.{Progress};
 
 use link_wire::{InDevice, IoFault, OutDevice};
@@ -27,6 +28,32 @@ pub enum Progress {
     More,
     /// The run has ended.
     Done(Status),
+}
+
+impl Progress {
+    ghost use Rattle.link_run.specs.Run.{answer_of, progress_after};
+
+    /// What a step returns that has written what was due.
+    #[inline(always)]
+    pub fn after(written: Result<(), IoFault>) -> Result<Progress, IoFault>
+        ensures { result ≡ progress_after written }
+    {
+        match written {
+            Ok(()) => Ok(Progress::More),
+            Err(fault) => Err(fault),
+        }
+    }
+
+    /// What the last step of a run returns.
+    #[inline(always)]
+    pub fn ended(answer: Result<Status, IoFault>) -> Result<Progress, IoFault>
+        ensures { result ≡ answer_of answer }
+    {
+        match answer {
+            Ok(status) => Ok(Progress::Done(status)),
+            Err(fault) => Err(fault),
+        }
+    }
 }
 
 /// A run that has ended: its devices as they stand, and its answer.
@@ -56,6 +83,9 @@ pub trait Run<R: InDevice, W: OutDevice, E: OutDevice>: Sized {
     // the most bytes that its next step is given: none where it writes what stands before all of them
     ghost most: { Self → ℕ };
 
+    // the input has enough left for its next step
+    ghost has_next: { Self → Type 0 };
+
     // it has ended with this answer
     ghost has_ended: { Self → Result Progress IoFault → Type 0 };
 
@@ -65,8 +95,12 @@ pub trait Run<R: InDevice, W: OutDevice, E: OutDevice>: Sized {
     fn step(&mut self) -> Result<Progress, IoFault>
         ensures tool { tool self.new ≡ tool self.old }
         ensures gives { (start : Devices R W E) (history : List ℕ) → stands self.old start history
-            → GivesStep R.state W.state E.state (tool self.old) start (place self.old)
+            → GivesStep (looks R.state W.state E.state) (tool self.old) start (place self.old)
             (place self.new) (stands self.new start) (most self.old) history result }
+        ensures handed { (start : Devices R W E) (history : List ℕ) → stands self.old start history
+            → 0 < most self.old → (result ≡ Err IoFault.Write → ⊥)
+            → HandedOn (looks R.state W.state E.state) W.handed E.handed (has_next self.old)
+            (place self.old) (place self.new) }
         ensures goes_on { most self.new ≡ 0 → IsEnd result }
         ensures ends { IsEnd result → has_ended self.new result }
         ensures again { (answer : _) → has_ended self.old answer
@@ -80,7 +114,7 @@ pub trait Run<R: InDevice, W: OutDevice, E: OutDevice>: Sized {
     /// Steps to the end.
     final fn run(self) -> RunEnd<R, W, E>
         requires { stands self (devices_at (place self)) [] }
-        ensures { GivesAnswer R.state W.state E.state (tool self) (devices_at (place self))
+        ensures { GivesAnswer (looks R.state W.state E.state) (tool self) (devices_at (place self))
             (record { reader = result.reader; output = result.output; report = result.report })
             result.answer }
     {

@@ -5,7 +5,7 @@ ghost use Rattle.link_report.specs.Fault.{fault_text};
 
 use crate::run::Status;
 use link_report::{Fault, Line, fault_line};
-use link_wire::{IoFault, OutDevice, TEXT_MAX, Text, write_whole};
+use link_wire::{IoFault, OutDevice, Stop, TEXT_MAX, Text, write_whole};
 
 /// The writers of a run.
 #[derive(Drop)]
@@ -19,7 +19,7 @@ pub struct Writers<W, E> {
 }
 
 impl<W: OutDevice, E: OutDevice> Writers<W, E> {
-    ghost use Rattle.link_run.specs.Writers.{GivesTexts, GivesReport, GivesHandedOn, next_line, on_output, on_report};
+    ghost use Rattle.link_run.specs.Writers.{GivesTexts, GivesLast, GivesEnd, GivesHandedOn, next_line, on_output, on_report};
 
     /// Writers to which nothing was written.
     pub fn new(output: W, report: E) -> Writers<W, E>
@@ -119,8 +119,8 @@ impl<W: OutDevice, E: OutDevice> Writers<W, E> {
     /// Writes the line of a fault to the report, and returns the status with which the run ends.
     #[cold]
     pub fn report_fault(&mut self, fault: &Fault) -> Result<Status, IoFault>
-        ensures gives { GivesReport W.state E.state self.old self.new
-            (fault_text fault.now) result }
+        ensures gives { GivesLast W.state E.state self.old self.new
+            (on_report (fault_text fault.now)) 3 result }
         ensures output { self.new.output ≡ self.old.output }
         ensures line { next_line self.new ≡ fault_text fault.now }
     {
@@ -128,5 +128,16 @@ impl<W: OutDevice, E: OutDevice> Writers<W, E> {
         fault_line(&mut self.line, fault);
         self.report_line()?;
         Ok(Status::FAULT)
+    }
+
+    /// Ends a run whose session has stopped: the report gets the line of a fault of the wire.
+    #[cold]
+    pub fn end(&mut self, stop: Stop) -> Result<Status, IoFault>
+        ensures { GivesEnd W.state E.state stop self.old self.new result }
+    {
+        match stop {
+            Stop::Wire(offset, fault) => self.report_fault(&Fault::Wire(offset, fault)),
+            Stop::Io(fault) => Err(fault),
+        }
     }
 }

@@ -1,7 +1,6 @@
 -- A transfer begins, and another may be abandoned by it.
 use Rattle.std.proofs.Common.{◌≡◌, ℕ, inl, suc, Bool, true, false, ◌&&◌, ◌==◌, List, [], ◌∷◌, ◌++◌, length, Err, if◌then◌else◌, refl, ap, sym, ◌∙◌, subst, append-nil, arith}
 use Rattle.arrayvec.specs.ArrayVec.{ArrayVec}
-use Rattle.link_wire.specs.Device.{Input, Output}
 use Rattle.link_wire.specs.Codes.{is_start}
 use Rattle.link_wire.specs.MessageBuffer.{message_of, message_with, segment_items}
 use Rattle.link_wire.specs.Session.{source_of, left_of}
@@ -13,19 +12,19 @@ use Rattle.link_wire.specs.declared.message.Message.TheVariants.{Segment}
 use Rattle.link_wire.specs.declared.message.MessageBuffer.{MessageBuffer}
 use Rattle.link_wire.specs.declared.message.SegmentHead.{SegmentHead}
 use Rattle.link_wire.specs.declared.session.Session.{Session}
-use Rattle.link_run.specs.Run.{Texts, Devices, devices_at, EndedRun}
+use Rattle.link_run.specs.Run.{Texts, ◌then◌, Looks, Devices, devices_at, EndedRun}
 use Rattle.link_run.specs.Writers.{place_of, on_report, Writes, WritesPart}
 use Rattle.link_run.specs.declared.writers.Writers.{Writers}
-use Rattle.link_run.proofs.Runs.{◌then◌, texts_as, written_as, then_assoc, written_more, sound_written, writer_lost, part_of_more}
+use Rattle.link_run.proofs.Ends.{made_reports}
+use Rattle.link_run.proofs.Runs.{texts_as, written_as, then_assoc, written_more, sound_written, writer_lost, part_of_more}
 use Rattle.link_unpack.specs.Transfers.{heads_of, Transfer, transfers_of, settled}
-use Rattle.link_unpack.specs.Unpacking.{parts_of, line_of, lines_of, are_good, judgement_of, is_good, unpack_tool, unpacking_sofar}
+use Rattle.link_unpack.specs.Unpacking.{parts_of, line_of, lines_of, are_good, judgement_of, is_good, unpack_tool, unpacking_of}
 use Rattle.link_unpack.specs.TransferScan.{Follows, begun}
 use Rattle.link_unpack.specs.UnpackRun.{texts_of, last_lines, IsOpen, IsJoining, IsBeginning}
 use Rattle.link_unpack.specs.declared.transfer.TransferScan.{TransferScan}
 use Rattle.link_unpack.specs.declared.unpacking.Unpacker.{Unpacker}
 use Rattle.link_unpack.specs.declared.wanted.Wanted.{Wanted}
-use Rattle.link_unpack.proofs.Outcomes.{unpack_reports}
-use Rattle.link_unpack.proofs.Joins.{after_lines}
+use Rattle.link_unpack.proofs.Joins.{after_shown}
 use Rattle.link_unpack.proofs.Transfers.{part_of-begun}
 use Rattle.link_unpack.proofs.Texts.{unlined, texts_lined, parts_more, sofar_in_order, good_more, texts_open, texts_closed}
 
@@ -104,11 +103,11 @@ all_good transfer earlier transfers good before are unclosed was now =
 
 -- ---- the head of a first segment, and what is written then
 
-module _ {R W E : Type 0} (in_look : R → Input) (out_look : W → Output) (report_look : E → Output)
+module _ {R W E : Type 0} (look : Looks R W E)
     (start : Devices R W E) where
   module _ (abandoned last : Bool) (s : Session R) (w : Writers W E) (u : Unpacker)
       (message : MessageBuffer) (history : List ℕ)
-      (at : IsBeginning in_look out_look report_look start abandoned last s w u message history) where
+      (at : IsBeginning look start abandoned last s w u message history) where
     abbrev pub new : Transfer
     new = begun at.head (last && (left_of s == 0))
 
@@ -121,10 +120,10 @@ module _ {R W E : Type 0} (in_look : R → Input) (out_look : W → Output) (rep
         ∙ texts_as (sym (parts_more u.latest.wanted new at.transfers ∙ ap (λ (xs : List ℕ). parts_of u.latest.wanted at.transfers ++ xs) (part_of-begun u.latest.wanted at.head (last && (left_of s == 0))) ∙ append-nil _)) refl
 
     pub joining : (after : Writers W E) (v : Unpacker)
-        → Writes out_look report_look w after (on_report (last_lines u.latest.wanted at.transfers))
+        → Writes look.output look.report w after (on_report (last_lines u.latest.wanted at.transfers))
         → v.good ≡ are_good at.transfers → v.joiner ≡ u.joiner → v.latest.wanted ≡ u.latest.wanted
         → v.latest.total ≡ u.latest.total → Follows v.latest new at.transfers
-        → IsJoining in_look out_look report_look start last s after v history
+        → IsJoining look start last s after v history
     joining after v writes good joiner wanted total follows = record {
       session = at.session;
       window = at.window;
@@ -135,36 +134,36 @@ module _ {R W E : Type 0} (in_look : R → Input) (out_look : W → Output) (rep
       are = at.are;
       closed = refl;
       follows = follows;
-      written = rw wanted (written_as in_look out_look report_look (written_more in_look out_look report_look start (source_of s) w after history _ _ at.written writes) refl mid_texts);
-      sound = sound_written in_look out_look report_look (source_of s) w after _ at.sound writes;
+      written = rw wanted (written_as look (written_more look start (source_of s) w after history _ _ at.written writes) refl mid_texts);
+      sound = sound_written look (source_of s) w after _ at.sound writes;
       total = rw total at.total;
       good = good;
       opened = at.opened;
       after = at.after;
     }
 
-    sofar : unpacking_sofar u.latest.wanted history
+    sofar : (unpack_tool u.latest.wanted).sofar history
         ≡ texts_of u.latest.wanted (transfers_of (heads_of (reading_of history)))
-    sofar = sofar_in_order u.latest.wanted history at.in_order (after_lines last (left_of s) (reading_of history).end at.after)
+    sofar = sofar_in_order u.latest.wanted history at.in_order (after_shown last (left_of s) (reading_of history).end at.after)
 
     -- the line was not written whole: that of the new transfer is due too if it is closed
     abandon_lost_by : (closed : Bool) → (last && (left_of s == 0)) ≡ closed → (after : Writers W E)
-        (fault : IoFault) → WritesPart out_look report_look w after
+        (fault : IoFault) → WritesPart look.output look.report w after
         (on_report (last_lines u.latest.wanted at.transfers)) fault
-        → EndedRun in_look out_look report_look (unpack_tool u.latest.wanted) start
+        → EndedRun look (unpack_tool u.latest.wanted) start
         (devices_at (place_of (source_of s) after)) history (Err fault)
     abandon_lost_by true is after fault part =
         let more = on_report (line_of u.latest.wanted new at.transfers) in
-        writer_lost in_look out_look report_look (unpack_tool u.latest.wanted) (unpack_reports u.latest.wanted) start (source_of s) w after history _ _ _ fault at.written at.sound
+        writer_lost look (unpack_tool u.latest.wanted) (made_reports (unpacking_of u.latest.wanted)) start (source_of s) w after history _ _ _ fault at.written at.sound
         (then_assoc (texts_of u.latest.wanted at.transfers) (on_report (last_lines u.latest.wanted at.transfers)) more ∙ ap (λ (t : Texts). t then more) mid_texts ∙ texts_closed u.latest.wanted new at.transfers is ∙ ap (texts_of u.latest.wanted) (sym at.are) ∙ sym sofar)
-        (inl refl) at.window (λ none. absurd (omega arith)) (part_of_more out_look report_look w after _ more fault (λ some. refl) part)
+        (inl refl) at.window (λ none. absurd (omega arith)) (part_of_more look.output look.report w after _ more fault (λ some. refl) part)
     abandon_lost_by false is after fault part =
-        writer_lost in_look out_look report_look (unpack_tool u.latest.wanted) (unpack_reports u.latest.wanted) start (source_of s) w after history _ _ _ fault at.written at.sound
+        writer_lost look (unpack_tool u.latest.wanted) (made_reports (unpacking_of u.latest.wanted)) start (source_of s) w after history _ _ _ fault at.written at.sound
         (mid_texts ∙ sym (texts_open u.latest.wanted new at.transfers is) ∙ ap (texts_of u.latest.wanted) (sym at.are) ∙ sym sofar) (inl refl) at.window (λ none. absurd (omega arith)) part
 
     pub abandon_lost : (after : Writers W E) (fault : IoFault)
-        → WritesPart out_look report_look w after
+        → WritesPart look.output look.report w after
         (on_report (last_lines u.latest.wanted at.transfers)) fault
-        → EndedRun in_look out_look report_look (unpack_tool u.latest.wanted) start
+        → EndedRun look (unpack_tool u.latest.wanted) start
         (devices_at (place_of (source_of s) after)) history (Err fault)
     abandon_lost after fault part = abandon_lost_by (last && (left_of s == 0)) refl after fault part

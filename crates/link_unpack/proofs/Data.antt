@@ -1,41 +1,34 @@
 -- Data of a segment has come.
 use Rattle.std.proofs.Common.{◌≡◌, ℕ, ◌+◌, ◌^◌, ◌<◌, ◌≤◌, inl, inr, Bool, true, false, not, ◌&&◌, ◌==◌, nat_lt, is_some, List, [], ◌∷◌, ◌++◌, length, Err, if◌then◌else◌, refl, ap, sym, ◌∙◌, subst, append-nil, append_assoc, length-append, arith}
 use Rattle.std.proofs.lemmas.Bool.{ltb-true, ltb-false}
-use Rattle.link_wire.specs.Device.{Input, Output}
 use Rattle.link_wire.specs.Message.{data_length}
-use Rattle.link_wire.specs.Session.{source_of, left_of, joined, data_after, IsLeft, PassedBytes, LoadedData, GivesLoad}
+use Rattle.link_wire.specs.Session.{source_of, left_of, joined, data_after, IsLeft, PassedBytes, LoadedData}
 use Rattle.link_wire.specs.Stream.{Entry, End, Clean, Cut, Fault, ended, with_entry, Reading, reading_of}
 use Rattle.link_wire.specs.declared.IoFault.{IoFault}
-use Rattle.link_wire.specs.declared.fault.Stop.{Stop}
-use Rattle.link_wire.specs.declared.fault.Stop.TheVariants as stop
 use Rattle.link_wire.specs.declared.message.Message.{Message}
 use Rattle.link_wire.specs.declared.message.SegmentHead.{SegmentHead}
 use Rattle.link_wire.specs.declared.session.Session.{Session}
 use Rattle.link_wire.specs.Source.{Takes}
 use Rattle.link_io.proofs.Sources.{Readies-takes}
 use Rattle.link_transfer.specs.Order.{open_of}
-use Rattle.link_report.specs.Fault.{fault_text}
-use Rattle.link_report.specs.declared.fault.Fault.TheVariants.{Wire}
-use Rattle.link_run.specs.Ends.{end_lines, end_status}
-use Rattle.link_run.specs.Run.{Texts, Devices, devices_at, NoneFailed, HasWritten, EndedRun}
+use Rattle.link_run.specs.Run.{Texts, ◌then◌, Looks, Devices, devices_at, NoneFailed, HasWritten, EndedRun}
+use Rattle.link_run.specs.Stages.{Stands}
 use Rattle.link_run.specs.Writers.{place_of, on_output, on_report, Writes, WritesPart}
 use Rattle.link_run.specs.declared.writers.Writers.{Writers}
-use Rattle.link_run.proofs.Ends.{standing_lines, standing_shown}
-use Rattle.link_run.proofs.Runs.{◌then◌, then_assoc, texts_as, written_as, written_given, written_more, sound_given, sound_written, few_over, writer_lost, part_of_more, Stood}
+use Rattle.link_run.proofs.Ends.{standing_unshown, made_reports}
+use Rattle.link_run.proofs.Runs.{then_assoc, texts_as, written_as, written_given, written_more, sound_given, sound_written, writer_lost, part_of_more, Stood}
 use Rattle.link_unpack.specs.Transfers.{heads_of, Transfer, closes, continued, after_segment, after_message, transfers_of, settled}
-use Rattle.link_unpack.specs.Unpacking.{parts_of, part_of, line_of, lines_of, are_good, unpack_tool, unpacking_sofar}
+use Rattle.link_unpack.specs.Unpacking.{parts_of, part_of, line_of, lines_of, are_good, unpack_tool, unpacking_of}
 use Rattle.link_unpack.specs.TransferScan.{Follows, grown}
-use Rattle.link_unpack.specs.UnpackRun.{messages_of, AreInOrder, texts_of, GoesOn, IsInSegment, IsWaiting, IsAfter, Unpacks, IsJoining, GivesStage, GivesEnd}
+use Rattle.link_unpack.specs.UnpackRun.{messages_of, AreInOrder, texts_of, GoesOn, IsInSegment, IsWaiting, IsAfter, Unpacks, IsJoining}
 use Rattle.link_unpack.specs.declared.transfer.TransferScan.{TransferScan}
 use Rattle.link_unpack.specs.declared.unpacking.Stage.{Stage}
 use Rattle.link_unpack.specs.declared.unpacking.Stage.TheVariants as stage
 use Rattle.link_unpack.specs.declared.unpacking.Unpacker.{Unpacker}
-use Rattle.link_unpack.proofs.Outcomes.{unpack_reports}
 use Rattle.link_unpack.proofs.Heads.{entry, heads_cut, heads_with_data, messages_push, transfers_push, transfer_grows, is_whole}
-use Rattle.link_unpack.proofs.Joins.{after_lines}
+use Rattle.link_unpack.proofs.Joins.{after_shown}
 use Rattle.link_unpack.proofs.Orders.{in_order_more, in_order_parts}
-use Rattle.link_unpack.proofs.Steps.{fault_reported, read_lost}
-use Rattle.link_unpack.proofs.Texts.{unlined, parts_more, texts_open, texts_closed, sofar_in_order, settled_open}
+use Rattle.link_unpack.proofs.Texts.{unlined, parts_more, texts_open, texts_closed, texts_in_order, sofar_in_order, settled_open}
 
 -- where a run stands inside the data of a segment
 pub record Inside (now : Stage) (is_open : Bool) (latest : TransferScan) (transfers : List Transfer)
@@ -52,7 +45,6 @@ abbrev last_of : (now : Stage) → Bool → Bool
 last_of stage.Contact other = other
 last_of stage.Message other = other
 last_of (stage.Data last) other = last
-last_of (stage.Ended answer) other = other
 
 pub inside : (last is_open : Bool) (latest : TransferScan) (transfers : List Transfer) (end : End)
     → IsWaiting (stage.Data last) is_open latest transfers end
@@ -88,10 +80,11 @@ size_left offset left end from sent content cut is =
     let parts : (0 < left) × (from ≡ offset) × (data_length sent ≡ length content + left) = subst P cut is in
     parts.2
 
-module _ {R W E : Type 0} (in_look : R → Input) (out_look : W → Output) (report_look : E → Output)
+module _ {R W E : Type 0} (look : Looks R W E)
     (start : Devices R W E) where
   module _ (last : Bool) (old : Session R) (before : Writers W E) (u : Unpacker) (history : List ℕ)
-      (at : Unpacks in_look out_look report_look start (stage.Data last) old before u history) where
+      (had : Stands look (unpacking_of u.latest.wanted) start true (place_of (source_of old) before) history)
+      (at : Unpacks look.input (stage.Data last) old u history) where
     abbrev pub heads : List Entry
     heads = heads_of (reading_of history)
 
@@ -122,10 +115,10 @@ module _ {R W E : Type 0} (in_look : R → Input) (out_look : W → Output) (rep
     head = here.in_segment.head
 
     module _ (mid new : Session R) (bytes : List ℕ) (n : ℕ)
-        (ready : LoadedData in_look old mid history n)
-        (gave : PassedBytes in_look mid new history bytes) (some : 0 < length bytes) where
-      takes : Takes in_look (source_of old) (source_of new) bytes
-      takes = Readies-takes in_look (source_of old) (source_of mid) (source_of new) bytes ready.readies gave.takes some
+        (ready : LoadedData look.input old mid history n)
+        (gave : PassedBytes look.input mid new history bytes) (some : 0 < length bytes) where
+      takes : Takes look.input (source_of old) (source_of new) bytes
+      takes = Readies-takes look.input (source_of old) (source_of mid) (source_of new) bytes ready.readies gave.takes some
 
       pub room : u.latest.total + length bytes < 2 ^ 63
       room =
@@ -196,21 +189,21 @@ module _ {R W E : Type 0} (in_look : R → Input) (out_look : W → Output) (rep
             ∙ ap (λ (xs : List ℕ). parts_of u.latest.wanted earlier ++ xs) (sym part_is) ∙ sym (parts_more u.latest.wanted (grown transfer bytes closing) earlier))
             (append-nil (lines_of u.latest.wanted earlier))
 
-        given_written : HasWritten in_look out_look report_look start
+        given_written : HasWritten look start
             (place_of (source_of new) before) (history ++ bytes)
             (texts_of u.latest.wanted transfers)
-        given_written = written_given in_look out_look report_look start (source_of old) (source_of new) before history bytes _ at.written takes
+        given_written = written_given look start (source_of old) (source_of new) before history bytes _ (written_as look had.written refl (texts_in_order u.latest.wanted history at.in_order)) takes
 
-        given_sound : NoneFailed in_look out_look report_look
+        given_sound : NoneFailed look
             (devices_at (place_of (source_of new) before))
-        given_sound = sound_given in_look out_look report_look (source_of old) (source_of new) before bytes at.sound takes
+        given_sound = sound_given look (source_of old) (source_of new) before bytes had.sound takes
 
         pub grows : (written : Writers W E) (v : Unpacker)
-            → Writes out_look report_look before written (on_output part)
+            → Writes look.output look.report before written (on_output part)
             → Follows v.latest (grown transfer bytes closing) earlier
             → v.latest.wanted ≡ u.latest.wanted → v.latest.total ≤ u.latest.total + length bytes
             → v.joiner ≡ u.joiner → v.good ≡ u.good
-            → IsJoining in_look out_look report_look start last new written v (history ++ bytes)
+            → IsJoining look start last new written v (history ++ bytes)
         grows written v writes follows wanted total joiner good = record {
           session = gave.at;
           window = takes.window.less some;
@@ -221,17 +214,17 @@ module _ {R W E : Type 0} (in_look : R → Input) (out_look : W → Output) (rep
           are = new_transfers;
           closed = refl;
           follows = follows;
-          written = rw wanted (written_as in_look out_look report_look (written_more in_look out_look report_look start (source_of new) before written (history ++ bytes) _ _ given_written writes) refl part_texts);
-          sound = sound_written in_look out_look report_look (source_of new) before written _ given_sound writes;
+          written = rw wanted (written_as look (written_more look start (source_of new) before written (history ++ bytes) _ _ given_written writes) refl part_texts);
+          sound = sound_written look (source_of new) before written _ given_sound writes;
           total = let was = at.total in omega (arith, length-append history bytes);
           good = good ∙ at.good ∙ ap (λ ts. are_good (settled ts)) here.goes.are ∙ ap are_good (settled_open transfer earlier here.goes.is_open);
           opened = ap (λ ms. is_some (open_of ms)) same_messages ∙ here.opened;
           after = after;
         }
 
-        sofar : unpacking_sofar u.latest.wanted (history ++ bytes)
+        sofar : (unpack_tool u.latest.wanted).sofar (history ++ bytes)
             ≡ texts_of u.latest.wanted (grown transfer bytes closing ∷ earlier)
-        sofar = sofar_in_order u.latest.wanted (history ++ bytes) new_in_order (after_lines last (left_of new) (reading_of (history ++ bytes)).end after) ∙ ap (texts_of u.latest.wanted) new_transfers
+        sofar = sofar_in_order u.latest.wanted (history ++ bytes) new_in_order (after_shown last (left_of new) (reading_of (history ++ bytes)).end after) ∙ ap (texts_of u.latest.wanted) new_transfers
 
         stood : Stood (unpack_tool u.latest.wanted) (history ++ bytes)
             (texts_of u.latest.wanted transfers)
@@ -240,46 +233,25 @@ module _ {R W E : Type 0} (in_look : R → Input) (out_look : W → Output) (rep
               front = history;
               rest = bytes;
               parts = refl;
-              is = sym (sofar_in_order u.latest.wanted history at.in_order (standing_lines old.offset old.left (reading_of history).end at.session.left));
+              is = sym (sofar_in_order u.latest.wanted history at.in_order (standing_unshown old.offset old.left (reading_of history).end at.session.left));
             })
 
         lost_by : (is_closed : Bool) → closing ≡ is_closed → (written : Writers W E)
-            (fault : IoFault) → WritesPart out_look report_look before
+            (fault : IoFault) → WritesPart look.output look.report before
             written (on_output part) fault
-            → EndedRun in_look out_look report_look (unpack_tool u.latest.wanted) start
+            → EndedRun look (unpack_tool u.latest.wanted) start
             (devices_at (place_of (source_of new) written)) (history ++ bytes) (Err fault)
         lost_by true is written fault lost =
             let more = on_report (line_of u.latest.wanted (grown transfer bytes closing) earlier) in
-            writer_lost in_look out_look report_look (unpack_tool u.latest.wanted) (unpack_reports u.latest.wanted) start (source_of new) before written (history ++ bytes) _ _ _ fault given_written given_sound
+            writer_lost look (unpack_tool u.latest.wanted) (made_reports (unpacking_of u.latest.wanted)) start (source_of new) before written (history ++ bytes) _ _ _ fault given_written given_sound
             (then_assoc (texts_of u.latest.wanted transfers) (on_output part) more ∙ ap (λ (t : Texts). t then more) part_texts ∙ texts_closed u.latest.wanted (grown transfer bytes closing) earlier is ∙ sym sofar)
-            (inl refl) (takes.window.less some) (λ some_output. stood) (part_of_more out_look report_look before written _ more fault (λ none. absurd (omega arith)) lost)
+            (inl refl) (takes.window.less some) (λ some_output. stood) (part_of_more look.output look.report before written _ more fault (λ none. absurd (omega arith)) lost)
         lost_by false is written fault lost =
-            writer_lost in_look out_look report_look (unpack_tool u.latest.wanted) (unpack_reports u.latest.wanted) start (source_of new) before written (history ++ bytes) _ _ _ fault given_written given_sound
+            writer_lost look (unpack_tool u.latest.wanted) (made_reports (unpacking_of u.latest.wanted)) start (source_of new) before written (history ++ bytes) _ _ _ fault given_written given_sound
             (part_texts ∙ sym (texts_open u.latest.wanted (grown transfer bytes closing) earlier is) ∙ sym sofar) (inl refl) (takes.window.less some) (λ some_output. stood) lost
 
         pub part_lost : (written : Writers W E) (fault : IoFault)
-            → WritesPart out_look report_look before written (on_output part) fault
-            → EndedRun in_look out_look report_look (unpack_tool u.latest.wanted) start
+            → WritesPart look.output look.report before written (on_output part) fault
+            → EndedRun look (unpack_tool u.latest.wanted) start
             (devices_at (place_of (source_of new) written)) (history ++ bytes) (Err fault)
         part_lost written fault lost = lost_by closing refl written fault lost
-
-    -- the input ends inside the data, or the reader fails
-    pub data_ended : (new : Session R) (written : Writers W E) (why : Stop) (next : Stage)
-        → GivesLoad in_look old new history (Err why)
-        → GivesEnd out_look report_look why before written next
-        → GivesStage in_look out_look report_look start u.latest.wanted (stage.Data last) old
-        new written u history next
-    data_ended new written (stop.Wire offset fault) stage.Contact got gives = absurd gives
-    data_ended new written (stop.Wire offset fault) stage.Message got gives = absurd gives
-    data_ended new written (stop.Wire offset fault) (stage.Data l) got gives = absurd gives
-    data_ended new written (stop.Io fault) stage.Contact got gives = absurd gives
-    data_ended new written (stop.Io fault) stage.Message got gives = absurd gives
-    data_ended new written (stop.Io fault) (stage.Data l) got gives = absurd gives
-    data_ended new written (stop.Wire offset fault) (stage.Ended answer) got gives =
-        fault_reported in_look out_look report_look start (stage.Data last) old new before written u.latest.wanted history [] transfers at.written at.sound (omega arith) offset fault (reading_of history) got.takes
-        (record { over = λ is. got.over; all = λ more may. rw (may got.kind, append-nil, append-nil) refl }) at.in_order refl
-        (ap end_lines got.cut ∙ ap (λ f. fault_text (Wire offset f)) (sym got.kind)) (ap end_status got.cut) (λ other. absurd (other got.kind)) answer (few_over in_look (source_of new) got.over) gives
-    data_ended new written (stop.Io fault) (stage.Ended answer) got gives =
-        read_lost in_look out_look report_look start (stage.Data last) old new before written u.latest.wanted history [] transfers at.written at.sound (omega arith) fault answer (reading_of history) got.stops (ap reading_of (append-nil history))
-        at.in_order refl (standing_lines old.offset old.left (reading_of history).end at.session.left)
-        (standing_shown old.offset old.left (reading_of history).end at.session.left) gives.0 gives.1

@@ -10,4 +10,3 @@ mod Messages
 mod Outcomes
 mod Steps
 mod Data
-mod Settling

@@ -1,7 +1,6 @@
 -- The head of a message has come: what it does to the transfers.
 use Rattle.std.proofs.Common.{◌≡◌, ℕ, ◌<◌, ◌≤◌, Bool, true, false, not, ◌&&◌, ◌==◌, nat_lt, is_some, List, [], ◌∷◌, ◌++◌, length, Option, Some, None, if◌then◌else◌, refl, ap, sym, ◌∙◌, subst, append-nil, length-append, arith}
 use Rattle.std.proofs.lemmas.Bool.{ltb-true, ltb-false}
-use Rattle.link_wire.specs.Device.{Input, Output}
 use Rattle.link_wire.specs.Codes.{is_start, is_end}
 use Rattle.link_wire.specs.Message.{data_length}
 use Rattle.link_wire.specs.MessageBuffer.{message_of}
@@ -18,14 +17,15 @@ use Rattle.link_transfer.specs.Joiner.{IsJoinerAt}
 use Rattle.link_transfer.specs.declared.joiner.Joiner.{Joiner}
 use Rattle.link_transfer.proofs.Joining.{after-segment, after-other}
 use Rattle.link_bundle.specs.Bundle.{payload_in}
-use Rattle.link_run.specs.Run.{Devices, devices_at, NoneFailed, HasWritten}
+use Rattle.link_run.specs.Run.{Looks, Devices, devices_at, NoneFailed, HasWritten}
+use Rattle.link_run.specs.Stages.{Stands}
 use Rattle.link_run.specs.Writers.{place_of}
 use Rattle.link_run.specs.declared.writers.Writers.{Writers}
 use Rattle.link_run.proofs.Runs.{texts_as, written_as, written_given, sound_given}
 use Rattle.link_unpack.specs.Transfers.{heads_of, Transfer, closes, continued, after_message, transfers_of, settled}
-use Rattle.link_unpack.specs.Unpacking.{parts_of, part_of, is_selected, are_good}
+use Rattle.link_unpack.specs.Unpacking.{parts_of, part_of, is_selected, are_good, unpacking_of}
 use Rattle.link_unpack.specs.TransferScan.{Follows, grown}
-use Rattle.link_unpack.specs.UnpackRun.{messages_of, AreInOrder, texts_of, GoesOn, IsOpen, IsInSegment, IsWaiting, HasNoContent, IsAfter, Unpacks, IsJoining, IsBeginning}
+use Rattle.link_unpack.specs.UnpackRun.{messages_of, AreInOrder, texts_of, GoesOn, IsOpen, IsInSegment, IsWaiting, IsWaitingAfter, IsAfter, Unpacks, StandsAt, IsJoining, IsBeginning}
 use Rattle.link_unpack.specs.declared.transfer.TransferScan.{TransferScan}
 use Rattle.link_unpack.specs.declared.unpacking.Stage.TheVariants as stage
 use Rattle.link_unpack.specs.declared.unpacking.Unpacker.{Unpacker}
@@ -33,7 +33,7 @@ use Rattle.link_unpack.specs.declared.wanted.Wanted.{Wanted}
 use Rattle.link_unpack.proofs.Heads.{entry, heads_with_message, messages_push, transfers_push, transfers_same, transfer_begins, transfer_continues, is_whole}
 use Rattle.link_unpack.proofs.Joins.{stands}
 use Rattle.link_unpack.proofs.Orders.{in_order_more, open_where_continued}
-use Rattle.link_unpack.proofs.Texts.{unlined, parts_more, texts_open, settled_open}
+use Rattle.link_unpack.proofs.Texts.{texts_in_order, unlined, parts_more, texts_open, settled_open}
 
 -- between two messages
 pub between : (is_open : Bool) (latest : TransferScan) (transfers : List Transfer) (end : End)
@@ -51,9 +51,12 @@ after_head_by : (test : Bool) (offset : ℕ) (sent : Message) (last : Bool) (lef
 after_head_by true offset sent last left test is in_segment = (let some : 0 < data_length sent = ltb-true 0 (data_length sent) test in omega arith, in_segment)
 after_head_by false offset sent last left test is in_segment = let none : data_length sent ≤ 0 = ltb-false 0 (data_length sent) test in omega arith
 
--- none of its data has come
+-- a step at a message is given none of its data
+abbrev IsAlone : End → Type 0
+IsAlone end = IsWaitingAfter stage.Message end
+
 alone_by : (test : Bool) (offset : ℕ) (sent : Message)
-    → HasNoContent (if test then ended (Cut offset sent [])
+    → IsAlone (if test then ended (Cut offset sent [])
     else with_entry (entry offset sent []) (ended Clean)).end
 alone_by true offset sent = refl
 alone_by false offset sent = tt
@@ -85,11 +88,12 @@ same_unlined : (wanted : Wanted) (transfer : Transfer) (closed : Bool) (earlier 
 same_unlined wanted transfer closed earlier =
     texts_as (parts_more wanted transfer earlier ∙ ap (λ (xs : List ℕ). parts_of wanted earlier ++ xs) (sym (same_part wanted transfer closed)) ∙ sym (parts_more wanted (grown transfer [] closed) earlier)) refl
 
-module _ {R W E : Type 0} (in_look : R → Input) (out_look : W → Output) (report_look : E → Output)
+module _ {R W E : Type 0} (look : Looks R W E)
     (start : Devices R W E) where
   module _ (old new : Session R) (before : Writers W E) (u : Unpacker) (history : List ℕ)
-      (at : Unpacks in_look out_look report_look start stage.Message old before u history)
-      (offset : ℕ) (sent : Message) (got : ReadMessage in_look old new history offset sent) where
+      (stood : Stands look (unpacking_of u.latest.wanted) start true (place_of (source_of old) before) history)
+      (at : Unpacks look.input stage.Message old u history)
+      (offset : ℕ) (sent : Message) (got : ReadMessage look.input old new history offset sent) where
     abbrev pub heads : List Entry
     heads = heads_of (reading_of history)
 
@@ -114,8 +118,8 @@ module _ {R W E : Type 0} (in_look : R → Input) (out_look : W → Output) (rep
         ≡ after_message transfers sent []
     new_transfers = ap transfers_of new_heads ∙ transfers_push heads (entry offset sent [])
 
-    pub alone : HasNoContent (reading_of (history ++ got.given)).end
-    alone = let P : Reading → Type 0 = λ r. HasNoContent r.end in subst P (sym got.reading) (alone_by (nat_lt 0 (data_length sent)) offset sent)
+    pub alone : IsAlone (reading_of (history ++ got.given)).end
+    alone = let P : Reading → Type 0 = λ r. IsAlone r.end in subst P (sym got.reading) (alone_by (nat_lt 0 (data_length sent)) offset sent)
 
     new_in_order : refusal (messages_of heads) (event_of sent) ≡ None
         → AreInOrder (heads_of (reading_of (history ++ got.given)))
@@ -125,13 +129,13 @@ module _ {R W E : Type 0} (in_look : R → Input) (out_look : W → Output) (rep
         → IsJoinerAt joiner (messages_of (heads_of (reading_of (history ++ got.given))))
     new_joiner joiner is = rw new_messages is
 
-    new_written : HasWritten in_look out_look report_look start (place_of (source_of new) before)
+    new_written : HasWritten look start (place_of (source_of new) before)
         (history ++ got.given) (texts_of u.latest.wanted transfers)
-    new_written = written_given in_look out_look report_look start (source_of old) (source_of new) before history got.given _ at.written got.takes
+    new_written = written_as look (written_given look start (source_of old) (source_of new) before history got.given _ stood.written got.takes) refl (texts_in_order u.latest.wanted history at.in_order)
 
-    new_sound : NoneFailed in_look out_look report_look
+    new_sound : NoneFailed look
         (devices_at (place_of (source_of new) before))
-    new_sound = sound_given in_look out_look report_look (source_of old) (source_of new) before got.given at.sound got.takes
+    new_sound = sound_given look (source_of old) (source_of new) before got.given stood.sound got.takes
 
     new_total : u.latest.total ≤ length (history ++ got.given)
     new_total = let total = at.total in omega (arith, length-append history got.given)
@@ -162,7 +166,7 @@ module _ {R W E : Type 0} (in_look : R → Input) (out_look : W → Output) (rep
           → abandoned ≡ open_of (messages_of heads)
           → refusal (messages_of heads) (event_of sent) ≡ None
           → IsJoinerAt joiner (messages_of heads ++ sent ∷ [])
-          → IsBeginning in_look out_look report_look start (is_some abandoned) last new before
+          → IsBeginning look start (is_some abandoned) last new before
           (record { joiner = joiner; latest = u.latest; good = u.good })
           buffer (history ++ got.given)
       beginning abandoned buffer joiner holds starts was may joins = record {
@@ -194,7 +198,7 @@ module _ {R W E : Type 0} (in_look : R → Input) (out_look : W → Output) (rep
             let P : Bool → Type 0 = λ b. IsOpen b u.latest transfers in
             subst P is_open was_open
 
-        pub continuing : IsJoining in_look out_look report_look start last new before
+        pub continuing : IsJoining look start last new before
             (record { joiner = joiner; latest = u.latest; good = u.good }) (history ++ got.given)
         continuing = record {
           session = got.at;
@@ -206,7 +210,7 @@ module _ {R W E : Type 0} (in_look : R → Input) (out_look : W → Output) (rep
           are = new_transfers ∙ ap (λ m. after_message transfers m []) is ∙ transfer_continues transfers head [] starts ∙ ap (λ ts. continued ts [] (closes head [])) going.are ∙ ap (λ c. grown going.transfer [] c ∷ going.earlier) closed;
           closed = refl;
           follows = follows_same u.latest going.transfer _ going.earlier going.follows;
-          written = written_as in_look out_look report_look new_written refl (ap (texts_of u.latest.wanted) going.are ∙ texts_open u.latest.wanted going.transfer going.earlier going.is_open ∙ same_unlined u.latest.wanted going.transfer _ going.earlier);
+          written = written_as look new_written refl (ap (texts_of u.latest.wanted) going.are ∙ texts_open u.latest.wanted going.transfer going.earlier going.is_open ∙ same_unlined u.latest.wanted going.transfer _ going.earlier);
           sound = new_sound;
           total = new_total;
           good = at.good ∙ ap (λ ts. are_good (settled ts)) going.are ∙ ap are_good (settled_open going.transfer going.earlier going.is_open);
@@ -239,12 +243,12 @@ module _ {R W E : Type 0} (in_look : R → Input) (out_look : W → Output) (rep
           ap (λ (r : Reading). r.end) got.reading
           ∙ ap (λ n. (joined (reading_of history) (if nat_lt 0 n then ended (Cut offset sent []) else with_entry (entry offset sent []) (ended Clean))).end) no_data
 
-      pub passed : Unpacks in_look out_look report_look start stage.Message new before
+      pub passed : StandsAt look start u.latest.wanted stage.Message new before
           (record { joiner = joiner; latest = u.latest; good = u.good }) (history ++ got.given)
       passed =
           let is_open = ap (λ ms. is_some (open_of ms)) new_messages ∙ ap is_some (after-other (messages_of heads) sent other) in
           let P : Bool → Type 0 = λ b. IsOpen b u.latest transfers in
           let Q : End → Type 0 = λ e. IsWaiting stage.Message (is_some (open_of (messages_of (heads_of (reading_of (history ++ got.given)))))) u.latest transfers e in
-          stands in_look out_look report_look start stage.Message new before (record { joiner = joiner; latest = u.latest; good = u.good }) (history ++ got.given) transfers
+          stands look start stage.Message new before (record { joiner = joiner; latest = u.latest; good = u.good }) (history ++ got.given) transfers
           (new_transfers ∙ transfers_same transfers sent [] other) got.at (new_in_order may) (new_joiner joiner joins) new_written new_sound at.sum new_total at.good
           (subst Q (sym ends_clean) (refl, subst P (sym is_open) was_open))

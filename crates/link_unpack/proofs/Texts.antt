@@ -1,13 +1,14 @@
 -- What is written of transfers, by the latest.
 use Rattle.std.proofs.Common.{◌≡◌, ℕ, ◌+◌, ◌<◌, Bool, true, false, ◌&&◌, ◌==◌, List, [], ◌∷◌, ◌++◌, length, refl, ap, sym, ◌∙◌, append-nil, length-append, arith}
 use Rattle.std.proofs.lemmas.Bool.{eq-eqb, ne_eqb}
-use Rattle.link_wire.specs.Stream.{reading_of}
-use Rattle.link_run.specs.Ends.{lasting_lines}
-use Rattle.link_run.specs.Run.{Texts}
+use Rattle.link_wire.specs.Stream.{Reading, reading_of}
+use Rattle.link_run.specs.Made.{Made, is_shown, stop_of}
+use Rattle.link_run.specs.Run.{Texts, ◌then◌}
 use Rattle.link_run.specs.Writers.{on_report}
-use Rattle.link_run.proofs.Runs.{◌then◌, texts_as}
-use Rattle.link_unpack.specs.Transfers.{Transfer, heads_of, transfers_of, settled}
-use Rattle.link_unpack.specs.Unpacking.{part_of, parts_of, line_of, lines_of, judgement_of, is_good, are_good, unpacking_sofar, unpacking_sofar_by}
+use Rattle.link_run.proofs.Ends.{unshown_sofar}
+use Rattle.link_run.proofs.Runs.{texts_as}
+use Rattle.link_unpack.specs.Transfers.{Ordered, ordered, Transfer, heads_of, transfers_of, settled}
+use Rattle.link_unpack.specs.Unpacking.{part_of, parts_of, line_of, lines_of, judgement_of, is_good, are_good, unpacking_of, unpacking_by, unpack_tool}
 use Rattle.link_unpack.specs.UnpackRun.{AreInOrder, texts_of}
 use Rattle.link_unpack.specs.declared.wanted.Wanted.{Wanted}
 
@@ -59,14 +60,36 @@ module _ (wanted : Wanted) where
       then on_report (line_of wanted latest earlier) ≡ texts_of wanted (latest ∷ earlier)
   texts_closed latest earlier is = texts_lined latest earlier ∙ sym (rw is refl)
 
--- what these bytes determine, where all heads are in order and no fault is shown
-pub sofar_in_order : (wanted : Wanted) (bytes : List ℕ) → AreInOrder (heads_of (reading_of bytes))
-    → lasting_lines (reading_of bytes).end ≡ []
-    → unpacking_sofar wanted bytes ≡ texts_of wanted (transfers_of (heads_of (reading_of bytes)))
-unfolding unpacking_sofar
-sofar_in_order wanted bytes in_order none =
-    ap (unpacking_sofar_by wanted (reading_of bytes).end) in_order
-    ∙ texts_as refl (ap (λ xs. lines_of wanted (settled (transfers_of (heads_of (reading_of bytes)))) ++ xs) none ∙ append-nil _)
+-- what `unpack` makes of a reading
+abbrev pub by_reading : Wanted → Reading → Made
+by_reading wanted reading = unpacking_by wanted reading.end (ordered (heads_of reading))
+
+pub made_is : (wanted : Wanted) (bytes : List ℕ)
+    → unpacking_of wanted bytes ≡ by_reading wanted (reading_of bytes)
+unfolding unpacking_of
+made_is wanted bytes = refl
+
+-- where all heads of a reading are in order
+module _ (wanted : Wanted) (reading : Reading) (in_order : AreInOrder (heads_of reading)) where
+  pub texts_by : (by_reading wanted reading).texts ≡ texts_of wanted (transfers_of (heads_of reading))
+  texts_by = ap (λ (o : Ordered). (unpacking_by wanted reading.end o).texts) in_order
+
+  pub stop_is : (by_reading wanted reading).stop ≡ stop_of reading.end
+  stop_is = ap (λ (o : Ordered). (unpacking_by wanted reading.end o).stop) in_order
+
+module _ (wanted : Wanted) (bytes : List ℕ) (in_order : AreInOrder (heads_of (reading_of bytes))) where
+  pub texts_in_order : (unpacking_of wanted bytes).texts
+      ≡ texts_of wanted (transfers_of (heads_of (reading_of bytes)))
+  texts_in_order = ap (λ (m : Made). m.texts) (made_is wanted bytes) ∙ texts_by wanted (reading_of bytes) in_order
+
+  pub unshown_in_order : is_shown (stop_of (reading_of bytes).end) ≡ false
+      → is_shown (unpacking_of wanted bytes).stop ≡ false
+  unshown_in_order none = ap (λ (m : Made). is_shown m.stop) (made_is wanted bytes) ∙ ap is_shown (stop_is wanted (reading_of bytes) in_order) ∙ none
+
+  -- what these bytes determine, where no fault is shown
+  pub sofar_in_order : is_shown (stop_of (reading_of bytes).end) ≡ false
+      → (unpack_tool wanted).sofar bytes ≡ texts_of wanted (transfers_of (heads_of (reading_of bytes)))
+  sofar_in_order none = unshown_sofar (unpacking_of wanted bytes).stop (unpacking_of wanted bytes).texts (unshown_in_order none) ∙ texts_in_order
 
 pub good_more : (latest : Transfer) (earlier : List Transfer)
     → are_good (latest ∷ earlier) ≡ (is_good (judgement_of latest) && are_good earlier)

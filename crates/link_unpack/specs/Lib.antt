@@ -3,4 +3,3 @@ pub mod Unpacking
 pub mod Pieces
 pub mod TransferScan
 pub mod UnpackRun
-pub mod UnpackRuns

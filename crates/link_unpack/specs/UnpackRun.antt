@@ -8,8 +8,6 @@ use Rattle.link_wire.specs.Source.{window_of}
 use Rattle.link_wire.specs.Session.{source_of, left_of, IsSessionAt, may_open, may_read, is_opened}
 use Rattle.link_wire.specs.Stream.{Entry, End, Clean, Cut, Fault, reading_of}
 use Rattle.link_wire.specs.declared.IoFault.{IoFault}
-use Rattle.link_wire.specs.declared.fault.Stop.{Stop}
-use Rattle.link_wire.specs.declared.fault.Stop.TheVariants as stop
 use Rattle.link_wire.specs.declared.message.Message.{Message}
 use Rattle.link_wire.specs.declared.message.Message.TheVariants.{Segment}
 use Rattle.link_wire.specs.declared.message.MessageBuffer.{MessageBuffer}
@@ -17,17 +15,17 @@ use Rattle.link_wire.specs.declared.message.SegmentHead.{SegmentHead}
 use Rattle.link_wire.specs.declared.session.Session.{Session}
 use Rattle.link_transfer.specs.Joiner.{IsJoinerAt}
 use Rattle.link_transfer.specs.Order.{open_of}
-use Rattle.link_report.specs.Fault.{fault_text}
-use Rattle.link_report.specs.declared.fault.Fault.TheVariants.{Wire}
-use Rattle.link_run.specs.Run.{Texts, Devices, devices_at, NoneFailed, HasWritten, WentOn, LastStep, EndedRun, answer_of}
-use Rattle.link_run.specs.Writers.{place_of, on_report, Writes, WritesPart, GivesReport}
-use Rattle.link_run.specs.declared.run.Progress.{Progress}
-use Rattle.link_run.specs.declared.run.Progress.TheVariants.{More}
+use Rattle.link_run.specs.Run.{Texts, Looks, Devices, devices_at, NoneFailed, HasWritten, WentOn, LastStep, EndedRun}
+use Rattle.link_run.specs.Stages.{Stands}
+use Rattle.link_run.specs.Writers.{place_of, on_report, GivesLast}
+use Rattle.link_run.specs.declared.run.Status.{Status}
 use Rattle.link_run.specs.declared.writers.Writers.{Writers}
 use Rattle.link_unpack.specs.Transfers.{ordered, heads_of, Transfer, transfers_of, settled}
-use Rattle.link_unpack.specs.Unpacking.{parts_of, line_of, lines_of, are_good, unpack_tool}
+use Rattle.link_unpack.specs.Unpacking.{parts_of, line_of, lines_of, are_good, unpacking_of, unpack_tool}
 use Rattle.link_unpack.specs.TransferScan.{Follows}
 use Rattle.link_unpack.specs.declared.transfer.TransferScan.{TransferScan}
+use Rattle.link_unpack.specs.declared.unpacking.Next.{Next}
+use Rattle.link_unpack.specs.declared.unpacking.Next.TheVariants as next
 use Rattle.link_unpack.specs.declared.unpacking.Stage.{Stage}
 use Rattle.link_unpack.specs.declared.unpacking.Stage.TheVariants as stage
 use Rattle.link_unpack.specs.declared.unpacking.Unpacker.{Unpacker}
@@ -38,21 +36,22 @@ abbrev pub most_given : Stage → ℕ
 most_given stage.Contact = 6
 most_given stage.Message = longest_head
 most_given (stage.Data last) = 4096
-most_given (stage.Ended answer) = 0
 
 -- what a session may be asked for at each stage
 abbrev pub may_go_on : {R : Type 0} → Stage → Session R → Bool
 may_go_on stage.Contact session = may_open session
 may_go_on stage.Message session = may_read session
 may_go_on (stage.Data last) session = is_opened session
-may_go_on (stage.Ended answer) session = true
 
--- what the step returns that leads to this stage
-abbrev pub progress_of : Stage → Result Progress IoFault
-progress_of stage.Contact = Ok More
-progress_of stage.Message = Ok More
-progress_of (stage.Data last) = Ok More
-progress_of (stage.Ended answer) = answer_of answer
+-- what comes after what was written
+abbrev pub next_of : Result Stage IoFault → Next
+next_of (Ok stage) = next.Stage stage
+next_of (Err fault) = next.Ended (Err fault)
+
+-- the same of what comes next
+abbrev pub may_follow : {R : Type 0} → Next → Session R → Bool
+may_follow (next.Stage stage) session = may_go_on stage session
+may_follow (next.Ended answer) session = true
 
 -- ---- the transfers so far
 
@@ -102,48 +101,31 @@ IsAfter last left Clean = left ≡ 0
 IsAfter last left (Cut offset message content) = (0 < left) × IsInSegment last message
 IsAfter last left (Fault offset fault) = ⊥
 
--- of a segment that is open none of the data has come
-abbrev pub HasNoContent : End → Type 0
-HasNoContent Clean = Unit {0}
-HasNoContent (Cut offset message content) = content ≡ []
-HasNoContent (Fault offset fault) = Unit {0}
-
--- how the reading ends where data waits after a step at this stage: the step at a message gives no data
+-- how the reading ends where data waits after a step: a step at a message is given none of it
 abbrev pub IsWaitingAfter : Stage → End → Type 0
-IsWaitingAfter stage.Contact end = Unit {0}
-IsWaitingAfter stage.Message end = HasNoContent end
-IsWaitingAfter (stage.Data last) end = Unit {0}
-IsWaitingAfter (stage.Ended answer) end = Unit {0}
+IsWaitingAfter stage.Message (Cut offset message content) = content ≡ []
+IsWaitingAfter now end = Unit {0}
 
 -- the line of a latest transfer that was abandoned
 abbrev pub last_lines : Wanted → List Transfer → List ℕ
 last_lines wanted [] = []
 last_lines wanted (latest ∷ earlier) = if latest.closed then [] else line_of wanted latest earlier
 
-module _ {R W E : Type 0} (in_look : R → Input) (out_look : W → Output) (report_look : E → Output)
-    (start : Devices R W E) where
-  -- a run that begins: nothing was given and nothing written
-  pub record Begins (s : Session R) (w : Writers W E) (u : Unpacker)
-      (history : List ℕ) : Type 0 where
+module _ {R : Type 0} (look : R → Input) where
+  -- a run that begins was given nothing
+  pub record Begins (s : Session R) (u : Unpacker) (history : List ℕ) : Type 0 where
     pub nothing : history ≡ []
     pub opens : may_open s ≡ true
-    pub written : HasWritten in_look out_look report_look start (place_of (source_of s) w) []
-        (record { output = []; report = [] })
-    pub sound : NoneFailed in_look out_look report_look (devices_at (place_of (source_of s) w))
     pub joiner : IsJoinerAt u.joiner []
     pub sum : u.latest.start + u.latest.written ≡ 0
     pub total : u.latest.total ≡ 0
     pub good : u.good ≡ true
 
-  -- a run that was given exactly these bytes, and has written exactly what they determine
-  pub record Unpacks (now : Stage) (s : Session R) (w : Writers W E) (u : Unpacker)
-      (history : List ℕ) : Type 0 where
-    pub session : IsSessionAt in_look s history
+  -- what is known of the bytes that were given
+  pub record Unpacks (now : Stage) (s : Session R) (u : Unpacker) (history : List ℕ) : Type 0 where
+    pub session : IsSessionAt look s history
     pub in_order : AreInOrder (heads_of (reading_of history))
     pub joiner : IsJoinerAt u.joiner (messages_of (heads_of (reading_of history)))
-    pub written : HasWritten in_look out_look report_look start (place_of (source_of s) w) history
-        (texts_of u.latest.wanted (transfers_of (heads_of (reading_of history))))
-    pub sound : NoneFailed in_look out_look report_look (devices_at (place_of (source_of s) w))
     pub sum : u.latest.start + u.latest.written
         ≡ length (parts_of u.latest.wanted (transfers_of (heads_of (reading_of history))))
     pub total : u.latest.total ≤ length history
@@ -151,46 +133,43 @@ module _ {R W E : Type 0} (in_look : R → Input) (out_look : W → Output) (rep
     pub waits : IsWaiting now (is_some (open_of (messages_of (heads_of (reading_of history)))))
         u.latest (transfers_of (heads_of (reading_of history))) (reading_of history).end
 
-  abbrev pub IsUnpacking : Stage → Session R → Writers W E → Unpacker → List ℕ → Type 0
-  IsUnpacking stage.Contact session writers unpacker history =
-      Begins session writers unpacker history
-  IsUnpacking stage.Message session writers unpacker history =
-      Unpacks stage.Message session writers unpacker history
-  IsUnpacking (stage.Data last) session writers unpacker history =
-      Unpacks (stage.Data last) session writers unpacker history
-  IsUnpacking (stage.Ended answer) session writers unpacker history = ⊥
+  abbrev pub IsUnpacking : Stage → Unpacker → Session R → List ℕ → Type 0
+  IsUnpacking stage.Contact unpacker session history = Begins session unpacker history
+  IsUnpacking stage.Message unpacker session history =
+      Unpacks stage.Message session unpacker history
+  IsUnpacking (stage.Data last) unpacker session history =
+      Unpacks (stage.Data last) session unpacker history
 
-  -- what a step at the stage `now` gives that leads to the stage `next`
-  abbrev pub GivesStage : Wanted → (now : Stage) → (old new : Session R) → (after : Writers W E)
-      → Unpacker → (history : List ℕ) → (next : Stage) → Type 0
-  GivesStage wanted now old new after unpacker history (stage.Ended answer) =
-      LastStep in_look out_look report_look (unpack_tool wanted) start
-      (devices_at (place_of (source_of new) after)) (most_given now) history answer
-  GivesStage wanted now old new after unpacker history stage.Contact = ⊥
-  GivesStage wanted now old new after unpacker history stage.Message =
-      WentOn (source_of old) (source_of new) (Unpacks stage.Message new after unpacker)
-      (most_given now) history
-  GivesStage wanted now old new after unpacker history (stage.Data last) =
+module _ {R W E : Type 0} (look : Looks R W E) (start : Devices R W E) where
+  -- a run stands, and this is known
+  abbrev pub StandsAt : Wanted → Stage → Session R → Writers W E → Unpacker → List ℕ → Type 0
+  StandsAt wanted now s w u history =
+      Stands look (unpacking_of wanted) start true (place_of (source_of s) w) history
+      × Unpacks look.input now s u history
+
+  -- what holds once these bytes were given: a stage comes, or a writer failed
+  abbrev pub StandsAfter : Wanted → Session R → Writers W E → Unpacker → (history : List ℕ)
+      → Result Stage IoFault → Type 0
+  StandsAfter wanted s w u history (Ok now) = StandsAt wanted now s w u history
+  StandsAfter wanted s w u history (Err fault) =
+      EndedRun look (unpack_tool wanted) start (devices_at (place_of (source_of s) w)) history
+      (Err fault)
+
+  -- what a step at the stage `now` gives
+  abbrev pub GivesNext : Wanted → (now : Stage) → (old new : Session R) → Writers W E → Unpacker
+      → (history : List ℕ) → Next → Type 0
+  GivesNext wanted now old new after u history (next.Stage stage) =
       WentOn (source_of old) (source_of new)
-      (λ bytes. Unpacks (stage.Data last) new after unpacker bytes
+      (λ bytes. StandsAt wanted stage new after u bytes
       × IsWaitingAfter now (reading_of bytes).end) (most_given now) history
-
-  -- what stands once these bytes were given, at the stage `next`
-  abbrev pub StandsAfter : Wanted → (next : Stage) → Session R → Writers W E → Unpacker
-      → (history : List ℕ) → Type 0
-  StandsAfter wanted stage.Contact session writers unpacker history = ⊥
-  StandsAfter wanted stage.Message session writers unpacker history =
-      Unpacks stage.Message session writers unpacker history
-  StandsAfter wanted (stage.Data last) session writers unpacker history =
-      Unpacks (stage.Data last) session writers unpacker history
-  StandsAfter wanted (stage.Ended answer) session writers unpacker history =
-      EndedRun in_look out_look report_look (unpack_tool wanted) start
-      (devices_at (place_of (source_of session) writers)) history answer
+  GivesNext wanted now old new after u history (next.Ended answer) =
+      LastStep look (unpack_tool wanted) start (devices_at (place_of (source_of new) after))
+      (most_given now) history answer
 
   -- The head of a segment, or data of it, has come. All that is due of its transfer is written but for its line.
   pub record IsJoining (last : Bool) (s : Session R) (w : Writers W E) (u : Unpacker)
       (history : List ℕ) : Type 0 where
-    pub session : IsSessionAt in_look s history
+    pub session : IsSessionAt look.input s history
     pub window : length (window_of (source_of s)) < window_size
     pub in_order : AreInOrder (heads_of (reading_of history))
     pub joiner : IsJoinerAt u.joiner (messages_of (heads_of (reading_of history)))
@@ -199,12 +178,12 @@ module _ {R W E : Type 0} (in_look : R → Input) (out_look : W → Output) (rep
     pub are : transfers_of (heads_of (reading_of history)) ≡ transfer ∷ earlier
     pub closed : transfer.closed ≡ (last && (left_of s == 0))
     pub follows : Follows u.latest transfer earlier
-    pub written : HasWritten in_look out_look report_look start (place_of (source_of s) w) history
+    pub written : HasWritten look start (place_of (source_of s) w) history
         (record {
           output = parts_of u.latest.wanted (transfer ∷ earlier);
           report = lines_of u.latest.wanted earlier;
         })
-    pub sound : NoneFailed in_look out_look report_look (devices_at (place_of (source_of s) w))
+    pub sound : NoneFailed look (devices_at (place_of (source_of s) w))
     pub total : u.latest.total ≤ length history
     pub good : u.good ≡ are_good earlier
     pub opened : is_some (open_of (messages_of (heads_of (reading_of history)))) ≡ not last
@@ -213,7 +192,7 @@ module _ {R W E : Type 0} (in_look : R → Input) (out_look : W → Output) (rep
   -- The head of a transfer's first segment has come. `transfers` are those before it, of which the latest is abandoned or none is open.
   pub record IsBeginning (abandoned last : Bool) (s : Session R) (w : Writers W E) (u : Unpacker)
       (message : MessageBuffer) (history : List ℕ) : Type 0 where
-    pub session : IsSessionAt in_look s history
+    pub session : IsSessionAt look.input s history
     pub window : length (window_of (source_of s)) < window_size
     pub in_order : AreInOrder (heads_of (reading_of history))
     pub joiner : IsJoinerAt u.joiner (messages_of (heads_of (reading_of history)))
@@ -224,9 +203,9 @@ module _ {R W E : Type 0} (in_look : R → Input) (out_look : W → Output) (rep
     pub are : transfers_of (heads_of (reading_of history))
         ≡ record { first = head; content = []; closed = last && (left_of s == 0) } ∷ transfers
     pub before : IsOpen abandoned u.latest transfers
-    pub written : HasWritten in_look out_look report_look start (place_of (source_of s) w) history
+    pub written : HasWritten look start (place_of (source_of s) w) history
         (texts_of u.latest.wanted transfers)
-    pub sound : NoneFailed in_look out_look report_look (devices_at (place_of (source_of s) w))
+    pub sound : NoneFailed look (devices_at (place_of (source_of s) w))
     pub sum : u.latest.start + u.latest.written ≡ length (parts_of u.latest.wanted transfers)
     pub total : u.latest.total ≤ length history
     pub good : u.good ≡ are_good (settled transfers)
@@ -235,32 +214,11 @@ module _ {R W E : Type 0} (in_look : R → Input) (out_look : W → Output) (rep
 
 -- ---- what the parts of a step do
 
--- the run has ended
-abbrev pub IsEnded : Stage → Type 0
-IsEnded stage.Contact = ⊥
-IsEnded stage.Message = ⊥
-IsEnded (stage.Data last) = ⊥
-IsEnded (stage.Ended answer) = Unit {0}
-
-module _ {W E : Type 0} (out_look : W → Output) (report_look : E → Output) where
-  abbrev pub GivesFinish : Unpacker → List Transfer → (old new : Writers W E)
-      → (next : Stage) → Type 0
-  GivesFinish unpacker transfers old new stage.Contact = ⊥
-  GivesFinish unpacker transfers old new stage.Message = ⊥
-  GivesFinish unpacker transfers old new (stage.Data last) = ⊥
-  GivesFinish unpacker transfers old new (stage.Ended (Ok status)) =
-      Writes out_look report_look old new (on_report (last_lines unpacker.latest.wanted transfers))
-      × (unpacker.good ≡ are_good (settled transfers)
-      → status.0 ≡ (if are_good transfers then 0 else 1))
-  GivesFinish unpacker transfers old new (stage.Ended (Err fault)) =
-      WritesPart out_look report_look old new
-      (on_report (last_lines unpacker.latest.wanted transfers)) fault
-
-  -- a fault of the wire was reported, or a failure of the reader ends the run
-  abbrev pub GivesEnd : Stop → (old new : Writers W E) → (next : Stage) → Type 0
-  GivesEnd why old new stage.Contact = ⊥
-  GivesEnd why old new stage.Message = ⊥
-  GivesEnd why old new (stage.Data last) = ⊥
-  GivesEnd (stop.Wire offset fault) old new (stage.Ended answer) =
-      GivesReport out_look report_look old new (fault_text (Wire offset fault)) answer
-  GivesEnd (stop.Io fault) old new (stage.Ended answer) = (answer ≡ Err fault) × (new ≡ old)
+-- the line of a transfer that is open is written, and the run ends with the status
+abbrev pub GivesFinish : {W E : Type 0} → (W → Output) → (E → Output) → Unpacker → List Transfer
+    → (old new : Writers W E) → Result Status IoFault → Type 0
+GivesFinish out_look report_look unpacker transfers old new answer =
+    unpacker.good ≡ are_good (settled transfers)
+    → GivesLast out_look report_look old new
+    (on_report (last_lines unpacker.latest.wanted transfers))
+    (if are_good transfers then 0 else 1) answer

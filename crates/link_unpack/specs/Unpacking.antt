@@ -1,19 +1,18 @@
 -- What `unpack` writes of a recorded stream.
 use Rattle.std.specs.Prelude.{ℕ, Bool, true, false, not, ◌==◌, List, [], ◌∷◌, ◌++◌, length, Option, Some, None, if◌then◌else◌}
 use Rattle.std.specs.List.{list_all}
-use Rattle.link_wire.specs.Stream.{End, Clean, Cut, Fault, reading_of}
+use Rattle.link_wire.specs.Stream.{End, reading_of}
 use Rattle.link_bundle.specs.Bundle.{verdict, payload_in}
 use Rattle.link_transfer.specs.Announced.{announced_of}
 use Rattle.link_transfer.specs.declared.fault.OrderFault.{OrderFault}
-use Rattle.link_report.specs.Fault.{fault_text}
 use Rattle.link_report.specs.declared.fault.Fault.TheVariants.{Order}
 use Rattle.link_report.specs.Judgement.{judged}
 use Rattle.link_report.specs.Transfer.{transfer_text}
 use Rattle.link_report.specs.declared.judgement.Judgement.{Judgement}
 use Rattle.link_report.specs.declared.judgement.Judgement.TheVariants.{Abandoned, BadLengthItem, LengthDiffers, Bad, Good}
 use Rattle.link_report.specs.declared.transfer.TransferEntry.{TransferEntry}
-use Rattle.link_run.specs.Ends.{end_lines, lasting_lines, is_shown}
-use Rattle.link_run.specs.Run.{Texts, Outcome, Tool}
+use Rattle.link_run.specs.Made.{StreamStop, Made, tool_of, stop_of}
+use Rattle.link_run.specs.Run.{Tool}
 use Rattle.link_unpack.specs.Transfers.{Ordered, ordered, heads_of, Transfer, transfers_of, settled}
 use Rattle.link_unpack.specs.declared.wanted.Wanted.{Wanted}
 
@@ -76,74 +75,30 @@ are_good transfers = list_all (λ transfer. is_good (judgement_of transfer)) tra
 
 -- ---- a stream
 
--- The transfers that have a line. A clean end abandons one that is open: nothing follows. At a fault it has none, since
--- it might have gone on.
-abbrev pub over : Option (ℕ × OrderFault) → End → List Transfer → List Transfer
-over (Some refused) end transfers = settled transfers
-over None Clean transfers = transfers
-over None (Cut offset message content) transfers = settled transfers
-over None (Fault offset fault) transfers = settled transfers
+-- where a stream stops: at the first head that is not in order, and else where the reading does
+abbrev pub stop_by : Option (ℕ × OrderFault) → End → Option StreamStop
+stop_by (Some (offset, fault)) end = Some (record { fault = Order offset fault; lasts = true })
+stop_by None end = stop_of end
 
--- the line of the fault that stops it: of the first head that is not in order, else of the end of the stream
-abbrev pub stop_lines : Option (ℕ × OrderFault) → End → List ℕ
-stop_lines (Some (offset, fault)) end = fault_text (Order offset fault)
-stop_lines None end = end_lines end
-
--- 3 at a fault, else 1 where a transfer is not good, else 0
-abbrev pub stop_status : Option (ℕ × OrderFault) → End → List Transfer → ℕ
-stop_status (Some refused) end transfers = 3
-stop_status None Clean transfers = if are_good transfers then 0 else 1
-stop_status None (Cut offset message content) transfers = 3
-stop_status None (Fault offset fault) transfers = 3
-
-abbrev pub unpacking_by : Wanted → End → Ordered → Outcome
+-- A transfer that is open has no line, since it might go on. At a clean end it is abandoned: nothing
+-- follows.
+abbrev pub unpacking_by : Wanted → End → Ordered → Made
 unpacking_by wanted end order =
     let transfers = transfers_of order.heads in
     record {
       texts = record {
         output = parts_of wanted transfers;
-        report = lines_of wanted (over order.refused end transfers) ++ stop_lines order.refused end;
+        report = lines_of wanted (settled transfers);
       };
-      status = stop_status order.refused end transfers;
+      stop = stop_by order.refused end;
+      ended = record { output = parts_of wanted transfers; report = lines_of wanted transfers };
+      good = are_good transfers;
     }
 
--- what comes of a stream
-unfoldable pub unpacking : Wanted → List ℕ → Outcome
-unpacking wanted bytes =
+-- what `unpack` makes of a stream
+unfoldable pub unpacking_of : Wanted → List ℕ → Made
+unpacking_of wanted bytes =
     let reading = reading_of bytes in unpacking_by wanted reading.end (ordered (heads_of reading))
 
--- the line of a stop that more bytes do not mend
-abbrev pub lasting_stop : Option (ℕ × OrderFault) → End → List ℕ
-lasting_stop (Some (offset, fault)) end = fault_text (Order offset fault)
-lasting_stop None end = lasting_lines end
-
-abbrev pub unpacking_sofar_by : Wanted → End → Ordered → Texts
-unpacking_sofar_by wanted end order =
-    let transfers = transfers_of order.heads in
-    record {
-      output = parts_of wanted transfers;
-      report = lines_of wanted (settled transfers) ++ lasting_stop order.refused end;
-    }
-
--- what of it these bytes determine, however they go on
-unfoldable pub unpacking_sofar : Wanted → List ℕ → Texts
-unpacking_sofar wanted bytes =
-    let reading = reading_of bytes in
-    unpacking_sofar_by wanted reading.end (ordered (heads_of reading))
-
--- whether a head is refused, or the end is a fault
-abbrev pub is_stopped : Option (ℕ × OrderFault) → End → Bool
-is_stopped (Some refused) end = true
-is_stopped None end = is_shown end
-
-abbrev pub unpacking_shows_by : End → Ordered → Bool
-unpacking_shows_by end order = is_stopped order.refused end
-
--- whether these bytes show a fault, of the stream or of the order of its messages
-unfoldable pub unpacking_shows : List ℕ → Bool
-unpacking_shows bytes =
-    let reading = reading_of bytes in unpacking_shows_by reading.end (ordered (heads_of reading))
-
 abbrev pub unpack_tool : Wanted → Tool
-unpack_tool wanted =
-    record { whole = unpacking wanted; sofar = unpacking_sofar wanted; shows = unpacking_shows }
+unpack_tool wanted = tool_of (unpacking_of wanted)

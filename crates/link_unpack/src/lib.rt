@@ -1,7 +1,7 @@
 //! `unpack`: the bundles that a recorded TCPCLv4 session (RFC 9174) carried, cut out, named and judged.
 //!
-//! [`unpack`] is the whole run. [`UnpackRun`] is the same step by step; [`Wanted`] says what of the
-//! transfers is written.
+//! [`unpack`] is the whole run. [`unpack_run`] makes the same run, to be taken step by step.
+//! [`Wanted`] says what of the transfers is written.
 //!
 //! ```ignore
 //! let wanted = Wanted { only: None, payload: false };
@@ -13,5 +13,5 @@ mod transfer;
 mod unpacking;
 mod wanted;
 
-pub use unpacking::{UnpackRun, unpack};
+pub use unpacking::{UnpackRun, Unpacking, unpack, unpack_run};
 pub use wanted::Wanted;

@@ -1,9 +1,11 @@
 //! `unpack`: the data of the transfers of a recorded stream, and a line for each transfer.
 
-ghost use Rattle.std.specs.Prelude.{◌≡◌, ◌+◌, ◌&&◌, true, false, not, is_some, if◌then◌else◌, IsTrue, List, length, ℕ};
-ghost use Rattle.link_wire.specs.Session.{may_open, may_read, is_opened, left_of};
-ghost use Rattle.link_run.specs.Run.{Devices, GivesAnswer};
-ghost use Rattle.link_run.specs.Writers.{GivesTexts, on_report};
+ghost use Rattle.std.specs.Prelude.{◌≡◌, ◌+◌, ◌&&◌, ◌<◌, true, false, not, [], is_some, if◌then◌else◌, IsTrue, List, length, ℕ, Ok, Err};
+ghost use Rattle.link_wire.specs.Session.{may_open, may_read, is_opened, left_of, source_of};
+ghost use Rattle.link_run.specs.Reading.{inner_of, HasEnough};
+ghost use Rattle.link_run.specs.Run.{Devices, devices_at, looks, GivesAnswer};
+ghost use Rattle.link_run.specs.Stages.{Stands, HandedOn};
+ghost use Rattle.link_run.specs.Writers.{GivesTexts, WritesSome, on_report, place_of};
 ghost use Rattle.link_wire.specs.Codes.{is_start};
 ghost use Rattle.link_wire.specs.MessageBuffer.{SegmentHasTotals, message_of};
 ghost use Rattle.link_wire.specs.declared.message.SegmentHead.{SegmentHead};
@@ -11,44 +13,51 @@ ghost use Rattle.link_wire.specs.declared.message.Message.{Message};
 ghost use Rattle.link_transfer.specs.Joiner.{IsJoinerAt};
 ghost use Rattle.link_transfer.specs.Order.{open_of};
 ghost use Rattle.link_unpack.specs.Transfers.{Transfer, settled};
-ghost use Rattle.link_unpack.specs.Unpacking.{unpack_tool, parts_of, line_of, is_good, are_good, judgement_of};
+ghost use Rattle.link_unpack.specs.Unpacking.{unpacking_of, unpack_tool, parts_of, line_of, is_good, are_good, judgement_of};
 ghost use Rattle.link_unpack.specs.TransferScan.{Follows, begun};
-ghost use Rattle.link_unpack.specs.UnpackRun.{may_go_on, IsUnpacking, IsBeginning, IsJoining, IsOpen, IsEnded, last_lines, GivesStage, StandsAfter, GivesFinish, GivesEnd};
+ghost use Rattle.link_unpack.specs.UnpackRun.{may_go_on, may_follow, next_of, IsUnpacking, Begins, Unpacks, IsBeginning, IsJoining, IsOpen, last_lines, GivesNext, StandsAfter, GivesFinish};
 
 use crate::transfer::TransferScan;
 use crate::wanted::Wanted;
 use link_report::Fault;
-use link_run::{Progress, Run, RunEnd, Status, Writers, load_data, next_message};
+use link_run::{Input, Progress, Run, RunEnd, Stages, Status, ToolRun, Writers};
 use link_transfer::{Event, Joiner, Turn, announced};
-use link_wire::{Fields, InDevice, IoFault, MessageBuffer, OutDevice, Session, Source, Stop};
+use link_wire::{Fields, InDevice, IoFault, MessageBuffer, OutDevice, Session, Source};
 
 /// How many bytes of a segment's data one step is given at most.
 const PIECE: usize = 4096;
 
-/// What a run does next.
+/// What a step reads.
 #[derive(Clone, Copy, Debug, PartialEq, Eq)]
 enum Stage {
-    /// Read the contact header.
+    /// The contact header.
     Contact,
-    /// Read the head of a message.
+    /// The head of a message.
     Message,
-    /// Read data of a segment, which is its transfer's last or not.
+    /// Data of a segment, which is its transfer's last or not.
     Data { last: bool },
+}
+
+/// What comes after a step.
+#[derive(Clone, Copy, Debug, PartialEq, Eq)]
+enum Next {
+    /// A step at this stage.
+    Stage(Stage),
     /// Nothing: the run has ended.
     Ended(Result<Status, IoFault>),
 }
 
-impl Stage {
-    ghost use Rattle.link_unpack.specs.UnpackRun.{progress_of};
+impl Next {
+    ghost use Rattle.link_unpack.specs.UnpackRun.{next_of};
 
-    /// What the step that leads to this stage returns.
-    fn progress(self) -> Result<Progress, IoFault>
-        ensures { result ≡ progress_of self }
+    /// What comes after what was written: a stage, or nothing if a writer failed.
+    #[inline(always)]
+    fn of(written: Result<Stage, IoFault>) -> Next
+        ensures { result ≡ next_of written }
     {
-        match self {
-            Stage::Ended(Ok(status)) => Ok(Progress::Done(status)),
-            Stage::Ended(Err(fault)) => Err(fault),
-            _ => Ok(Progress::More),
+        match written {
+            Ok(stage) => Next::Stage(stage),
+            Err(fault) => Next::Ended(Err(fault)),
         }
     }
 }
@@ -63,86 +72,149 @@ struct Unpacker {
     good: bool,
 }
 
-/// Does what comes at this stage, and returns the next.
-fn take<R: InDevice, W: OutDevice, E: OutDevice>(
+/// The stages of `unpack`.
+#[derive(Drop)]
+pub struct Unpacking {
     stage: Stage,
-    session: &mut Session<R>,
+    /// The message whose head was read last.
+    message: MessageBuffer,
+    unpacker: Unpacker,
+}
+
+/// A run of `unpack`, step by step.
+pub type UnpackRun<R, W, E> = ToolRun<Session<R>, W, E, Unpacking>;
+
+impl<R: InDevice, W: OutDevice, E: OutDevice> Stages<Session<R>, W, E> for Unpacking {
+    ghost use Rattle.std.specs.Prelude.{true};
+    ghost use Rattle.link_unpack.specs.Unpacking.{unpacking_of};
+    ghost use Rattle.link_unpack.specs.UnpackRun.{may_go_on, most_given, IsUnpacking};
+
+    ghost made = { λ tool. unpacking_of tool.unpacker.latest.wanted };
+
+    ghost begun = { λ tool. true };
+
+    ghost fits = { λ tool. may_go_on tool.stage };
+
+    ghost knows = { λ tool. IsUnpacking R.state tool.stage tool.unpacker };
+
+    ghost most = { λ tool. most_given tool.stage };
+
+    fn stage(
+        &mut self,
+        input: &mut Input<Session<R>>,
+        writers: &mut Writers<W, E>,
+    ) -> Result<Progress, IoFault> {
+        let next = advance(
+            self.stage,
+            input,
+            writers,
+            &mut self.message,
+            &mut self.unpacker,
+        );
+        match next {
+            Next::Stage(stage) => {
+                self.stage = stage;
+                Ok(Progress::More)
+            }
+            Next::Ended(answer) => Progress::ended(answer),
+        }
+    }
+}
+
+/// Does what comes at this stage, and says what comes next.
+fn advance<R: InDevice, W: OutDevice, E: OutDevice>(
+    stage: Stage,
+    input: &mut Input<Session<R>>,
     writers: &mut Writers<W, E>,
     message: &mut MessageBuffer,
     unpacker: &mut Unpacker,
-) -> Stage
-    requires { IsTrue (may_go_on stage session.old) }
-    ensures fits { IsTrue (may_go_on result session.new) }
-    ensures gives { (start : Devices R W E) (history : List ℕ) → IsUnpacking R.state W.state
-        E.state start stage session.old writers.old unpacker.old history
-        → GivesStage R.state W.state E.state start unpacker.old.latest.wanted stage session.old
-        session.new writers.new unpacker.new history result }
+) -> Next
+    requires { IsTrue (may_go_on stage (inner_of input.old)) }
+    ensures fits { IsTrue (may_follow result (inner_of input.new)) }
+    ensures gives { (start : Devices R W E) (history : List ℕ)
+        → Stands (looks R.state W.state E.state) (unpacking_of unpacker.old.latest.wanted) start true
+        (place_of (source_of (inner_of input.old)) writers.old) history
+        → IsUnpacking R.state stage unpacker.old (inner_of input.old) history
+        → GivesNext (looks R.state W.state E.state) start unpacker.old.latest.wanted stage
+        (inner_of input.old) (inner_of input.new) writers.new unpacker.new history result }
+    ensures handed { (history : List ℕ)
+        → IsUnpacking R.state stage unpacker.old (inner_of input.old) history
+        → (result ≡ Next.Ended (Err IoFault.Write) → ⊥)
+        → HandedOn (looks R.state W.state E.state) W.handed E.handed
+        (HasEnough R.state (inner_of input.old))
+        (place_of (source_of (inner_of input.old)) writers.old)
+        (place_of (source_of (inner_of input.new)) writers.new) }
     ensures wanted { unpacker.new.latest.wanted ≡ unpacker.old.latest.wanted }
-    ensures ended { (answer : _) → stage ≡ Stage.Ended answer → (session.new ≡ session.old) ×
-        (writers.new ≡ writers.old) × (message.new ≡ message.old) × (unpacker.new ≡ unpacker.old)
-        × (result ≡ stage) }
 {
     match stage {
-        Stage::Contact => take_contact(session, writers, unpacker),
-        Stage::Message => take_message(session, writers, message, unpacker),
-        Stage::Data { last } => take_data(last, session, writers, unpacker),
-        Stage::Ended(answer) => Stage::Ended(answer),
+        Stage::Contact => open(input, writers, unpacker),
+        Stage::Message => take_message(input, writers, message, unpacker),
+        Stage::Data { last } => take_data(last, input, writers, unpacker),
     }
 }
 
 /// Reads the contact header.
-fn take_contact<R: InDevice, W: OutDevice, E: OutDevice>(
-    session: &mut Session<R>,
+fn open<R: InDevice, W: OutDevice, E: OutDevice>(
+    input: &mut Input<Session<R>>,
     writers: &mut Writers<W, E>,
     unpacker: &Unpacker,
-) -> Stage
-    requires { IsTrue (may_open session.old) }
-    ensures fits { IsTrue (may_go_on result session.new) }
-    ensures gives { (start : Devices R W E) (history : List ℕ) → IsUnpacking R.state W.state
-        E.state start Stage.Contact session.old writers.old unpacker.now history
-        → GivesStage R.state W.state E.state start unpacker.now.latest.wanted Stage.Contact
-        session.old session.new writers.new unpacker.now history result }
+) -> Next
+    requires { IsTrue (may_open (inner_of input.old)) }
+    ensures fits { IsTrue (may_follow result (inner_of input.new)) }
+    ensures gives { (start : Devices R W E) (history : List ℕ)
+        → Stands (looks R.state W.state E.state) (unpacking_of unpacker.now.latest.wanted) start true
+        (place_of (source_of (inner_of input.old)) writers.old) history
+        → Begins R.state (inner_of input.old) unpacker.now history
+        → GivesNext (looks R.state W.state E.state) start unpacker.now.latest.wanted Stage.Contact
+        (inner_of input.old) (inner_of input.new) writers.new unpacker.now history result }
+    ensures handed { (result ≡ Next.Ended (Err IoFault.Write) → ⊥)
+        → HandedOn (looks R.state W.state E.state) W.handed E.handed
+        (HasEnough R.state (inner_of input.old))
+        (place_of (source_of (inner_of input.old)) writers.old)
+        (place_of (source_of (inner_of input.new)) writers.new) }
 {
-    match session.open() {
-        Ok(_) => Stage::Message,
-        Err(stop) => end(writers, stop),
+    match input.open() {
+        Ok(_) => Next::Stage(Stage::Message),
+        Err(stop) => Next::Ended(writers.end(stop)),
     }
 }
 
 /// Reads the head of a message, and does what it makes of the transfers.
 fn take_message<R: InDevice, W: OutDevice, E: OutDevice>(
-    session: &mut Session<R>,
+    input: &mut Input<Session<R>>,
     writers: &mut Writers<W, E>,
     message: &mut MessageBuffer,
     unpacker: &mut Unpacker,
-) -> Stage
-    requires { IsTrue (may_read session.old) }
-    ensures fits { IsTrue (may_go_on result session.new) }
-    ensures gives { (start : Devices R W E) (history : List ℕ) → IsUnpacking R.state W.state
-        E.state start Stage.Message session.old writers.old unpacker.old history
-        → GivesStage R.state W.state E.state start unpacker.old.latest.wanted Stage.Message
-        session.old session.new writers.new unpacker.new history result }
+) -> Next
+    requires { IsTrue (may_read (inner_of input.old)) }
+    ensures fits { IsTrue (may_follow result (inner_of input.new)) }
+    ensures gives { (start : Devices R W E) (history : List ℕ)
+        → Stands (looks R.state W.state E.state) (unpacking_of unpacker.old.latest.wanted) start true
+        (place_of (source_of (inner_of input.old)) writers.old) history
+        → Unpacks R.state Stage.Message (inner_of input.old) unpacker.old history
+        → GivesNext (looks R.state W.state E.state) start unpacker.old.latest.wanted Stage.Message
+        (inner_of input.old) (inner_of input.new) writers.new unpacker.new history result }
+    ensures handed { (history : List ℕ)
+        → Unpacks R.state Stage.Message (inner_of input.old) unpacker.old history
+        → (result ≡ Next.Ended (Err IoFault.Write) → ⊥)
+        → HandedOn (looks R.state W.state E.state) W.handed E.handed
+        (HasEnough R.state (inner_of input.old))
+        (place_of (source_of (inner_of input.old)) writers.old)
+        (place_of (source_of (inner_of input.new)) writers.new) }
     ensures wanted { unpacker.new.latest.wanted ≡ unpacker.old.latest.wanted }
 {
-    let offset = match next_message(session, writers, message) {
+    let offset = match input.next_message(writers, message) {
         Ok(Some(offset)) => offset,
-        Ok(None) => return finish(writers, unpacker),
-        Err(stop) => return end(writers, stop),
+        Ok(None) => return Next::Ended(finish(writers, unpacker)),
+        Err(stop) => return Next::Ended(writers.end(stop)),
     };
     match unpacker.joiner.event(Event::of_fields(message.fields)) {
         Ok(Turn::Begin { abandoned, last }) => {
-            begin(
-                abandoned.is_some(),
-                last,
-                session,
-                writers,
-                message,
-                unpacker,
-            )
+            Next::of(begin(abandoned.is_some(), last, input, writers, message, unpacker))
         }
-        Ok(Turn::Continue { last }) => go_on(last, session, writers, unpacker),
-        Ok(Turn::Other) => go_on(false, session, writers, unpacker),
-        Err(fault) => Stage::Ended(writers.report_fault(&Fault::Order(offset, fault))),
+        Ok(Turn::Continue { last }) => Next::of(go_on(last, input, writers, unpacker)),
+        Ok(Turn::Other) => Next::of(go_on(false, input, writers, unpacker)),
+        Err(fault) => Next::Ended(writers.report_fault(&Fault::Order(offset, fault))),
     }
 }
 
@@ -150,25 +222,27 @@ fn take_message<R: InDevice, W: OutDevice, E: OutDevice>(
 fn begin<R: InDevice, W: OutDevice, E: OutDevice>(
     abandoned: bool,
     last: bool,
-    session: &Session<R>,
+    input: &Input<Session<R>>,
     writers: &mut Writers<W, E>,
     message: &MessageBuffer,
     unpacker: &mut Unpacker,
-) -> Stage
-    requires opened { IsTrue (is_opened session.now) }
+) -> Result<Stage, IoFault>
+    requires opened { IsTrue (is_opened (inner_of input.now)) }
     requires totals { SegmentHasTotals message.now }
-    ensures fits { IsTrue (may_go_on result session.now) }
-    ensures gives { (start : Devices R W E) (history : List ℕ) → IsBeginning R.state W.state
-        E.state start abandoned last session.now writers.old unpacker.old message.now history
-        → StandsAfter R.state W.state E.state start unpacker.old.latest.wanted result session.now
-        writers.new unpacker.new history }
+    ensures fits { IsTrue (may_follow (next_of result) (inner_of input.now)) }
+    ensures gives { (start : Devices R W E) (history : List ℕ)
+        → IsBeginning (looks R.state W.state E.state) start abandoned last (inner_of input.now)
+        writers.old unpacker.old message.now history
+        → StandsAfter (looks R.state W.state E.state) start unpacker.old.latest.wanted
+        (inner_of input.now) writers.new unpacker.new history result }
+    ensures writes { WritesSome W.state E.state writers.old writers.new result }
     ensures wanted { unpacker.new.latest.wanted ≡ unpacker.old.latest.wanted }
 {
     if let Err(fault) = abandon(abandoned, writers, unpacker) {
-        return Stage::Ended(Err(fault));
+        return Err(fault);
     }
     begin_latest(&mut unpacker.latest, message);
-    go_on(last, session, writers, unpacker)
+    go_on(last, input, writers, unpacker)
 }
 
 /// The transfer of the segment whose head was read is the latest.
@@ -189,28 +263,38 @@ fn begin_latest(latest: &mut TransferScan, message: &MessageBuffer)
 /// Passes on a piece of a segment's data.
 fn take_data<R: InDevice, W: OutDevice, E: OutDevice>(
     last: bool,
-    session: &mut Session<R>,
+    input: &mut Input<Session<R>>,
     writers: &mut Writers<W, E>,
     unpacker: &mut Unpacker,
-) -> Stage
-    requires { IsTrue (is_opened session.old) }
-    ensures fits { IsTrue (may_go_on result session.new) }
-    ensures gives { (start : Devices R W E) (history : List ℕ) → IsUnpacking R.state W.state
-        E.state start (Stage.Data last) session.old writers.old unpacker.old history
-        → GivesStage R.state W.state E.state start unpacker.old.latest.wanted (Stage.Data last)
-        session.old session.new writers.new unpacker.new history result }
+) -> Next
+    requires { IsTrue (is_opened (inner_of input.old)) }
+    ensures fits { IsTrue (may_follow result (inner_of input.new)) }
+    ensures gives { (start : Devices R W E) (history : List ℕ)
+        → Stands (looks R.state W.state E.state) (unpacking_of unpacker.old.latest.wanted) start true
+        (place_of (source_of (inner_of input.old)) writers.old) history
+        → Unpacks R.state (Stage.Data last) (inner_of input.old) unpacker.old history
+        → GivesNext (looks R.state W.state E.state) start unpacker.old.latest.wanted
+        (Stage.Data last) (inner_of input.old) (inner_of input.new) writers.new unpacker.new history
+        result }
+    ensures handed { (history : List ℕ)
+        → Unpacks R.state (Stage.Data last) (inner_of input.old) unpacker.old history
+        → (result ≡ Next.Ended (Err IoFault.Write) → ⊥)
+        → HandedOn (looks R.state W.state E.state) W.handed E.handed
+        (HasEnough R.state (inner_of input.old))
+        (place_of (source_of (inner_of input.old)) writers.old)
+        (place_of (source_of (inner_of input.new)) writers.new) }
     ensures wanted { unpacker.new.latest.wanted ≡ unpacker.old.latest.wanted }
 {
-    let size = match load_data(session, writers) {
+    let size = match input.load_data(writers) {
         Ok(ready) => ready.min(PIECE),
-        Err(stop) => return end(writers, stop),
+        Err(stop) => return Next::Ended(writers.end(stop)),
     };
-    let part = unpacker.latest.take(&session.loaded()[..size]);
+    let part = unpacker.latest.take(&input.loaded()[..size]);
     let written = writers.write_output(part);
-    session.pass(size);
+    input.pass(size);
     match written {
-        Ok(()) => go_on(last, session, writers, unpacker),
-        Err(fault) => Stage::Ended(Err(fault)),
+        Ok(()) => Next::of(go_on(last, input, writers, unpacker)),
+        Err(fault) => Next::Ended(Err(fault)),
     }
 }
 
@@ -218,29 +302,31 @@ fn take_data<R: InDevice, W: OutDevice, E: OutDevice>(
 /// segment has come.
 fn go_on<R: InDevice, W: OutDevice, E: OutDevice>(
     last: bool,
-    session: &Session<R>,
+    input: &Input<Session<R>>,
     writers: &mut Writers<W, E>,
     unpacker: &mut Unpacker,
-) -> Stage
-    requires { IsTrue (is_opened session.now) }
-    ensures fits { IsTrue (may_go_on result session.now) }
-    ensures gives { (start : Devices R W E) (history : List ℕ) → IsJoining R.state W.state E.state
-        start last session.now writers.old unpacker.old history
-        → StandsAfter R.state W.state E.state start unpacker.old.latest.wanted result session.now
-        writers.new unpacker.new history }
-    ensures other { last ≡ false → left_of session.now ≡ 0
-        → (result ≡ Stage.Message) × (writers.new ≡ writers.old) × (unpacker.new ≡ unpacker.old) }
+) -> Result<Stage, IoFault>
+    requires { IsTrue (is_opened (inner_of input.now)) }
+    ensures fits { IsTrue (may_follow (next_of result) (inner_of input.now)) }
+    ensures gives { (start : Devices R W E) (history : List ℕ)
+        → IsJoining (looks R.state W.state E.state) start last (inner_of input.now) writers.old
+        unpacker.old history
+        → StandsAfter (looks R.state W.state E.state) start unpacker.old.latest.wanted
+        (inner_of input.now) writers.new unpacker.new history result }
+    ensures other { last ≡ false → left_of (inner_of input.now) ≡ 0
+        → (result ≡ Ok Stage.Message) × (writers.new ≡ writers.old) × (unpacker.new ≡ unpacker.old) }
+    ensures writes { WritesSome W.state E.state writers.old writers.new result }
     ensures wanted { unpacker.new.latest.wanted ≡ unpacker.old.latest.wanted }
 {
-    if session.left() > 0 {
-        return Stage::Data { last };
+    if input.left() > 0 {
+        return Ok(Stage::Data { last });
     }
     if last {
         if let Err(fault) = report(writers, unpacker, false) {
-            return Stage::Ended(Err(fault));
+            return Err(fault);
         }
     }
-    Stage::Message
+    Ok(Stage::Message)
 }
 
 /// The line of the latest transfer, which was abandoned or is closed.
@@ -288,18 +374,21 @@ fn abandon<W: OutDevice, E: OutDevice>(
 }
 
 /// The stream has ended between two messages: an open transfer is abandoned.
-fn finish<W: OutDevice, E: OutDevice>(writers: &mut Writers<W, E>, unpacker: &mut Unpacker) -> Stage
-    ensures ends { IsEnded result }
+fn finish<W: OutDevice, E: OutDevice>(
+    writers: &mut Writers<W, E>,
+    unpacker: &mut Unpacker,
+) -> Result<Status, IoFault>
     ensures latest { unpacker.new.latest ≡ unpacker.old.latest }
-    ensures gives { (transfers : List Transfer) (messages : List Message) → IsJoinerAt
-        unpacker.old.joiner messages → IsOpen (is_some (open_of messages)) unpacker.old.latest
-        transfers
+    ensures gives { (transfers : List Transfer) (messages : List Message)
+        → IsJoinerAt unpacker.old.joiner messages
+        → IsOpen (is_some (open_of messages)) unpacker.old.latest transfers
         → GivesFinish W.state E.state unpacker.old transfers writers.old writers.new result }
+    ensures writes { WritesSome W.state E.state writers.old writers.new result }
 {
     let is_open = unpacker.joiner.open().is_some();
     match abandon(is_open, writers, unpacker) {
-        Ok(()) => Stage::Ended(Ok(status(unpacker.good))),
-        Err(fault) => Stage::Ended(Err(fault)),
+        Ok(()) => Ok(status(unpacker.good)),
+        Err(fault) => Err(fault),
     }
 }
 
@@ -314,116 +403,32 @@ fn status(good: bool) -> Status
     }
 }
 
-/// The session has stopped: the report has the line of a fault of the wire.
-#[cold]
-fn end<W: OutDevice, E: OutDevice>(writers: &mut Writers<W, E>, stop: Stop) -> Stage
-    ensures { GivesEnd W.state E.state stop writers.old writers.new result }
+/// Makes a run of `unpack` that has read and written nothing.
+pub fn unpack_run<R: InDevice, W: OutDevice, E: OutDevice>(
+    wanted: Wanted,
+    reader: R,
+    output: W,
+    report: E,
+) -> UnpackRun<R, W, E>
+    requires reader { (R.state reader).failed ≡ false }
+    requires output { (W.state output).failed ≡ false }
+    requires report { (E.state report).failed ≡ false }
+    ensures stands { ⟦<UnpackRun<R, W, E> as Run<R, W, E>>⟧.stands result
+        (record { reader = reader; output = output; report = report }) [] }
+    ensures tool { ⟦<UnpackRun<R, W, E> as Run<R, W, E>>⟧.tool result ≡ unpack_tool wanted }
+    ensures devices { devices_at (⟦<UnpackRun<R, W, E> as Run<R, W, E>>⟧.place result)
+        ≡ record { reader = reader; output = output; report = report } }
 {
-    match stop {
-        Stop::Io(fault) => Stage::Ended(Err(fault)),
-        Stop::Wire(offset, fault) => {
-            Stage::Ended(writers.report_fault(&Fault::Wire(offset, fault)))
-        }
-    }
-}
-
-/// A run of `unpack`, step by step.
-#[derive(Drop)]
-pub struct UnpackRun<R, W, E> {
-    session: Session<R>,
-    writers: Writers<W, E>,
-    /// The message whose head was read last.
-    message: MessageBuffer,
-    unpacker: Unpacker,
-    stage: Stage,
-    ghost fits: { IsTrue (may_go_on stage session) },
-}
-
-impl<R: InDevice, W: OutDevice, E: OutDevice> UnpackRun<R, W, E> {
-    ghost use Rattle.std.specs.Prelude.{◌≡◌, [], false};
-    ghost use Rattle.link_run.specs.Run.{devices_at};
-    ghost use Rattle.link_unpack.specs.Unpacking.{unpack_tool};
-    ghost use Rattle.link_unpack.specs.UnpackRuns.{place_of_unpack, tool_of_unpack, unpack_stands};
-
-    /// A run that has read and written nothing.
-    pub fn new(wanted: Wanted, reader: R, output: W, report: E) -> UnpackRun<R, W, E>
-        requires reader { (R.state reader).failed ≡ false }
-        requires output { (W.state output).failed ≡ false }
-        requires report { (E.state report).failed ≡ false }
-        ensures start { unpack_stands R.state W.state E.state result (devices_at (place_of_unpack
-            result)) [] }
-        ensures tool { tool_of_unpack result ≡ unpack_tool wanted }
-        ensures devices { devices_at (place_of_unpack result) ≡ record {
-          reader = reader;
-          output =
-              output;
-          report = report;
-        } }
-    {
-        UnpackRun {
-            session: Session::new(Source::new(reader)),
-            writers: Writers::new(output, report),
-            message: MessageBuffer::new(),
-            unpacker: Unpacker {
-                joiner: Joiner::new(),
-                latest: TransferScan::new(wanted),
-                good: true,
-            },
-            stage: Stage::Contact,
-        }
-    }
-
-    /// Where the output goes.
-    pub fn output(&self) -> &W
-        ensures { result.now ≡ (place_of_unpack self.now).output }
-    {
-        &self.writers.output
-    }
-
-    /// Where the report goes.
-    pub fn report(&self) -> &E
-        ensures { result.now ≡ (place_of_unpack self.now).report }
-    {
-        &self.writers.report
-    }
-}
-
-impl<R: InDevice, W: OutDevice, E: OutDevice> Run<R, W, E> for UnpackRun<R, W, E> {
-    ghost use Rattle.link_unpack.specs.UnpackRuns.{place_of_unpack, tool_of_unpack, unpack_stands, unpack_most, unpack_has_ended};
-
-    ghost tool = { tool_of_unpack };
-
-    ghost place = { place_of_unpack };
-
-    ghost stands = { unpack_stands R.state W.state E.state };
-
-    ghost most = { unpack_most };
-
-    ghost has_ended = { unpack_has_ended };
-
-    fn step(&mut self) -> Result<Progress, IoFault> {
-        let next = take(
-            self.stage,
-            &mut self.session,
-            &mut self.writers,
-            &mut self.message,
-            &mut self.unpacker,
-        );
-        self.stage = next;
-        next.progress()
-    }
-
-    fn into_parts(self) -> (R, W, E) {
-        let UnpackRun {
-            session,
-            writers,
-            message: _,
-            unpacker: _,
-            stage: _,
-        } = self;
-        let (output, report) = writers.into_parts();
-        (session.into_source().into_reader(), output, report)
-    }
+    let tool = Unpacking {
+        stage: Stage::Contact,
+        message: MessageBuffer::new(),
+        unpacker: Unpacker {
+            joiner: Joiner::new(),
+            latest: TransferScan::new(wanted),
+            good: true,
+        },
+    };
+    ToolRun::new(tool, Session::new(Source::new(reader)), output, report)
 }
 
 /// Unpacks a recorded stream: the output has the data of the transfers that are wanted, joined, the
@@ -439,10 +444,10 @@ pub fn unpack<R: InDevice, W: OutDevice, E: OutDevice>(
     requires reader { (R.state reader).failed ≡ false }
     requires output { (W.state output).failed ≡ false }
     requires report { (E.state report).failed ≡ false }
-    ensures { GivesAnswer R.state W.state E.state (unpack_tool wanted)
+    ensures { GivesAnswer (looks R.state W.state E.state) (unpack_tool wanted)
         (record { reader = reader; output = output; report = report })
         (record { reader = result.reader; output = result.output; report = result.report })
         result.answer }
 {
-    UnpackRun::new(wanted, reader, output, report).run()
+    unpack_run(wanted, reader, output, report).run()
 }

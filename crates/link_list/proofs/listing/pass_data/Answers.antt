@@ -1,29 +1,43 @@
-use Rattle.std.proofs.Common.{◌≡◌, length, take, ⊎_elim, arith, length-take}
-use Rattle.link_wire.specs.Session.{data_in}
-use Rattle.link_list.specs.declared.listing.Stage.TheVariants as stage
-use Rattle.link_list.proofs.Lists.{inside, data_step, data_ended, settled, not_handed_on}
+use Rattle.std.proofs.Common.{◌≡◌, length, take, refl, ap, arith, length-take}
+use Rattle.link_wire.specs.Session.{data_in, source_of}
+use Rattle.link_run.specs.Reading.{inner_of}
+use Rattle.link_run.specs.Run.{looks}
+use Rattle.link_run.proofs.Handing.{enough_by, handed_by, handed_at_end}
+use Rattle.link_run.proofs.Runs.{writes_none}
+use Rattle.link_run.proofs.Sessions.{data_ended}
+use Rattle.link_run.proofs.Stands.{settled}
+use Rattle.link_list.specs.Listing.{listing_by}
+use Rattle.link_list.specs.declared.listing.Read.TheVariants.{Ended}
+use Rattle.link_list.proofs.Lists.{by_reading, inside, data_read}
 use Rattle.link_list.proofs.listing.pass_data.Goals as goal
 
 pub returns-in-Ok-clause-gives : goal.returns-in-Ok-clause-gives
-returns-in-Ok-clause-gives g c = λ start line history at.
-    let s = c.args.session.now in
-    let loaded = c.load_data.new.session in
-    let mid = c.load_data.new.writers in
-    let got = c.in-Ok.ensures.gives history at.session in
-    let stood = settled g.R.InDevice.state g.W.OutDevice.state g.E.OutDevice.state start stage.Data s c.pass.new.self c.args.writers.now mid line history got.0 at in
-    let gave = c.pass.ensures.gives history got.1.at in
-    let some = got.1.some (inside g.R.InDevice.state g.W.OutDevice.state g.E.OutDevice.state start s mid line history stood).left in
-    let size : length (take c.min.result (data_in loaded)) ≡ c.min.result = omega (arith, got.1.size, c.min.ensures, length-take c.min.result (data_in loaded)) in
-    data_step g.R.InDevice.state g.W.OutDevice.state g.E.OutDevice.state start s mid line history stood loaded c.pass.new.self _ got.1.readies gave _ (omega (arith, size, c.min.ensures)) (omega (arith, size, c.min.ensures)) c.go_on.ensures.goes
+returns-in-Ok-clause-gives g c = λ start line history at lists.
+    let old = inner_of c.args.input.now in
+    let mid = inner_of c.load_data.new.self in
+    let got = c.in-Ok.ensures.gives history lists.session_at in
+    let within = inside old line history lists in
+    let some = got.1.some within.some in
+    let size : length (take c.min.result (data_in mid)) ≡ c.min.result = omega (arith, got.1.size, c.min.ensures, length-take c.min.result (data_in mid)) in
+    data_read old mid (inner_of c.pass.new.self) c.load_data.new.writers (take c.min.result (data_in mid)) (settled (source_of old) c.args.writers.now c.load_data.new.writers at got.0) within got.1.readies (c.pass.ensures.gives history got.1.at)
+    (omega (arith, size, c.min.ensures)) (omega (arith, size, c.min.ensures)) _ c.go_on.ensures.goes
+
+pub returns-in-Ok-clause-handed : goal.returns-in-Ok-clause-handed
+returns-in-Ok-clause-handed g c = λ line history lists other.
+    let look = looks g.R.InDevice.state g.W.OutDevice.state g.E.OutDevice.state in
+    let old = inner_of c.args.input.now in
+    let writers = c.load_data.new.writers in
+    let got = c.in-Ok.ensures.gives history lists.session_at in
+    handed_by look (source_of old) (source_of (inner_of c.pass.new.self)) c.args.writers.now writers writers _ got.0
+    (enough_by look.input (inner_of c.args.input.now) (c.in-Ok.ensures.handed (λ e. absurd (cc)) history lists.session_at)) (writes_none look.output look.report writers)
 
 pub returns-in-Err-clause-gives : goal.returns-in-Err-clause-gives
-returns-in-Err-clause-gives g c = λ start line history at.
-    let s = c.args.session.now in
-    let new = c.load_data.new.session in
-    let mid = c.load_data.new.writers in
-    ⊎_elim
-    (λ got.
-    let stood = settled g.R.InDevice.state g.W.OutDevice.state g.E.OutDevice.state start stage.Data s new c.args.writers.now mid line history got.0 at in
-    data_ended g.R.InDevice.state g.W.OutDevice.state g.E.OutDevice.state start s mid line history stood new c.end.new.writers c.in-Err.stop _ got.1 c.end.ensures)
-    (λ not_on. not_handed_on g.R.InDevice.state g.W.OutDevice.state g.E.OutDevice.state start stage.Data s new c.args.writers.now mid line history c.end.new.writers line c.in-Err.stop _ not_on c.end.ensures at)
-    (c.in-Err.ensures.gives history at.session)
+returns-in-Err-clause-gives g c = λ start line history at lists.
+    data_ended listing_by by_reading (inner_of c.args.input.now) (inner_of c.load_data.new.self) c.args.writers.now c.load_data.new.writers c.end.new.self at lists.session_at 4096 refl c.in-Err.stop _
+    (c.in-Err.ensures.gives history lists.session_at) c.end.ensures
+
+pub returns-in-Err-clause-handed : goal.returns-in-Err-clause-handed
+returns-in-Err-clause-handed g c = λ line history lists other.
+    handed_at_end (looks g.R.InDevice.state g.W.OutDevice.state g.E.OutDevice.state) (inner_of c.args.input.now) (inner_of c.load_data.new.self) c.args.writers.now c.load_data.new.writers c.end.new.self c.in-Err.stop _
+    (c.in-Err.ensures.gives history lists.session_at) c.end.ensures (λ e. other (ap Ended e))
+    (λ is. enough_by g.R.InDevice.state (inner_of c.args.input.now) (c.in-Err.ensures.handed (λ e. is (cc)) history lists.session_at))

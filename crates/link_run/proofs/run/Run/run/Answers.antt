@@ -1,4 +1,5 @@
 use Rattle.std.proofs.Common.{◌≡◌, ℕ, zero, suc, ◌+◌, ◌-◌, ◌^◌, ◌<◌, ◌++◌, [], length, Ok, Err, refl, ◌∙◌, arith}
+use Rattle.link_run.specs.Run.{looks}
 use Rattle.link_run.proofs.Runs.{handed_back}
 use Rattle.link_run.proofs.run.Run.run.Goals as goal
 
@@ -31,10 +32,10 @@ pub returns-in-Ok-Done : goal.returns-in-Ok-Done
 returns-in-Ok-Done g c =
     let stood = c.steps.invariant.1 in
     let ended = rw c.in-Ok-Done.field-0-is at (c.in-Ok-Done.ensures.gives _ stood.0 stood.1) in
-    handed_back g.R.InDevice.state g.W.OutDevice.state g.E.OutDevice.state _ _ _ _ _ (stood.0 ++ ended.given) (Ok c.in-Ok-Done.status) _ ended.gave c.steps.invariant.0 c.end.ensures.devices c.end.ensures.answer
+    handed_back (looks g.R.InDevice.state g.W.OutDevice.state g.E.OutDevice.state) _ _ _ _ _ (stood.0 ++ ended.given) (Ok c.in-Ok-Done.status) _ ended.gave c.steps.invariant.0 c.end.ensures.devices c.end.ensures.answer
 
 pub returns-in-Err : goal.returns-in-Err
 returns-in-Err g c =
     let stood = c.steps.invariant.1 in
     let ended = c.in-Err.ensures.gives _ stood.0 stood.1 in
-    handed_back g.R.InDevice.state g.W.OutDevice.state g.E.OutDevice.state _ _ _ _ _ (stood.0 ++ ended.given) (Err c.in-Err.fault) _ ended.gave c.steps.invariant.0 c.end-in-Err.ensures.devices c.end-in-Err.ensures.answer
+    handed_back (looks g.R.InDevice.state g.W.OutDevice.state g.E.OutDevice.state) _ _ _ _ _ (stood.0 ++ ended.given) (Err c.in-Err.fault) _ ended.gave c.steps.invariant.0 c.end-in-Err.ensures.devices c.end-in-Err.ensures.answer

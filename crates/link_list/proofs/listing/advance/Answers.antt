@@ -1,0 +1,7 @@
+use Rattle.link_list.proofs.listing.advance.Goals as goal
+
+pub returns-in-Data-clause-gives : goal.returns-in-Data-clause-gives
+returns-in-Data-clause-gives g c = λ start history. rw c.in-Data.is (c.pass_data.ensures.gives start _ history)
+
+pub returns-in-Data-clause-handed : goal.returns-in-Data-clause-handed
+returns-in-Data-clause-handed g c = λ history. rw c.in-Data.is (c.pass_data.ensures.handed _ history)

@@ -1,0 +1,170 @@
+-- What a run that stands gives in a step: it goes on, it ends, or a device fails.
+use Rattle.std.proofs.Common.{◌≡◌, ℕ, ◌<◌, ◌≤◌, ◌⊎◌, inl, inr, Bool, true, false, List, [], ◌++◌, length, Result, Ok, Err, ⊎_elim, refl, ap, sym, ◌∙◌, append-nil, arith}
+use Rattle.link_wire.specs.Limits.{window_size}
+use Rattle.link_wire.specs.Source.{window_of, Takes, StopsAfter, IsOver}
+use Rattle.link_wire.specs.declared.IoFault.{IoFault}
+use Rattle.link_wire.specs.declared.Source.{Source}
+use Rattle.link_run.specs.Made.{Made, whole_by, is_shown, tool_of}
+use Rattle.link_run.specs.Run.{Texts, no_texts, ◌then◌, Looks, Devices, Place, devices_at, NoneFailed, HasWritten, AreDue, LastStep, WentOn, EndedRun, GivesStep, answer_of, progress_after}
+use Rattle.link_run.specs.Stages.{Stands, GivesStage, written_by}
+use Rattle.link_run.specs.Writers.{place_of, Writes, WritesPart, GivesTexts, GivesLast, Unsettled}
+use Rattle.link_run.specs.declared.run.Status.{Status}
+use Rattle.link_run.specs.declared.writers.Writers.{Writers}
+use Rattle.link_run.proofs.Ends.{unshown_sofar, shown_sofar, made_reports}
+use Rattle.link_run.proofs.Runs.{Stood, written_as, written_given, written_more, sound_given, sound_written, all_given, answered, writer_lost, settle_lost, settle_kept, reader_lost}
+
+-- what was written is what the bytes so far determine, or nothing to the report
+stood_by : (begun : Bool) (made : List ℕ → Made) (history given : List ℕ)
+    → is_shown (made history).stop ≡ false
+    → Stood (tool_of made) (history ++ given) (written_by begun (made history))
+stood_by true made history given unshown = inr (record {
+  front = history;
+  rest = given;
+  parts = refl;
+  is = sym (unshown_sofar (made history).stop (made history).texts unshown);
+})
+stood_by false made history given unshown = inl refl
+
+module _ {R W E : Type 0} {look : Looks R W E} {made : List ℕ → Made} {start : Devices R W E}
+    {begun : Bool} {history : List ℕ} (most : ℕ) (old new : Source R) (before : Writers W E)
+    (at : Stands look made start begun (place_of old before) history) where
+  -- these bytes are given
+  module _ {given : List ℕ} (takes : Takes look.input old new given)
+      (size : length given ≤ most) (few : length (window_of new) < window_size) where
+    abbrev had : Texts
+    had = written_by begun (made history)
+
+    abbrev bytes : List ℕ
+    bytes = history ++ given
+
+    still : HasWritten look start (place_of new before) bytes had
+    still = written_given look start old new before history given had at.written takes
+
+    still_sound : NoneFailed look (devices_at (place_of new before))
+    still_sound = sound_given look old new before given at.sound takes
+
+    -- these texts are written, and the run goes on
+    module _ (after : Writers W E) (texts : Texts)
+        (due : had then texts ≡ (made bytes).texts)
+        (unshown : is_shown (made bytes).stop ≡ false) where
+      pub stands_on : Writes look.output look.report before after texts
+          → Stands look made start true (place_of new after) bytes
+      stands_on writes = record {
+        written = written_as look (written_more look start new before after bytes had texts still writes) refl due;
+        sound = sound_written look new before after texts still_sound writes;
+        unshown = unshown;
+      }
+
+      pub goes_on : (knows : List ℕ → Type 0) → (begun ≡ true → 0 < length given) → knows bytes
+          → Writes look.output look.report before after texts
+          → (0 < most → begun ≡ true)
+          → WentOn old new (λ bytes. Stands look made start true (place_of new after) bytes × knows bytes) most history
+      goes_on knows some known writes only = record {
+        given = given;
+        some = λ may. some (only may);
+        size = size;
+        count = takes.count;
+        window = few;
+        at = (stands_on writes, known);
+      }
+
+      -- a writer failed in them
+      pub loses : (fault : IoFault) → WritesPart look.output look.report before after texts fault
+          → LastStep look (tool_of made) start (devices_at (place_of new after)) most history (Err fault)
+      loses fault part = record {
+        given = given;
+        size = size;
+        gave = writer_lost look (tool_of made) (made_reports made) start new before after bytes had texts _ fault still still_sound refl
+            (inl (due ∙ sym (unshown_sofar (made bytes).stop (made bytes).texts unshown))) few
+            (λ some. stood_by begun made history given at.unshown) part;
+      }
+
+      -- by what came of the write
+      pub written : (knows : List ℕ → Type 0) → (begun ≡ true → 0 < length given) → knows bytes
+          → (0 < most → begun ≡ true) → (result : Result (Unit {0}) IoFault)
+          → GivesTexts look.output look.report before after texts result
+          → GivesStage look made start true (place_of old before) (place_of new after) knows most history (progress_after result)
+      written knows some known only (Ok done) writes = goes_on knows some known writes only
+      written knows some known only (Err fault) part = loses fault part
+
+    -- these texts are the last: all of the input was given, or the bytes show a fault and no others change what comes of them
+    module _ (after : Writers W E) (texts : Texts)
+        (whole : had then texts ≡ (whole_by (made bytes).stop (made bytes)).texts)
+        (over : IsOver look.input new ⊎ ((is_shown (made bytes).stop ≡ true) × ((more : List ℕ) → made (bytes ++ more) ≡ made bytes))) where
+      due_last : AreDue look (tool_of made) (devices_at (place_of new after)) bytes (window_of new) (had then texts)
+      due_last =
+          ⊎_elim
+          (λ is. inr (all_given look new after is, whole))
+          (λ is. inl (whole ∙ sym (shown_sofar (made bytes).stop (made bytes) is.0)))
+          over
+
+      end_by : (answer : Result Status IoFault)
+          → GivesLast look.output look.report before after texts (whole_by (made bytes).stop (made bytes)).status answer
+          → EndedRun look (tool_of made) start (devices_at (place_of new after)) bytes answer
+      end_by (Ok status) gives =
+          answered look (tool_of made) start new after bytes status
+          (written_as look (written_more look start new before after bytes had texts still gives.0) refl whole)
+          (sound_written look new before after texts still_sound gives.0)
+          gives.1
+          (⊎_elim
+          (λ is. inl (all_given look new after is))
+          (λ is. inr (λ more. ap (λ (m : Made). whole_by m.stop m) (is.1 more)))
+          over)
+          few
+      end_by (Err fault) gives =
+          writer_lost look (tool_of made) (made_reports made) start new before after bytes had texts _ fault still still_sound refl
+          due_last few (λ some. stood_by begun made history given at.unshown) gives
+
+      pub ends : (answer : Result Status IoFault)
+          → GivesLast look.output look.report before after texts (whole_by (made bytes).stop (made bytes)).status answer
+          → LastStep look (tool_of made) start (devices_at (place_of new after)) most history answer
+      ends answer gives = record { given = given; size = size; gave = end_by answer gives }
+
+  -- the reader failed after these bytes, which show no fault
+  pub read_fails : (given : List ℕ) (after : Writers W E) (fault : IoFault)
+      (answer : Result Status IoFault)
+      → StopsAfter look.input old new given fault → length given ≤ most
+      → written_by begun (made history) ≡ (made (history ++ given)).texts
+      → is_shown (made (history ++ given)).stop ≡ false → answer ≡ Err fault → after ≡ before
+      → LastStep look (tool_of made) start (devices_at (place_of new after)) most history answer
+  read_fails given after fault answer stops size due unshown is same =
+      let bytes = history ++ given in
+      rw (is, same) (record {
+        given = given;
+        size = size;
+        gave = reader_lost look (tool_of made) start old new before history given _ fault at.written at.sound
+            (due ∙ sym (unshown_sofar (made bytes).stop (made bytes).texts unshown)) unshown stops;
+      })
+
+module _ {R W E : Type 0} {look : Looks R W E} {made : List ℕ → Made} {start : Devices R W E}
+    {history : List ℕ} (source : Source R) (before after : Writers W E)
+    (at : Stands look made start true (place_of source before) history) where
+  -- what was written was handed on, and the run stands where it stood
+  pub settled : Writes look.output look.report before after no_texts
+      → Stands look made start true (place_of source after) history
+  settled writes = record {
+    written = settle_kept look start source before after history (made history).texts at.written writes;
+    sound = sound_written look source before after no_texts at.sound writes;
+    unshown = at.unshown;
+  }
+
+  -- nothing is lost by a failure in that
+  pub not_handed_on : (most : ℕ) (fault : IoFault) → length (window_of source) < window_size
+      → Unsettled look.output look.report before after fault
+      → LastStep look (tool_of made) start (devices_at (place_of source after)) most history (Err fault)
+  not_handed_on most fault few part = record {
+    given = [];
+    size = omega arith;
+    gave = rw append-nil (settle_lost look (tool_of made) (made_reports made) start source before after history fault
+        (written_as look at.written refl (sym (unshown_sofar (made history).stop (made history).texts at.unshown)))
+        at.sound at.unshown few part);
+  }
+
+-- the last step, by its answer
+pub last_step : {R W E : Type 0} {look : Looks R W E} (made : List ℕ → Made) {start : Devices R W E}
+    (old new : Place R W E) (stands : List ℕ → Type 0) {most : ℕ} {history : List ℕ}
+    (answer : Result Status IoFault)
+    → LastStep look (tool_of made) start (devices_at new) most history answer
+    → GivesStep look (tool_of made) start old new stands most history (answer_of answer)
+last_step made old new stands (Ok status) gives = gives
+last_step made old new stands (Err fault) gives = gives

@@ -1,0 +1,69 @@
+-- What a tool makes of its input, and where the input stops.
+use Rattle.std.specs.Prelude.{ℕ, Bool, true, false, List, ◌++◌, Option, Some, None, if◌then◌else◌}
+use Rattle.link_wire.specs.Stream.{End, Clean, Cut, Fault}
+use Rattle.link_wire.specs.declared.fault.WireFault.{WireFault}
+use Rattle.link_wire.specs.declared.fault.WireFault.TheVariants.{Truncated}
+use Rattle.link_report.specs.Fault.{fault_text}
+use Rattle.link_report.specs.declared.fault.Fault.{Fault as ReportedFault}
+use Rattle.link_report.specs.declared.fault.Fault.TheVariants.{Wire}
+use Rattle.link_run.specs.Run.{Texts, Outcome, Tool}
+
+-- Where an input stops: at this fault. A fault that does not last may be gone once more bytes have
+-- come.
+pub record StreamStop : Type 0 where
+  pub fault : ReportedFault
+  pub lasts : Bool
+
+-- what a tool makes of some bytes
+pub record Made : Type 0 where
+  -- the texts that these bytes determine, however they go on, but for the line of a fault
+  pub texts : Texts
+  -- where they stop, if they do
+  pub stop : Option StreamStop
+  -- the texts of an input that is exactly these bytes and does not stop
+  pub ended : Texts
+  -- whether all in such an input is good
+  pub good : Bool
+
+-- these texts, and then the line of a fault
+abbrev pub with_fault : ReportedFault → Texts → Texts
+with_fault fault texts =
+    record { output = texts.output; report = texts.report ++ fault_text fault }
+
+-- a fault ends the report of the input that it stops; the status is 3 then, 0 where all is good,
+-- and else 1
+abbrev pub whole_by : Option StreamStop → Made → Outcome
+whole_by None made = record { texts = made.ended; status = if made.good then 0 else 1 }
+whole_by (Some stop) made = record { texts = with_fault stop.fault made.texts; status = 3 }
+
+-- the line of a fault that lasts is determined already
+abbrev pub sofar_by : Option StreamStop → Texts → Texts
+sofar_by None texts = texts
+sofar_by (Some stop) texts = if stop.lasts then with_fault stop.fault texts else texts
+
+-- such a fault is shown
+abbrev pub is_shown : Option StreamStop → Bool
+is_shown None = false
+is_shown (Some stop) = stop.lasts
+
+abbrev pub tool_of : (List ℕ → Made) → Tool
+tool_of made = record {
+  whole = λ bytes. whole_by (made bytes).stop (made bytes);
+  sofar = λ bytes. sofar_by (made bytes).stop (made bytes).texts;
+  shows = λ bytes. is_shown (made bytes).stop;
+}
+
+-- ---- a recorded stream
+
+-- every fault of the wire lasts, but for a missing field
+abbrev pub is_lasting : WireFault → Bool
+is_lasting Truncated = false
+is_lasting fault = true
+
+-- where a recorded stream stops; one that is cut inside the data of a segment is truncated there
+abbrev pub stop_of : End → Option StreamStop
+stop_of Clean = None
+stop_of (Cut offset message content) =
+    Some (record { fault = Wire offset Truncated; lasts = false })
+stop_of (Fault offset fault) =
+    Some (record { fault = Wire offset fault; lasts = is_lasting fault })

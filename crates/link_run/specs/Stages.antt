@@ -1,0 +1,66 @@
+-- Where a run stands between two steps, and what a step hands on.
+use Rattle.std.specs.Prelude.{◌≡◌, ℕ, ◌⊎◌, Bool, true, false, List, [], Option, Some, None, Result, Ok}
+use Rattle.std.specs.Io.KnownBytes.{Appends}
+use Rattle.link_wire.specs.declared.IoFault.{IoFault}
+use Rattle.link_run.specs.Run.{Texts, no_texts, Looks, Devices, Place, devices_at, NoneFailed, HasWritten, GivesStep, answer_of}
+use Rattle.link_run.specs.Made.{Made, is_shown, tool_of}
+use Rattle.link_run.specs.declared.run.Progress.{Progress}
+use Rattle.link_run.specs.declared.run.Progress.TheVariants.{More}
+use Rattle.link_run.specs.declared.run.Status.{Status}
+
+-- what a run has written of some bytes: nothing as long as it has not begun
+abbrev pub written_by : (begun : Bool) → Made → Texts
+written_by true made = made.texts
+written_by false made = no_texts
+
+-- A run was given exactly these bytes since its devices stood as in `start`, and has written what
+-- they determine. No device failed, and the bytes show no fault.
+pub record Stands {R W E : Type 0} (look : Looks R W E) (made : List ℕ → Made)
+    (start : Devices R W E) (begun : Bool) (now : Place R W E) (history : List ℕ) : Type 0 where
+  pub written : HasWritten look start now history (written_by begun (made history))
+  pub sound : NoneFailed look (devices_at now)
+  pub unshown : is_shown (made history).stop ≡ false
+
+-- nothing is written of no bytes, and they show no fault
+pub record MayBegin (made : List ℕ → Made) (begun : Bool) : Type 0 where
+  pub texts : written_by begun (made []) ≡ no_texts
+  pub unshown : is_shown (made []).stop ≡ false
+
+-- what a step gives: where it goes on, the run stands, and the tool keeps what it has to know
+abbrev pub GivesStage : {R W E : Type 0} → Looks R W E → (made : List ℕ → Made)
+    → (start : Devices R W E) → (begun : Bool) → (old new : Place R W E)
+    → (knows : List ℕ → Type 0) → (most : ℕ) → (history : List ℕ)
+    → Result Progress IoFault → Type 0
+GivesStage look made start begun old new knows most history result =
+    GivesStep look (tool_of made) start old new
+    (λ bytes. Stands look made start begun new bytes × knows bytes) most history result
+
+-- Nothing was held back while the input was waited for. Before the read the writers stood as in
+-- `output` and `report`. All that had been written was handed on then, or the input had enough
+-- left. The texts of the step were written after that.
+pub record HandedOn {R W E : Type 0} (look : Looks R W E) (out_handed : W → Option (List ℕ))
+    (report_handed : E → Option (List ℕ)) (enough : Type 0) (old new : Place R W E) : Type 0 where
+  pub output : W
+  pub report : E
+  pub output_kept : Appends (look.output old.output).written (look.output output).written []
+  pub report_kept : Appends (look.report old.report).written (look.report report).written []
+  pub held : ((out_handed output ≡ (look.output output).written)
+      × (report_handed report ≡ (look.report report).written)) ⊎ enough
+  pub texts : Texts
+  pub writes : Appends (look.output output).written (look.output new.output).written texts.output
+  pub reports : Appends (look.report report).written (look.report new.report).written texts.report
+
+-- the step goes on
+abbrev pub IsMore : Result Progress IoFault → Type 0
+IsMore (Ok More) = Unit {0}
+IsMore other = ⊥
+
+-- a run that has ended is given no more bytes
+abbrev pub most_by : Option (Result Status IoFault) → ℕ → ℕ
+most_by None most = most
+most_by (Some answer) most = 0
+
+-- its steps return this answer
+abbrev pub HasEnded : Option (Result Status IoFault) → Result Progress IoFault → Type 0
+HasEnded ended answer =
+    (given : Result Status IoFault) × (ended ≡ Some given) × (answer ≡ answer_of given)

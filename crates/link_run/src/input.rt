@@ -1,0 +1,351 @@
+//! What a run reads: a session, or a source of bytes.
+//!
+//! A stage of a tool reads only by the calls of an [`Input`]. Before a read that may have to wait,
+//! they hand on what was written. So a reader of the texts sees all that the bytes so far determine.
+
+ghost use Rattle.std.specs.Prelude.{◌≡◌, ◌<◌, ◌⊎◌, ℕ, List, [], length, Err, IfErr, IfOk, IfSome, IsOk, IsTrue, OnOk, MatchResult};
+ghost use Rattle.link_wire.specs.MessageBuffer.{message_of, SegmentHasTotals};
+ghost use Rattle.link_wire.specs.Session.{may_read, is_opened, data_in, left_of, IsSessionAt, HasStopped, with_message_read};
+ghost use Rattle.link_wire.specs.Limits.{window_size};
+ghost use Rattle.link_wire.specs.Source.{window_of, HasEnded, HasFailed, IsLive};
+ghost use Rattle.link_run.specs.Run.{looks};
+ghost use Rattle.link_run.specs.Reading.{HoldsNothingBack, HoldsNoBytesBack, NotHandedOn, ReadsMessage, ReadsData, ReadsBytes};
+ghost use Rattle.link_run.specs.Writers.{on_output, next_line, Writes, Unsettled};
+
+use crate::writers::Writers;
+use link_wire::{Contact, InDevice, IoFault, MessageBuffer, OutDevice, Session, Source, Stop};
+
+/// What a tool reads: a [`Session`], or a [`Source`] of bytes.
+pub trait Feed: Sized {
+    ghost use Rattle.link_wire.specs.declared.Source.{Source};
+
+    /// The device that it reads.
+    type Reader: InDevice;
+
+    /// The source that it reads.
+    ghost source: { Self → Source Self.Reader };
+
+    /// The input has enough left for what comes next.
+    ghost has_next: { Self → Type 0 };
+
+    /// Returns the source.
+    fn into_source(self) -> Source<Self::Reader>
+        ensures { result ≡ source self };
+}
+
+impl<R: InDevice> Feed for Session<R> {
+    ghost use Rattle.link_wire.specs.Session.{source_of};
+    ghost use Rattle.link_run.specs.Reading.{HasEnough};
+
+    type Reader = R;
+
+    ghost source = { source_of };
+
+    ghost has_next = { HasEnough R.state };
+
+    fn into_source(self) -> Source<R> {
+        self.into_source()
+    }
+}
+
+impl<R: InDevice> Feed for Source<R> {
+    ghost use Rattle.link_wire.specs.Device.{HasBytes};
+    ghost use Rattle.link_wire.specs.Source.{ahead};
+
+    type Reader = R;
+
+    ghost source = { λ source. source };
+
+    ghost has_next = { λ source. HasBytes (ahead R.state source) };
+
+    fn into_source(self) -> Source<R> {
+        self
+    }
+}
+
+/// What the stages of a tool read.
+///
+/// No stage can reach what is inside. So each read is one of the calls below.
+#[derive(Drop)]
+pub struct Input<S> {
+    inner: S,
+}
+
+impl<S> Input<S> {
+    ghost use Rattle.link_run.specs.Reading.{inner_of};
+
+    /// Makes the input of a run.
+    pub(crate) fn new(inner: S) -> Input<S>
+        ensures { inner_of result ≡ inner }
+    {
+        Input { inner }
+    }
+
+    /// What is read, as it stands.
+    pub(crate) fn into_inner(self) -> S
+        ensures { result ≡ inner_of self }
+    {
+        let Input { inner } = self;
+        inner
+    }
+}
+
+/// The calls that read a recorded session.
+impl<R: InDevice> Input<Session<R>> {
+    ghost use Rattle.std.specs.Prelude.{◌≤◌, take};
+    ghost use Rattle.link_wire.specs.Session.{may_open, PassedBytes, GivesContact};
+    ghost use Rattle.link_run.specs.Reading.{inner_of};
+
+    /// Reads the contact header, as [`Session::open`] does.
+    ///
+    /// Nothing has to be handed on: before it, a run has written nothing.
+    #[inline(always)]
+    pub fn open(&mut self) -> Result<Contact, Stop>
+        requires { IsTrue (may_open (inner_of self.old)) }
+        ensures gives { GivesContact R.state (inner_of self.old) (inner_of self.new) result }
+        ensures opened { IsTrue (is_opened (inner_of self.new)) }
+        ensures may_read { IsTrue (may_read (inner_of self.new)) }
+        ensures left { IfErr result (λ _. left_of (inner_of self.new) ≡ left_of (inner_of self.old)) }
+        ensures settles { IfErr result (HasStopped (inner_of self.new)) }
+    {
+        self.inner.open()
+    }
+
+    /// Reads the next message, as [`Session::read_next`] does.
+    ///
+    /// If its head does not lie whole in the window, and the read may have to wait, what was
+    /// written is handed on first. If that fails, the failure is returned as a stop, and nothing is
+    /// read: the session has not stopped. A session that has stopped returns its stop again.
+    #[inline(always)]
+    pub fn next_message<W: OutDevice, E: OutDevice>(
+        &mut self,
+        writers: &mut Writers<W, E>,
+        message: &mut MessageBuffer,
+    ) -> Result<Option<u64>, Stop>
+        requires { IsTrue (may_read (inner_of self.old)) }
+        ensures opened { IsTrue (is_opened (inner_of self.new)) }
+        ensures gives { (history : List ℕ) → IsSessionAt R.state (inner_of self.old) history
+            → ReadsMessage (looks R.state W.state E.state) (inner_of self.old) (inner_of self.new)
+            writers.old writers.new history (with_message_read (message_of message.new) result) }
+        ensures handed { (result ≡ Err (Stop.Io IoFault.Write) → ⊥)
+            → HoldsNothingBack (looks R.state W.state E.state) W.handed E.handed
+            (inner_of self.old) writers.new }
+        ensures totals { IfOk result (λ got. IfSome got (λ offset. SegmentHasTotals message.new)) }
+        ensures left { IfErr result (λ _. left_of (inner_of self.new) ≡ left_of (inner_of self.old)) }
+        ensures line { next_line writers.new ≡ next_line writers.old }
+        ensures stopped { (stop : _) → HasStopped (inner_of self.old) stop
+            → (self.new ≡ self.old) × (writers.new ≡ writers.old) × (result ≡ Err stop) }
+    {
+        match self.inner.next_here(message) {
+            Some(offset) => Ok(Some(offset)),
+            None => self.read_message(writers, message),
+        }
+    }
+
+    /// `next_message` for a head that does not lie whole in the window, or is rare.
+    #[cold]
+    #[inline(never)]
+    fn read_message<W: OutDevice, E: OutDevice>(
+        &mut self,
+        writers: &mut Writers<W, E>,
+        message: &mut MessageBuffer,
+    ) -> Result<Option<u64>, Stop>
+        requires { IsTrue (may_read (inner_of self.old)) }
+        ensures opened { IsTrue (is_opened (inner_of self.new)) }
+        ensures gives { (history : List ℕ) → IsSessionAt R.state (inner_of self.old) history
+            → ReadsMessage (looks R.state W.state E.state) (inner_of self.old) (inner_of self.new)
+            writers.old writers.new history (with_message_read (message_of message.new) result) }
+        ensures handed { (result ≡ Err (Stop.Io IoFault.Write) → ⊥)
+            → HoldsNothingBack (looks R.state W.state E.state) W.handed E.handed
+            (inner_of self.old) writers.new }
+        ensures totals { IfOk result (λ got. IfSome got (λ offset. SegmentHasTotals message.new)) }
+        ensures left { IfErr result (λ _. left_of (inner_of self.new) ≡ left_of (inner_of self.old)) }
+        ensures line { next_line writers.new ≡ next_line writers.old }
+        ensures stopped { (stop : _) → HasStopped (inner_of self.old) stop
+            → (self.new ≡ self.old) × (writers.new ≡ writers.old) × (result ≡ Err stop) }
+    {
+        settle_before(&self.inner, writers)?;
+        self.inner.read_next(message)
+    }
+
+    /// Makes data of the segment ready in the window, as [`Session::load`] does.
+    ///
+    /// If none lies there yet, and the read may have to wait, what was written is handed on first.
+    /// If that fails, the failure is returned as a stop, and nothing is read: the session has not
+    /// stopped. A session that has stopped returns its stop again.
+    #[inline(always)]
+    pub fn load_data<W: OutDevice, E: OutDevice>(
+        &mut self,
+        writers: &mut Writers<W, E>,
+    ) -> Result<usize, Stop>
+        ensures size { IfOk result (λ n. n ≡ length (data_in (inner_of self.new))) }
+        // If some lies there, nothing is handed on.
+        ensures here { 0 < length (data_in (inner_of self.old)) → writers.new ≡ writers.old }
+        ensures opened { IsTrue (is_opened (inner_of self.old))
+            → IsTrue (is_opened (inner_of self.new)) }
+        ensures gives { (history : List ℕ) → IsSessionAt R.state (inner_of self.old) history
+            → ReadsData (looks R.state W.state E.state) (inner_of self.old) (inner_of self.new)
+            writers.old writers.new history result }
+        ensures handed { (result ≡ Err (Stop.Io IoFault.Write) → ⊥)
+            → HoldsNothingBack (looks R.state W.state E.state) W.handed E.handed
+            (inner_of self.old) writers.new }
+        ensures left { IfErr result (λ _. left_of (inner_of self.new) ≡ left_of (inner_of self.old)) }
+        ensures line { next_line writers.new ≡ next_line writers.old }
+        ensures stopped { (stop : _) → HasStopped (inner_of self.old) stop
+            → (self.new ≡ self.old) × (writers.new ≡ writers.old) × (result ≡ Err stop) }
+    {
+        if self.inner.loaded().is_empty() {
+            settle_before(&self.inner, writers)?;
+        }
+        self.inner.load()
+    }
+
+    /// The segment's data that lies in the window.
+    #[inline(always)]
+    pub fn loaded(&self) -> &[u8]
+        ensures { result.now ≡ data_in (inner_of self.now) }
+    {
+        self.inner.loaded()
+    }
+
+    /// Gives the next `count` bytes of the segment's data, which [`Input::loaded`] shows.
+    #[inline(always)]
+    pub fn pass(&mut self, count: usize)
+        requires { count ≤ length (data_in (inner_of self.old)) }
+        ensures opened { is_opened (inner_of self.new) ≡ is_opened (inner_of self.old) }
+        ensures gives { (history : List ℕ) → IsSessionAt R.state (inner_of self.old) history
+            → PassedBytes R.state (inner_of self.old) (inner_of self.new) history
+            (take count (data_in (inner_of self.old))) }
+        ensures none { count ≡ 0 → self.new ≡ self.old }
+        ensures stopped { (stop : _) → HasStopped (inner_of self.old) stop
+            → HasStopped (inner_of self.new) stop }
+    {
+        self.inner.pass(count);
+    }
+
+    /// The number of bytes of the segment's data that were not given yet.
+    #[inline(always)]
+    pub fn left(&self) -> u64
+        ensures left { result ≡ left_of (inner_of self.now) }
+        ensures may_read { IsTrue (is_opened (inner_of self.now)) → result ≡ 0
+            → IsTrue (may_read (inner_of self.now)) }
+    {
+        self.inner.left()
+    }
+}
+
+/// The calls that read bytes.
+impl<R: InDevice> Input<Source<R>> {
+    ghost use Rattle.std.specs.Prelude.{◌≤◌, Ok, take};
+    ghost use Rattle.link_wire.specs.Bytes.{AreBytes};
+    ghost use Rattle.link_wire.specs.Source.{Takes};
+    ghost use Rattle.link_run.specs.Reading.{inner_of};
+
+    /// Makes bytes ready in the window, as [`Source::ready`] does: 0 at the end of the input.
+    ///
+    /// If none lies there yet, and the read may have to wait, what was written is handed on first.
+    /// If that fails, nothing is read. After the end and after a fault of the source nothing is
+    /// read, and the same is returned.
+    #[inline(always)]
+    pub fn ready_bytes<W: OutDevice, E: OutDevice>(
+        &mut self,
+        writers: &mut Writers<W, E>,
+    ) -> Result<usize, IoFault>
+        ensures size { IfOk result (λ n. n ≡ length (window_of (inner_of self.new))) }
+        ensures gives { IsLive R.state (inner_of self.old)
+            → ReadsBytes (looks R.state W.state E.state) (inner_of self.old) (inner_of self.new)
+            writers.old writers.new result }
+        // If some lie there, nothing is handed on or read.
+        ensures here { 0 < length (window_of (inner_of self.old)) → (self.new ≡ self.old)
+            × (writers.new ≡ writers.old)
+            × (result ≡ Ok (length (window_of (inner_of self.old)))) }
+        ensures handed { (result ≡ Err IoFault.Write → ⊥)
+            → HoldsNoBytesBack (looks R.state W.state E.state) W.handed E.handed
+            (inner_of self.old) writers.new }
+        ensures line { next_line writers.new ≡ next_line writers.old }
+        ensures ended { HasEnded (inner_of self.old) → (self.new ≡ self.old)
+            × ((result ≡ Ok 0) × Writes W.state E.state writers.old writers.new (on_output [])
+            ⊎ (result ≡ Err IoFault.Write)
+            × Unsettled W.state E.state writers.old writers.new IoFault.Write) }
+        ensures failed { (fault : _) → HasFailed (inner_of self.old) fault → (self.new ≡ self.old)
+            × ((result ≡ Err fault) × Writes W.state E.state writers.old writers.new (on_output [])
+            ⊎ (result ≡ Err IoFault.Write)
+            × Unsettled W.state E.state writers.old writers.new IoFault.Write) }
+    {
+        if self.inner.window().is_empty() {
+            settle_before_bytes(&self.inner, writers)?;
+        }
+        self.inner.ready()
+    }
+
+    /// The bytes that lie in the window.
+    #[inline(always)]
+    pub fn window(&self) -> &[u8]
+        ensures window { result.now ≡ window_of (inner_of self.now) }
+        ensures bytes { AreBytes result.now }
+    {
+        self.inner.window()
+    }
+
+    /// Gives the first `count` bytes of the window.
+    #[inline(always)]
+    pub fn give(&mut self, count: usize)
+        requires { count ≤ length (window_of (inner_of self.old)) }
+        ensures takes { Takes R.state (inner_of self.old) (inner_of self.new)
+            (take count (window_of (inner_of self.old))) }
+        ensures live { IsLive R.state (inner_of self.old) → IsLive R.state (inner_of self.new) }
+        ensures none { count ≡ 0 → self.new ≡ self.old }
+    {
+        self.inner.give(count);
+    }
+}
+
+/// Hands on what was written, if the next call of the session may have to wait.
+#[cold]
+#[inline(never)]
+fn settle_before<R: InDevice, W: OutDevice, E: OutDevice>(
+    session: &Session<R>,
+    writers: &mut Writers<W, E>,
+) -> Result<(), Stop>
+    ensures gives { MatchResult result
+        (λ _. Writes W.state E.state writers.old writers.new (on_output []))
+        (NotHandedOn (looks R.state W.state E.state) session.now session.now
+        writers.old writers.new) }
+    ensures handed { OnOk result
+        (HoldsNothingBack (looks R.state W.state E.state) W.handed E.handed
+        session.now writers.new) }
+    ensures line { next_line writers.new ≡ next_line writers.old }
+    ensures stopped { (stop : _) → HasStopped session.now stop
+        → (writers.new ≡ writers.old) × (IsOk result) }
+{
+    if !session.may_wait() {
+        return Ok(());
+    }
+    match writers.settle() {
+        Ok(()) => Ok(()),
+        Err(fault) => Err(Stop::Io(fault)),
+    }
+}
+
+/// Hands on what was written, if a read may have to wait.
+#[cold]
+#[inline(never)]
+fn settle_before_bytes<R: InDevice, W: OutDevice, E: OutDevice>(
+    source: &Source<R>,
+    writers: &mut Writers<W, E>,
+) -> Result<(), IoFault>
+    ensures gives { MatchResult result
+        (λ _. Writes W.state E.state writers.old writers.new (on_output []))
+        (λ fault. (length (window_of source.now) < window_size)
+        × Unsettled W.state E.state writers.old writers.new fault) }
+    ensures handed { length (window_of source.now) ≡ 0
+        → OnOk result
+        (HoldsNoBytesBack (looks R.state W.state E.state) W.handed E.handed
+        source.now writers.new) }
+    ensures line { next_line writers.new ≡ next_line writers.old }
+{
+    if !source.may_wait() {
+        return Ok(());
+    }
+    writers.settle()
+}

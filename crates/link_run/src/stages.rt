@@ -1,0 +1,163 @@
+//! What a tool does in its steps, and the run that has them.
+
+ghost use Rattle.std.specs.Prelude.{◌≡◌, ◌<◌, ℕ, Bool, List, IsTrue, Err, None};
+ghost use Rattle.link_wire.specs.declared.IoFault.{IoFault};
+ghost use Rattle.link_run.specs.Run.{Devices, looks, IsEnd};
+ghost use Rattle.link_run.specs.Made.{Made, tool_of};
+ghost use Rattle.link_run.specs.Reading.{inner_of};
+ghost use Rattle.link_run.specs.Stages.{Stands, GivesStage, HandedOn, IsMore};
+ghost use Rattle.link_run.specs.Writers.{place_of};
+
+use crate::input::{Feed, Input};
+use crate::run::{Progress, Run, Status};
+use crate::writers::Writers;
+use link_wire::{InDevice, IoFault, OutDevice};
+
+/// A tool, stage by stage: what it does in each step, and what it keeps between two steps.
+pub trait Stages<S: Feed, W: OutDevice, E: OutDevice>: Sized {
+    /// What it makes of its input.
+    ghost made: { Self → List ℕ → Made };
+
+    /// Whether it has begun to write. A run that has not is given no bytes in its next step.
+    ghost begun: { Self → Bool };
+
+    /// The input may be asked for what the next step asks for.
+    ghost fits: { Self → S → Bool };
+
+    /// It keeps what it has to know of these bytes, which the input has given.
+    ghost knows: { Self → S → List ℕ → Type 0 };
+
+    /// The most bytes that its next step is given.
+    ghost most: { Self → ℕ };
+
+    /// Does the next step.
+    fn stage(
+        &mut self,
+        input: &mut Input<S>,
+        writers: &mut Writers<W, E>,
+    ) -> Result<Progress, IoFault>
+        requires { IsTrue (fits self.old (inner_of input.old)) }
+        ensures made { made self.new ≡ made self.old }
+        ensures fits { IsMore result → IsTrue (fits self.new (inner_of input.new)) }
+        ensures gives { (start : Devices S.Reader W E) (history : List ℕ)
+            → Stands (looks S.Reader.state W.state E.state) (made self.old) start
+            (begun self.old) (place_of (S.source (inner_of input.old)) writers.old) history
+            → knows self.old (inner_of input.old) history
+            → GivesStage (looks S.Reader.state W.state E.state) (made self.old) start
+            (begun self.new) (place_of (S.source (inner_of input.old)) writers.old)
+            (place_of (S.source (inner_of input.new)) writers.new)
+            (knows self.new (inner_of input.new)) (most self.old) history result }
+        ensures goes_on { most self.new ≡ 0 → IsEnd result }
+        ensures handed { (history : List ℕ) → knows self.old (inner_of input.old) history
+            → 0 < most self.old → (result ≡ Err IoFault.Write → ⊥)
+            → HandedOn (looks S.Reader.state W.state E.state) W.handed E.handed
+            (S.has_next (inner_of input.old))
+            (place_of (S.source (inner_of input.old)) writers.old)
+            (place_of (S.source (inner_of input.new)) writers.new) };
+}
+
+/// A run of a tool: what it reads and writes, the tool, and the answer once it has ended.
+#[derive(Drop)]
+pub struct ToolRun<S: Feed, W: OutDevice, E: OutDevice, T: Stages<S, W, E>> {
+    input: Input<S>,
+    writers: Writers<W, E>,
+    tool: T,
+    answer: Option<Result<Status, IoFault>>,
+    ghost fits: { answer ≡ None → IsTrue (T.fits tool input.inner) },
+}
+
+impl<S: Feed, W: OutDevice, E: OutDevice, T: Stages<S, W, E> + Drop> ToolRun<S, W, E, T> {
+    ghost use Rattle.std.specs.Prelude.{[], false};
+    ghost use Rattle.link_wire.specs.Source.{is_fresh, reader_of};
+    ghost use Rattle.link_run.specs.Run.{devices_at};
+    ghost use Rattle.link_run.specs.Stages.{MayBegin};
+
+    /// Makes a run that has read and written nothing.
+    pub fn new(tool: T, inner: S, output: W, report: E) -> ToolRun<S, W, E, T>
+        requires fits { IsTrue (T.fits tool inner) }
+        requires knows { T.knows tool inner [] }
+        requires begins { MayBegin (T.made tool) (T.begun tool) }
+        requires fresh { IsTrue (is_fresh (S.source inner)) }
+        requires reader { (S.Reader.state (reader_of (S.source inner))).failed ≡ false }
+        requires output { (W.state output).failed ≡ false }
+        requires report { (E.state report).failed ≡ false }
+        ensures tool { ⟦<ToolRun<S, W, E, T> as Run<S::Reader, W, E>>⟧.tool result
+            ≡ tool_of (T.made tool) }
+        ensures devices { devices_at (⟦<ToolRun<S, W, E, T> as Run<S::Reader, W, E>>⟧.place result)
+            ≡ record { reader = reader_of (S.source inner); output = output; report = report } }
+        ensures stands { ⟦<ToolRun<S, W, E, T> as Run<S::Reader, W, E>>⟧.stands result
+            (record { reader = reader_of (S.source inner); output = output; report = report }) [] }
+    {
+        ToolRun {
+            input: Input::new(inner),
+            writers: Writers::new(output, report),
+            tool,
+            answer: None,
+        }
+    }
+
+    /// Where the output goes.
+    pub fn output(&self) -> &W
+        ensures { result.now
+            ≡ (⟦<ToolRun<S, W, E, T> as Run<S::Reader, W, E>>⟧.place self.now).output }
+    {
+        &self.writers.output
+    }
+
+    /// Where the report goes.
+    pub fn report(&self) -> &E
+        ensures { result.now
+            ≡ (⟦<ToolRun<S, W, E, T> as Run<S::Reader, W, E>>⟧.place self.now).report }
+    {
+        &self.writers.report
+    }
+}
+
+impl<S: Feed, W: OutDevice, E: OutDevice, T: Stages<S, W, E> + Drop> Run<S::Reader, W, E>
+    for ToolRun<S, W, E, T> {
+    ghost use Rattle.link_run.specs.Stages.{most_by, HasEnded};
+
+    ghost tool = { λ run. tool_of (T.made run.tool) };
+
+    ghost place = { λ run. place_of (S.source (inner_of run.input)) run.writers };
+
+    ghost stands = { λ run start history. (run.answer ≡ None)
+        × (Stands (looks S.Reader.state W.state E.state) (T.made run.tool) start
+        (T.begun run.tool) (place_of (S.source (inner_of run.input)) run.writers) history
+        × T.knows run.tool (inner_of run.input) history) };
+
+    ghost most = { λ run. most_by run.answer (T.most run.tool) };
+
+    ghost has_next = { λ run. S.has_next (inner_of run.input) };
+
+    ghost has_ended = { λ run. HasEnded run.answer };
+
+    #[inline(always)]
+    fn step(&mut self) -> Result<Progress, IoFault> {
+        if let Some(answer) = self.answer {
+            return Progress::ended(answer);
+        }
+        let progress = self.tool.stage(&mut self.input, &mut self.writers);
+        match progress {
+            Ok(Progress::More) => {}
+            Ok(Progress::Done(status)) => self.answer = Some(Ok(status)),
+            Err(fault) => self.answer = Some(Err(fault)),
+        }
+        progress
+    }
+
+    fn into_parts(self) -> (S::Reader, W, E) {
+        let ToolRun {
+            input,
+            writers,
+            tool: _,
+            answer: _,
+        } = self;
+        let (output, report) = writers.into_parts();
+        (
+            input.into_inner().into_source().into_reader(),
+            output,
+            report,
+        )
+    }
+}
