@@ -10,3 +10,4 @@ mod Messages
 mod Outcomes
 mod Steps
 mod Data
+mod Writing

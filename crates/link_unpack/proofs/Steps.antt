@@ -207,7 +207,8 @@ module _ {R W E : Type 0} {look : Looks R W E} {start : Devices R W E} (old new 
   pub contact_step : GivesNext look start u.latest.wanted stage.Contact old new before u [] (next.Stage stage.Message)
   contact_step =
       let size = got.size in
-      goes_on 6 (source_of old) (source_of new) before stood got.takes (omega arith) (got.takes.window.less (omega arith)) before no_texts
+      let went = goes_on 6 (source_of old) (source_of new) before stood got.takes (omega arith) (got.takes.window.less (omega arith)) before no_texts
       (then_none _ ∙ nothing_yet u.latest.wanted [] heads_none ∙ sym (nothing_yet u.latest.wanted got.given heads_read))
       (unshown_in_order u.latest.wanted got.given (none_in_order u.latest.wanted got.given heads_read) (ap (λ (r : Reading). is_shown (stop_of r.end)) got.reading))
-      (λ bytes. Unpacks look.input stage.Message new u bytes) (λ begun. omega arith) contact_known (writes_none look.output look.report before) (λ some. refl)
+      (λ bytes. Unpacks look.input stage.Message new u bytes) (λ begun. omega arith) contact_known (writes_none look.output look.report before) (λ some. refl) in
+      record { given = went.given; some = went.some; size = went.size; count = went.count; window = went.window; at = (went.at, tt) }

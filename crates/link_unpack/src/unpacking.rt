@@ -342,6 +342,7 @@ fn report<W: OutDevice, E: OutDevice>(
     ensures good { (transfer : Transfer) (earlier : List Transfer) → Follows unpacker.old.latest
         transfer earlier → abandoned ≡ not transfer.closed
         → unpacker.new.good ≡ (is_good (judgement_of transfer) && unpacker.old.good) }
+    ensures writes { WritesSome W.state E.state writers.old writers.new result }
     ensures latest { unpacker.new.latest ≡ unpacker.old.latest }
     ensures joiner { unpacker.new.joiner ≡ unpacker.old.joiner }
 {
@@ -363,6 +364,7 @@ fn abandon<W: OutDevice, E: OutDevice>(
     ensures good { (transfers : List Transfer) → IsOpen abandoned unpacker.old.latest transfers
         → unpacker.old.good ≡ are_good (settled transfers)
         → unpacker.new.good ≡ are_good transfers }
+    ensures writes { WritesSome W.state E.state writers.old writers.new result }
     ensures latest { unpacker.new.latest ≡ unpacker.old.latest }
     ensures joiner { unpacker.new.joiner ≡ unpacker.old.joiner }
 {

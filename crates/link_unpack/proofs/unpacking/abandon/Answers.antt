@@ -1,4 +1,5 @@
 use Rattle.std.proofs.Common.{Bool, not, ap, sym, subst}
+use Rattle.link_run.specs.Run.{no_texts}
 use Rattle.link_run.proofs.Runs.{writes_none}
 use Rattle.link_unpack.specs.UnpackRun.{GoesOn, IsOpen}
 use Rattle.link_unpack.proofs.Begins.{no_last_lines, all_good}
@@ -14,3 +15,6 @@ pub returns-else-abandoned-clause-gives : goal.returns-else-abandoned-clause-giv
 returns-else-abandoned-clause-gives g c = λ transfers is_open.
     let P : Bool → Type 0 = λ b. IsOpen b c.args.unpacker.now.latest transfers in
     rw (no_last_lines c.args.unpacker.now.latest.wanted transfers (subst P c.if-abandoned.false is_open)) (writes_none g.W.OutDevice.state g.E.OutDevice.state c.args.writers.now)
+
+pub returns-else-abandoned-clause-writes : goal.returns-else-abandoned-clause-writes
+returns-else-abandoned-clause-writes g c = (no_texts, writes_none g.W.OutDevice.state g.E.OutDevice.state c.args.writers.now)
