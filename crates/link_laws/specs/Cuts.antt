@@ -1,11 +1,13 @@
 -- How the data of the stream makes up the output of `unpack`, and how the report cuts the output.
-use Rattle.std.specs.Prelude.{◌≡◌, ℕ, ◌+◌, ◌≤◌, false, List, [], ◌∷◌, ◌++◌, length, None}
+use Rattle.std.specs.Prelude.{◌≡◌, ℕ, ◌+◌, ◌≤◌, false, List, [], ◌∷◌, ◌++◌, length, Option, Some, None}
 use Rattle.std.specs.List.{flat_map}
 use Rattle.link_wire.specs.Stream.{Entry, reading_of}
+use Rattle.link_report.specs.Fault.{fault_text}
 use Rattle.link_report.specs.Transfer.{transfer_text}
 use Rattle.link_report.specs.declared.transfer.TransferEntry.{TransferEntry}
-use Rattle.link_unpack.specs.Transfers.{Transfer, Ordered, ordered, heads_of, transfers_of}
-use Rattle.link_unpack.specs.Unpacking.{parts_of, entry_of, over, stop_lines, unpacking}
+use Rattle.link_run.specs.Made.{StreamStop}
+use Rattle.link_unpack.specs.Transfers.{Transfer, Ordered, ordered, heads_of, transfers_of, settled}
+use Rattle.link_unpack.specs.Unpacking.{parts_of, entry_of, stop_by, unpack_tool}
 use Rattle.link_unpack.specs.declared.wanted.Wanted.{Wanted}
 
 -- ---- the output
@@ -22,7 +24,7 @@ order_of bytes = ordered (heads_of (reading_of bytes))
 -- order
 abbrev pub HasEveryByte : List ℕ → Type 0
 HasEveryByte bytes =
-    (unpacking (record { only = None; payload = false }) bytes).texts.output
+    ((unpack_tool (record { only = None; payload = false })).whole bytes).texts.output
     ≡ flat_map data_of (order_of bytes).heads
 
 -- ---- the report
@@ -43,22 +45,36 @@ unfoldable pub written_by : List TransferEntry → ℕ
 written_by [] = 0
 written_by (entry ∷ more) = entry.written + written_by more
 
+-- where the stream stops: at the head that is refused, and else where its reading does
+abbrev pub stop_at : List ℕ → Option StreamStop
+stop_at bytes = stop_by (order_of bytes).refused (reading_of bytes).end
+
+-- The transfers that have a line. A clean end abandons one that is open: nothing follows. At a fault
+-- it has no line, since it might have gone on.
+abbrev pub lined : Option StreamStop → List Transfer → List Transfer
+lined None transfers = transfers
+lined (Some stop) transfers = settled transfers
+
 -- the transfers that have a line in the report, the latest first
 abbrev pub reported : List ℕ → List Transfer
-reported bytes =
-    over (order_of bytes).refused (reading_of bytes).end (transfers_of (order_of bytes).heads)
+reported bytes = lined (stop_at bytes) (transfers_of (order_of bytes).heads)
+
+-- the line of the fault, if there is one
+abbrev pub stop_line : Option StreamStop → List ℕ
+stop_line None = []
+stop_line (Some stop) = fault_text stop.fault
 
 -- The report is the lines of these transfers, and then the line of the fault. The parts of the
 -- output that the lines describe follow one another from its beginning. The rest of the output is
 -- the part of the transfer that has no line.
 pub record CutsOutput (wanted : Wanted) (bytes : List ℕ) : Type 0 where
-  pub lines : (unpacking wanted bytes).texts.report
+  pub lines : ((unpack_tool wanted).whole bytes).texts.report
       ≡ flat_map transfer_text (entries_of wanted (reported bytes))
-      ++ stop_lines (order_of bytes).refused (reading_of bytes).end
+      ++ stop_line (stop_at bytes)
   pub follow : Follow 0 (entries_of wanted (reported bytes))
   -- the transfer that has no line, if there is one: it is the latest, and the last in the output
   pub left : List Transfer
   pub one : length left ≤ 1
-  pub whole : (unpacking wanted bytes).texts.output ≡ parts_of wanted (left ++ reported bytes)
+  pub whole : ((unpack_tool wanted).whole bytes).texts.output ≡ parts_of wanted (left ++ reported bytes)
   pub size : length (parts_of wanted (reported bytes))
       ≡ written_by (entries_of wanted (reported bytes))

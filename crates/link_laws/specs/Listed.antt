@@ -4,7 +4,7 @@ use Rattle.link_wire.specs.Spelling.{segment_head_size, segment_with, sess_init_
 use Rattle.link_wire.specs.declared.message.Message.TheVariants.{SessTerm}
 use Rattle.link_transfer.specs.Chunks.{chunk_at, chunk_count}
 use Rattle.link_report.specs.Message.{contact_text, message_text}
-use Rattle.link_list.specs.Listing.{listing}
+use Rattle.link_list.specs.Listing.{list_tool}
 use Rattle.link_pack.specs.Bundles.{Packed, divided}
 use Rattle.link_pack.specs.Packing.{segment_size, sending}
 use Rattle.link_pack.specs.Segments.{Sending, cut_at, flags_of}
@@ -73,7 +73,7 @@ packed_lines options bundles =
 
 -- listing the stream writes these lines, and finds no fault
 pub record IsListed (options : PackOptions) (bytes stream : List ℕ) : Type 0 where
-  pub output : (listing stream).texts.output
+  pub output : (list_tool.whole stream).texts.output
       ≡ packed_lines options (divided options.peer_transfer bytes).bundles
-  pub report : (listing stream).texts.report ≡ []
-  pub status : (listing stream).status ≡ 0
+  pub report : (list_tool.whole stream).texts.report ≡ []
+  pub status : (list_tool.whole stream).status ≡ 0

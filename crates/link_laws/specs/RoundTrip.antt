@@ -2,7 +2,7 @@
 use Rattle.std.specs.Prelude.{◌≡◌, ℕ, suc, ◌+◌, false, List, [], ◌∷◌, ◌++◌, length, None}
 use Rattle.link_report.specs.Transfer.{transfer_text}
 use Rattle.link_report.specs.declared.judgement.Judgement.TheVariants.{Good}
-use Rattle.link_unpack.specs.Unpacking.{unpacking}
+use Rattle.link_unpack.specs.Unpacking.{unpack_tool}
 use Rattle.link_unpack.specs.declared.wanted.Wanted.{Wanted}
 use Rattle.link_pack.specs.Bundles.{Packed, divided}
 use Rattle.link_pack.specs.declared.options.PackOptions.{PackOptions}
@@ -27,7 +27,7 @@ good_lines number start (bundle ∷ more) =
 
 -- unpacking the stream returns the bundles, and each of them is good
 pub record GivesBack (options : PackOptions) (bytes stream : List ℕ) : Type 0 where
-  pub output : (unpacking all stream).texts.output ≡ bytes
-  pub report : (unpacking all stream).texts.report
+  pub output : ((unpack_tool all).whole stream).texts.output ≡ bytes
+  pub report : ((unpack_tool all).whole stream).texts.report
       ≡ good_lines 0 0 (divided options.peer_transfer bytes).bundles
-  pub status : (unpacking all stream).status ≡ 0
+  pub status : ((unpack_tool all).whole stream).status ≡ 0

@@ -8,7 +8,7 @@ ghost use Rattle.link_wire.specs.Bytes.{AreBytes};
 ghost use Rattle.link_list.specs.Listing.{list_tool};
 ghost use Rattle.link_unpack.specs.Unpacking.{unpack_tool};
 ghost use Rattle.link_unpack.specs.declared.wanted.Wanted.{Wanted};
-ghost use Rattle.link_pack.specs.Packing.{packing, pack_tool};
+ghost use Rattle.link_pack.specs.Packing.{pack_tool};
 ghost use Rattle.link_pack.specs.declared.options.PackOptions.{PackOptions};
 ghost use Rattle.link_laws.specs.Cuts.{HasEveryByte, CutsOutput};
 ghost use Rattle.link_laws.specs.Listed.{IsListed};
@@ -40,7 +40,7 @@ pub fn sofar_is_prefix()
 /// - No transfer has more data than the peer takes.
 /// - A length that is announced is that of its transfer.
 pub fn keeps_limits(options: &PackOptions, bytes: &[u8])
-    ensures { KeepsLimits options.now (packing options.now bytes.now).texts.output }
+    ensures { KeepsLimits options.now ((pack_tool options.now).whole bytes.now).texts.output }
 {
     options_fit(options);
     input_fits(bytes);
@@ -52,8 +52,8 @@ pub fn keeps_limits(options: &PackOptions, bytes: &[u8])
 /// The output of unpacking the stream is then the input. The report has one line for each bundle,
 /// numbered from 0, and each line says that the bundle is good.
 pub fn unpack_of_pack(options: &PackOptions, bytes: &[u8])
-    ensures { (packing options.now bytes.now).status ≡ 0
-        → GivesBack options.now bytes.now (packing options.now bytes.now).texts.output }
+    ensures { ((pack_tool options.now).whole bytes.now).status ≡ 0
+        → GivesBack options.now bytes.now ((pack_tool options.now).whole bytes.now).texts.output }
 {
     options_fit(options);
     input_fits(bytes);
@@ -66,8 +66,8 @@ pub fn unpack_of_pack(options: &PackOptions, bytes: &[u8])
 /// each bundle, and of SESS_TERM if it was asked for. The line of a segment shows its flags, ID,
 /// length and offset.
 pub fn list_of_pack(options: &PackOptions, bytes: &[u8])
-    ensures { (packing options.now bytes.now).status ≡ 0
-        → IsListed options.now bytes.now (packing options.now bytes.now).texts.output }
+    ensures { ((pack_tool options.now).whole bytes.now).status ≡ 0
+        → IsListed options.now bytes.now ((pack_tool options.now).whole bytes.now).texts.output }
 {
     options_fit(options);
     input_fits(bytes);
