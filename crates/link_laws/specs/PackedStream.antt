@@ -6,7 +6,7 @@ use Rattle.link_wire.specs.declared.message.Message.{Message}
 use Rattle.link_wire.specs.declared.message.Message.TheVariants.{Segment}
 use Rattle.link_transfer.specs.Announced.{announced_of}
 use Rattle.link_transfer.specs.declared.announcement.Announced.TheVariants.{Absent, Total}
-use Rattle.link_list.specs.Listing.{listing}
+use Rattle.link_list.specs.Listing.{list_tool}
 use Rattle.link_unpack.specs.Transfers.{Transfer, ordered, heads_of, transfers_of}
 use Rattle.link_pack.specs.declared.options.PackOptions.{PackOptions}
 
@@ -29,7 +29,7 @@ TransferFits options transfer =
 -- The stream is read without a fault, and its messages are in order. Its segments and transfers
 -- keep the limits of the peer.
 pub record KeepsLimits (options : PackOptions) (stream : List ℕ) : Type 0 where
-  pub clean : (listing stream).status ≡ 0
+  pub clean : (list_tool.whole stream).status ≡ 0
   pub in_order : ordered (heads_of (reading_of stream))
       ≡ record { heads = heads_of (reading_of stream); refused = None }
   pub segments : All (λ (entry : Entry). SegmentFits options entry.message)
