@@ -6,7 +6,7 @@ use std::test::Fail;
 use toolkit_tests::packing::{DEFAULTS, Packing};
 use toolkit_tests::rows::{ALL, BUNDLE_REPORT, TWO_BUNDLES_REPORT};
 use toolkit_tests::running::{Expected, Tool, ended_over, gives_at_each_pace, steps_alike};
-use toolkit_tests::stepping::{is_done, pack_run, packs_on};
+use toolkit_tests::stepping::{is_done, packs_on, test_pack_run};
 use toolkit_tests::stream::{
     CONTACT_LINE, PLAIN, SESSION, SESSION_LINE, built, joined, put_segment,
 };
@@ -78,7 +78,7 @@ fn every_prefix(rt: HostRuntime) -> Result<(), Fail> {
 fn byte_by_byte(alloc: Global, row: &Row, written: &[(usize, usize, usize)]) -> Result<(), Fail> {
     let input = joined(alloc, row.input)?;
     let output = built(alloc, row.output)?;
-    let mut run = pack_run(alloc, &row.packing, &input)?;
+    let mut run = test_pack_run(alloc, &row.packing, &input)?;
     for (steps, size, lines) in written {
         let output = output.get(..*size).ok_or("more than the output")?;
         let report = row.report.get(..*lines).ok_or("more than the report")?;

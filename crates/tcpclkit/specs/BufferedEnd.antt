@@ -2,9 +2,9 @@
 use Rattle.std.specs.Prelude.{◌≡◌, ℕ, ◌⊎◌, true, ◌&&◌, not, List, take, Option, Result}
 use Rattle.std.specs.Option.{option_map}
 use Rattle.std.specs.Io.KnownBytes.{Keeps}
-use Rattle.link_wire.specs.Device.{Input, Output}
+use Rattle.link_wire.specs.Device.{Output}
 use Rattle.link_wire.specs.declared.IoFault.{IoFault}
-use Rattle.link_run.specs.Run.{Devices}
+use Rattle.link_run.specs.Run.{Looks, Devices}
 use Rattle.link_run.specs.declared.run.Status.{Status}
 use Rattle.link_tools.specs.Options.{GivesRun}
 use Rattle.link_tools.specs.declared.options.Job.{Job}
@@ -20,16 +20,15 @@ pub record HandsOn (written handed : Output) : Type 0 where
   pub bytes : Keeps written.written handed.written
       ⊎ ((handed.failed ≡ true) × AreFirst written.written handed.written)
 
-module _ {R W E : Type 0} (in_look : R → Input) (out_look : W → Output)
-    (report_look : E → Output) where
+module _ {R W E : Type 0} (look : Looks R W E) where
   -- The tool was run over the devices `start`. What it wrote was handed on, and nothing was read
   -- after the run. The answer is the tool's own, in which a failed stream counts.
   pub record GivesBuffered (job : Job) (start : Devices R W E) (input : R)
       (output report : Output) (answer : Result Status IoFault) : Type 0 where
     pub now : Devices R W E
     pub ends : Result Status IoFault
-    pub run : GivesRun in_look out_look report_look job start now ends
+    pub run : GivesRun look job start now ends
     pub reads : input ≡ now.reader
-    pub writes : HandsOn (out_look now.output) output
-    pub reports : HandsOn (report_look now.report) report
+    pub writes : HandsOn (look.output now.output) output
+    pub reports : HandsOn (look.report now.report) report
     pub answers : answer ≡ answer_after_flush ends (not output.failed && not report.failed)

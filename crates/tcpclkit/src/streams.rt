@@ -2,7 +2,7 @@
 
 ghost use Rattle.std.specs.Prelude.{◌≡◌, false, Err, IfOk, IfErr, IsOkAnd};
 ghost use Rattle.std.specs.IoError.{error_kind};
-ghost use Rattle.link_run.specs.Run.{Devices, NoneFailed};
+ghost use Rattle.link_run.specs.Run.{Devices, NoneFailed, looks};
 ghost use Rattle.link_tools.specs.Options.{IsReady};
 ghost use Rattle.tcpclkit.specs.BufferedEnd.{GivesBuffered, HandsOn};
 
@@ -48,9 +48,9 @@ pub fn buffered<R: Read + Drop, W: Write + Drop, E: Write + Drop>(
     report: E,
 ) -> io::Result<Streams<R, W, E>>
     ensures sound { IfOk result (λ streams. NoneFailed
-        ⟦<BufferedReader<R> as InDevice>⟧.state
+        (looks ⟦<BufferedReader<R> as InDevice>⟧.state
         ⟦<TextWriter<Writer<W>> as OutDevice>⟧.state
-        ⟦<TextWriter<Writer<E>> as OutDevice>⟧.state
+        ⟦<TextWriter<Writer<E>> as OutDevice>⟧.state)
         (record { reader = streams.input; output = streams.output; report = streams.report })) }
     ensures input { IfOk result (λ streams. ⟦<BufferedReader<R> as InDevice>⟧.state streams.input
         ≡ record { left = R.remaining input; failed = false }) }
@@ -90,14 +90,14 @@ pub fn run_over<R: Read + Drop, W: Write + Drop, E: Write + Drop>(
 ) -> Result<BufferedEnd<R, W, E>, IoFault>
     requires ready { IsReady job }
     requires sound { IfOk streams (λ streams. NoneFailed
-        ⟦<BufferedReader<R> as InDevice>⟧.state
+        (looks ⟦<BufferedReader<R> as InDevice>⟧.state
         ⟦<TextWriter<Writer<W>> as OutDevice>⟧.state
-        ⟦<TextWriter<Writer<E>> as OutDevice>⟧.state
+        ⟦<TextWriter<Writer<E>> as OutDevice>⟧.state)
         (record { reader = streams.input; output = streams.output; report = streams.report })) }
     ensures ran { IfOk streams (λ streams. IsOkAnd result (λ end. GivesBuffered
-        ⟦<BufferedReader<R> as InDevice>⟧.state
+        (looks ⟦<BufferedReader<R> as InDevice>⟧.state
         ⟦<TextWriter<Writer<W>> as OutDevice>⟧.state
-        ⟦<TextWriter<Writer<E>> as OutDevice>⟧.state job
+        ⟦<TextWriter<Writer<E>> as OutDevice>⟧.state) job
         (record { reader = streams.input; output = streams.output; report = streams.report })
         end.input (⟦<Writer<W> as OutDevice>⟧.state end.output)
         (⟦<Writer<E> as OutDevice>⟧.state end.report) end.answer)) }
@@ -121,9 +121,9 @@ pub fn run_buffered<R: Read + Drop, W: Write + Drop, E: Write + Drop>(
     requires output { (⟦<TextWriter<Writer<W>> as OutDevice>⟧.state streams.output).failed ≡ false }
     requires report { (⟦<TextWriter<Writer<E>> as OutDevice>⟧.state streams.report).failed ≡ false }
     ensures { GivesBuffered
-        ⟦<BufferedReader<R> as InDevice>⟧.state
+        (looks ⟦<BufferedReader<R> as InDevice>⟧.state
         ⟦<TextWriter<Writer<W>> as OutDevice>⟧.state
-        ⟦<TextWriter<Writer<E>> as OutDevice>⟧.state job
+        ⟦<TextWriter<Writer<E>> as OutDevice>⟧.state) job
         (record { reader = streams.input; output = streams.output; report = streams.report })
         result.input (⟦<Writer<W> as OutDevice>⟧.state result.output)
         (⟦<Writer<E> as OutDevice>⟧.state result.report) result.answer }

@@ -7,14 +7,13 @@ use Rattle.link_list.specs.Listing.{list_tool}
 use Rattle.link_pack.specs.Packing.{pack_tool}
 use Rattle.link_pack.specs.PackRun.{LacksMemory}
 use Rattle.link_pack.specs.declared.options.PackOptions.{PackOptions}
-use Rattle.link_run.specs.Run.{Tool, Texts, Outcome, Devices, HandedBack, FinishedRun, LostReader, PassedLimit, LostWriter, EndedRun, GivesAnswer}
+use Rattle.link_run.specs.Run.{Tool, Texts, Outcome, Looks, Devices, HandedBack, FinishedRun, LostReader, PassedLimit, LostWriter, EndedRun, GivesAnswer}
 use Rattle.link_run.specs.declared.run.Status.{Status}
 use Rattle.link_tools.specs.Options.{options_of, GivesRun}
 use Rattle.link_tools.specs.declared.options.Job.{Job}
 use Rattle.link_tools.specs.declared.options.Job.TheVariants as job
 use Rattle.link_unpack.specs.Unpacking.{unpack_tool}
 use Rattle.link_unpack.specs.declared.wanted.Wanted.{Wanted}
-use Rattle.link_wire.specs.Device.{Input, Output}
 use Rattle.link_wire.specs.declared.IoFault.{IoFault}
 use Rattle.link_wire.specs.declared.IoFault.TheVariants.{Read, InputTooLong, Write, Memory}
 use Rattle.tcpclkit_c.specs.Slice.{HoldsFront}
@@ -99,17 +98,17 @@ gives tool bytes output_text report_text output report answer run status has hel
 
 -- ---- runs
 
-module _ {R W E : Type 0} (in_look : R → Input) (out_look : W → Output) (report_look : E → Output)
+module _ {R W E : Type 0} (look : Looks R W E)
     (start now : Devices R W E) (bytes left output_text report_text : List ℕ)
-    (full : (in_look start.reader).left ≡ Some bytes)
-    (rest : (in_look now.reader).left ≡ Some left)
-    (no_output : (out_look start.output).written ≡ Some [])
-    (has_output : (out_look now.output).written ≡ Some output_text)
-    (no_report : (report_look start.report).written ≡ Some [])
-    (has_report : (report_look now.report).written ≡ Some report_text) where
+    (full : (look.input start.reader).left ≡ Some bytes)
+    (rest : (look.input now.reader).left ≡ Some left)
+    (no_output : (look.output start.output).written ≡ Some [])
+    (has_output : (look.output now.output).written ≡ Some output_text)
+    (no_report : (look.report start.report).written ≡ Some [])
+    (has_report : (look.report now.report).written ≡ Some report_text) where
   module _ (tool : Tool) (prefixed : (front more : List ℕ) → IsPrefixed tool front more) where
     module _ (given : List ℕ) (texts : Texts)
-        (back : HandedBack in_look out_look report_look start now given texts) where
+        (back : HandedBack look start now given texts) where
       bytes_are : bytes ≡ given ++ left
       bytes_are = rw (full, rest) at back.takes
 
@@ -160,7 +159,7 @@ module _ {R W E : Type 0} (in_look : R → Input) (out_look : W → Output) (rep
 
     -- the run has stopped in the bytes given, with the texts that these determine
     stopped : (given past : List ℕ) (fault : IoFault)
-        → HandedBack in_look out_look report_look start now (given ++ past) (tool.sofar given)
+        → HandedBack look start now (given ++ past) (tool.sofar given)
         → HasRun tool bytes output_text report_text (Err fault)
     stopped given past fault back =
         let parts : bytes ≡ given ++ (past ++ left) =
@@ -176,7 +175,7 @@ module _ {R W E : Type 0} (in_look : R → Input) (out_look : W → Output) (rep
         }
 
     finished : (given : List ℕ) (status : Status)
-        → FinishedRun in_look out_look report_look tool start now given status
+        → FinishedRun look tool start now given status
         → HasRun tool bytes output_text report_text (Ok status)
     finished given status run =
         let parts = bytes_are (given ++ run.unread) (tool.whole given).texts run.written in
@@ -205,7 +204,7 @@ module _ {R W E : Type 0} (in_look : R → Input) (out_look : W → Output) (rep
         }
 
     lost : (given : List ℕ) (fault : IoFault)
-        → LostWriter in_look out_look report_look tool start now given
+        → LostWriter look tool start now given
         → HasRun tool bytes output_text report_text (Err fault)
     lost given fault run =
         let texts : Texts =
@@ -230,19 +229,19 @@ module _ {R W E : Type 0} (in_look : R → Input) (out_look : W → Output) (rep
         }
 
     ran_by : (answer : Result Status IoFault) (given : List ℕ)
-        → EndedRun in_look out_look report_look tool start now given answer
+        → EndedRun look tool start now given answer
         → HasRun tool bytes output_text report_text answer
     ran_by (Ok status) given run = finished given status run
     ran_by (Err Read) given run = stopped given [] Read
         (subst (λ (all : List ℕ).
-        HandedBack in_look out_look report_look start now all (tool.sofar given))
+        HandedBack look start now all (tool.sofar given))
         (sym (append-nil given)) run.written)
     ran_by (Err InputTooLong) given run = stopped given run.past InputTooLong run.written
     ran_by (Err Write) given run = lost given Write run
     ran_by (Err Memory) given run = absurd run
 
     ran : (answer : Result Status IoFault)
-        → GivesAnswer in_look out_look report_look tool start now answer
+        → GivesAnswer look tool start now answer
         → HasRun tool bytes output_text report_text answer
     ran answer run = ran_by answer run.given run.gave
 
@@ -251,12 +250,12 @@ module _ {R W E : Type 0} (in_look : R → Input) (out_look : W → Output) (rep
     lacking answer run =
         let output : output_text ≡ [] =
         let same : Some output_text ≡ Some [] =
-        sym has_output ∙ ap (λ (devices : Devices R W E). (out_look devices.output).written) run.unchanged
+        sym has_output ∙ ap (λ (devices : Devices R W E). (look.output devices.output).written) run.unchanged
         ∙ no_output in cc in
         let report : report_text ≡ [] =
         let same : Some report_text ≡ Some [] =
         sym has_report
-        ∙ ap (λ (devices : Devices R W E). (report_look devices.report).written) run.unchanged
+        ∙ ap (λ (devices : Devices R W E). (look.report devices.report).written) run.unchanged
         ∙ no_report in cc in
         record {
           output = ((tool.whole bytes).texts.output, ap (λ (xs : List ℕ). xs ++ (tool.whole bytes).texts.output) (sym output));
@@ -270,7 +269,7 @@ module _ {R W E : Type 0} (in_look : R → Input) (out_look : W → Output) (rep
       → ((options : PackOptions) (front more : List ℕ)
       → IsPrefixed (pack_tool options) front more)
       → (ready : Job) (answer : Result Status IoFault)
-      → GivesRun in_look out_look report_look ready start now answer
+      → GivesRun look ready start now answer
       → HasRun (tool_of (options_of ready)) bytes output_text report_text answer
   job_ran list unpack pack job.List answer run = ran list_tool list answer run
   job_ran list unpack pack (job.Unpack wanted) answer run =

@@ -6,7 +6,7 @@ use crate::checks::{exits, reported, wrote};
 use crate::packing::Packing;
 use crate::stepping::ended;
 use crate::{Failing, TestReader, TestWriter};
-use link_tools::{ListRun, PackRun, RunEnd, UnpackRun, Wanted, cutter_for, list, pack, unpack};
+use link_tools::{RunEnd, Wanted, cutter_for, list, list_run, pack, pack_run, unpack, unpack_run};
 use link_wire::{InDevice, OutDevice};
 use std::alloc::Global;
 use std::test::Fail;
@@ -46,25 +46,28 @@ impl Tool {
     }
 
     /// Runs the tool in steps: at most `steps` of them to its end, and three more.
-    pub fn step_through<'a>(
+    ///
+    /// It is generic, since the borrow checker does not cover a call of `ended` at a reader with a
+    /// lifetime.
+    pub fn step_through<R: InDevice + Drop, W: OutDevice + Drop, E: OutDevice + Drop>(
         self,
         alloc: Global,
         steps: usize,
-        reader: TestReader<'a>,
-        output: TestWriter,
-        report: TestWriter,
-    ) -> Result<End<'a>, Fail>
-        requires reader { (⟦<TestReader<'a> as InDevice>⟧.state reader).failed ≡ false }
-        requires output { (⟦<TestWriter as OutDevice>⟧.state output).failed ≡ false }
-        requires report { (⟦<TestWriter as OutDevice>⟧.state report).failed ≡ false }
+        reader: R,
+        output: W,
+        report: E,
+    ) -> Result<RunEnd<R, W, E>, Fail>
+        requires reader { (R.state reader).failed ≡ false }
+        requires output { (W.state output).failed ≡ false }
+        requires report { (E.state report).failed ≡ false }
     {
         match self {
-            Tool::List => ended(ListRun::new(reader, output, report), steps),
-            Tool::Unpack(wanted) => ended(UnpackRun::new(wanted, reader, output, report), steps),
+            Tool::List => ended(list_run(reader, output, report), steps),
+            Tool::Unpack(wanted) => ended(unpack_run(wanted, reader, output, report), steps),
             Tool::Pack(packing) => {
                 let options = packing.options();
                 let cutter = cutter_for(alloc, &options)?;
-                let run = PackRun::new(cutter, options, reader, output, report);
+                let run = pack_run(cutter, options, reader, output, report);
                 ended(run, steps)
             }
         }

@@ -8,7 +8,7 @@ ghost use Rattle.std.specs.Prelude.{◌≡◌, false};
 use crate::rows::{TRANSFER, TRANSFER_LINES};
 use crate::stepping::ended;
 use crate::stream::{CONTACT_LINE, joined, text};
-use link_tools::{ListRun, Status, list, run_exit};
+use link_tools::{Status, list, list_run, run_exit};
 use link_wire::{
     Contact, Filled, InDevice, IoFault, OutDevice, Reader, Session, Source, Stop, Writer,
     write_whole,
@@ -148,7 +148,7 @@ fn listed<R: InDevice + Drop, W: OutDevice + Drop, E: OutDevice + Drop>(
     requires output { (W.state output).failed ≡ false }
     requires report { (E.state report).failed ≡ false }
 {
-    let end = ended(ListRun::new(reader, output, report), 100)?;
+    let end = ended(list_run(reader, output, report), 100)?;
     assert_eq!(rt; run_exit(&end.answer), exit);
     Ok((end.reader, end.output, end.report))
 }

@@ -3,7 +3,9 @@
 use crate::checks::{reported, wrote};
 use crate::packing::Packing;
 use crate::{Failing, TestReader, TestWriter};
-use link_tools::{PackRun, Progress, Run, RunEnd, Status, UnpackRun, Wanted, cutter_for};
+use link_tools::{
+    PackRun, Progress, Run, RunEnd, Status, UnpackRun, Wanted, cutter_for, pack_run, unpack_run,
+};
 use link_wire::{InDevice, IoFault, OutDevice};
 use std::alloc::Global;
 use std::test::Fail;
@@ -67,8 +69,8 @@ pub fn is_done<R: InDevice, W: OutDevice, E: OutDevice, T: Run<R, W, E>>(
 pub type TestUnpackRun<'a> = UnpackRun<TestReader<'a>, TestWriter, TestWriter>;
 
 /// A run of `unpack` over devices that move all bytes at once.
-pub fn unpack_run<'a>(alloc: Global, wanted: Wanted, stream: &'a [u8]) -> TestUnpackRun<'a> {
-    UnpackRun::new(
+pub fn test_unpack_run<'a>(alloc: Global, wanted: Wanted, stream: &'a [u8]) -> TestUnpackRun<'a> {
+    unpack_run(
         wanted,
         TestReader::new(stream, usize::MAX, Failing::Never),
         TestWriter::new(alloc, usize::MAX, Failing::Never),
@@ -87,14 +89,14 @@ pub fn unpacks_on(run: &mut TestUnpackRun<'_>, output: &[u8], report: &[u8]) -> 
 pub type TestPackRun<'a> = PackRun<TestReader<'a>, TestWriter, TestWriter>;
 
 /// A run of `pack` over a reader of one byte a call.
-pub fn pack_run<'a>(
+pub fn test_pack_run<'a>(
     alloc: Global,
     packing: &Packing,
     input: &'a [u8],
 ) -> Result<TestPackRun<'a>, Fail> {
     let options = packing.options();
     let cutter = cutter_for(alloc, &options)?;
-    Ok(PackRun::new(
+    Ok(pack_run(
         cutter,
         options,
         TestReader::new(input, 1, Failing::Never),

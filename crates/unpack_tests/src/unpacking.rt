@@ -7,7 +7,7 @@ use std::alloc::Global;
 use std::test::Fail;
 use toolkit_tests::rows::{ALL, BUNDLE_REPORT, TRANSFER, TWO_BUNDLES};
 use toolkit_tests::running::{Expected, Tool, gives_at_each_pace};
-use toolkit_tests::stepping::{is_done, unpack_run, unpacks_on};
+use toolkit_tests::stepping::{is_done, test_unpack_run, unpacks_on};
 use toolkit_tests::stream::{EDGE, PLAIN, SESSION, built, joined, put_segment};
 
 /// Checks that unpacking the stream gives the result of the row.
@@ -137,7 +137,7 @@ fn cut_data(rt: HostRuntime) -> Result<(), Fail> {
 /// its report, are written after it.
 fn after_each_step(alloc: Global, row: &Row, written: &[(usize, usize)]) -> Result<(), Fail> {
     let stream = built(alloc, row.stream)?;
-    let mut run = unpack_run(alloc, row.wanted, &stream);
+    let mut run = test_unpack_run(alloc, row.wanted, &stream);
     for (of_output, of_report) in written {
         let output = row.output.get(..*of_output).ok_or("more than the output")?;
         let report = row.report.get(..*of_report).ok_or("more than the report")?;
@@ -198,7 +198,7 @@ fn long_transfer_step_by_step(rt: HostRuntime) -> Result<(), Fail> {
         report: b"transfer 0 start=0 written=100000 length=100000 bad=B3 byte=0\n",
         status: 1,
     };
-    let mut run = unpack_run(rt.alloc(), ALL, &stream);
+    let mut run = test_unpack_run(rt.alloc(), ALL, &stream);
     for size in &written {
         let output = zeros.get(..*size).ok_or("more than the data")?;
         let report = if *size == 100_000 { want.report } else { b"" };

@@ -1,5 +1,5 @@
 use Rattle.std.proofs.Common.{◌≡◌, Some, false, refl, ap}
-use Rattle.link_run.specs.Run.{Devices}
+use Rattle.link_run.specs.Run.{looks, Devices}
 use Rattle.link_tools.specs.Options.{options_of}
 use Rattle.link_wire.specs.Device.{Input, Output}
 use Rattle.tcpclkit_c.specs.Tool.{tool_of}
@@ -22,7 +22,7 @@ returns c =
     let now : Devices SliceReader KeptText KeptText =
     record { reader = end.reader; output = end.output; report = end.report } in
     c.give_texts.ensures (tool_of (options_of c.args.job)) c.args.bytes.now
-    (job_ran reader_look text_look text_look start now c.args.bytes.now end.reader.left.now
+    (job_ran (looks reader_look text_look text_look) start now c.args.bytes.now end.reader.left.now
     c.text.result.now c.text-2.result.now
     (ap (λ (state : Input). state.left) c.new.ensures) refl
     (ap (λ (state : Output). state.written) c.new-2.ensures)
