@@ -1,6 +1,7 @@
 //! Tests that pack the worked bundles, at each pace of the devices and step by step.
 
 use crate::packings::{ANNOUNCED, FAULTS, HELD, IN_HALVES, NOT_HELD, PAST_LIMIT, Row, WHOLE};
+use link_tools::Run;
 use std::alloc::Global;
 use std::test::Fail;
 use toolkit_tests::packing::{DEFAULTS, Packing};
@@ -87,7 +88,7 @@ fn byte_by_byte(alloc: Global, row: &Row, written: &[(usize, usize, usize)]) -> 
             packs_on(&mut run, output, &report)?;
         }
     }
-    is_done(&mut run, row.status)
+    is_done(run.step(), row.status)
 }
 
 /// A chunk is written in the step that takes its last byte.

@@ -3,6 +3,7 @@
 ghost use Rattle.std.specs.Prelude.{◌<◌};
 
 use crate::transfers::{ABANDONING, EMPTY_END, FAULTS, PARTS, PAYLOADS, Row, WHOLE, WHOLE_BUNDLES};
+use link_tools::Run;
 use std::alloc::Global;
 use std::test::Fail;
 use toolkit_tests::rows::{ALL, BUNDLE_REPORT, TRANSFER, TWO_BUNDLES};
@@ -143,7 +144,7 @@ fn after_each_step(alloc: Global, row: &Row, written: &[(usize, usize)]) -> Resu
         let report = row.report.get(..*of_report).ok_or("more than the report")?;
         unpacks_on(&mut run, &joined(alloc, output)?, &joined(alloc, report)?)?;
     }
-    is_done(&mut run, row.status)
+    is_done(run.step(), row.status)
 }
 
 /// An open transfer is abandoned in the step that takes the head of the next one's first segment.
@@ -204,6 +205,6 @@ fn long_transfer_step_by_step(rt: HostRuntime) -> Result<(), Fail> {
         let report = if *size == 100_000 { want.report } else { b"" };
         unpacks_on(&mut run, output, report)?;
     }
-    is_done(&mut run, 1)?;
+    is_done(run.step(), 1)?;
     gives_at_each_pace(rt.alloc(), "100 segments of 1,000 bytes", &stream, &want)
 }
