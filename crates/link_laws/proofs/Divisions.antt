@@ -10,7 +10,6 @@ use Rattle.link_bundle_types.specs.declared.info.BundleInfo.{BundleInfo}
 use Rattle.link_bundle_types.specs.declared.fault.State.TheVariants as state
 use Rattle.link_bundle.specs.Bundle.{verdict, state_of, is_going, bundle_goes}
 use Rattle.link_pack.specs.Bundles.{Packed, Refusal, Longer, Faulty, Divided, front_of, with_bundle, divided_by, divided, joined}
-use Rattle.link_pack.specs.Packing.{lasting}
 use Rattle.link_pack.proofs.Dividing.{taken_again, none_front, none_goes, some_stopped, beyond_limit, divided_front, divided_whole, divided_faulty}
 
 abbrev pub refused_so : List Packed → Refusal → (accepted : List ℕ) → Divided
@@ -21,7 +20,6 @@ pub record IsRefused (limit : ℕ) (bytes : List ℕ) : Type 0 where
   pub bundles : List Packed
   pub accepted : List ℕ
   pub refusal : Refusal
-  pub shown : lasting refusal ≡ true
   pub divides : (more : List ℕ)
       → divided limit (bytes ++ more) ≡ refused_so bundles refusal accepted
 
@@ -65,7 +63,6 @@ module _ (limit : ℕ) (bundle rest : List ℕ) (info : BundleInfo) (front : fro
     bundles = record { bytes = bundle; info = info } ∷ later.bundles;
     accepted = later.accepted;
     refusal = later.refusal;
-    shown = later.shown;
     divides = λ more. whole_then more ∙ ap (with_bundle (record { bytes = bundle; info = info })) (later.divides more);
   }
 
@@ -87,7 +84,6 @@ faulty_first limit front rest fault place is said stays within = record {
   bundles = [];
   accepted = _;
   refusal = Faulty fault place;
-  shown = stays;
   divides = λ more. ap (divided limit) (append_assoc front rest more) ∙ divided_faulty limit front (rest ++ more) fault place is said stays within;
 }
 
@@ -108,7 +104,6 @@ longer_first limit bytes beyond = record {
   bundles = [];
   accepted = take limit (front_of bytes);
   refusal = Longer limit;
-  shown = refl;
   divides = λ more. longer_front limit bytes more beyond;
 }
 

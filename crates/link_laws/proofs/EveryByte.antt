@@ -15,12 +15,13 @@ use Rattle.link_transfer.specs.Order.{is_segment, open_of, refusal}
 use Rattle.link_transfer.specs.declared.fault.OrderFault.{OrderFault}
 use Rattle.link_transfer.proofs.Joining.{after-other}
 use Rattle.link_unpack.specs.Transfers.{cut_heads, heads_of, Ordered, ordered_by, ordered_after, ordered, Transfer, closes, continued, after_segment, after_message, transfers_of}
-use Rattle.link_unpack.specs.Unpacking.{parts_of, unpacking}
+use Rattle.link_unpack.specs.Unpacking.{parts_of, unpacking_of}
 use Rattle.link_unpack.proofs.Heads.{entry, transfers_same}
 use Rattle.link_unpack.proofs.Orders.{open_where_continued}
 use Rattle.link_unpack.proofs.Texts.{parts_more}
 use Rattle.link_laws.specs.Cuts.{data_of, HasEveryByte}
 use Rattle.link_laws.specs.RoundTrip.{all}
+use Rattle.link_laws.proofs.Prefixes.{whole_output}
 use Rattle.link_laws.proofs.Transfers.{kind_of, with_heads}
 
 -- ---- the data that is read
@@ -162,5 +163,8 @@ heads_added (head ∷ heads) transfers before own latest =
 
 -- the output for any stream
 pub every_byte : (bytes : List ℕ) → HasEveryByte bytes
-unfolding unpacking ordered transfers_of parts_of
-every_byte bytes = heads_added (heads_of (reading_of bytes)) [] [] (reading_own bytes) latest_none
+unfolding unpacking_of ordered transfers_of parts_of
+every_byte bytes =
+    let made = unpacking_of all bytes in
+    whole_output made.stop made refl
+    ∙ heads_added (heads_of (reading_of bytes)) [] [] (reading_own bytes) latest_none

@@ -16,7 +16,8 @@ use Rattle.link_unpack.specs.UnpackRun.{messages_of, AreInOrder}
 use Rattle.link_unpack.specs.declared.wanted.Wanted.{Wanted}
 use Rattle.link_unpack.proofs.Heads.{entry, transfers_push, transfers_same, transfer_grows}
 use Rattle.link_unpack.proofs.Orders.{all, followed, then_ordered, in_order_parts}
-use Rattle.link_laws.proofs.Transfers.{Precedes, precedes_same, precedes_trans, continued_front, kind_of, segment_open, knows_more, knows_all, with_heads, heads_front}
+use Rattle.link_laws.proofs.Fronts.{fronts_trans}
+use Rattle.link_laws.proofs.Transfers.{Precedes, precedes_same, continued_front, kind_of, segment_open, knows_more, knows_all, with_heads, heads_front}
 
 -- ---- a head that is refused
 
@@ -152,7 +153,7 @@ module _ (wanted : Wanted) where
     grown_precedes are =
         let parts = in_order_parts heads last are in
         rw (grown_ordered parts.0 parts.1, transfers_push heads last, transfers_then)
-        (precedes_trans wanted _ _ _ (message_grows (transfers_of heads) sent content piece short)
+        (fronts_trans _ _ _ (message_grows (transfers_of heads) sent content piece short)
         (heads_front wanted others (after_message (transfers_of heads) sent (content ++ piece)) (messages_of heads ++ sent ∷ [])
         (knows_more (transfers_of heads) (messages_of heads) (content ++ piece) sent (knows_all heads))))
 

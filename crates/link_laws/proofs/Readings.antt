@@ -1,11 +1,13 @@
 -- The reading of a packed stream.
-use Rattle.std.proofs.Common.{◌≡◌, ℕ, List, Option, Some, None, refl, ap, sym, ◌∙◌, arith}
+use Rattle.std.proofs.Common.{◌≡◌, ℕ, List, length, Option, Some, None, refl, ap, sym, ◌∙◌, arith}
 use Rattle.link_wire.specs.SpelledStream.{IsReading}
 use Rattle.link_wire.specs.Stream.{Entry, Clean, Reading, reading_of}
+use Rattle.link_run.specs.Made.{Made, whole_by}
+use Rattle.link_run.specs.Run.{Outcome}
 use Rattle.link_unpack.specs.Transfers.{heads_of}
 use Rattle.link_unpack.proofs.Heads.{heads_clean}
 use Rattle.link_pack.specs.Bundles.{Rest, Divided, divided}
-use Rattle.link_pack.specs.Packing.{packing, rest_status}
+use Rattle.link_pack.specs.Packing.{stop_by, packing_by, packing_of, pack_tool}
 use Rattle.link_pack.specs.declared.options.PackOptions.{PackOptions}
 use Rattle.link_laws.specs.Ranges.{OptionsFit, InputFits}
 use Rattle.link_laws.proofs.Carried.{AreCarried, packed_carried, packed_transfers}
@@ -26,15 +28,22 @@ read_so reading stream clean is = record {
   heads = ap heads_of (sym is) ∙ heads_clean reading clean;
 }
 
--- if no bundle is refused, nothing follows the bundles
-no_rest : (rest : Option Rest) → rest_status rest ≡ 0 → rest ≡ None
-no_rest None is = refl
-no_rest (Some rest) is = absurd (omega arith)
+-- what comes of packing an input
+abbrev pub packed : PackOptions → List ℕ → Outcome
+packed options bytes = (pack_tool options).whole bytes
 
-pub nothing_left : (options : PackOptions) (bytes : List ℕ) → (packing options bytes).status ≡ 0
+-- if no bundle is refused, nothing follows the bundles
+no_rest : (number : ℕ) (made : Made) (rest : Option Rest)
+    → (whole_by (stop_by number rest) made).status ≡ 0 → rest ≡ None
+no_rest number made None is = refl
+no_rest number made (Some rest) is = absurd (omega arith)
+
+pub nothing_left : (options : PackOptions) (bytes : List ℕ) → (packed options bytes).status ≡ 0
     → (divided options.peer_transfer bytes).rest ≡ None
-unfolding packing
-nothing_left options bytes is = no_rest (divided options.peer_transfer bytes).rest is
+unfolding packing_of
+nothing_left options bytes is =
+    let input = divided options.peer_transfer bytes in
+    no_rest (length input.bundles) (packing_by options input) input.rest is
 
 module _ (options : PackOptions) (bytes : List ℕ)
     (fit : OptionsFit options) (fits : InputFits bytes)
@@ -45,14 +54,14 @@ module _ (options : PackOptions) (bytes : List ℕ)
   pub divides : IsDivided options.peer_transfer bytes input
   divides = is_divided options.peer_transfer bytes fits.are
 
-  pub packed_reads : packed_reading options input ≡ reading_of (packing options bytes).texts.output
-  unfolding packing
+  pub packed_reads : packed_reading options input ≡ reading_of (packed options bytes).texts.output
+  unfolding packing_of
   packed_reads =
       let few = fits.few in
       let fewer = divides.few in
       only _ _ (packed_is options fit input divides.bundles divides.rest (omega arith))
 
-  pub packed_so : IsPackedSo (packed_entries options input) (packing options bytes).texts.output
+  pub packed_so : IsPackedSo (packed_entries options input) (packed options bytes).texts.output
   packed_so = read_so (packed_reading options input) _ refl packed_reads
 
   pub carried : AreCarried options (packed_entries options input) (packed_transfers options input)

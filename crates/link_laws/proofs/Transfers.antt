@@ -15,13 +15,13 @@ use Rattle.link_bundle.specs.Bundle.{payload_in}
 use Rattle.link_unpack.specs.Transfers.{Ordered, ordered_by, ordered_after, Transfer, closes, continued, after_segment, after_message, transfers_of, settled}
 use Rattle.link_unpack.specs.TransferScan.{grown}
 use Rattle.link_unpack.specs.Unpacking.{is_selected, parts_of, lines_of}
-use Rattle.link_unpack.specs.UnpackRun.{messages_of}
+use Rattle.link_unpack.specs.UnpackRun.{messages_of, texts_of}
 use Rattle.link_unpack.specs.declared.wanted.Wanted.{Wanted}
 use Rattle.link_unpack.proofs.Heads.{transfers_same, transfer_begins, transfer_continues}
 use Rattle.link_unpack.proofs.Orders.{messages_then, open_where_continued}
 use Rattle.link_unpack.proofs.Texts.{parts_more, lines_more}
 use Rattle.link_laws.specs.Prefix.{IsFrontOf}
-use Rattle.link_laws.proofs.Fronts.{front_same, front_first, front_after, front_none, front_trans}
+use Rattle.link_laws.proofs.Fronts.{front_same, front_first, front_after, front_none, front_trans, AreFronts, fronts_same, fronts_trans}
 use Rattle.link_laws.proofs.Payloads.{payload_front}
 
 -- whether the latest transfer is closed
@@ -30,17 +30,12 @@ latest_closed [] = false
 latest_closed (latest ∷ earlier) = latest.closed
 
 module _ (wanted : Wanted) where
-  -- both texts of the first transfers are prefixes of those of the second
-  pub record Precedes (first second : List Transfer) : Type 0 where
-    pub output : IsFrontOf (parts_of wanted first) (parts_of wanted second)
-    pub report : IsFrontOf (lines_of wanted (settled first)) (lines_of wanted (settled second))
+  -- the texts of the first transfers are prefixes of those of the second
+  abbrev pub Precedes : (first second : List Transfer) → Type 0
+  Precedes first second = AreFronts (texts_of wanted first) (texts_of wanted second)
 
   pub precedes_same : (transfers : List Transfer) → Precedes transfers transfers
-  precedes_same transfers = record { output = front_same _ _ refl; report = front_same _ _ refl }
-
-  pub precedes_trans : (first mid second : List Transfer) → Precedes first mid
-      → Precedes mid second → Precedes first second
-  precedes_trans first mid second one two = record { output = front_trans _ _ _ one.output two.output; report = front_trans _ _ _ one.report two.report }
+  precedes_same transfers = fronts_same _ _ refl
 
   -- ---- another transfer
 
@@ -195,7 +190,7 @@ module _ (wanted : Wanted) where
       (with_heads (after_message transfers head.message head.content) rest.heads)
       → Precedes wanted transfers (with_heads transfers (ordered_by refused head rest).heads)
   heads_by (Some fault) transfers before head rest is knows later = precedes_same wanted transfers
-  heads_by None transfers before head rest is knows later = precedes_trans wanted _ _ _ (message_front transfers before head.content knows head.message is) later
+  heads_by None transfers before head rest is knows later = fronts_trans _ _ _ (message_front transfers before head.content knows head.message is) later
 
   pub heads_front : (heads : List Entry) (transfers : List Transfer) (before : List Message)
       → KnowsOpen transfers before
