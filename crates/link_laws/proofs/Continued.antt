@@ -3,7 +3,7 @@ use Rattle.std.proofs.Common.{◌≡◌, ℕ, zero, suc, ◌+◌, ◌-◌, ◌<�
 use Rattle.std.proofs.lemmas.Bool.{cases_lt, false≢true, lt-ltb, le-ltb}
 use Rattle.std.proofs.lemmas.List.{take-append-le, drop-append-le}
 use Rattle.link_wire.specs.Message.{contact_at, message_at, data_length}
-use Rattle.link_wire.specs.Stream.{Entry, End, Clean, Cut, Fault, Stream, ended, with_entry, with_data_of, stream_at, Reading, reading_by, reading_of}
+use Rattle.link_wire.specs.Stream.{Entry, End, Cut, Stream, ended, with_entry, with_data_of, stream_at, Reading, reading_by, reading_of}
 use Rattle.link_wire.specs.declared.fault.WireFault.{WireFault}
 use Rattle.link_wire.specs.declared.message.Contact.{Contact}
 use Rattle.link_wire.specs.declared.message.Message.{Message}

@@ -1,10 +1,9 @@
 -- A packed stream is listed as it was cut.
 use Rattle.std.proofs.Common.{◌≡◌, ℕ, zero, suc, ◌+◌, Bool, true, false, List, [], ◌∷◌, ◌++◌, length, Option, Some, None, refl, ap, ap₂, sym, ◌∙◌, append-nil, append_assoc, length-append, arith}
 use Rattle.link_wire.specs.Codes.{is_start}
-use Rattle.link_wire.specs.SpelledStream.{IsReading}
 use Rattle.link_wire.specs.Spelled.{be}
 use Rattle.link_wire.specs.Spelling.{announce_bytes, total_bytes, list_bytes, list_size, segment_head_bytes, segment_head_size, sess_init_bytes}
-use Rattle.link_wire.specs.Stream.{Entry, Reading, reading_of}
+use Rattle.link_wire.specs.Stream.{Reading}
 use Rattle.link_transfer.specs.Cutting.{due}
 use Rattle.link_report.specs.Message.{contact_text, message_text}
 use Rattle.link_run.specs.Run.{Outcome}
@@ -15,10 +14,9 @@ use Rattle.link_pack.specs.Segments.{Sending, cut_at, segment_bytes, segments_fr
 use Rattle.link_pack.specs.declared.options.PackOptions.{PackOptions}
 use Rattle.link_pack.proofs.Outcomes.{whole_of}
 use Rattle.link_laws.specs.Listed.{flags_at, length_at, segment_line, segment_span, segment_lines, segments_span, chunks_of, term_line, bundle_lines, IsListed}
-use Rattle.link_laws.specs.Ranges.{OptionsFit, InputFits}
 use Rattle.link_laws.proofs.Entries.{init_bytes, init_entry, bundle_entries, term_entries, packed_entries, packed_reading}
 use Rattle.link_laws.proofs.Listings.{message_lines-append}
-use Rattle.link_laws.proofs.Readings.{packed, packed_reads, nothing_left}
+use Rattle.link_laws.proofs.Readings.{packed, nothing_left, IsPacked}
 use Rattle.link_laws.proofs.Segments.{chunk_of, segment_entries}
 
 -- ---- sizes
@@ -73,10 +71,6 @@ module _ (id : ℕ) (sending : Sending) where
       (segments_listed (suc k) count (offset + length (segment_bytes id (cut_at sending k) (chunk_of sending k)))
       ∙ ap (λ n. segment_lines id sending (suc k) count (offset + n)) (length-segment k))
 
-one_listed : (head : Entry) → message_lines (head ∷ []) ≡ message_text head.offset head.message
-unfolding message_lines
-one_listed head = append-nil (message_text head.offset head.message)
-
 module _ (options : PackOptions) where
   term_listed : (asked : Bool) (offset : ℕ)
       → message_lines (term_entries options asked offset) ≡ term_line asked offset
@@ -107,6 +101,7 @@ module _ (options : PackOptions) where
   messages_listed : (bundles : List Packed)
       → message_lines (packed_entries options (record { bundles = bundles; rest = None }))
       ≡ message_text 6 (init_entry options).message ++ bundle_lines options 0 (31 + length options.node.items) bundles
+  unfolding message_lines
   messages_listed bundles =
       let init = init_bytes options in
       let segments = transfers_of options 0 bundles in
@@ -116,30 +111,29 @@ module _ (options : PackOptions) where
       let rest = bundle_entries options 0 bundles (6 + length init) in
       let at : after ≡ 6 + length init + length segments = omega (arith, length-append (init ++ segments) [], length-append init segments) in
       ap (λ entries. message_lines (entries ++ term)) (append-nil (init_entry options ∷ rest))
-      ∙ message_lines-append (init_entry options ∷ []) (rest ++ term)
-      ∙ ap₂ (λ (a b : List ℕ). a ++ b) (one_listed (init_entry options))
+      ∙ ap (λ (lines : List ℕ). message_text 6 (init_entry options).message ++ lines)
       (bundles_listed 0 bundles (6 + length init) after at ∙ ap (λ n. bundle_lines options 0 n bundles) (omega (arith, size)))
 
-module _ (options : PackOptions) (bytes : List ℕ)
-    (fit : OptionsFit options) (fits : InputFits bytes)
-    (only : (stream : List ℕ) (reading : Reading) → IsReading stream reading → reading ≡ reading_of stream) where
+module _ (options : PackOptions) (bytes : List ℕ) (is_packed : IsPacked options bytes)
+    (clean : (packed options bytes).status ≡ 0) where
   abbrev bundles : List Packed
   bundles = (divided options.peer_transfer bytes).bundles
 
-  listing_is : (packed options bytes).status ≡ 0
-      → list_tool.whole (packed options bytes).texts.output
+  listing_is : list_tool.whole (packed options bytes).texts.output
       ≡ whole_of (listing_by (packed_reading options (record { bundles = bundles; rest = None })))
   unfolding listing_of
-  listing_is is =
-      ap (λ (r : Reading). whole_of (listing_by r)) (sym (packed_reads options bytes fit fits only))
-      ∙ ap (λ rest. whole_of (listing_by (packed_reading options (record { bundles = bundles; rest = rest })))) (nothing_left options bytes is)
+  listing_is =
+      ap (λ (r : Reading). whole_of (listing_by r)) is_packed.reads
+      ∙ ap (λ rest. whole_of (listing_by (packed_reading options (record { bundles = bundles; rest = rest }))))
+      (nothing_left options bytes clean)
 
-  pub listed : (packed options bytes).status ≡ 0
-      → IsListed options bytes (packed options bytes).texts.output
-  listed is = record {
-    output = ap (λ (o : Outcome). o.texts.output) (listing_is is)
-        ∙ ap (λ lines. contact_text (record { flags = 0 }) ++ lines) (messages_listed options bundles)
-        ∙ sym (append_assoc (contact_text (record { flags = 0 })) (message_text 6 (init_entry options).message) _);
-    report = ap (λ (o : Outcome). o.texts.report) (listing_is is);
-    status = ap (λ (o : Outcome). o.status) (listing_is is);
-  }
+  pub listed : IsListed options bytes (packed options bytes).texts.output
+  listed =
+      let contact = contact_text (record { flags = 0 }) in
+      record {
+        output = ap (λ (o : Outcome). o.texts.output) listing_is
+            ∙ ap (λ lines. contact ++ lines) (messages_listed options bundles)
+            ∙ sym (append_assoc contact (message_text 6 (init_entry options).message) _);
+        report = ap (λ (o : Outcome). o.texts.report) listing_is;
+        status = ap (λ (o : Outcome). o.status) listing_is;
+      }

@@ -9,10 +9,6 @@ use Rattle.link_laws.proofs.Fronts.{front_same, front_after, front_none, fronts_
 use Rattle.link_laws.proofs.Continued.{GoesOn, stream_of, ReadingGoesOn, reading_on}
 use Rattle.link_laws.proofs.Prefixes.{prefixed}
 
-message_lines-none : message_lines [] ≡ []
-unfolding message_lines
-message_lines-none = refl
-
 pub message_lines-append : (entries more : List Entry)
     → message_lines (entries ++ more) ≡ message_lines entries ++ message_lines more
 unfolding message_lines
@@ -22,9 +18,8 @@ message_lines-append entries more =
 entries_on : (before after : Stream) → GoesOn before after
     → IsFrontOf (message_lines before.entries) (message_lines after.entries)
 entries_on before after on =
-    let rest = on.rest in
-    (message_lines rest.entries, ap (λ (s : Stream). message_lines s.entries) on.are
-    ∙ message_lines-append before.entries rest.entries)
+    let same = ap (λ (s : Stream). message_lines s.entries) on.are in
+    (_, same ∙ message_lines-append before.entries on.rest.entries)
 
 module _ (before after : Reading) (on : ReadingGoesOn before after) where
   same_contact : after.contact ≡ before.contact → IsFrontOf (lines_of before) (lines_of after)
@@ -34,7 +29,8 @@ module _ (before after : Reading) (on : ReadingGoesOn before after) where
 
   no_contact : (before.contact ≡ None) × (before.entries ≡ [])
       → IsFrontOf (lines_of before) (lines_of after)
-  no_contact none = rw (none.0, none.1, message_lines-none) (front_none _)
+  unfolding message_lines
+  no_contact none = rw (none.0, none.1) (front_none _)
 
   lines_on : IsFrontOf (lines_of before) (lines_of after)
   lines_on = ⊎_elim same_contact no_contact on.contact

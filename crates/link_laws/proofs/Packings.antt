@@ -8,7 +8,7 @@ use Rattle.link_bundle_types.specs.declared.info.BundleInfo.{BundleInfo}
 use Rattle.link_bundle.specs.Bundle.{verdict, bundle_goes}
 use Rattle.link_run.specs.Made.{Made}
 use Rattle.link_pack.specs.Bundles.{Packed, Refusal, Longer, Faulty, Divided, front_of, refused_by, with_bundle, divided_by, divided, joined}
-use Rattle.link_pack.specs.Packing.{prelude_bytes, segment_size, sending, transfers_of, rest_segments, bundles_output, lines_of, line_of, packing_of, pack_tool}
+use Rattle.link_pack.specs.Packing.{prelude_bytes, segment_size, sending, transfers_of, rest_segments, bundles_output, lines_of, line_of, packing_of, packing_by, pack_tool}
 use Rattle.link_pack.specs.PackRun.{texts_of}
 use Rattle.link_pack.specs.Segments.{segments_of}
 use Rattle.link_pack.specs.declared.options.PackOptions.{PackOptions}
@@ -16,7 +16,7 @@ use Rattle.link_pack.proofs.Dividing.{front_more, whole_stops, faulty_stops, wit
 use Rattle.link_pack.proofs.Outcomes.{made_as, texts_going, unshown_going}
 use Rattle.link_pack.proofs.Sending.{segments_grow, segments_none}
 use Rattle.link_laws.specs.Prefix.{IsFrontOf, IsPrefixed}
-use Rattle.link_laws.proofs.Divisions.{IsRefused, IsOpen, refused_so, is_divided}
+use Rattle.link_laws.proofs.Divisions.{IsRefused, IsOpen, IsDivided, refused_so, is_divided}
 use Rattle.link_laws.proofs.Fronts.{front_same, front_then, front_after, front_first, front_none, AreFronts, fronts_same, take-append}
 use Rattle.link_laws.proofs.Prefixes.{MadeOn, prefixed}
 
@@ -81,7 +81,7 @@ module _ (options : PackOptions) where
 
     -- the bundle is refused, or goes on
     rest_front : (run accepted : List ℕ) (refusal : Refusal) → accepted ≡ begun ++ run
-        → IsFrontOf (begun_segments number begun) (segments number (refused_so [] refusal accepted))
+        → IsFrontOf (begun_segments number begun) (segments number (refused_so accepted refusal))
     unfolding transfers_of
     rest_front run accepted refusal is = rw (is, add-zero) (grown_any run)
 
@@ -153,45 +153,46 @@ module _ (options : PackOptions) where
   unfolding packing_of
   ended_front bytes = record { output = front_first _ _; report = front_same _ _ refl }
 
-  module _ (bytes more : List ℕ) where
-    -- a bundle is refused
-    refused_on : IsRefused options.peer_transfer bytes
+  module _ (bytes more : List ℕ) (parts : IsDivided options.peer_transfer bytes) where
+    open parts use {bundles, begun, divides}
+
+    -- what follows the bundles is refused
+    refused_on : IsRefused options.peer_transfer begun
         → MadeOn (packing_of options bytes) (packing_of options (bytes ++ more))
     refused_on refused =
-        let now = ap (divided options.peer_transfer) (sym (append-nil bytes)) ∙ refused.divides [] in
-        let same = made_as options (bytes ++ more) _ (refused.divides more) ∙ sym (made_as options bytes _ now) in
+        let input = refused_so refused.accepted refused.refusal in
+        let is : (rest : List ℕ) → packing_of options (bytes ++ rest) ≡ packing_by options (joined bundles input) =
+        λ rest. made_as options (bytes ++ rest) _ (divides rest ∙ ap (joined bundles) (refused.divides rest)) in
+        let same = is more ∙ sym (is []) ∙ ap (packing_of options) (append-nil bytes) in
         record {
           texts = fronts_same _ _ (ap (λ (m : Made). m.texts) (sym same));
           ended = ended_front (bytes ++ more);
           stays = λ shown. same;
         }
 
-    -- the last bundle of the input has begun, and goes on
-    module _ (opened : IsOpen options.peer_transfer bytes) where
-      open opened use {bundles, begun, front, goes, within, divides}
+    texts_on : IsOpen options.peer_transfer begun
+        → AreFronts (texts_of options bundles begun) (packing_of options (bytes ++ more)).texts
+    texts_on opened =
+        let input = divided options.peer_transfer (begun ++ more) in
+        rw (made_as options (bytes ++ more) (joined bundles input) (divides more)) (record {
+          output = output_front bundles begun input
+              (begun_front options.peer_transfer (length bundles) begun more opened.front opened.goes opened.within);
+          report = rw (lines_of-append 0 bundles input.bundles) (front_first _ _);
+        })
 
-      texts_on : AreFronts (texts_of options bundles begun)
-          (packing_of options (bytes ++ more)).texts
-      texts_on =
-          let input = divided options.peer_transfer (begun ++ more) in
-          rw (made_as options (bytes ++ more) (joined bundles input) (divides more)) (record {
-            output =
-                output_front bundles begun input
-                (begun_front options.peer_transfer (length bundles) begun more front goes within);
-            report = rw (lines_of-append 0 bundles input.bundles) (front_first _ _);
-          })
+    open_on : IsOpen options.peer_transfer begun
+        → MadeOn (packing_of options bytes) (packing_of options (bytes ++ more))
+    open_on opened =
+        let texts = texts_going options bytes bundles begun opened.front opened.goes opened.within divides in
+        let unshown = unshown_going options bytes bundles begun opened.front opened.goes opened.within divides in
+        record {
+          texts = rw texts (texts_on opened);
+          ended = ended_front (bytes ++ more);
+          stays = λ shown. absurd (false≢true (sym unshown ∙ shown));
+        }
 
-      open_on : MadeOn (packing_of options bytes) (packing_of options (bytes ++ more))
-      open_on =
-          let unshown = unshown_going options bytes bundles begun front goes within divides in
-          record {
-            texts =
-                rw (texts_going options bytes bundles begun front goes within divides) texts_on;
-            ended = ended_front (bytes ++ more);
-            stays = λ shown. absurd (false≢true (sym unshown ∙ shown));
-          }
-
-    pub pack_prefix : IsPrefixed (pack_tool options) bytes more
-    pack_prefix =
-        prefixed (packing_of options) bytes more
-        (⊎_elim refused_on open_on (is_divided options.peer_transfer bytes))
+  pub pack_prefix : (bytes more : List ℕ) → IsPrefixed (pack_tool options) bytes more
+  pack_prefix bytes more =
+      let parts = is_divided options.peer_transfer bytes in
+      prefixed (packing_of options) bytes more
+      (⊎_elim (refused_on bytes more parts) (open_on bytes more parts) parts.last)

@@ -2,7 +2,6 @@
 use Rattle.std.proofs.Common.{◌≡◌, ℕ, true, List, ◌++◌, Option, Some, None, refl, ap, sym, ◌∙◌, ⊎_elim}
 use Rattle.std.proofs.lemmas.Bool.{cases_Bool}
 use Rattle.link_run.specs.Made.{StreamStop, Made, whole_by, sofar_by, is_shown, tool_of}
-use Rattle.link_run.specs.Run.{Texts}
 use Rattle.link_run.proofs.Ends.{unshown_sofar, shown_sofar}
 use Rattle.link_laws.specs.Prefix.{IsPrefixed}
 use Rattle.link_laws.proofs.Fronts.{front_same, front_first, AreFronts, fronts_same, fronts_trans}

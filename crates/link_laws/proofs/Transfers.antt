@@ -1,5 +1,5 @@
 -- The texts that are written for transfers stay when more heads follow.
-use Rattle.std.proofs.Common.{◌≡◌, ℕ, ◌⊎◌, inl, inr, Bool, true, false, ◌&&◌, ◌==◌, is_some, List, [], ◌∷◌, ◌++◌, length, Option, Some, None, if◌then◌else◌, refl, ap, sym, ◌∙◌, ⊎_elim, append-nil}
+use Rattle.std.proofs.Common.{◌≡◌, ℕ, ◌⊎◌, inl, inr, Bool, true, false, ◌&&◌, ◌==◌, is_some, List, [], ◌∷◌, ◌++◌, length, Option, Some, None, if◌then◌else◌, refl, ap, sym, ◌∙◌, ⊎_elim}
 use Rattle.std.specs.List.{fold}
 use Rattle.std.proofs.lemmas.Bool.{cases_Bool, false≢true}
 use Rattle.link_wire.specs.Codes.{is_start, is_end}
@@ -12,13 +12,13 @@ use Rattle.link_transfer.specs.Order.{is_segment, open_of, refusal}
 use Rattle.link_transfer.specs.declared.fault.OrderFault.{OrderFault}
 use Rattle.link_transfer.proofs.Joining.{after-segment, after-other}
 use Rattle.link_bundle.specs.Bundle.{payload_in}
-use Rattle.link_unpack.specs.Transfers.{Ordered, ordered_by, ordered_after, Transfer, closes, continued, after_segment, after_message, transfers_of, settled}
+use Rattle.link_unpack.specs.Transfers.{Ordered, ordered_by, ordered_after, Transfer, closes, continued, after_segment, after_message, settled}
 use Rattle.link_unpack.specs.TransferScan.{grown}
 use Rattle.link_unpack.specs.Unpacking.{is_selected, parts_of, lines_of}
-use Rattle.link_unpack.specs.UnpackRun.{messages_of, texts_of}
+use Rattle.link_unpack.specs.UnpackRun.{texts_of}
 use Rattle.link_unpack.specs.declared.wanted.Wanted.{Wanted}
 use Rattle.link_unpack.proofs.Heads.{transfers_same, transfer_begins, transfer_continues}
-use Rattle.link_unpack.proofs.Orders.{messages_then, open_where_continued}
+use Rattle.link_unpack.proofs.Orders.{open_where_continued}
 use Rattle.link_unpack.proofs.Texts.{parts_more, lines_more}
 use Rattle.link_laws.specs.Prefix.{IsFrontOf}
 use Rattle.link_laws.proofs.Fronts.{front_same, front_first, front_after, front_none, front_trans, AreFronts, fronts_same, fronts_trans}
@@ -107,7 +107,7 @@ kind_of (message.MsgReject reason header) = inr refl
 pub record KnowsOpen (transfers : List Transfer) (before : List Message) : Type 0 where
   pub unclosed : is_some (open_of before) ≡ true → latest_closed transfers ≡ false
 
-knows_none : KnowsOpen [] []
+pub knows_none : KnowsOpen [] []
 knows_none = record { unclosed = λ some. refl }
 
 segment_closes : (starts : Bool) (transfers : List Transfer) (head : SegmentHead) (content : List ℕ)
@@ -150,18 +150,6 @@ module _ (transfers : List Transfer) (before : List Message) (content : List ℕ
 -- these transfers after more heads
 abbrev pub with_heads : List Transfer → List Entry → List Transfer
 with_heads transfers heads = fold (λ ts head. after_message ts head.message head.content) transfers heads
-
-knows_after : (heads : List Entry) (transfers : List Transfer) (before : List Message)
-    → KnowsOpen transfers before
-    → KnowsOpen (with_heads transfers heads) (before ++ messages_of heads)
-knows_after [] transfers before knows = rw append-nil knows
-knows_after (head ∷ heads) transfers before knows =
-    rw (← messages_then before head heads)
-    (knows_after heads (after_message transfers head.message head.content) (before ++ head.message ∷ []) (knows_more transfers before head.content head.message knows))
-
-pub knows_all : (heads : List Entry) → KnowsOpen (transfers_of heads) (messages_of heads)
-unfolding transfers_of
-knows_all heads = knows_after heads [] [] knows_none
 
 module _ (wanted : Wanted) where
   module _ (transfers : List Transfer) (before : List Message) (content : List ℕ)
