@@ -90,7 +90,9 @@ fault_on offset byte bytes more fault is =
       rest = stream_at offset ((byte ∷ bytes) ++ more);
       are = refl;
       follows = tt;
-      stays = λ stays. stream_at-fault offset byte (bytes ++ more) fault (steady_message.faulty (byte ∷ bytes) more fault (not_missing fault stays) is);
+      stays = λ stays.
+          stream_at-fault offset byte (bytes ++ more) fault
+          (steady_message.faulty (byte ∷ bytes) more fault (not_missing fault stays) is);
     })
 
 module _ (count : ℕ) (more : List ℕ)

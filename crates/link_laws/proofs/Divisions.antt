@@ -12,15 +12,15 @@ use Rattle.link_bundle.specs.Bundle.{verdict, state_of, is_going, bundle_goes}
 use Rattle.link_pack.specs.Bundles.{Packed, Refusal, Longer, Faulty, Divided, front_of, with_bundle, divided_by, divided, joined}
 use Rattle.link_pack.proofs.Dividing.{taken_again, none_front, none_goes, some_stopped, beyond_limit, divided_front, divided_whole, divided_faulty}
 
-abbrev pub refused_so : (accepted : List ℕ) → Refusal → Divided
-refused_so accepted refusal =
+abbrev pub refused_so : Refusal → (accepted : List ℕ) → Divided
+refused_so refusal accepted =
     record { bundles = []; rest = Some (record { accepted = accepted; refusal = refusal }) }
 
 -- the bytes show why they begin with no bundle that the peer takes
 pub record IsRefused (limit : ℕ) (bytes : List ℕ) : Type 0 where
   pub accepted : List ℕ
   pub refusal : Refusal
-  pub divides : (more : List ℕ) → divided limit (bytes ++ more) ≡ refused_so accepted refusal
+  pub divides : (more : List ℕ) → divided limit (bytes ++ more) ≡ refused_so refusal accepted
 
 -- the bytes begin a bundle that goes on
 pub record IsOpen (limit : ℕ) (begun : List ℕ) : Type 0 where
@@ -28,8 +28,8 @@ pub record IsOpen (limit : ℕ) (begun : List ℕ) : Type 0 where
   pub goes : bundle_goes begun ≡ true
   pub within : length begun ≤ limit
 
--- some bundles, and then bytes that are refused, or that begin another bundle
-pub record IsDivided (limit : ℕ) (bytes : List ℕ) : Type 0 where
+-- some bundles, and then bytes that are refused or begin another bundle, whatever bytes follow
+pub record StaysDivided (limit : ℕ) (bytes : List ℕ) : Type 0 where
   pub bundles : List Packed
   pub begun : List ℕ
   pub divides : (more : List ℕ)
@@ -55,14 +55,14 @@ all_taken bytes goes =
 
 -- no bundle
 none_first : (limit : ℕ) (bytes : List ℕ) → IsRefused limit bytes ⊎ IsOpen limit bytes
-    → IsDivided limit bytes
+    → StaysDivided limit bytes
 none_first limit bytes last =
     record { bundles = []; begun = bytes; divides = λ more. refl; last = last }
 
 -- a bundle, and then the rest after it
 whole_first : (limit : ℕ) (bundle rest : List ℕ) (info : BundleInfo) → front_of bundle ≡ bundle
     → verdict bundle ≡ Ok info → length bundle ≤ limit
-    → IsDivided limit rest → IsDivided limit (bundle ++ rest)
+    → StaysDivided limit rest → StaysDivided limit (bundle ++ rest)
 whole_first limit bundle rest info front is within later =
     let first : Packed = record { bytes = bundle; info = info } in
     record {
@@ -86,14 +86,14 @@ faulty_first limit front rest fault place is said stays within = record {
 
 -- more bytes than the peer takes
 longer_front : (limit : ℕ) (bytes more : List ℕ) → limit < length (front_of bytes)
-    → divided limit (bytes ++ more) ≡ refused_so (take limit (front_of bytes)) (Longer limit)
+    → divided limit (bytes ++ more) ≡ refused_so (Longer limit) (take limit (front_of bytes))
 longer_front limit bytes more beyond =
     let run = taken bundle_goes (front_of bytes) more in
     let front : front_of (bytes ++ more) ≡ front_of bytes ++ run = joins_pieces bundle_goes [] bytes more in
     let some : length bytes ≡ length (front_of bytes) + length (drop (length (front_of bytes)) bytes) = ap length (follows bytes) ∙ length-append (front_of bytes) _ in
     divided_front limit (front_of bytes ++ run) (bytes ++ more) (omega (arith, length-append bytes more)) front
     ∙ ap (divided_by (divided limit) (front_of bytes ++ run) (bytes ++ more)) (beyond_limit limit (front_of bytes ++ run) (omega (arith, length-append (front_of bytes) run)))
-    ∙ ap (λ (accepted : List ℕ). refused_so accepted (Longer limit)) (take-append-le limit (front_of bytes) run (omega arith))
+    ∙ ap (refused_so (Longer limit)) (take-append-le limit (front_of bytes) run (omega arith))
 
 longer_first : (limit : ℕ) (bytes : List ℕ)
     → limit < length (front_of bytes) → IsRefused limit bytes
@@ -109,20 +109,22 @@ stopped_lasts true fault place stops = refl
 stopped_lasts false fault place stops = absurd (cc)
 
 module _ (count limit : ℕ)
-    (later : (rest : List ℕ) → length rest ≤ count → IsDivided limit rest) where
+    (later : (rest : List ℕ) → length rest ≤ count → StaysDivided limit rest) where
   -- a prefix that is judged, and the rest after it, which has fewer bytes
   judged_so : (front rest : List ℕ) (said : Result BundleInfo (BundleFault × ℕ))
       → verdict front ≡ said → bundle_goes front ≡ false
       → front_of front ≡ front → length front ≤ limit → length rest ≤ count
-      → IsDivided limit (front ++ rest)
+      → StaysDivided limit (front ++ rest)
   judged_so front rest (Ok info) is stops all within fewer =
       whole_first limit front rest info all is within (later rest fewer)
   judged_so front rest (Err (fault, place)) is stops all within fewer =
+      let stopped = ap (λ said. is_going (state_of said)) (sym is) ∙ stops in
+      let stays = stopped_lasts (lasts fault) fault place stopped in
       none_first limit (front ++ rest)
-      (inl (faulty_first limit front rest fault place all is (stopped_lasts (lasts fault) fault place (ap (λ said. is_going (state_of said)) (sym is) ∙ stops)) within))
+      (inl (faulty_first limit front rest fault place all is stays within))
 
   step : (bytes : List ℕ) → length bytes ≤ suc count
-      → length (front_of bytes) ≤ limit → IsDivided limit bytes
+      → length (front_of bytes) ≤ limit → StaysDivided limit bytes
   step bytes fewer within =
       let front = front_of bytes in
       ⊎_elim
@@ -140,7 +142,7 @@ module _ (count limit : ℕ)
       (judged_so front (drop (length front) bytes) (verdict front) refl stops (taken_again bundle_goes [] bytes) within (omega (arith, length-drop (length front) bytes))))
       (cases_Bool (bundle_goes front))
 
-divided_upto : (count limit : ℕ) (bytes : List ℕ) → length bytes ≤ count → IsDivided limit bytes
+divided_upto : (count limit : ℕ) (bytes : List ℕ) → length bytes ≤ count → StaysDivided limit bytes
 divided_upto zero limit [] fewer =
     none_first limit []
     (inr (record { front = none_front; goes = none_goes; within = omega arith }))
@@ -151,5 +153,5 @@ divided_upto (suc count) limit bytes fewer =
     (λ within. step count limit (divided_upto count limit) bytes fewer within)
     (cases_lt limit (length (front_of bytes)))
 
-pub is_divided : (limit : ℕ) (bytes : List ℕ) → IsDivided limit bytes
-is_divided limit bytes = divided_upto (length bytes) limit bytes (omega arith)
+pub stays_divided : (limit : ℕ) (bytes : List ℕ) → StaysDivided limit bytes
+stays_divided limit bytes = divided_upto (length bytes) limit bytes (omega arith)

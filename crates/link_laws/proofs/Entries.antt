@@ -126,7 +126,8 @@ module _ (options : PackOptions) where
 
   output_is : (bundles : List Packed) (rest : Option Rest)
       → (let input : Divided = record { bundles = bundles; rest = rest } in
-      (whole_of (packing_by options input)).texts.output ≡ bundles_output options input ++ last_bytes rest)
+      (whole_of (packing_by options input)).texts.output
+      ≡ bundles_output options input ++ last_bytes rest)
   output_is bundles None = refl
   output_is bundles (Some rest) = sym (append-nil _)
 
@@ -144,7 +145,8 @@ module _ (options : PackOptions) where
       packed_stream =
           let first = first_entries options input in
           let more = more_entries options input in
-          stream_then (first ++ more) (last_entries options input) Clean 6 (rest_bytes options input) (last_bytes input.rest)
+          stream_then (first ++ more) (last_entries options input) Clean 6
+          (rest_bytes options input) (last_bytes input.rest)
           (stream_then first more Clean 6 (bundles_bytes options input) (rest_segments options (length input.bundles) input.rest)
           (stream_then (init_entry options ∷ []) (bundle_entries options 0 input.bundles (6 + length (init_bytes options))) Clean 6 (init_bytes options) (transfers_of options 0 input.bundles)
           init_stream
@@ -164,5 +166,6 @@ module _ (options : PackOptions) where
             is_first = contact_spelled 0 (omega arith);
             is_second = packed_stream;
             parts = output_is input.bundles input.rest
-                ∙ joined (contact_bytes 0) (init_bytes options) (transfers_of options 0 input.bundles) segments (last_bytes input.rest);
+                ∙ joined (contact_bytes 0) (init_bytes options)
+                (transfers_of options 0 input.bundles) segments (last_bytes input.rest);
           }

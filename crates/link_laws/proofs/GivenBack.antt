@@ -110,7 +110,7 @@ module _ (options : PackOptions) (bytes : List ℕ) (is_packed : IsPacked option
       ap₂ (λ (end : End) (order : Ordered). whole_of (unpacking_by all end order))
       (ap (λ (r : Reading). r.end) is_packed.reads) is_packed.carries.in_order
       ∙ ap over_clean is_packed.carries.makes
-      ∙ ap (λ rest. over_clean (rest_onto options (length bundles) rest (onto options 0 bundles [])))
+      ∙ ap (λ r. over_clean (rest_onto options (length bundles) r (onto options 0 bundles [])))
       (nothing_left options bytes clean)
 
   pub gives_back : GivesBack options bytes stream

@@ -23,24 +23,30 @@ unclosed_by false size length short = refl
 unclosed_by true size length short = ne_eqb size length (λ same. absurd (omega arith))
 
 module _ (wanted : Wanted) where
-  segment_grows : (transfers : List Transfer) (head : SegmentHead) (content piece : List ℕ)
-      → length content < head.length
-      → Precedes wanted (after_message transfers (message.Segment head) content)
-      (after_message transfers (message.Segment head) (content ++ piece))
-  segment_grows transfers head content piece short =
-      rw (transfer_grows transfers head content piece)
-      (continued_front wanted _ piece _ (segment_open transfers head content (unclosed_by (is_end head.flags) (length content) head.length short)))
+  module _ (transfers : List Transfer) (seen : List Message) (knows : KnowsOpen transfers seen)
+      (content piece : List ℕ) where
+    segment_grows : (head : SegmentHead) → refusal seen (event_of (message.Segment head)) ≡ None
+        → length content < head.length
+        → Precedes wanted (after_message transfers (message.Segment head) content)
+        (after_message transfers (message.Segment head) (content ++ piece))
+    segment_grows head may short =
+        let unclosed = unclosed_by (is_end head.flags) (length content) head.length short in
+        rw (transfer_grows transfers head content piece)
+        (continued_front wanted _ piece _ (segment_open transfers seen knows head content may unclosed))
 
-  -- more data of the segment changes only the latest transfer, which the segment has not closed
-  message_grows : (transfers : List Transfer) (sent : Message) (content piece : List ℕ)
-      → length content < data_length sent
-      → Precedes wanted (after_message transfers sent content)
-      (after_message transfers sent (content ++ piece))
-  message_grows transfers sent content piece short =
-      ⊎_elim
-      (λ segment. rw segment.1 (segment_grows transfers segment.0 content piece (subst (λ (m : Message). length content < data_length m) segment.1 short)))
-      (λ other. rw (transfers_same transfers sent content other, transfers_same transfers sent (content ++ piece) other) (precedes_same wanted transfers))
-      (kind_of sent)
+    -- more data of the segment changes only the latest transfer, which the segment has not closed
+    message_grows : (sent : Message) → refusal seen (event_of sent) ≡ None
+        → length content < data_length sent
+        → Precedes wanted (after_message transfers sent content)
+        (after_message transfers sent (content ++ piece))
+    message_grows sent may short =
+        ⊎_elim
+        (λ segment. rw segment.1
+        (segment_grows segment.0 (rw segment.1 at may)
+        (subst (λ (m : Message). length content < data_length m) segment.1 short)))
+        (λ other. rw (transfers_same transfers sent content other, transfers_same transfers sent (content ++ piece) other)
+        (precedes_same wanted transfers))
+        (kind_of sent)
 
   -- ---- the heads that are in order
 
@@ -59,13 +65,14 @@ module _ (wanted : Wanted) where
   -- the same head comes before both
   same_first : (refused : Option OrderFault) (transfers : List Transfer) (head : Entry)
       (before after : Ordered)
-      → OrderGoesOn (after_message transfers head.message head.content) before after
+      → (refused ≡ None
+      → OrderGoesOn (after_message transfers head.message head.content) before after)
       → OrderGoesOn transfers (ordered_by refused head before) (ordered_by refused head after)
   same_first (Some fault) transfers head before after on =
       record { stays = λ stop is. refl; precedes = λ is. absurd (cc) }
   same_first None transfers head before after on = record {
-    stays = λ stop is. ap (ordered_by None head) (on.stays stop is);
-    precedes = on.precedes;
+    stays = λ stop is. ap (ordered_by None head) ((on refl).stays stop is);
+    precedes = (on refl).precedes;
   }
 
   pub heads_on : (first heads other : List Entry) → HeadsGoOn heads other
@@ -74,8 +81,9 @@ module _ (wanted : Wanted) where
   heads_on [] heads other on = on
   heads_on (head ∷ first) heads other on = λ transfers seen knows.
       same_first (refusal seen (event_of head.message)) transfers head _ _
-      (heads_on first heads other on (after_message transfers head.message head.content)
-      (seen ++ head.message ∷ []) (knows_more transfers seen head.content head.message knows))
+      (λ may. heads_on first heads other on (after_message transfers head.message head.content)
+      (seen ++ head.message ∷ [])
+      (knows_more transfers seen knows head.message head.content may))
 
   -- more heads follow
   pub more_on : (more : List Entry) → HeadsGoOn [] more
@@ -92,20 +100,21 @@ module _ (wanted : Wanted) where
     grown = entry offset sent (content ++ piece)
 
     grown_by : (refused : Option OrderFault) (transfers : List Transfer) (seen : List Message)
-        → KnowsOpen transfers seen
+        → refusal seen (event_of sent) ≡ refused → KnowsOpen transfers seen
         → OrderGoesOn transfers
         (ordered_by refused (entry offset sent content) (record { heads = []; refused = None }))
         (ordered_by refused grown (ordered_after (seen ++ sent ∷ []) others))
-    grown_by (Some fault) transfers seen knows =
-        record { stays = λ stop is. refl; precedes = λ is. absurd (cc) }
-    grown_by None transfers seen knows = record {
-      stays = λ stop is. absurd (cc);
-      precedes = λ is. fronts_trans _ _ _ (message_grows transfers sent content piece short)
+    grown_by (Some fault) transfers seen is knows =
+        record { stays = λ stop same. refl; precedes = λ none. absurd (cc) }
+    grown_by None transfers seen is knows = record {
+      stays = λ stop same. absurd (cc);
+      precedes = λ none.
+          fronts_trans _ _ _ (message_grows transfers seen knows content piece sent is short)
           (heads_front wanted others (after_message transfers sent (content ++ piece))
-          (seen ++ sent ∷ []) (knows_more transfers seen (content ++ piece) sent knows));
+          (seen ++ sent ∷ []) (knows_more transfers seen knows sent (content ++ piece) is));
     }
 
     pub grown_on : HeadsGoOn (entry offset sent content ∷ []) (grown ∷ others)
     unfolding ordered_after
     grown_on = λ transfers seen knows.
-        grown_by (refusal seen (event_of sent)) transfers seen knows
+        grown_by (refusal seen (event_of sent)) transfers seen refl knows

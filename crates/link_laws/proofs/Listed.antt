@@ -8,7 +8,7 @@ use Rattle.link_transfer.specs.Cutting.{due}
 use Rattle.link_report.specs.Message.{contact_text, message_text}
 use Rattle.link_run.specs.Run.{Outcome}
 use Rattle.link_list.specs.Listing.{listing_of, listing_by, message_lines, list_tool}
-use Rattle.link_pack.specs.Bundles.{Packed, divided}
+use Rattle.link_pack.specs.Bundles.{Packed, Rest, divided}
 use Rattle.link_pack.specs.Packing.{sending, transfers_of}
 use Rattle.link_pack.specs.Segments.{Sending, cut_at, segment_bytes, segments_from}
 use Rattle.link_pack.specs.declared.options.PackOptions.{PackOptions}
@@ -119,13 +119,15 @@ module _ (options : PackOptions) (bytes : List ℕ) (is_packed : IsPacked option
   abbrev bundles : List Packed
   bundles = (divided options.peer_transfer bytes).bundles
 
-  listing_is : list_tool.whole (packed options bytes).texts.output
-      ≡ whole_of (listing_by (packed_reading options (record { bundles = bundles; rest = None })))
+  abbrev listing_with : Option Rest → Outcome
+  listing_with rest =
+      whole_of (listing_by (packed_reading options (record { bundles = bundles; rest = rest })))
+
+  listing_is : list_tool.whole (packed options bytes).texts.output ≡ listing_with None
   unfolding listing_of
   listing_is =
       ap (λ (r : Reading). whole_of (listing_by r)) is_packed.reads
-      ∙ ap (λ rest. whole_of (listing_by (packed_reading options (record { bundles = bundles; rest = rest }))))
-      (nothing_left options bytes clean)
+      ∙ ap listing_with (nothing_left options bytes clean)
 
   pub listed : IsListed options bytes (packed options bytes).texts.output
   listed =

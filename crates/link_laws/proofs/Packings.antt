@@ -16,7 +16,7 @@ use Rattle.link_pack.proofs.Dividing.{front_more, whole_stops, faulty_stops, wit
 use Rattle.link_pack.proofs.Outcomes.{made_as, texts_going, unshown_going}
 use Rattle.link_pack.proofs.Sending.{segments_grow, segments_none}
 use Rattle.link_laws.specs.Prefix.{IsFrontOf, IsPrefixed}
-use Rattle.link_laws.proofs.Divisions.{IsRefused, IsOpen, IsDivided, refused_so, is_divided}
+use Rattle.link_laws.proofs.Divisions.{IsRefused, IsOpen, StaysDivided, refused_so, stays_divided}
 use Rattle.link_laws.proofs.Fronts.{front_same, front_then, front_after, front_first, front_none, AreFronts, fronts_same, take-append}
 use Rattle.link_laws.proofs.Prefixes.{MadeOn, prefixed}
 
@@ -81,7 +81,7 @@ module _ (options : PackOptions) where
 
     -- the bundle is refused, or goes on
     rest_front : (run accepted : List ℕ) (refusal : Refusal) → accepted ≡ begun ++ run
-        → IsFrontOf (begun_segments number begun) (segments number (refused_so accepted refusal))
+        → IsFrontOf (begun_segments number begun) (segments number (refused_so refusal accepted))
     unfolding transfers_of
     rest_front run accepted refusal is = rw (is, add-zero) (grown_any run)
 
@@ -141,11 +141,12 @@ module _ (options : PackOptions) where
       let from : 0 + length bundles ≡ length bundles = omega arith in
       let before = prelude_bytes options ++ transfers_of options 0 bundles in
       let after = transfers_of options (length bundles) input.bundles in
-      let all : bundles_output options (joined bundles input) ≡ before ++ segments (length bundles) input =
+      let rest = rest_segments options (length bundles + length input.bundles) input.rest in
+      let all : bundles_output options (joined bundles input) ≡ before ++ (after ++ rest) =
       rw (transfers_of-append 0 bundles input.bundles, length-append bundles input.bundles, from)
-      (ap (λ (xs : List ℕ). xs ++ rest_segments options (length bundles + length input.bundles) input.rest)
+      (ap (λ (xs : List ℕ). xs ++ rest)
       (sym (append_assoc (prelude_bytes options) (transfers_of options 0 bundles) after))
-      ∙ append_assoc before after _) in
+      ∙ append_assoc before after rest) in
       rw all (front_after before _ _ front)
 
   ended_front : (bytes : List ℕ)
@@ -153,16 +154,18 @@ module _ (options : PackOptions) where
   unfolding packing_of
   ended_front bytes = record { output = front_first _ _; report = front_same _ _ refl }
 
-  module _ (bytes more : List ℕ) (parts : IsDivided options.peer_transfer bytes) where
+  module _ (bytes more : List ℕ) (parts : StaysDivided options.peer_transfer bytes) where
     open parts use {bundles, begun, divides}
 
     -- what follows the bundles is refused
     refused_on : IsRefused options.peer_transfer begun
         → MadeOn (packing_of options bytes) (packing_of options (bytes ++ more))
     refused_on refused =
-        let input = refused_so refused.accepted refused.refusal in
-        let is : (rest : List ℕ) → packing_of options (bytes ++ rest) ≡ packing_by options (joined bundles input) =
-        λ rest. made_as options (bytes ++ rest) _ (divides rest ∙ ap (joined bundles) (refused.divides rest)) in
+        let input = refused_so refused.refusal refused.accepted in
+        let made = packing_by options (joined bundles input) in
+        let is : (rest : List ℕ) → packing_of options (bytes ++ rest) ≡ made =
+        λ rest. made_as options (bytes ++ rest) (joined bundles input)
+        (divides rest ∙ ap (joined bundles) (refused.divides rest)) in
         let same = is more ∙ sym (is []) ∙ ap (packing_of options) (append-nil bytes) in
         record {
           texts = fronts_same _ _ (ap (λ (m : Made). m.texts) (sym same));
@@ -170,29 +173,33 @@ module _ (options : PackOptions) where
           stays = λ shown. same;
         }
 
-    texts_on : IsOpen options.peer_transfer begun
-        → AreFronts (texts_of options bundles begun) (packing_of options (bytes ++ more)).texts
-    texts_on opened =
-        let input = divided options.peer_transfer (begun ++ more) in
-        rw (made_as options (bytes ++ more) (joined bundles input) (divides more)) (record {
-          output = output_front bundles begun input
-              (begun_front options.peer_transfer (length bundles) begun more opened.front opened.goes opened.within);
-          report = rw (lines_of-append 0 bundles input.bundles) (front_first _ _);
-        })
+    module _ (opened : IsOpen options.peer_transfer begun) where
+      open opened use {front, goes, within}
 
-    open_on : IsOpen options.peer_transfer begun
-        → MadeOn (packing_of options bytes) (packing_of options (bytes ++ more))
-    open_on opened =
-        let texts = texts_going options bytes bundles begun opened.front opened.goes opened.within divides in
-        let unshown = unshown_going options bytes bundles begun opened.front opened.goes opened.within divides in
-        record {
-          texts = rw texts (texts_on opened);
-          ended = ended_front (bytes ++ more);
-          stays = λ shown. absurd (false≢true (sym unshown ∙ shown));
-        }
+      texts_on : AreFronts (texts_of options bundles begun) (packing_of options (bytes ++ more)).texts
+      texts_on =
+          let limit = options.peer_transfer in
+          let input = divided limit (begun ++ more) in
+          rw (made_as options (bytes ++ more) (joined bundles input) (divides more)) (record {
+            output =
+                output_front bundles begun input
+                (begun_front limit (length bundles) begun more front goes within);
+            report = rw (lines_of-append 0 bundles input.bundles) (front_first _ _);
+          })
+
+      -- another bundle has begun, and goes on
+      open_on : MadeOn (packing_of options bytes) (packing_of options (bytes ++ more))
+      open_on =
+          let texts = texts_going options bytes bundles begun front goes within divides in
+          let unshown = unshown_going options bytes bundles begun front goes within divides in
+          record {
+            texts = rw texts texts_on;
+            ended = ended_front (bytes ++ more);
+            stays = λ shown. absurd (false≢true (sym unshown ∙ shown));
+          }
 
   pub pack_prefix : (bytes more : List ℕ) → IsPrefixed (pack_tool options) bytes more
   pack_prefix bytes more =
-      let parts = is_divided options.peer_transfer bytes in
+      let parts = stays_divided options.peer_transfer bytes in
       prefixed (packing_of options) bytes more
       (⊎_elim (refused_on bytes more parts) (open_on bytes more parts) parts.last)

@@ -39,14 +39,16 @@ module _ (options : PackOptions) (bytes : List ℕ) where
         (packed_transfers options input)
 
   pub is_packed : OptionsFit options → InputFits bytes
-      → ((stream : List ℕ) (reading : Reading) → IsReading stream reading → reading ≡ reading_of stream)
+      → ((stream : List ℕ) (reading : Reading)
+      → IsReading stream reading → reading ≡ reading_of stream)
       → IsPacked
   unfolding packing_of
   is_packed fit fits only =
       let divides = is_divided options.peer_transfer bytes fits.are in
       let few = fits.few in
       let fewer = divides.few in
-      let reads = sym (only _ _ (packed_is options fit input divides.bundles divides.rest (omega arith))) in
+      let is = packed_is options fit input divides.bundles divides.rest (omega arith) in
+      let reads = sym (only _ _ is) in
       let heads = ap heads_of reads ∙ heads_clean (packed_reading options input) refl in
       record {
         divides = divides;

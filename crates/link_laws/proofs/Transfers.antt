@@ -24,10 +24,10 @@ use Rattle.link_laws.specs.Prefix.{IsFrontOf}
 use Rattle.link_laws.proofs.Fronts.{front_same, front_first, front_after, front_none, front_trans, AreFronts, fronts_same, fronts_trans}
 use Rattle.link_laws.proofs.Payloads.{payload_front}
 
--- whether the latest transfer is closed
-abbrev pub latest_closed : List Transfer → Bool
-latest_closed [] = false
-latest_closed (latest ∷ earlier) = latest.closed
+-- the latest transfer is open
+abbrev pub IsOpen : List Transfer → Type 0
+IsOpen [] = ⊥
+IsOpen (latest ∷ earlier) = latest.closed ≡ false
 
 module _ (wanted : Wanted) where
   -- the texts of the first transfers are prefixes of those of the second
@@ -86,9 +86,9 @@ module _ (wanted : Wanted) where
   }
 
   pub continued_front : (transfers : List Transfer) (piece : List ℕ) (closed : Bool)
-      → latest_closed transfers ≡ false → Precedes transfers (continued transfers piece closed)
-  continued_front [] piece closed unclosed = precedes_same []
-  continued_front (latest ∷ earlier) piece closed unclosed = grown_front latest earlier piece closed unclosed
+      → IsOpen transfers → Precedes transfers (continued transfers piece closed)
+  continued_front [] piece closed opened = absurd opened
+  continued_front (latest ∷ earlier) piece closed opened = grown_front latest earlier piece closed opened
 
 -- ---- heads that are in order
 
@@ -103,47 +103,59 @@ kind_of message.Keepalive = inr refl
 kind_of (message.SessTerm flags reason) = inr refl
 kind_of (message.MsgReject reason header) = inr refl
 
--- if a transfer is open after these messages, the latest transfer is not closed
+-- if a transfer is open after these messages, it is the latest
 pub record KnowsOpen (transfers : List Transfer) (before : List Message) : Type 0 where
-  pub unclosed : is_some (open_of before) ≡ true → latest_closed transfers ≡ false
+  pub opened : is_some (open_of before) ≡ true → IsOpen transfers
 
 pub knows_none : KnowsOpen [] []
-knows_none = record { unclosed = λ some. refl }
+unfolding open_of
+knows_none = record { opened = λ some. absurd (cc) }
 
-segment_closes : (starts : Bool) (transfers : List Transfer) (head : SegmentHead) (content : List ℕ)
-    → is_start head.flags ≡ starts → closes head content ≡ false
-    → latest_closed (after_segment transfers head content) ≡ false
-segment_closes true transfers head content starts unclosed = rw starts unclosed
-segment_closes false [] head content starts unclosed = rw starts refl
-segment_closes false (latest ∷ earlier) head content starts unclosed = rw starts unclosed
-
--- a segment that does not close its transfer leaves it open
-pub segment_open : (transfers : List Transfer) (head : SegmentHead) (content : List ℕ)
-    → closes head content ≡ false → latest_closed (after_segment transfers head content) ≡ false
-segment_open transfers head content unclosed = segment_closes (is_start head.flags) transfers head content refl unclosed
+open_by : (starts : Bool) (transfers : List Transfer) (head : SegmentHead) (content : List ℕ)
+    → is_start head.flags ≡ starts → (starts ≡ false → IsOpen transfers)
+    → closes head content ≡ false → IsOpen (after_segment transfers head content)
+open_by true transfers head content starts opened unclosed = rw starts unclosed
+open_by false [] head content starts opened unclosed = absurd (opened refl)
+open_by false (latest ∷ earlier) head content starts opened unclosed = rw starts unclosed
 
 unended : (ends : Bool) (id : ℕ) → is_some (if ends then None else Some id) ≡ true → ends ≡ false
 unended true id some = absurd (false≢true some)
 unended false id some = refl
 
-module _ (transfers : List Transfer) (before : List Message) (content : List ℕ) where
-  knows_segment : (head : SegmentHead)
+module _ (transfers : List Transfer) (before : List Message)
+    (knows : KnowsOpen transfers before) where
+  -- a segment without START continues the transfer that is open
+  pub open_before : (head : SegmentHead) → refusal before (event_of (message.Segment head)) ≡ None
+      → is_start head.flags ≡ false → IsOpen transfers
+  open_before head may continues =
+      knows.opened (open_where_continued before head.flags head.id continues may)
+
+  -- a segment that does not close its transfer leaves it open
+  pub segment_open : (head : SegmentHead) (content : List ℕ)
+      → refusal before (event_of (message.Segment head)) ≡ None → closes head content ≡ false
+      → IsOpen (after_segment transfers head content)
+  segment_open head content may unclosed =
+      open_by (is_start head.flags) transfers head content refl (open_before head may) unclosed
+
+  knows_segment : (head : SegmentHead) (content : List ℕ)
+      → refusal before (event_of (message.Segment head)) ≡ None
       → KnowsOpen (after_segment transfers head content) (before ++ message.Segment head ∷ [])
-  knows_segment head = record {
-    unclosed = λ some.
-        let ends = unended (is_end head.flags) head.id (ap is_some (sym (after-segment before (message.Segment head) head.flags head.id refl)) ∙ some) in
-        segment_open transfers head content (ap (λ e. e && (length content == head.length)) ends);
+  knows_segment head content may = record {
+    opened = λ some.
+        let after = after-segment before (message.Segment head) head.flags head.id refl in
+        let ends = unended (is_end head.flags) head.id (ap is_some (sym after) ∙ some) in
+        segment_open head content may (ap (λ e. e && (length content == head.length)) ends);
   }
 
-  pub knows_more : (sent : Message) → KnowsOpen transfers before
+  pub knows_more : (sent : Message) (content : List ℕ) → refusal before (event_of sent) ≡ None
       → KnowsOpen (after_message transfers sent content) (before ++ sent ∷ [])
-  knows_more sent knows =
+  knows_more sent content may =
       ⊎_elim
-      (λ segment. rw segment.1 (knows_segment segment.0))
+      (λ segment. rw segment.1 (knows_segment segment.0 content (rw segment.1 at may)))
       (λ other. record {
-        unclosed = λ some.
-            ap latest_closed (transfers_same transfers sent content other)
-            ∙ knows.unclosed (ap is_some (sym (after-other before sent other)) ∙ some);
+        opened = λ some.
+            rw (transfers_same transfers sent content other)
+            (knows.opened (ap is_some (sym (after-other before sent other)) ∙ some));
       })
       (kind_of sent)
 
@@ -160,7 +172,7 @@ module _ (wanted : Wanted) where
         ⊎_elim
         (λ starts. rw (transfer_begins transfers head content starts) (begins_front wanted _ transfers))
         (λ continues. rw (transfer_continues transfers head content continues)
-        (continued_front wanted transfers content _ (knows.unclosed (open_where_continued before head.flags head.id continues may))))
+        (continued_front wanted transfers content _ (open_before transfers before knows head may continues)))
         (cases_Bool (is_start head.flags))
 
     message_front : (sent : Message) → refusal before (event_of sent) ≡ None
@@ -174,11 +186,12 @@ module _ (wanted : Wanted) where
   heads_by : (refused : Option OrderFault) (transfers : List Transfer) (before : List Message)
       (head : Entry) (rest : Ordered)
       → refusal before (event_of head.message) ≡ refused → KnowsOpen transfers before
-      → Precedes wanted (after_message transfers head.message head.content)
-      (with_heads (after_message transfers head.message head.content) rest.heads)
+      → (refused ≡ None → Precedes wanted (after_message transfers head.message head.content)
+      (with_heads (after_message transfers head.message head.content) rest.heads))
       → Precedes wanted transfers (with_heads transfers (ordered_by refused head rest).heads)
   heads_by (Some fault) transfers before head rest is knows later = precedes_same wanted transfers
-  heads_by None transfers before head rest is knows later = fronts_trans _ _ _ (message_front transfers before head.content knows head.message is) later
+  heads_by None transfers before head rest is knows later =
+      fronts_trans _ _ _ (message_front transfers before head.content knows head.message is) (later refl)
 
   pub heads_front : (heads : List Entry) (transfers : List Transfer) (before : List Message)
       → KnowsOpen transfers before
@@ -186,5 +199,8 @@ module _ (wanted : Wanted) where
   unfolding ordered_after
   heads_front [] transfers before knows = precedes_same wanted transfers
   heads_front (head ∷ heads) transfers before knows =
-      heads_by (refusal before (event_of head.message)) transfers before head (ordered_after (before ++ head.message ∷ []) heads) refl knows
-      (heads_front heads (after_message transfers head.message head.content) (before ++ head.message ∷ []) (knows_more transfers before head.content head.message knows))
+      heads_by (refusal before (event_of head.message)) transfers before head
+      (ordered_after (before ++ head.message ∷ []) heads) refl knows
+      (λ may. heads_front heads (after_message transfers head.message head.content)
+      (before ++ head.message ∷ [])
+      (knows_more transfers before knows head.message head.content may))

@@ -29,8 +29,8 @@ module _ (wanted : Wanted) where
       → OrderGoesOn wanted [] (ordered (heads_of before)) (ordered (heads_of after))
   unfolding ordered
   order_on before after on =
-      let P : Stream → Type 0 = λ later.
-      OrderGoesOn wanted [] (ordered (heads_of before)) (ordered (later.entries ++ cut_heads later.end)) in
+      let P : Stream → Type 0 = λ later. OrderGoesOn wanted [] (ordered (heads_of before))
+      (ordered (later.entries ++ cut_heads later.end)) in
       let last = last_on before.end on.rest on.follows in
       subst P (sym on.are)
       (rw append_assoc (heads_on wanted before.entries _ _ last [] [] knows_none))
