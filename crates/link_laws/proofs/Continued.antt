@@ -1,9 +1,9 @@
 -- How the reading of a stream goes on when more bytes follow.
-use Rattle.std.proofs.Common.{◌≡◌, ℕ, zero, suc, ◌+◌, ◌-◌, ◌<◌, ◌≤◌, ◌⊎◌, inl, inr, Bool, true, false, nat_lt, List, [], ◌∷◌, ◌++◌, length, take, drop, None, Result, Ok, Err, if◌then◌else◌, refl, ap, sym, ◌∙◌, ⊎_elim, length-append, length-drop, arith}
+use Rattle.std.proofs.Common.{◌≡◌, ℕ, zero, suc, ◌+◌, ◌-◌, ◌<◌, ◌≤◌, ◌⊎◌, inl, inr, Bool, true, false, nat_lt, List, [], ◌∷◌, ◌++◌, length, take, drop, Some, None, Result, Ok, Err, if◌then◌else◌, refl, ap, sym, ◌∙◌, ⊎_elim, length-append, length-drop, arith}
 use Rattle.std.proofs.lemmas.Bool.{cases_lt, false≢true, lt-ltb, le-ltb}
 use Rattle.std.proofs.lemmas.List.{take-append-le, drop-append-le}
 use Rattle.link_wire.specs.Message.{contact_at, message_at, data_length}
-use Rattle.link_wire.specs.Stream.{Entry, End, Clean, Cut, Fault, Stream, ended, with_entry, with_data_of, stream_at, Reading, reading_by, reading_of}
+use Rattle.link_wire.specs.Stream.{Entry, End, Cut, Stream, ended, with_entry, with_data_of, stream_at, Reading, reading_by, reading_of}
 use Rattle.link_wire.specs.declared.fault.WireFault.{WireFault}
 use Rattle.link_wire.specs.declared.message.Contact.{Contact}
 use Rattle.link_wire.specs.declared.message.Message.{Message}
@@ -11,7 +11,7 @@ use Rattle.link_wire.specs.declared.fault.WireFault.TheVariants.{Truncated}
 use Rattle.link_wire.proofs.Shrinks.{shrinks_message}
 use Rattle.link_wire.proofs.Steady.{steady_contact, steady_message}
 use Rattle.link_wire.proofs.Streams.{stream_at-nil, stream_at-message, stream_at-fault}
-use Rattle.link_run.specs.Ends.{is_lasting}
+use Rattle.link_run.specs.Made.{is_shown, is_lasting, stop_of}
 use Rattle.link_unpack.specs.Transfers.{cut_heads}
 use Rattle.link_unpack.proofs.Heads.{entry}
 use Rattle.link_laws.proofs.Fronts.{take-append}
@@ -30,18 +30,24 @@ pub record GrowsFirst (offset : ℕ) (message : Message) (content : List ℕ)
 
 -- the readings that may follow the whole messages of a stream that has this end
 abbrev pub FollowsEnd : End → Stream → Type 0
-FollowsEnd Clean rest = Unit {0}
 FollowsEnd (Cut offset message content) rest = GrowsFirst offset message content rest
-FollowsEnd (Fault offset fault) rest = is_lasting fault ≡ true → rest ≡ ended (Fault offset fault)
+FollowsEnd end rest = Unit {0}
 
 pub record GoesOn (before after : Stream) : Type 0 where
   pub rest : Stream
   pub are : after ≡ record { entries = before.entries ++ rest.entries; end = rest.end }
   pub follows : FollowsEnd before.end rest
+  -- a fault that lasts stays the same
+  pub stays : is_shown (stop_of before.end) ≡ true → after ≡ before
 
 goes_on_entry : (first : Entry) (before after : Stream) → GoesOn before after
     → GoesOn (with_entry first before) (with_entry first after)
-goes_on_entry first before after on = record { rest = on.rest; are = ap (with_entry first) on.are; follows = on.follows }
+goes_on_entry first before after on = record {
+  rest = on.rest;
+  are = ap (with_entry first) on.are;
+  follows = on.follows;
+  stays = λ shown. ap (with_entry first) (on.stays shown);
+}
 
 -- ---- the data of a segment
 
@@ -62,6 +68,7 @@ module _ (offset : ℕ) (message : Message) (bytes more : List ℕ) where
         rest = with_data_of offset message (bytes ++ more) after;
         are = refl;
         follows = grows_by (nat_lt (length (bytes ++ more)) (data_length message)) (data_length message) after short (take-append (data_length message) bytes more (omega arith));
+        stays = λ shown. absurd (false≢true shown);
       })
 
   -- the data is whole
@@ -82,7 +89,10 @@ fault_on offset byte bytes more fault is =
     rw (stream_at-fault offset byte bytes fault is) (record {
       rest = stream_at offset ((byte ∷ bytes) ++ more);
       are = refl;
-      follows = λ stays. stream_at-fault offset byte (bytes ++ more) fault (steady_message.faulty (byte ∷ bytes) more fault (not_missing fault stays) is);
+      follows = tt;
+      stays = λ stays.
+          stream_at-fault offset byte (bytes ++ more) fault
+          (steady_message.faulty (byte ∷ bytes) more fault (not_missing fault stays) is);
     })
 
 module _ (count : ℕ) (more : List ℕ)
@@ -110,7 +120,13 @@ module _ (count : ℕ) (more : List ℕ)
   read_on offset byte bytes (Err fault) fewer is = fault_on offset byte bytes more fault is
 
 none_on : (offset : ℕ) (more : List ℕ) → GoesOn (stream_at offset []) (stream_at offset more)
-none_on offset more = rw stream_at-nil (record { rest = stream_at offset more; are = refl; follows = tt })
+none_on offset more =
+    rw stream_at-nil (record {
+      rest = stream_at offset more;
+      are = refl;
+      follows = tt;
+      stays = λ shown. absurd (false≢true shown);
+    })
 
 stream_on_upto : (count : ℕ) (more : List ℕ) (offset : ℕ) (bytes : List ℕ) → length bytes ≤ count
     → GoesOn (stream_at offset bytes) (stream_at offset (bytes ++ more))
@@ -132,20 +148,31 @@ pub record ReadingGoesOn (before after : Reading) : Type 0 where
   -- the contact header stays the same, or it was not read yet
   pub contact : (after.contact ≡ before.contact) ⊎ ((before.contact ≡ None) × (before.entries ≡ []))
   pub messages : GoesOn (stream_of before) (stream_of after)
+  pub stays : is_shown (stop_of before.end) ≡ true → after ≡ before
 
 reading_on_by : (bytes more : List ℕ) (read : Result (Contact × List ℕ) WireFault)
     → contact_at bytes ≡ read
     → ReadingGoesOn (reading_by read) (reading_by (contact_at (bytes ++ more)))
 reading_on_by bytes more (Ok (contact, rest)) is =
-    rw (steady_contact.read bytes more contact rest is) (record { contact = inl refl; messages = stream_on 6 rest more })
-reading_on_by bytes more (Err fault) is = record {
-  contact = inr (refl, refl);
-  messages = record {
-    rest = stream_of (reading_by (contact_at (bytes ++ more)));
-    are = refl;
-    follows = λ stays. ap (λ read. stream_of (reading_by read)) (steady_contact.faulty bytes more fault (not_missing fault stays) is);
-  };
-}
+    let on = stream_on 6 rest more in
+    let read : Stream → Reading =
+    λ s. record { contact = Some contact; entries = s.entries; end = s.end } in
+    rw (steady_contact.read bytes more contact rest is)
+    (record { contact = inl refl; messages = on; stays = λ shown. ap read (on.stays shown) })
+reading_on_by bytes more (Err fault) is =
+    let after = reading_by (contact_at (bytes ++ more)) in
+    let same : is_lasting fault ≡ true → after ≡ reading_by (Err fault) =
+    λ stays. ap reading_by (steady_contact.faulty bytes more fault (not_missing fault stays) is) in
+    record {
+      contact = inr (refl, refl);
+      messages = record {
+        rest = stream_of after;
+        are = refl;
+        follows = tt;
+        stays = λ shown. ap stream_of (same shown);
+      };
+      stays = same;
+    }
 
 pub reading_on : (bytes more : List ℕ)
     → ReadingGoesOn (reading_of bytes) (reading_of (bytes ++ more))

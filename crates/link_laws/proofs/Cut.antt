@@ -1,15 +1,16 @@
 -- The report of `unpack` cuts its output.
-use Rattle.std.proofs.Common.{◌≡◌, ℕ, ◌+◌, ◌≤◌, Bool, true, false, List, [], ◌∷◌, ◌++◌, length, Option, Some, None, if◌then◌else◌, refl, ap, ◌∙◌, length-append, arith}
+use Rattle.std.proofs.Common.{◌≡◌, ℕ, ◌+◌, ◌≤◌, Bool, true, false, List, [], ◌∷◌, ◌++◌, length, Option, Some, None, if◌then◌else◌, refl, ap, sym, ◌∙◌, append-nil, length-append, arith}
 use Rattle.std.specs.List.{flat_map}
 use Rattle.std.proofs.lemmas.List.{flat_map_more}
-use Rattle.link_wire.specs.Stream.{End, Clean, Cut, Fault, reading_of}
-use Rattle.link_transfer.specs.declared.fault.OrderFault.{OrderFault}
+use Rattle.link_wire.specs.Stream.{End, reading_of}
 use Rattle.link_report.specs.Transfer.{transfer_text}
 use Rattle.link_report.specs.declared.transfer.TransferEntry.{TransferEntry}
-use Rattle.link_unpack.specs.Transfers.{Transfer, transfers_of, settled}
-use Rattle.link_unpack.specs.Unpacking.{part_of, parts_of, entry_of, line_of, lines_of, over, stop_lines, unpacking}
+use Rattle.link_run.specs.Made.{StreamStop, whole_by}
+use Rattle.link_unpack.specs.Transfers.{Ordered, Transfer, transfers_of, settled}
+use Rattle.link_unpack.specs.Unpacking.{part_of, parts_of, entry_of, line_of, lines_of, unpacking_of, unpacking_by}
 use Rattle.link_unpack.specs.declared.wanted.Wanted.{Wanted}
-use Rattle.link_laws.specs.Cuts.{order_of, entries_of, Follow, written_by, reported, CutsOutput}
+use Rattle.link_laws.specs.Cuts.{order_of, entries_of, Follow, written_by, stop_at, lined, reported, stop_line, CutsOutput}
+use Rattle.link_laws.proofs.Prefixes.{whole_output}
 
 -- ---- one more entry
 
@@ -66,25 +67,33 @@ unlined_settled : (transfers : List Transfer) → (left : List Transfer) × (len
 unlined_settled [] = ([], omega arith, refl)
 unlined_settled (latest ∷ earlier) = unlined_by latest.closed latest earlier refl
 
-unlined_over : (refused : Option (ℕ × OrderFault)) (end : End) (transfers : List Transfer)
-    → (left : List Transfer) × (length left ≤ 1) × (transfers ≡ left ++ over refused end transfers)
-unlined_over (Some refused) end transfers = unlined_settled transfers
-unlined_over None Clean transfers = ([], omega arith, refl)
-unlined_over None (Cut offset message content) transfers = unlined_settled transfers
-unlined_over None (Fault offset fault) transfers = unlined_settled transfers
+unlined_lined : (stop : Option StreamStop) (transfers : List Transfer)
+    → (left : List Transfer) × (length left ≤ 1) × (transfers ≡ left ++ lined stop transfers)
+unlined_lined None transfers = ([], omega arith, refl)
+unlined_lined (Some stop) transfers = unlined_settled transfers
+
+-- ---- the whole
+
+report_is : (wanted : Wanted) (stop : Option StreamStop) (end : End) (order : Ordered)
+    → (whole_by stop (unpacking_by wanted end order)).texts.report
+    ≡ lines_of wanted (lined stop (transfers_of order.heads)) ++ stop_line stop
+report_is wanted None end order = sym (append-nil _)
+report_is wanted (Some stop) end order = refl
 
 -- the report cuts the output, for any stream
 pub cuts : (wanted : Wanted) (bytes : List ℕ) → CutsOutput wanted bytes
-unfolding unpacking
+unfolding unpacking_of
 cuts wanted bytes =
     let order = order_of bytes in
     let end = (reading_of bytes).end in
-    let left = unlined_over order.refused end (transfers_of order.heads) in
+    let stop = stop_at bytes in
+    let left = unlined_lined stop (transfers_of order.heads) in
     record {
-      lines = ap (λ (lines : List ℕ). lines ++ stop_lines order.refused end) (lines_are wanted (reported bytes));
+      lines = report_is wanted stop end order
+          ∙ ap (λ (lines : List ℕ). lines ++ stop_line stop) (lines_are wanted (reported bytes));
       follow = follows wanted (reported bytes);
       left = left.0;
       one = left.1;
-      whole = ap (parts_of wanted) left.2;
+      whole = whole_output stop (unpacking_of wanted bytes) refl ∙ ap (parts_of wanted) left.2;
       size = all_written wanted (reported bytes);
     }

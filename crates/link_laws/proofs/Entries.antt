@@ -1,5 +1,5 @@
 -- The messages of a packed stream.
-use Rattle.std.proofs.Common.{◌≡◌, ℕ, suc, ◌+◌, ◌^◌, ◌<◌, ◌≤◌, min, Bool, true, false, List, [], ◌∷◌, ◌++◌, length, Option, Some, None, if◌then◌else◌, refl, append_assoc, arith}
+use Rattle.std.proofs.Common.{◌≡◌, ℕ, suc, ◌+◌, ◌^◌, ◌<◌, ◌≤◌, min, Bool, true, false, List, [], ◌∷◌, ◌++◌, length, Option, Some, None, if◌then◌else◌, refl, sym, ◌∙◌, append-nil, append_assoc, arith}
 use Rattle.std.specs.Prelude.{IfSome}
 use Rattle.link_wire.specs.Bytes.{AreBytes}
 use Rattle.link_wire.specs.SpelledStream.{IsStream, IsReading}
@@ -10,9 +10,10 @@ use Rattle.link_wire.proofs.Spellings.{contact_spelled, sess_init_spelled, sess_
 use Rattle.link_transfer.specs.Cutting.{due}
 use Rattle.link_unpack.proofs.Heads.{entry}
 use Rattle.link_pack.specs.Bundles.{Packed, Rest, Divided}
-use Rattle.link_pack.specs.Packing.{prelude_bytes, sending, transfers_of, rest_segments, end_bytes, packing_by}
+use Rattle.link_pack.specs.Packing.{prelude_bytes, sending, transfers_of, rest_segments, end_bytes, bundles_output, packing_by}
 use Rattle.link_pack.specs.Segments.{Sending, cutting_of, segments_of}
 use Rattle.link_pack.specs.declared.options.PackOptions.{PackOptions}
+use Rattle.link_pack.proofs.Outcomes.{whole_of}
 use Rattle.link_laws.specs.Ranges.{OptionsFit}
 use Rattle.link_laws.proofs.Divided.{AreBundles, IsRest}
 use Rattle.link_laws.proofs.Segments.{SendingFits, segment_entries, segments_stream}
@@ -113,10 +114,22 @@ module _ (options : PackOptions) where
   term_stream true offset = stream_plain offset (SessTerm 0 0) (sess_term_bytes 0 0) (sess_term_spelled 0 0 (omega arith) (omega arith)) refl
   term_stream false offset = refl
 
+  -- the bytes after the rest
+  abbrev last_bytes : Option Rest → List ℕ
+  last_bytes None = end_bytes options
+  last_bytes (Some rest) = []
+
   end_stream : (rest : Option Rest) (offset : ℕ)
-      → IsStream (end_entries options rest offset) Clean offset (end_bytes options rest)
+      → IsStream (end_entries options rest offset) Clean offset (last_bytes rest)
   end_stream None offset = term_stream options.send_term offset
   end_stream (Some rest) offset = refl
+
+  output_is : (bundles : List Packed) (rest : Option Rest)
+      → (let input : Divided = record { bundles = bundles; rest = rest } in
+      (whole_of (packing_by options input)).texts.output
+      ≡ bundles_output options input ++ last_bytes rest)
+  output_is bundles None = refl
+  output_is bundles (Some rest) = sym (append-nil _)
 
   module _ (fit : OptionsFit options) where
     init_stream : IsStream (init_entry options ∷ []) Clean 6 (init_bytes options)
@@ -128,11 +141,12 @@ module _ (options : PackOptions) where
         (rest : IfSome input.rest (IsRest options.peer_transfer))
         (few : length input.bundles < 2 ^ 64) where
       packed_stream : IsStream (packed_entries options input) Clean 6 (rest_bytes options input
-          ++ end_bytes options input.rest)
+          ++ last_bytes input.rest)
       packed_stream =
           let first = first_entries options input in
           let more = more_entries options input in
-          stream_then (first ++ more) (last_entries options input) Clean 6 (rest_bytes options input) (end_bytes options input.rest)
+          stream_then (first ++ more) (last_entries options input) Clean 6
+          (rest_bytes options input) (last_bytes input.rest)
           (stream_then first more Clean 6 (bundles_bytes options input) (rest_segments options (length input.bundles) input.rest)
           (stream_then (init_entry options ∷ []) (bundle_entries options 0 input.bundles (6 + length (init_bytes options))) Clean 6 (init_bytes options) (transfers_of options 0 input.bundles)
           init_stream
@@ -141,15 +155,17 @@ module _ (options : PackOptions) where
           (end_stream input.rest (6 + length (rest_bytes options input)))
 
       -- a packed stream is read as these messages
-      pub packed_is : IsReading (packing_by options input).texts.output
+      pub packed_is : IsReading (whole_of (packing_by options input)).texts.output
           (packed_reading options input)
       unfolding prelude_bytes
       packed_is =
           let segments = rest_segments options (length input.bundles) input.rest in
           record {
             before = contact_bytes 0;
-            after = rest_bytes options input ++ end_bytes options input.rest;
+            after = rest_bytes options input ++ last_bytes input.rest;
             is_first = contact_spelled 0 (omega arith);
             is_second = packed_stream;
-            parts = joined (contact_bytes 0) (init_bytes options) (transfers_of options 0 input.bundles) segments (end_bytes options input.rest);
+            parts = output_is input.bundles input.rest
+                ∙ joined (contact_bytes 0) (init_bytes options)
+                (transfers_of options 0 input.bundles) segments (last_bytes input.rest);
           }

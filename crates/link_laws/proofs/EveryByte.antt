@@ -1,5 +1,5 @@
 -- The output of `unpack` without options is the data of the heads that are in order.
-use Rattle.std.proofs.Common.{◌≡◌, ℕ, zero, suc, ◌<◌, Bool, true, false, is_some, List, [], ◌∷◌, ◌++◌, length, take, Option, Some, None, Result, Ok, Err, nat_lt, if◌then◌else◌, refl, ap, sym, ◌∙◌, ⊎_elim, append-nil, append_assoc, arith}
+use Rattle.std.proofs.Common.{◌≡◌, ℕ, zero, suc, Bool, true, false, List, [], ◌∷◌, ◌++◌, length, take, Option, Some, None, Result, Ok, Err, nat_lt, if◌then◌else◌, refl, ap, sym, ◌∙◌, ⊎_elim, append-nil, append_assoc, arith}
 use Rattle.std.specs.List.{AllByRecursion, flat_map}
 use Rattle.std.proofs.lemmas.Bool.{ltb-true}
 use Rattle.link_wire.specs.Codes.{is_start}
@@ -11,17 +11,16 @@ use Rattle.link_wire.specs.declared.message.Message.{Message}
 use Rattle.link_wire.specs.declared.message.Message.TheVariants as message
 use Rattle.link_wire.specs.declared.message.SegmentHead.{SegmentHead}
 use Rattle.link_transfer.specs.Event.{event_of}
-use Rattle.link_transfer.specs.Order.{is_segment, open_of, refusal}
+use Rattle.link_transfer.specs.Order.{is_segment, refusal}
 use Rattle.link_transfer.specs.declared.fault.OrderFault.{OrderFault}
-use Rattle.link_transfer.proofs.Joining.{after-other}
 use Rattle.link_unpack.specs.Transfers.{cut_heads, heads_of, Ordered, ordered_by, ordered_after, ordered, Transfer, closes, continued, after_segment, after_message, transfers_of}
-use Rattle.link_unpack.specs.Unpacking.{parts_of, unpacking}
+use Rattle.link_unpack.specs.Unpacking.{parts_of, unpacking_of}
 use Rattle.link_unpack.proofs.Heads.{entry, transfers_same}
-use Rattle.link_unpack.proofs.Orders.{open_where_continued}
 use Rattle.link_unpack.proofs.Texts.{parts_more}
 use Rattle.link_laws.specs.Cuts.{data_of, HasEveryByte}
 use Rattle.link_laws.specs.RoundTrip.{all}
-use Rattle.link_laws.proofs.Transfers.{kind_of, with_heads}
+use Rattle.link_laws.proofs.Prefixes.{whole_output}
+use Rattle.link_laws.proofs.Transfers.{IsOpen, kind_of, KnowsOpen, knows_none, open_before, knows_more, with_heads}
 
 -- ---- the data that is read
 
@@ -79,60 +78,36 @@ reading_own bytes = contact_own (contact_at bytes)
 
 -- ---- one more head
 
--- if a transfer is open after these messages, there is a latest transfer
-record HasLatest (transfers : List Transfer) (before : List Message) : Type 0 where
-  pub some : is_some (open_of before) ≡ true → 0 < length transfers
-
-latest_none : HasLatest [] []
-unfolding open_of
-latest_none = record { some = λ some. absurd (cc) }
-
 -- the data is added at the end of the output
-record Adds (transfers after : List Transfer) (content : List ℕ) : Type 0 where
-  pub parts : parts_of all after ≡ parts_of all transfers ++ content
-  pub some : 0 < length after
+abbrev Adds : (transfers after : List Transfer) (content : List ℕ) → Type 0
+Adds transfers after content = parts_of all after ≡ parts_of all transfers ++ content
 
 continued_adds : (transfers : List Transfer) (content : List ℕ) (closed : Bool)
-    → 0 < length transfers → Adds transfers (continued transfers content closed) content
-continued_adds [] content closed some = absurd (omega arith)
-continued_adds (latest ∷ earlier) content closed some = record {
-  parts = parts_more all _ earlier ∙ sym (append_assoc (parts_of all earlier) latest.content content) ∙ ap (λ (parts : List ℕ). parts ++ content) (sym (parts_more all latest earlier));
-  some = omega arith;
-}
+    → IsOpen transfers → Adds transfers (continued transfers content closed) content
+continued_adds [] content closed opened = absurd opened
+continued_adds (latest ∷ earlier) content closed opened =
+    parts_more all _ earlier ∙ sym (append_assoc (parts_of all earlier) latest.content content)
+    ∙ ap (λ (parts : List ℕ). parts ++ content) (sym (parts_more all latest earlier))
 
 module _ (transfers : List Transfer) (before : List Message) (content : List ℕ)
-    (known : HasLatest transfers before) where
-  segment_by : (starts : Bool) (head : SegmentHead) → is_start head.flags ≡ starts
+    (knows : KnowsOpen transfers before) where
+  segment_added : (starts : Bool) (head : SegmentHead) → is_start head.flags ≡ starts
       → refusal before (event_of (message.Segment head)) ≡ None
       → Adds transfers (after_segment transfers head content) content
-  segment_by true head is may = rw is (record { parts = parts_more all _ transfers; some = omega arith })
-  segment_by false head is may =
-      rw is (continued_adds transfers content (closes head content) (known.some (open_where_continued before head.flags head.id is may)))
+  segment_added true head is may = rw is (parts_more all _ transfers)
+  segment_added false head is may =
+      rw is (continued_adds transfers content (closes head content) (open_before transfers before knows head may is))
 
   -- a head that is in order adds its data
-  record HasAdded (sent : Message) : Type 0 where
-    pub parts : parts_of all (after_message transfers sent content)
-        ≡ parts_of all transfers ++ content
-    pub latest : HasLatest (after_message transfers sent content) (before ++ sent ∷ [])
-
-  segment_added : (head : SegmentHead) → refusal before (event_of (message.Segment head)) ≡ None
-      → HasAdded (message.Segment head)
-  segment_added head may =
-      let adds = segment_by (is_start head.flags) head refl may in
-      record { parts = adds.parts; latest = record { some = λ opened. adds.some } }
-
-  other_added : (sent : Message) → is_segment (event_of sent) ≡ false → content ≡ [] → HasAdded sent
-  other_added sent other none = record {
-    parts = ap (parts_of all) (transfers_same transfers sent content other) ∙ sym (append-nil _) ∙ ap (λ (last : List ℕ). parts_of all transfers ++ last) (sym none);
-    latest = record { some = λ opened. rw (transfers_same transfers sent content other) (known.some (ap is_some (sym (after-other before sent other)) ∙ opened)) };
-  }
-
   message_added : (sent : Message) → (is_segment (event_of sent) ≡ false → content ≡ [])
-      → refusal before (event_of sent) ≡ None → HasAdded sent
+      → refusal before (event_of sent) ≡ None
+      → Adds transfers (after_message transfers sent content) content
   message_added sent own may =
       ⊎_elim
-      (λ segment. rw segment.1 (segment_added segment.0 (rw segment.1 at may)))
-      (λ other. other_added sent other (own other))
+      (λ segment. rw segment.1
+      (segment_added (is_start segment.0.flags) segment.0 refl (rw segment.1 at may)))
+      (λ other. ap (parts_of all) (transfers_same transfers sent content other) ∙ sym (append-nil _)
+      ∙ ap (λ (last : List ℕ). parts_of all transfers ++ last) (sym (own other)))
       (kind_of sent)
 
 -- ---- all heads
@@ -147,20 +122,24 @@ heads_by (Some fault) transfers head rest later = sym (append-nil _)
 heads_by None transfers head rest later = later refl ∙ append_assoc (parts_of all transfers) head.content (flat_map data_of rest.heads)
 
 heads_added : (heads : List Entry) (transfers : List Transfer) (before : List Message)
-    → HeadsOwn heads → HasLatest transfers before
+    → HeadsOwn heads → KnowsOpen transfers before
     → parts_of all (with_heads transfers (ordered_after before heads).heads)
     ≡ parts_of all transfers ++ flat_map data_of (ordered_after before heads).heads
 unfolding ordered_after
-heads_added [] transfers before own latest = sym (append-nil _)
-heads_added (head ∷ heads) transfers before own latest =
-    heads_by (refusal before (event_of head.message)) transfers head (ordered_after (before ++ head.message ∷ []) heads)
+heads_added [] transfers before own knows = sym (append-nil _)
+heads_added (head ∷ heads) transfers before own knows =
+    let seen = before ++ head.message ∷ [] in
+    heads_by (refusal before (event_of head.message)) transfers head (ordered_after seen heads)
     (λ may.
-    let added = message_added transfers before head.content latest head.message own.0 may in
-    let after = after_message transfers head.message head.content in
-    heads_added heads after (before ++ head.message ∷ []) own.1 added.latest
-    ∙ ap (λ (parts : List ℕ). parts ++ flat_map data_of (ordered_after (before ++ head.message ∷ []) heads).heads) added.parts)
+    heads_added heads (after_message transfers head.message head.content) seen own.1
+    (knows_more transfers before knows head.message head.content may)
+    ∙ ap (λ (parts : List ℕ). parts ++ flat_map data_of (ordered_after seen heads).heads)
+    (message_added transfers before head.content knows head.message own.0 may))
 
 -- the output for any stream
 pub every_byte : (bytes : List ℕ) → HasEveryByte bytes
-unfolding unpacking ordered transfers_of parts_of
-every_byte bytes = heads_added (heads_of (reading_of bytes)) [] [] (reading_own bytes) latest_none
+unfolding unpacking_of ordered transfers_of parts_of
+every_byte bytes =
+    let made = unpacking_of all bytes in
+    whole_output made.stop made refl
+    ∙ heads_added (heads_of (reading_of bytes)) [] [] (reading_own bytes) knows_none

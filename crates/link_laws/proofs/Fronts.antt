@@ -1,6 +1,7 @@
 -- Texts that are prefixes of others.
 use Rattle.std.proofs.Common.{◌≡◌, ℕ, ◌+◌, ◌-◌, ◌≤◌, List, [], ◌++◌, length, take, refl, ap, sym, ◌∙◌, append-nil, append_assoc, arith}
 use Rattle.std.proofs.Math.Seq.{take-append-add}
+use Rattle.link_run.specs.Run.{Texts}
 use Rattle.link_laws.specs.Prefix.{IsFrontOf}
 
 pub front_same : (text whole : List ℕ) → text ≡ whole → IsFrontOf text whole
@@ -25,6 +26,24 @@ pub front_trans : (text mid whole : List ℕ) → IsFrontOf text mid
     → IsFrontOf mid whole → IsFrontOf text whole
 front_trans text mid whole first second =
     (first.0 ++ second.0, second.1 ∙ ap (λ (xs : List ℕ). xs ++ second.0) first.1 ∙ append_assoc text first.0 second.0)
+
+-- the same of output and report
+pub record AreFronts (texts whole : Texts) : Type 0 where
+  pub output : IsFrontOf texts.output whole.output
+  pub report : IsFrontOf texts.report whole.report
+
+pub fronts_same : (texts whole : Texts) → texts ≡ whole → AreFronts texts whole
+fronts_same texts whole same = record {
+  output = front_same _ _ (ap (λ (t : Texts). t.output) same);
+  report = front_same _ _ (ap (λ (t : Texts). t.report) same);
+}
+
+pub fronts_trans : (texts mid whole : Texts) → AreFronts texts mid → AreFronts mid whole
+    → AreFronts texts whole
+fronts_trans texts mid whole first second = record {
+  output = front_trans _ _ _ first.output second.output;
+  report = front_trans _ _ _ first.report second.report;
+}
 
 -- a prefix of joined bytes, if it is at least as long as the first of them
 pub take-append : (count : ℕ) (front back : List ℕ) → length front ≤ count

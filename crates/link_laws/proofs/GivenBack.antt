@@ -4,9 +4,8 @@ use Rattle.std.proofs.lemmas.Bool.{eq-eqb}
 use Rattle.link_bundle.specs.Bundle.{verdict}
 use Rattle.link_bundle_types.specs.declared.fault.BundleFault.{BundleFault}
 use Rattle.link_bundle_types.specs.declared.info.BundleInfo.{BundleInfo}
-use Rattle.link_wire.specs.SpelledStream.{IsReading}
 use Rattle.link_wire.specs.Spelling.{announced}
-use Rattle.link_wire.specs.Stream.{Entry, Reading, reading_of}
+use Rattle.link_wire.specs.Stream.{End, Reading}
 use Rattle.link_report.specs.Judgement.{judged}
 use Rattle.link_report.specs.Transfer.{transfer_text}
 use Rattle.link_report.specs.declared.judgement.Judgement.TheVariants.{Good}
@@ -15,20 +14,19 @@ use Rattle.link_transfer.specs.Announced.{announced_of}
 use Rattle.link_transfer.specs.Cutting.{announcement}
 use Rattle.link_transfer.specs.declared.announcement.Announced.{Announced}
 use Rattle.link_transfer.specs.declared.announcement.Announced.TheVariants.{Absent, Total}
-use Rattle.link_unpack.specs.Transfers.{Transfer, ordered}
-use Rattle.link_unpack.specs.Unpacking.{parts_of, line_of, lines_of, judgement_of, is_good, are_good, unpacking, unpacking_by}
-use Rattle.link_unpack.specs.declared.wanted.Wanted.{Wanted}
+use Rattle.link_unpack.specs.Transfers.{Ordered, Transfer}
+use Rattle.link_unpack.specs.Unpacking.{parts_of, line_of, lines_of, judgement_of, is_good, are_good, unpacking_of, unpacking_by, unpack_tool}
 use Rattle.link_unpack.proofs.Texts.{parts_more, lines_more, good_more}
 use Rattle.link_pack.specs.Bundles.{Packed, divided}
-use Rattle.link_pack.specs.Packing.{packing, sending}
+use Rattle.link_pack.specs.Packing.{sending}
 use Rattle.link_pack.specs.Segments.{cutting_of}
 use Rattle.link_pack.specs.declared.options.PackOptions.{PackOptions}
-use Rattle.link_laws.specs.Ranges.{OptionsFit, InputFits}
+use Rattle.link_pack.proofs.Outcomes.{whole_of}
 use Rattle.link_laws.specs.RoundTrip.{all, good_lines, GivesBack}
-use Rattle.link_laws.proofs.Carried.{AreCarried, onto, rest_onto, transfer_of}
+use Rattle.link_laws.proofs.Carried.{onto, rest_onto, transfer_of}
 use Rattle.link_laws.proofs.Divided.{AreBundles, contents}
 use Rattle.link_laws.proofs.Limits.{announces}
-use Rattle.link_laws.proofs.Readings.{IsPackedSo, divides, packed_so, carried, nothing_left}
+use Rattle.link_laws.proofs.Readings.{packed, nothing_left, IsPacked}
 
 -- ---- a bundle
 
@@ -92,58 +90,38 @@ module _ (options : PackOptions) where
 
 -- ---- a stream
 
-none_good : are_good [] ≡ true
-unfolding are_good
-none_good = refl
-
-none_parts : parts_of all [] ≡ []
-unfolding parts_of
-none_parts = refl
-
-none_lines : lines_of all [] ≡ []
-unfolding lines_of
-none_lines = refl
-
-abbrev over_clean : Wanted → List Transfer → Outcome
-over_clean wanted transfers = record {
-  texts = record { output = parts_of wanted transfers; report = lines_of wanted transfers ++ [] };
+abbrev over_clean : List Transfer → Outcome
+over_clean transfers = record {
+  texts = record { output = parts_of all transfers; report = lines_of all transfers };
   status = if are_good transfers then 0 else 1;
 }
 
--- the result of unpacking a stream with these messages
-unpacked_so : (options : PackOptions) (wanted : Wanted) (stream : List ℕ) (entries : List Entry)
-    (transfers : List Transfer) → IsPackedSo entries stream → AreCarried options entries transfers
-    → unpacking wanted stream ≡ over_clean wanted transfers
-unfolding unpacking
-unpacked_so options wanted stream entries transfers so carries =
-    ap₂ (unpacking_by wanted) so.clean (ap ordered so.heads ∙ carries.in_order) ∙ ap (over_clean wanted) carries.makes
-
--- ---- the whole
-
-module _ (options : PackOptions) (bytes : List ℕ)
-    (fit : OptionsFit options) (fits : InputFits bytes)
-    (only : (stream : List ℕ) (reading : Reading) → IsReading stream reading → reading ≡ reading_of stream) where
+module _ (options : PackOptions) (bytes : List ℕ) (is_packed : IsPacked options bytes)
+    (clean : (packed options bytes).status ≡ 0) where
   abbrev stream : List ℕ
-  stream = (packing options bytes).texts.output
+  stream = (packed options bytes).texts.output
 
   abbrev bundles : List Packed
   bundles = (divided options.peer_transfer bytes).bundles
 
-  unpacked : (packing options bytes).status ≡ 0
-      → unpacking all stream ≡ over_clean all (onto options 0 bundles [])
-  unpacked is =
-      unpacked_so options all stream _ _ (packed_so options bytes fit fits only) (carried options bytes fit fits only)
-      ∙ ap (λ rest. over_clean all (rest_onto options (length bundles) rest (onto options 0 bundles []))) (nothing_left options bytes is)
+  unpacked : (unpack_tool all).whole stream ≡ over_clean (onto options 0 bundles [])
+  unfolding unpacking_of
+  unpacked =
+      ap₂ (λ (end : End) (order : Ordered). whole_of (unpacking_by all end order))
+      (ap (λ (r : Reading). r.end) is_packed.reads) is_packed.carries.in_order
+      ∙ ap over_clean is_packed.carries.makes
+      ∙ ap (λ r. over_clean (rest_onto options (length bundles) r (onto options 0 bundles [])))
+      (nothing_left options bytes clean)
 
-  pub gives_back : (packing options bytes).status ≡ 0 → GivesBack options bytes stream
-  gives_back is =
-      let so = divides options bytes fit fits only in
-      let none = nothing_left options bytes is in
-      let starts = ap length none_parts in
+  pub gives_back : GivesBack options bytes stream
+  unfolding parts_of lines_of are_good
+  gives_back =
+      let so = is_packed.divides in
       record {
-        output = ap (λ (o : Outcome). o.texts.output) (unpacked is) ∙ parts_onto options 0 bundles []
-            ∙ ap (λ parts. parts ++ contents bundles) none_parts ∙ so.whole none;
-        report = ap (λ (o : Outcome). o.texts.report) (unpacked is) ∙ append-nil (lines_of all (onto options 0 bundles []))
-            ∙ lines_onto options 0 bundles [] so.bundles ∙ ap₂ (λ (lines : List ℕ) (start : ℕ). lines ++ good_lines 0 start bundles) none_lines starts;
-        status = ap (λ (o : Outcome). o.status) (unpacked is) ∙ ap (λ good. if good then 0 else 1) (good_onto options 0 bundles [] so.bundles none_good);
+        output = ap (λ (o : Outcome). o.texts.output) unpacked
+            ∙ parts_onto options 0 bundles [] ∙ so.whole (nothing_left options bytes clean);
+        report = ap (λ (o : Outcome). o.texts.report) unpacked
+            ∙ lines_onto options 0 bundles [] so.bundles;
+        status = ap (λ (o : Outcome). o.status) unpacked
+            ∙ ap (λ good. if good then 0 else 1) (good_onto options 0 bundles [] so.bundles refl);
       }

@@ -11,6 +11,7 @@ mod Limits
 mod GivenBack
 mod Listed
 mod Fronts
+mod Prefixes
 mod Divisions
 mod Packings
 mod Continued

@@ -1,28 +1,26 @@
 -- A packed stream keeps the limits of the peer.
-use Rattle.std.proofs.Common.{◌≡◌, ℕ, zero, suc, ◌+◌, ◌*◌, ◌≤◌, inl, inr, ◌⊎◌, Bool, true, false, ◌&&◌, nat_lt, nat_le, List, [], ◌∷◌, ◌++◌, length, Option, Some, None, if◌then◌else◌, refl, ap, sym, ◌∙◌, subst, length-take, arith}
+use Rattle.std.proofs.Common.{◌≡◌, ℕ, zero, suc, ◌+◌, ◌*◌, ◌≤◌, inl, inr, ◌⊎◌, Bool, true, false, ◌&&◌, nat_lt, nat_le, List, [], ◌∷◌, ◌++◌, length, Option, Some, None, if◌then◌else◌, refl, ap, sym, subst, length-take, arith}
 use Rattle.std.specs.Prelude.{IfSome}
 use Rattle.std.specs.List.{All}
 use Rattle.std.proofs.lemmas.List.Elements.{All-nil, All-cons, All-append}
-use Rattle.link_wire.specs.SpelledStream.{IsReading}
 use Rattle.link_wire.specs.Spelling.{announced}
-use Rattle.link_wire.specs.Stream.{Entry, Reading, reading_of}
-use Rattle.link_run.specs.Ends.{end_status}
-use Rattle.link_list.specs.Listing.{listing}
+use Rattle.link_wire.specs.Stream.{Entry, Reading}
+use Rattle.link_list.specs.Listing.{listing_by, listing_of}
 use Rattle.link_transfer.specs.Announced.{announced_of}
 use Rattle.link_transfer.specs.Chunks.{chunk_count}
 use Rattle.link_transfer.specs.Cutting.{Cutting, announcement, due, due_of}
 use Rattle.link_transfer.specs.declared.announcement.Announced.TheVariants.{Absent, Total}
-use Rattle.link_unpack.specs.Transfers.{Transfer, ordered, transfers_of}
+use Rattle.link_unpack.specs.Transfers.{Transfer}
 use Rattle.link_pack.specs.Bundles.{Packed, Rest, Divided}
-use Rattle.link_pack.specs.Packing.{packing, segment_size, sending}
+use Rattle.link_pack.specs.Packing.{segment_size, sending}
 use Rattle.link_pack.specs.Segments.{cutting_of, segments_of}
 use Rattle.link_pack.specs.declared.options.PackOptions.{PackOptions}
+use Rattle.link_pack.proofs.Outcomes.{whole_of}
 use Rattle.link_laws.specs.PackedStream.{SegmentFits, TransferFits, KeepsLimits}
-use Rattle.link_laws.specs.Ranges.{OptionsFit, InputFits}
 use Rattle.link_laws.proofs.Carried.{onto, rest_onto, partly, transfer_of, due_within}
 use Rattle.link_laws.proofs.Divided.{AreBundles, IsRest}
 use Rattle.link_laws.proofs.Entries.{bundle_entries, due_entries, rest_entries, term_entries, end_entries, init_bytes, bundles_bytes, rest_bytes, first_entries, more_entries, last_entries, packed_entries, init_entry, some_size}
-use Rattle.link_laws.proofs.Readings.{divides, packed_so, carried, input}
+use Rattle.link_laws.proofs.Readings.{input, packed, IsPacked}
 use Rattle.link_laws.proofs.Segments.{segment_entries}
 use Rattle.link_laws.proofs.Sendings.{segments_fit}
 
@@ -135,23 +133,20 @@ module _ (options : PackOptions) where
 
 -- ---- the whole
 
-listing_status : (stream : List ℕ) → (listing stream).status ≡ end_status (reading_of stream).end
-unfolding listing
-listing_status stream = refl
-
-module _ (options : PackOptions) (bytes : List ℕ)
-    (fit : OptionsFit options) (fits : InputFits bytes)
-    (only : (stream : List ℕ) (reading : Reading) → IsReading stream reading → reading ≡ reading_of stream) where
-  pub keeps : KeepsLimits options (packing options bytes).texts.output
-  keeps =
-      let so = packed_so options bytes fit fits only in
-      let is = divides options bytes fit fits only in
-      let runs = carried options bytes fit fits only in
-      let whole = input options bytes fit fits only in
-      record {
-        clean = listing_status _ ∙ ap end_status so.clean;
-        in_order = subst (λ heads. ordered heads ≡ record { heads = heads; refused = None }) (sym so.heads) runs.in_order;
-        segments = subst (All (λ (head : Entry). SegmentFits options head.message)) (sym so.entries) (packed_fits options whole);
-        transfers = subst (All (TransferFits options)) (sym (ap transfers_of so.heads ∙ runs.makes))
-            (rest_kept options (length whole.bundles) whole.rest _ is.rest (bundles_kept options 0 whole.bundles [] is.bundles (All-nil (TransferFits options))));
-      }
+pub keeps : (options : PackOptions) (bytes : List ℕ) → IsPacked options bytes
+    → KeepsLimits options (packed options bytes).texts.output
+unfolding listing_of
+keeps options bytes is =
+    let parts = is.divides in
+    let whole = input options bytes in
+    record {
+      clean = ap (λ (r : Reading). (whole_of (listing_by r)).status) is.reads;
+      in_order = is.carries.in_order;
+      segments =
+          subst (λ (r : Reading). All (Fits options) r.entries) (sym is.reads)
+          (packed_fits options whole);
+      transfers =
+          subst (All (TransferFits options)) (sym is.carries.makes)
+          (rest_kept options (length whole.bundles) whole.rest _ parts.rest
+          (bundles_kept options 0 whole.bundles [] parts.bundles (All-nil (TransferFits options))));
+    }

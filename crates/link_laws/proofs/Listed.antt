@@ -1,22 +1,22 @@
 -- A packed stream is listed as it was cut.
 use Rattle.std.proofs.Common.{◌≡◌, ℕ, zero, suc, ◌+◌, Bool, true, false, List, [], ◌∷◌, ◌++◌, length, Option, Some, None, refl, ap, ap₂, sym, ◌∙◌, append-nil, append_assoc, length-append, arith}
 use Rattle.link_wire.specs.Codes.{is_start}
-use Rattle.link_wire.specs.SpelledStream.{IsReading}
 use Rattle.link_wire.specs.Spelled.{be}
 use Rattle.link_wire.specs.Spelling.{announce_bytes, total_bytes, list_bytes, list_size, segment_head_bytes, segment_head_size, sess_init_bytes}
-use Rattle.link_wire.specs.Stream.{Entry, Reading, reading_of}
+use Rattle.link_wire.specs.Stream.{Reading}
 use Rattle.link_transfer.specs.Cutting.{due}
 use Rattle.link_report.specs.Message.{contact_text, message_text}
 use Rattle.link_run.specs.Run.{Outcome}
-use Rattle.link_list.specs.Listing.{listing, listing_by, message_lines}
-use Rattle.link_pack.specs.Bundles.{Packed, divided}
-use Rattle.link_pack.specs.Packing.{packing, sending, transfers_of}
+use Rattle.link_list.specs.Listing.{listing_of, listing_by, message_lines, list_tool}
+use Rattle.link_pack.specs.Bundles.{Packed, Rest, divided}
+use Rattle.link_pack.specs.Packing.{sending, transfers_of}
 use Rattle.link_pack.specs.Segments.{Sending, cut_at, segment_bytes, segments_from}
 use Rattle.link_pack.specs.declared.options.PackOptions.{PackOptions}
+use Rattle.link_pack.proofs.Outcomes.{whole_of}
 use Rattle.link_laws.specs.Listed.{flags_at, length_at, segment_line, segment_span, segment_lines, segments_span, chunks_of, term_line, bundle_lines, IsListed}
-use Rattle.link_laws.specs.Ranges.{OptionsFit, InputFits}
 use Rattle.link_laws.proofs.Entries.{init_bytes, init_entry, bundle_entries, term_entries, packed_entries, packed_reading}
-use Rattle.link_laws.proofs.Readings.{packed_reads, nothing_left}
+use Rattle.link_laws.proofs.Listings.{message_lines-append}
+use Rattle.link_laws.proofs.Readings.{packed, nothing_left, IsPacked}
 use Rattle.link_laws.proofs.Segments.{chunk_of, segment_entries}
 
 -- ---- sizes
@@ -71,18 +71,6 @@ module _ (id : ℕ) (sending : Sending) where
       (segments_listed (suc k) count (offset + length (segment_bytes id (cut_at sending k) (chunk_of sending k)))
       ∙ ap (λ n. segment_lines id sending (suc k) count (offset + n)) (length-segment k))
 
-lines_then : (entries more : List Entry)
-    → message_lines (entries ++ more) ≡ message_lines entries ++ message_lines more
-unfolding message_lines
-lines_then [] more = refl
-lines_then (head ∷ entries) more =
-    ap (λ lines. message_text head.offset head.message ++ lines) (lines_then entries more)
-    ∙ sym (append_assoc (message_text head.offset head.message) (message_lines entries) (message_lines more))
-
-one_listed : (head : Entry) → message_lines (head ∷ []) ≡ message_text head.offset head.message
-unfolding message_lines
-one_listed head = append-nil (message_text head.offset head.message)
-
 module _ (options : PackOptions) where
   term_listed : (asked : Bool) (offset : ℕ)
       → message_lines (term_entries options asked offset) ≡ term_line asked offset
@@ -106,13 +94,14 @@ module _ (options : PackOptions) where
       let term = term_entries options options.send_term after in
       let follows : after ≡ next + length (transfers_of options (suc number) more) =
       omega (arith, at, length-append (segments_from number whole 0 count) (transfers_of options (suc number) more)) in
-      ap message_lines (append_assoc front rest term) ∙ lines_then front (rest ++ term)
+      ap message_lines (append_assoc front rest term) ∙ message_lines-append front (rest ++ term)
       ∙ ap₂ (λ (a b : List ℕ). a ++ b) (segments_listed number whole 0 count offset)
       (bundles_listed (suc number) more next after follows ∙ ap (λ n. bundle_lines options (suc number) (offset + n) more) (length-segments number whole 0 count))
 
   messages_listed : (bundles : List Packed)
       → message_lines (packed_entries options (record { bundles = bundles; rest = None }))
       ≡ message_text 6 (init_entry options).message ++ bundle_lines options 0 (31 + length options.node.items) bundles
+  unfolding message_lines
   messages_listed bundles =
       let init = init_bytes options in
       let segments = transfers_of options 0 bundles in
@@ -122,33 +111,31 @@ module _ (options : PackOptions) where
       let rest = bundle_entries options 0 bundles (6 + length init) in
       let at : after ≡ 6 + length init + length segments = omega (arith, length-append (init ++ segments) [], length-append init segments) in
       ap (λ entries. message_lines (entries ++ term)) (append-nil (init_entry options ∷ rest))
-      ∙ lines_then (init_entry options ∷ []) (rest ++ term)
-      ∙ ap₂ (λ (a b : List ℕ). a ++ b) (one_listed (init_entry options))
+      ∙ ap (λ (lines : List ℕ). message_text 6 (init_entry options).message ++ lines)
       (bundles_listed 0 bundles (6 + length init) after at ∙ ap (λ n. bundle_lines options 0 n bundles) (omega (arith, size)))
 
-listing_of : (stream : List ℕ) → listing stream ≡ listing_by (reading_of stream)
-unfolding listing
-listing_of stream = refl
-
-module _ (options : PackOptions) (bytes : List ℕ)
-    (fit : OptionsFit options) (fits : InputFits bytes)
-    (only : (stream : List ℕ) (reading : Reading) → IsReading stream reading → reading ≡ reading_of stream) where
+module _ (options : PackOptions) (bytes : List ℕ) (is_packed : IsPacked options bytes)
+    (clean : (packed options bytes).status ≡ 0) where
   abbrev bundles : List Packed
   bundles = (divided options.peer_transfer bytes).bundles
 
-  listing_is : (packing options bytes).status ≡ 0
-      → listing (packing options bytes).texts.output
-      ≡ listing_by (packed_reading options (record { bundles = bundles; rest = None }))
-  listing_is is =
-      listing_of _ ∙ ap listing_by (sym (packed_reads options bytes fit fits only))
-      ∙ ap (λ rest. listing_by (packed_reading options (record { bundles = bundles; rest = rest }))) (nothing_left options bytes is)
+  abbrev listing_with : Option Rest → Outcome
+  listing_with rest =
+      whole_of (listing_by (packed_reading options (record { bundles = bundles; rest = rest })))
 
-  pub listed : (packing options bytes).status ≡ 0
-      → IsListed options bytes (packing options bytes).texts.output
-  listed is = record {
-    output = ap (λ (o : Outcome). o.texts.output) (listing_is is)
-        ∙ ap (λ lines. contact_text (record { flags = 0 }) ++ lines) (messages_listed options bundles)
-        ∙ sym (append_assoc (contact_text (record { flags = 0 })) (message_text 6 (init_entry options).message) _);
-    report = ap (λ (o : Outcome). o.texts.report) (listing_is is);
-    status = ap (λ (o : Outcome). o.status) (listing_is is);
-  }
+  listing_is : list_tool.whole (packed options bytes).texts.output ≡ listing_with None
+  unfolding listing_of
+  listing_is =
+      ap (λ (r : Reading). whole_of (listing_by r)) is_packed.reads
+      ∙ ap listing_with (nothing_left options bytes clean)
+
+  pub listed : IsListed options bytes (packed options bytes).texts.output
+  listed =
+      let contact = contact_text (record { flags = 0 }) in
+      record {
+        output = ap (λ (o : Outcome). o.texts.output) listing_is
+            ∙ ap (λ lines. contact ++ lines) (messages_listed options bundles)
+            ∙ sym (append_assoc contact (message_text 6 (init_entry options).message) _);
+        report = ap (λ (o : Outcome). o.texts.report) listing_is;
+        status = ap (λ (o : Outcome). o.status) listing_is;
+      }

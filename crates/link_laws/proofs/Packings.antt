@@ -6,16 +6,19 @@ use Rattle.link_bundle_types.specs.Faults.{lasts}
 use Rattle.link_bundle_types.specs.declared.fault.BundleFault.{BundleFault}
 use Rattle.link_bundle_types.specs.declared.info.BundleInfo.{BundleInfo}
 use Rattle.link_bundle.specs.Bundle.{verdict, bundle_goes}
+use Rattle.link_run.specs.Made.{Made}
 use Rattle.link_pack.specs.Bundles.{Packed, Refusal, Longer, Faulty, Divided, front_of, refused_by, with_bundle, divided_by, divided, joined}
-use Rattle.link_pack.specs.Packing.{prelude_bytes, segment_size, sending, transfers_of, rest_segments, bundles_output, end_bytes, lines_of, line_of, pack_tool}
+use Rattle.link_pack.specs.Packing.{prelude_bytes, segment_size, sending, transfers_of, rest_segments, bundles_output, lines_of, line_of, packing_of, packing_by, pack_tool}
+use Rattle.link_pack.specs.PackRun.{texts_of}
 use Rattle.link_pack.specs.Segments.{segments_of}
 use Rattle.link_pack.specs.declared.options.PackOptions.{PackOptions}
 use Rattle.link_pack.proofs.Dividing.{front_more, whole_stops, faulty_stops, within_limit, beyond_limit, divided_front}
-use Rattle.link_pack.proofs.Outcomes.{whole_as, sofar_going, sofar_refused, whole_refused}
+use Rattle.link_pack.proofs.Outcomes.{made_as, texts_going, unshown_going}
 use Rattle.link_pack.proofs.Sending.{segments_grow, segments_none}
 use Rattle.link_laws.specs.Prefix.{IsFrontOf, IsPrefixed}
-use Rattle.link_laws.proofs.Divisions.{IsRefused, IsOpen, refused_so, is_divided}
-use Rattle.link_laws.proofs.Fronts.{front_same, front_then, front_after, front_first, front_none, take-append}
+use Rattle.link_laws.proofs.Divisions.{IsRefused, IsOpen, StaysDivided, refused_so, stays_divided}
+use Rattle.link_laws.proofs.Fronts.{front_same, front_then, front_after, front_first, front_none, AreFronts, fronts_same, take-append}
+use Rattle.link_laws.proofs.Prefixes.{MadeOn, prefixed}
 
 -- if more bytes are needed before `run`, and none after it, then `run` is not empty
 some_come : (begun run : List ℕ) → bundle_goes begun ≡ true → bundle_goes (begun ++ run) ≡ false
@@ -78,7 +81,7 @@ module _ (options : PackOptions) where
 
     -- the bundle is refused, or goes on
     rest_front : (run accepted : List ℕ) (refusal : Refusal) → accepted ≡ begun ++ run
-        → IsFrontOf (begun_segments number begun) (segments number (refused_so [] refusal accepted))
+        → IsFrontOf (begun_segments number begun) (segments number (refused_so refusal accepted))
     unfolding transfers_of
     rest_front run accepted refusal is = rw (is, add-zero) (grown_any run)
 
@@ -132,48 +135,71 @@ module _ (options : PackOptions) where
   -- the output after some bundles
   output_front : (bundles : List Packed) (begun : List ℕ) (input : Divided)
       → IsFrontOf (begun_segments (length bundles) begun) (segments (length bundles) input)
-      → IsFrontOf (prelude_bytes options ++ transfers_of options 0 bundles
-      ++ begun_segments (length bundles) begun) (bundles_output options (joined bundles input)
-      ++ end_bytes options input.rest)
+      → IsFrontOf (texts_of options bundles begun).output
+      (bundles_output options (joined bundles input))
   output_front bundles begun input front =
       let from : 0 + length bundles ≡ length bundles = omega arith in
       let before = prelude_bytes options ++ transfers_of options 0 bundles in
-      let all : bundles_output options (joined bundles input) ≡ before ++ segments (length bundles) input =
+      let after = transfers_of options (length bundles) input.bundles in
+      let rest = rest_segments options (length bundles + length input.bundles) input.rest in
+      let all : bundles_output options (joined bundles input) ≡ before ++ (after ++ rest) =
       rw (transfers_of-append 0 bundles input.bundles, length-append bundles input.bundles, from)
-      (ap (λ (xs : List ℕ). xs ++ rest_segments options (length bundles + length input.bundles) input.rest) (sym (append_assoc (prelude_bytes options) (transfers_of options 0 bundles) (transfers_of options (length bundles) input.bundles)))
-      ∙ append_assoc before (transfers_of options (length bundles) input.bundles) _) in
-      front_then (before ++ begun_segments (length bundles) begun) (bundles_output options (joined bundles input)) (end_bytes options input.rest)
-      (rw all (front_after before _ _ front))
+      (ap (λ (xs : List ℕ). xs ++ rest)
+      (sym (append_assoc (prelude_bytes options) (transfers_of options 0 bundles) after))
+      ∙ append_assoc before after rest) in
+      rw all (front_after before _ _ front)
 
-  report_front : (bundles : List Packed) (input : Divided) (line : List ℕ)
-      → IsFrontOf (lines_of options 0 bundles) (lines_of options 0 (bundles ++ input.bundles)
-      ++ line)
-  report_front bundles input line = front_then _ _ line (rw (lines_of-append 0 bundles input.bundles) (front_first _ _))
+  ended_front : (bytes : List ℕ)
+      → AreFronts (packing_of options bytes).texts (packing_of options bytes).ended
+  unfolding packing_of
+  ended_front bytes = record { output = front_first _ _; report = front_same _ _ refl }
 
-  module _ (bytes more : List ℕ) where
-    -- the last bundle of the input has begun, and goes on
-    open_prefix : IsOpen options.peer_transfer bytes → IsPrefixed (pack_tool options) bytes more
-    open_prefix opened =
-        let input = divided options.peer_transfer (opened.begun ++ more) in
-        let here = ap (divided options.peer_transfer) (sym (append-nil bytes)) ∙ opened.divides [] ∙ ap (λ (begun : List ℕ). joined opened.bundles (divided options.peer_transfer begun)) (append-nil opened.begun) in
-        let sofar = sofar_going options bytes opened.bundles opened.begun opened.front opened.goes opened.within here in
-        let whole = whole_as options (bytes ++ more) (joined opened.bundles input) (opened.divides more) in
+  module _ (bytes more : List ℕ) (parts : StaysDivided options.peer_transfer bytes) where
+    open parts use {bundles, begun, divides}
+
+    -- what follows the bundles is refused
+    refused_on : IsRefused options.peer_transfer begun
+        → MadeOn (packing_of options bytes) (packing_of options (bytes ++ more))
+    refused_on refused =
+        let input = refused_so refused.refusal refused.accepted in
+        let made = packing_by options (joined bundles input) in
+        let is : (rest : List ℕ) → packing_of options (bytes ++ rest) ≡ made =
+        λ rest. made_as options (bytes ++ rest) (joined bundles input)
+        (divides rest ∙ ap (joined bundles) (refused.divides rest)) in
+        let same = is more ∙ sym (is []) ∙ ap (packing_of options) (append-nil bytes) in
         record {
-          output = rw (sofar, whole) (output_front opened.bundles opened.begun input (begun_front options.peer_transfer (length opened.bundles) opened.begun more opened.front opened.goes opened.within));
-          report = rw (sofar, whole) (report_front opened.bundles input _);
+          texts = fronts_same _ _ (ap (λ (m : Made). m.texts) (sym same));
+          ended = ended_front (bytes ++ more);
+          stays = λ shown. same;
         }
 
-    -- a bundle is refused, and the texts stay the same
-    refused_prefix : IsRefused options.peer_transfer bytes
-        → IsPrefixed (pack_tool options) bytes more
-    refused_prefix refused =
-        let here = ap (divided options.peer_transfer) (sym (append-nil bytes)) ∙ refused.divides [] in
-        let sofar = sofar_refused options bytes refused.bundles refused.accepted refused.refusal refused.shown here in
-        let whole = whole_refused options (bytes ++ more) refused.bundles refused.accepted refused.refusal refused.shown (refused.divides more) in
-        record {
-          output = rw (sofar, whole) (front_same _ _ refl);
-          report = rw (sofar, whole) (front_same _ _ refl);
-        }
+    module _ (opened : IsOpen options.peer_transfer begun) where
+      open opened use {front, goes, within}
 
-    pub pack_prefix : IsPrefixed (pack_tool options) bytes more
-    pack_prefix = ⊎_elim refused_prefix open_prefix (is_divided options.peer_transfer bytes)
+      texts_on : AreFronts (texts_of options bundles begun) (packing_of options (bytes ++ more)).texts
+      texts_on =
+          let limit = options.peer_transfer in
+          let input = divided limit (begun ++ more) in
+          rw (made_as options (bytes ++ more) (joined bundles input) (divides more)) (record {
+            output =
+                output_front bundles begun input
+                (begun_front limit (length bundles) begun more front goes within);
+            report = rw (lines_of-append 0 bundles input.bundles) (front_first _ _);
+          })
+
+      -- another bundle has begun, and goes on
+      open_on : MadeOn (packing_of options bytes) (packing_of options (bytes ++ more))
+      open_on =
+          let texts = texts_going options bytes bundles begun front goes within divides in
+          let unshown = unshown_going options bytes bundles begun front goes within divides in
+          record {
+            texts = rw texts texts_on;
+            ended = ended_front (bytes ++ more);
+            stays = λ shown. absurd (false≢true (sym unshown ∙ shown));
+          }
+
+  pub pack_prefix : (bytes more : List ℕ) → IsPrefixed (pack_tool options) bytes more
+  pack_prefix bytes more =
+      let parts = stays_divided options.peer_transfer bytes in
+      prefixed (packing_of options) bytes more
+      (⊎_elim (refused_on bytes more parts) (open_on bytes more parts) parts.last)

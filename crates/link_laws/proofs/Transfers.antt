@@ -1,5 +1,5 @@
 -- The texts that are written for transfers stay when more heads follow.
-use Rattle.std.proofs.Common.{◌≡◌, ℕ, ◌⊎◌, inl, inr, Bool, true, false, ◌&&◌, ◌==◌, is_some, List, [], ◌∷◌, ◌++◌, length, Option, Some, None, if◌then◌else◌, refl, ap, sym, ◌∙◌, ⊎_elim, append-nil}
+use Rattle.std.proofs.Common.{◌≡◌, ℕ, ◌⊎◌, inl, inr, Bool, true, false, ◌&&◌, ◌==◌, is_some, List, [], ◌∷◌, ◌++◌, length, Option, Some, None, if◌then◌else◌, refl, ap, sym, ◌∙◌, ⊎_elim}
 use Rattle.std.specs.List.{fold}
 use Rattle.std.proofs.lemmas.Bool.{cases_Bool, false≢true}
 use Rattle.link_wire.specs.Codes.{is_start, is_end}
@@ -12,35 +12,30 @@ use Rattle.link_transfer.specs.Order.{is_segment, open_of, refusal}
 use Rattle.link_transfer.specs.declared.fault.OrderFault.{OrderFault}
 use Rattle.link_transfer.proofs.Joining.{after-segment, after-other}
 use Rattle.link_bundle.specs.Bundle.{payload_in}
-use Rattle.link_unpack.specs.Transfers.{Ordered, ordered_by, ordered_after, Transfer, closes, continued, after_segment, after_message, transfers_of, settled}
+use Rattle.link_unpack.specs.Transfers.{Ordered, ordered_by, ordered_after, Transfer, closes, continued, after_segment, after_message, settled}
 use Rattle.link_unpack.specs.TransferScan.{grown}
 use Rattle.link_unpack.specs.Unpacking.{is_selected, parts_of, lines_of}
-use Rattle.link_unpack.specs.UnpackRun.{messages_of}
+use Rattle.link_unpack.specs.UnpackRun.{texts_of}
 use Rattle.link_unpack.specs.declared.wanted.Wanted.{Wanted}
 use Rattle.link_unpack.proofs.Heads.{transfers_same, transfer_begins, transfer_continues}
-use Rattle.link_unpack.proofs.Orders.{messages_then, open_where_continued}
+use Rattle.link_unpack.proofs.Orders.{open_where_continued}
 use Rattle.link_unpack.proofs.Texts.{parts_more, lines_more}
 use Rattle.link_laws.specs.Prefix.{IsFrontOf}
-use Rattle.link_laws.proofs.Fronts.{front_same, front_first, front_after, front_none, front_trans}
+use Rattle.link_laws.proofs.Fronts.{front_same, front_first, front_after, front_none, front_trans, AreFronts, fronts_same, fronts_trans}
 use Rattle.link_laws.proofs.Payloads.{payload_front}
 
--- whether the latest transfer is closed
-abbrev pub latest_closed : List Transfer → Bool
-latest_closed [] = false
-latest_closed (latest ∷ earlier) = latest.closed
+-- the latest transfer is open
+abbrev pub IsOpen : List Transfer → Type 0
+IsOpen [] = ⊥
+IsOpen (latest ∷ earlier) = latest.closed ≡ false
 
 module _ (wanted : Wanted) where
-  -- both texts of the first transfers are prefixes of those of the second
-  pub record Precedes (first second : List Transfer) : Type 0 where
-    pub output : IsFrontOf (parts_of wanted first) (parts_of wanted second)
-    pub report : IsFrontOf (lines_of wanted (settled first)) (lines_of wanted (settled second))
+  -- the texts of the first transfers are prefixes of those of the second
+  abbrev pub Precedes : (first second : List Transfer) → Type 0
+  Precedes first second = AreFronts (texts_of wanted first) (texts_of wanted second)
 
   pub precedes_same : (transfers : List Transfer) → Precedes transfers transfers
-  precedes_same transfers = record { output = front_same _ _ refl; report = front_same _ _ refl }
-
-  pub precedes_trans : (first mid second : List Transfer) → Precedes first mid
-      → Precedes mid second → Precedes first second
-  precedes_trans first mid second one two = record { output = front_trans _ _ _ one.output two.output; report = front_trans _ _ _ one.report two.report }
+  precedes_same transfers = fronts_same _ _ refl
 
   -- ---- another transfer
 
@@ -91,9 +86,9 @@ module _ (wanted : Wanted) where
   }
 
   pub continued_front : (transfers : List Transfer) (piece : List ℕ) (closed : Bool)
-      → latest_closed transfers ≡ false → Precedes transfers (continued transfers piece closed)
-  continued_front [] piece closed unclosed = precedes_same []
-  continued_front (latest ∷ earlier) piece closed unclosed = grown_front latest earlier piece closed unclosed
+      → IsOpen transfers → Precedes transfers (continued transfers piece closed)
+  continued_front [] piece closed opened = absurd opened
+  continued_front (latest ∷ earlier) piece closed opened = grown_front latest earlier piece closed opened
 
 -- ---- heads that are in order
 
@@ -108,65 +103,65 @@ kind_of message.Keepalive = inr refl
 kind_of (message.SessTerm flags reason) = inr refl
 kind_of (message.MsgReject reason header) = inr refl
 
--- if a transfer is open after these messages, the latest transfer is not closed
+-- if a transfer is open after these messages, it is the latest
 pub record KnowsOpen (transfers : List Transfer) (before : List Message) : Type 0 where
-  pub unclosed : is_some (open_of before) ≡ true → latest_closed transfers ≡ false
+  pub opened : is_some (open_of before) ≡ true → IsOpen transfers
 
-knows_none : KnowsOpen [] []
-knows_none = record { unclosed = λ some. refl }
+pub knows_none : KnowsOpen [] []
+unfolding open_of
+knows_none = record { opened = λ some. absurd (cc) }
 
-segment_closes : (starts : Bool) (transfers : List Transfer) (head : SegmentHead) (content : List ℕ)
-    → is_start head.flags ≡ starts → closes head content ≡ false
-    → latest_closed (after_segment transfers head content) ≡ false
-segment_closes true transfers head content starts unclosed = rw starts unclosed
-segment_closes false [] head content starts unclosed = rw starts refl
-segment_closes false (latest ∷ earlier) head content starts unclosed = rw starts unclosed
-
--- a segment that does not close its transfer leaves it open
-pub segment_open : (transfers : List Transfer) (head : SegmentHead) (content : List ℕ)
-    → closes head content ≡ false → latest_closed (after_segment transfers head content) ≡ false
-segment_open transfers head content unclosed = segment_closes (is_start head.flags) transfers head content refl unclosed
+open_by : (starts : Bool) (transfers : List Transfer) (head : SegmentHead) (content : List ℕ)
+    → is_start head.flags ≡ starts → (starts ≡ false → IsOpen transfers)
+    → closes head content ≡ false → IsOpen (after_segment transfers head content)
+open_by true transfers head content starts opened unclosed = rw starts unclosed
+open_by false [] head content starts opened unclosed = absurd (opened refl)
+open_by false (latest ∷ earlier) head content starts opened unclosed = rw starts unclosed
 
 unended : (ends : Bool) (id : ℕ) → is_some (if ends then None else Some id) ≡ true → ends ≡ false
 unended true id some = absurd (false≢true some)
 unended false id some = refl
 
-module _ (transfers : List Transfer) (before : List Message) (content : List ℕ) where
-  knows_segment : (head : SegmentHead)
+module _ (transfers : List Transfer) (before : List Message)
+    (knows : KnowsOpen transfers before) where
+  -- a segment without START continues the transfer that is open
+  pub open_before : (head : SegmentHead) → refusal before (event_of (message.Segment head)) ≡ None
+      → is_start head.flags ≡ false → IsOpen transfers
+  open_before head may continues =
+      knows.opened (open_where_continued before head.flags head.id continues may)
+
+  -- a segment that does not close its transfer leaves it open
+  pub segment_open : (head : SegmentHead) (content : List ℕ)
+      → refusal before (event_of (message.Segment head)) ≡ None → closes head content ≡ false
+      → IsOpen (after_segment transfers head content)
+  segment_open head content may unclosed =
+      open_by (is_start head.flags) transfers head content refl (open_before head may) unclosed
+
+  knows_segment : (head : SegmentHead) (content : List ℕ)
+      → refusal before (event_of (message.Segment head)) ≡ None
       → KnowsOpen (after_segment transfers head content) (before ++ message.Segment head ∷ [])
-  knows_segment head = record {
-    unclosed = λ some.
-        let ends = unended (is_end head.flags) head.id (ap is_some (sym (after-segment before (message.Segment head) head.flags head.id refl)) ∙ some) in
-        segment_open transfers head content (ap (λ e. e && (length content == head.length)) ends);
+  knows_segment head content may = record {
+    opened = λ some.
+        let after = after-segment before (message.Segment head) head.flags head.id refl in
+        let ends = unended (is_end head.flags) head.id (ap is_some (sym after) ∙ some) in
+        segment_open head content may (ap (λ e. e && (length content == head.length)) ends);
   }
 
-  pub knows_more : (sent : Message) → KnowsOpen transfers before
+  pub knows_more : (sent : Message) (content : List ℕ) → refusal before (event_of sent) ≡ None
       → KnowsOpen (after_message transfers sent content) (before ++ sent ∷ [])
-  knows_more sent knows =
+  knows_more sent content may =
       ⊎_elim
-      (λ segment. rw segment.1 (knows_segment segment.0))
+      (λ segment. rw segment.1 (knows_segment segment.0 content (rw segment.1 at may)))
       (λ other. record {
-        unclosed = λ some.
-            ap latest_closed (transfers_same transfers sent content other)
-            ∙ knows.unclosed (ap is_some (sym (after-other before sent other)) ∙ some);
+        opened = λ some.
+            rw (transfers_same transfers sent content other)
+            (knows.opened (ap is_some (sym (after-other before sent other)) ∙ some));
       })
       (kind_of sent)
 
 -- these transfers after more heads
 abbrev pub with_heads : List Transfer → List Entry → List Transfer
 with_heads transfers heads = fold (λ ts head. after_message ts head.message head.content) transfers heads
-
-knows_after : (heads : List Entry) (transfers : List Transfer) (before : List Message)
-    → KnowsOpen transfers before
-    → KnowsOpen (with_heads transfers heads) (before ++ messages_of heads)
-knows_after [] transfers before knows = rw append-nil knows
-knows_after (head ∷ heads) transfers before knows =
-    rw (← messages_then before head heads)
-    (knows_after heads (after_message transfers head.message head.content) (before ++ head.message ∷ []) (knows_more transfers before head.content head.message knows))
-
-pub knows_all : (heads : List Entry) → KnowsOpen (transfers_of heads) (messages_of heads)
-unfolding transfers_of
-knows_all heads = knows_after heads [] [] knows_none
 
 module _ (wanted : Wanted) where
   module _ (transfers : List Transfer) (before : List Message) (content : List ℕ)
@@ -177,7 +172,7 @@ module _ (wanted : Wanted) where
         ⊎_elim
         (λ starts. rw (transfer_begins transfers head content starts) (begins_front wanted _ transfers))
         (λ continues. rw (transfer_continues transfers head content continues)
-        (continued_front wanted transfers content _ (knows.unclosed (open_where_continued before head.flags head.id continues may))))
+        (continued_front wanted transfers content _ (open_before transfers before knows head may continues)))
         (cases_Bool (is_start head.flags))
 
     message_front : (sent : Message) → refusal before (event_of sent) ≡ None
@@ -191,11 +186,12 @@ module _ (wanted : Wanted) where
   heads_by : (refused : Option OrderFault) (transfers : List Transfer) (before : List Message)
       (head : Entry) (rest : Ordered)
       → refusal before (event_of head.message) ≡ refused → KnowsOpen transfers before
-      → Precedes wanted (after_message transfers head.message head.content)
-      (with_heads (after_message transfers head.message head.content) rest.heads)
+      → (refused ≡ None → Precedes wanted (after_message transfers head.message head.content)
+      (with_heads (after_message transfers head.message head.content) rest.heads))
       → Precedes wanted transfers (with_heads transfers (ordered_by refused head rest).heads)
   heads_by (Some fault) transfers before head rest is knows later = precedes_same wanted transfers
-  heads_by None transfers before head rest is knows later = precedes_trans wanted _ _ _ (message_front transfers before head.content knows head.message is) later
+  heads_by None transfers before head rest is knows later =
+      fronts_trans _ _ _ (message_front transfers before head.content knows head.message is) (later refl)
 
   pub heads_front : (heads : List Entry) (transfers : List Transfer) (before : List Message)
       → KnowsOpen transfers before
@@ -203,5 +199,8 @@ module _ (wanted : Wanted) where
   unfolding ordered_after
   heads_front [] transfers before knows = precedes_same wanted transfers
   heads_front (head ∷ heads) transfers before knows =
-      heads_by (refusal before (event_of head.message)) transfers before head (ordered_after (before ++ head.message ∷ []) heads) refl knows
-      (heads_front heads (after_message transfers head.message head.content) (before ++ head.message ∷ []) (knows_more transfers before head.content head.message knows))
+      heads_by (refusal before (event_of head.message)) transfers before head
+      (ordered_after (before ++ head.message ∷ []) heads) refl knows
+      (λ may. heads_front heads (after_message transfers head.message head.content)
+      (before ++ head.message ∷ [])
+      (knows_more transfers before knows head.message head.content may))

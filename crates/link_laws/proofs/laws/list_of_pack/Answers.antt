@@ -1,5 +1,9 @@
 use Rattle.link_laws.proofs.Listed.{listed}
+use Rattle.link_laws.proofs.Readings.{is_packed}
 use Rattle.link_laws.proofs.laws.list_of_pack.Goals as goal
 
 pub returns : goal.returns
-returns c = listed c.args.options.now c.args.bytes.now c.options_fit.ensures c.input_fits.ensures c.exactly_one_reading.ensures.only
+returns c =
+    listed c.args.options.now c.args.bytes.now
+    (is_packed c.args.options.now c.args.bytes.now c.options_fit.ensures c.input_fits.ensures
+    c.exactly_one_reading.ensures.only)
