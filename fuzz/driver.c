@@ -20,7 +20,7 @@
 #include <tcpclkit.h>
 
 /* The slices that are lent at the same time, and the most bytes of each. */
-enum { INPUT, FIRST, SECOND, SLICES };
+enum { INPUT, FIRST, SECOND, MEMORY, SLICES };
 #define MOST ((size_t)1 << 20)
 /* The greatest length of an extension list. */
 #define LIST_MOST 65536
@@ -188,6 +188,50 @@ static void ask_bundle(const uint8_t *bytes, size_t length, size_t cut, size_t r
   ask_texts_of_eid(&it.bundle.source, it.bytes[1], room);
   count(2, it.bundle.source.kind, it.bundle.is_fragment, it.bundle.blocks);
   count(3, it.bundle.destination.kind, it.bundle.flags & 255, it.bundle.payload_length);
+}
+
+/* -- bundles in pieces */
+
+/* What a scan has found is what the bytes that it took are. */
+static void compare_scan(uint64_t *scan, const uint8_t *bytes, size_t length, uint32_t status) {
+  struct names it = {.rooms = {TCPCLKIT_EID_LIMIT, TCPCLKIT_EID_LIMIT}}, same = it;
+  struct tcpclkit_verdict verdict;
+  uint8_t *destination = lend(FIRST, it.rooms[0], 0x11), *source = lend(SECOND, it.rooms[1], 0x11);
+  memset(&it.bundle, 0x11, sizeof it.bundle);
+  CHECK(tcpclkit_raw_scan_verdict(scan, &verdict) == status);
+  CHECK(tcpclkit_raw_scan_info(scan, destination, it.rooms[0], source, it.rooms[1], &it.bundle) ==
+        status);
+  give_back(FIRST, it.rooms[0]);
+  give_back(SECOND, it.rooms[1]);
+  memcpy(it.bytes[0], destination, it.rooms[0]);
+  memcpy(it.bytes[1], source, it.rooms[1]);
+  CHECK(ask_info(bytes, length, 0x11, &same) == status);
+  SAME(verdict, same.bundle.verdict);
+  SAME(it.bundle, same.bundle);
+  SAME(it.bytes, same.bytes);
+}
+
+/* A scan that is fed pieces of this size takes the bytes that belong to the bundle. */
+static void ask_scan(const uint8_t *bytes, size_t length, size_t size, int fill) {
+  size_t room = tcpclkit_raw_scan_size(), at = 0, piece;
+  uint64_t *scan = (uint64_t *)(void *)lend(MEMORY, room, fill), taken;
+  struct tcpclkit_verdict whole;
+  uint32_t status;
+  CHECK(tcpclkit_raw_scan_new(scan) == TCPCLKIT_OK);
+  do {
+    piece = least(length - at, size);
+    status = tcpclkit_raw_scan_feed(scan, bytes + at, piece, &taken);
+    CHECK(status == TCPCLKIT_TRUNCATED ? taken == piece : taken <= piece);
+    at += taken;
+  } while (status == TCPCLKIT_TRUNCATED && at < length);
+  compare_scan(scan, bytes, at, status);
+  if (at < length) {
+    CHECK(ask_verdict(bytes, length, &whole) == TCPCLKIT_FAULT);
+    CHECK(status == TCPCLKIT_FAULT || whole.fault.code == TCPCLKIT_BUNDLE_TRAILING);
+    CHECK(tcpclkit_raw_scan_feed(scan, bytes + at, length - at, &taken) == status && taken == 0);
+    compare_scan(scan, bytes, at, status);
+  }
+  give_back(MEMORY, room);
 }
 
 /* -- texts */
@@ -480,6 +524,8 @@ int LLVMFuzzerTestOneInput(const uint8_t *data, size_t size) {
   memcpy(numbers, data + (size - least(size, sizeof numbers)), least(size, sizeof numbers));
   cut = (numbers[0] >> 5) % (length + 1);
   ask_bundle(bytes, length, cut, numbers[1] & 8191);
+  ask_scan(bytes, length, length + 1, 0x11);
+  ask_scan(bytes, length, 1 + numbers[1] % 64, 0xee);
   ask_contact(bytes, length, cut);
   ask_recording(bytes, length, TCPCLKIT_CONTACT_LENGTH, cut, none);
   ask_recording(bytes, length, 0, cut, begun);

@@ -17,16 +17,18 @@
  * the numbers are, and reads and writes only what it was lent.
  *
  * What the caller owes. Each pointer is valid for the length that follows it, and each pointer to a
- * struct is valid and aligned. What a function writes overlaps nothing else that it is lent. The
- * library cannot see whether this holds. A null pointer with a length of 0 is fine. A null pointer
+ * struct is valid and aligned. What a function writes overlaps nothing else that it is lent. A scan
+ * was made by tcpclkit_scan_new, and since then only the library has written into it. The library
+ * cannot see whether this holds. A null pointer with a length of 0 is fine. A null pointer
  * with another length, or in place of a struct, is answered by TCPCLKIT_NULL, and a length above
  * PTRDIFF_MAX by TCPCLKIT_RANGE. These two answers are those of the inline functions below, which
  * are tested and not proved. A caller that cannot use them, from another language, calls the
  * function `tcpclkit_raw_..` of the same name, and never with a null pointer or with such a length.
  *
  * Threads. The library keeps no state. Every function may be called from any thread at any time,
- * as long as nothing that one call writes is used by another call at that time. A signal handler,
- * and the forked child of a process with threads, may call all but the whole tools.
+ * as long as nothing that one call writes is used by another call at that time. A scan counts as
+ * written by each call that is lent it. A signal handler, and the forked child of a process with
+ * threads, may call all but the whole tools.
  *
  * Memory. The whole tools (tcpclkit_list, tcpclkit_unpack and tcpclkit_pack) call malloc, realloc
  * and free of the C library, which have to be of one allocator. They keep their texts until the run
@@ -205,6 +207,83 @@ static inline uint32_t tcpclkit_bundle_info(const uint8_t *bytes, size_t length,
                                             uint8_t *destination_name, size_t destination_room,
                                             uint8_t *source_name, size_t source_room,
                                             struct tcpclkit_bundle *bundle);
+
+/* -- a bundle in pieces ------------------------------------------------------------------------ */
+
+/* How many numbers of 64 bits a scan has. */
+#define TCPCLKIT_SCAN_WORDS 512u
+
+/*
+ * A scan of one bundle that comes in pieces of any size:
+ *
+ *     struct tcpclkit_scan scan;
+ *     uint64_t taken;
+ *     uint32_t status;
+ *     tcpclkit_scan_new(&scan);
+ *     do {
+ *       length = receive(piece);
+ *       status = tcpclkit_scan_feed(&scan, piece, length, &taken);
+ *     } while (length > 0 && status == TCPCLKIT_TRUNCATED);
+ *
+ * It keeps what the heads of the bundle say, and no byte of the payload. The memory is the caller's
+ * and needs no release. What is in it is the library's. It stays where it is: a copy of its bytes
+ * is no scan.
+ */
+struct tcpclkit_scan {
+  uint64_t memory[TCPCLKIT_SCAN_WORDS];
+};
+
+/*
+ * Makes a scan that has seen no byte, whatever the memory has had in it. So one struct serves many
+ * bundles, one after another.
+ *
+ * TCPCLKIT_OK or TCPCLKIT_NULL.
+ *
+ * Proved: the scan has seen no byte, which `HoldsScan` says.
+ */
+static inline uint32_t tcpclkit_scan_new(struct tcpclkit_scan *scan);
+
+/*
+ * Takes the bytes of the next piece that belong to the bundle, and gives their number.
+ *
+ * TCPCLKIT_TRUNCATED: the bundle goes on, and the whole piece was taken. TCPCLKIT_OK: the bytes
+ * that were taken of this piece and of those before it are a good bundle. TCPCLKIT_FAULT: they are
+ * no bundle, whatever follows, and the last of them shows the first fault. After these two no byte
+ * is taken: a further call takes 0 bytes and returns the same. What was not taken does not belong
+ * to the bundle, so it may be the next bundle. TCPCLKIT_RANGE: the pieces have 2^63 bytes or more,
+ * and nothing of this one was taken.
+ *
+ * Proved: if the scan has seen some bytes, it then has seen these and, after them, `fed` of them
+ * and of the piece, which are as many as `*taken` says. The status is `fed_status`. So the pieces
+ * into which the bytes are cut make no difference.
+ */
+static inline uint32_t tcpclkit_scan_feed(struct tcpclkit_scan *scan, const uint8_t *piece,
+                                          size_t length, uint64_t *taken);
+
+/*
+ * Gives the verdict on the bytes that were taken. Offsets are counted from the bundle's first byte.
+ *
+ * The statuses are those of tcpclkit_bundle_verdict. A byte that follows the bundle is no fault,
+ * since it is not taken.
+ *
+ * Proved: the answer is that of tcpclkit_bundle_verdict of the bytes that the scan has seen, and
+ * the scan has seen the same bytes afterwards.
+ */
+static inline uint32_t tcpclkit_scan_verdict(struct tcpclkit_scan *scan,
+                                             struct tcpclkit_verdict *verdict);
+
+/*
+ * Gives the verdict on the bytes that were taken, and the fields of a good bundle.
+ *
+ * The statuses are those of tcpclkit_bundle_info.
+ *
+ * Proved: the answer is that of tcpclkit_bundle_info of the bytes that the scan has seen, and the
+ * scan has seen the same bytes afterwards.
+ */
+static inline uint32_t tcpclkit_scan_info(struct tcpclkit_scan *scan,
+                                          uint8_t *destination_name, size_t destination_room,
+                                          uint8_t *source_name, size_t source_room,
+                                          struct tcpclkit_bundle *bundle);
 
 /* -- recordings -------------------------------------------------------------------------------- */
 
@@ -466,6 +545,13 @@ uint32_t tcpclkit_raw_bundle_info(const uint8_t *bytes, size_t length,
                                   uint8_t *destination_name, size_t destination_room,
                                   uint8_t *source_name, size_t source_room,
                                   struct tcpclkit_bundle *bundle);
+uint32_t tcpclkit_raw_scan_new(uint64_t *memory);
+uint32_t tcpclkit_raw_scan_feed(uint64_t *memory, const uint8_t *piece, size_t length,
+                                uint64_t *taken);
+uint32_t tcpclkit_raw_scan_verdict(uint64_t *memory, struct tcpclkit_verdict *verdict);
+uint32_t tcpclkit_raw_scan_info(uint64_t *memory, uint8_t *destination_name,
+                                size_t destination_room, uint8_t *source_name,
+                                size_t source_room, struct tcpclkit_bundle *bundle);
 uint32_t tcpclkit_raw_contact(const uint8_t *bytes, size_t length,
                               struct tcpclkit_contact *contact);
 uint32_t tcpclkit_raw_message(const uint8_t *bytes, size_t length, uint64_t offset,
@@ -491,6 +577,13 @@ uint32_t tcpclkit_raw_pack(const uint8_t *bytes, size_t length,
                            const uint8_t *node, size_t node_length,
                            uint8_t *output, size_t output_room,
                            uint8_t *report, size_t report_room, struct tcpclkit_run *run);
+
+/*
+ * How many bytes the library uses of a scan, and what their address is a multiple of. Proved: at
+ * most 4,096, which are TCPCLKIT_SCAN_WORDS numbers, and at most 8.
+ */
+size_t tcpclkit_raw_scan_size(void);
+size_t tcpclkit_raw_scan_alignment(void);
 
 /* -- the inline functions ---------------------------------------------------------------------- */
 
@@ -536,6 +629,47 @@ static inline uint32_t tcpclkit_bundle_info(const uint8_t *bytes, size_t length,
       bytes != NULL ? bytes : &nothing[0], length,
       destination_name != NULL ? destination_name : &nothing[1], destination_room,
       source_name != NULL ? source_name : &nothing[2], source_room, bundle);
+}
+
+static inline uint32_t tcpclkit_scan_new(struct tcpclkit_scan *scan) {
+  if (scan == NULL)
+    return TCPCLKIT_NULL;
+  return tcpclkit_raw_scan_new(scan->memory);
+}
+
+static inline uint32_t tcpclkit_scan_feed(struct tcpclkit_scan *scan, const uint8_t *piece,
+                                          size_t length, uint64_t *taken) {
+  uint8_t nothing = 0;
+  uint32_t status = tcpclkit_slice_status(piece, length);
+  if (status != TCPCLKIT_OK)
+    return status;
+  if (scan == NULL || taken == NULL)
+    return TCPCLKIT_NULL;
+  return tcpclkit_raw_scan_feed(scan->memory, piece != NULL ? piece : &nothing, length, taken);
+}
+
+static inline uint32_t tcpclkit_scan_verdict(struct tcpclkit_scan *scan,
+                                             struct tcpclkit_verdict *verdict) {
+  if (scan == NULL || verdict == NULL)
+    return TCPCLKIT_NULL;
+  return tcpclkit_raw_scan_verdict(scan->memory, verdict);
+}
+
+static inline uint32_t tcpclkit_scan_info(struct tcpclkit_scan *scan,
+                                          uint8_t *destination_name, size_t destination_room,
+                                          uint8_t *source_name, size_t source_room,
+                                          struct tcpclkit_bundle *bundle) {
+  uint8_t nothing[2] = {0, 0};
+  uint32_t status =
+      tcpclkit_first_status(tcpclkit_slice_status(destination_name, destination_room),
+                            tcpclkit_slice_status(source_name, source_room));
+  if (status != TCPCLKIT_OK)
+    return status;
+  if (scan == NULL || bundle == NULL)
+    return TCPCLKIT_NULL;
+  return tcpclkit_raw_scan_info(
+      scan->memory, destination_name != NULL ? destination_name : &nothing[0], destination_room,
+      source_name != NULL ? source_name : &nothing[1], source_room, bundle);
 }
 
 static inline uint32_t tcpclkit_contact(const uint8_t *bytes, size_t length,

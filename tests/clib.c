@@ -114,6 +114,96 @@ static void infos(void) {
   CHECK(tcpclkit_bundle_info(named, sizeof named, NULL, 4, from, 3, &info) == TCPCLKIT_NULL);
 }
 
+/* Feeds the bytes in pieces of this size, and checks what `verdict` and `info` then say of them. */
+static void scanned(struct tcpclkit_scan *scan, const uint8_t *bytes, size_t length, size_t size) {
+  struct tcpclkit_verdict verdict, whole;
+  struct tcpclkit_bundle info, whole_info;
+  uint8_t to[2][8] = {{0}}, from[2][8] = {{0}};
+  uint64_t taken;
+  size_t at = 0, piece;
+  uint32_t status;
+  memset(&info, 0, sizeof info);
+  memset(&whole_info, 0, sizeof whole_info);
+  CHECK(tcpclkit_scan_new(scan) == TCPCLKIT_OK);
+  do {
+    piece = length - at < size ? length - at : size;
+    status = tcpclkit_scan_feed(scan, bytes + at, piece, &taken);
+    at += (size_t)taken;
+  } while (status == TCPCLKIT_TRUNCATED && taken > 0);
+  CHECK(taken <= piece && (status != TCPCLKIT_TRUNCATED || at == length));
+  CHECK(tcpclkit_bundle_verdict(bytes, at, &whole) == status);
+  CHECK(tcpclkit_scan_verdict(scan, &verdict) == status);
+  CHECK(memcmp(&verdict, &whole, sizeof verdict) == 0);
+  CHECK(tcpclkit_scan_info(scan, to[0], 4, from[0], 3, &info) == status);
+  CHECK(tcpclkit_bundle_info(bytes, at, to[1], 4, from[1], 3, &whole_info) == status);
+  CHECK(memcmp(&info, &whole_info, sizeof info) == 0);
+  CHECK(memcmp(to[0], to[1], 8) == 0 && memcmp(from[0], from[1], 8) == 0);
+  /* After the end and after a fault nothing is taken. */
+  if (status != TCPCLKIT_TRUNCATED) {
+    CHECK(tcpclkit_scan_feed(scan, bytes, length, &taken) == status && taken == 0);
+    CHECK(tcpclkit_scan_verdict(scan, &verdict) == status);
+    CHECK(memcmp(&verdict, &whole, sizeof verdict) == 0);
+  }
+}
+
+static void scans(void) {
+  struct tcpclkit_scan scan;
+  struct tcpclkit_verdict verdict;
+  struct tcpclkit_bundle info;
+  uint8_t bad[BUNDLE_LENGTH], to[TCPCLKIT_EID_LIMIT], from[TCPCLKIT_EID_LIMIT];
+  uint64_t taken = 7;
+  size_t size, at;
+  CHECK(tcpclkit_raw_scan_size() <= sizeof scan && tcpclkit_raw_scan_size() > 2048);
+  CHECK(tcpclkit_raw_scan_alignment() == 8);
+  memset(&scan, 0xa5, sizeof scan);
+  for (size = 1; size <= sizeof bundle; size++) {
+    scanned(&scan, bundle, sizeof bundle, size);
+    scanned(&scan, named, sizeof named, size);
+    scanned(&scan, bundle, BUNDLE_LENGTH - 4, size);
+    for (at = 0; at < BUNDLE_LENGTH; at++) {
+      memcpy(bad, bundle, sizeof bad);
+      bad[at] ^= 0x45;
+      scanned(&scan, bad, sizeof bad, size);
+    }
+  }
+  /* no byte at all */
+  CHECK(tcpclkit_scan_new(&scan) == TCPCLKIT_OK);
+  CHECK(tcpclkit_scan_verdict(&scan, &verdict) == TCPCLKIT_TRUNCATED);
+  CHECK(verdict.fault.code == TCPCLKIT_BUNDLE_CUT && verdict.fault.offset == 0);
+  CHECK(tcpclkit_scan_feed(&scan, NULL, 0, &taken) == TCPCLKIT_TRUNCATED && taken == 0);
+  /* a bundle and the next byte, which is not taken */
+  CHECK(tcpclkit_scan_feed(&scan, bundle, 30, &taken) == TCPCLKIT_TRUNCATED && taken == 30);
+  CHECK(tcpclkit_scan_verdict(&scan, &verdict) == TCPCLKIT_TRUNCATED);
+  CHECK(verdict.fault.code == TCPCLKIT_BUNDLE_CUT && verdict.fault.offset == 30);
+  CHECK(verdict.has_payload == 1 && verdict.payload_offset == 28 && verdict.payload_seen == 2);
+  CHECK(tcpclkit_scan_feed(&scan, bundle + 30, 5, &taken) == TCPCLKIT_OK && taken == 4);
+  CHECK(tcpclkit_scan_verdict(&scan, &verdict) == TCPCLKIT_OK);
+  CHECK(verdict.fault.code == TCPCLKIT_NO_FAULT && verdict.payload_seen == 5);
+  CHECK(tcpclkit_scan_info(&scan, NULL, 0, NULL, 0, &info) == TCPCLKIT_OK);
+  CHECK(info.destination.node == 2 && info.source.node == 1 && info.payload_length == 5);
+  /* a fault, and the names of the bundle that comes after it */
+  CHECK(tcpclkit_scan_new(&scan) == TCPCLKIT_OK);
+  CHECK(tcpclkit_scan_feed(&scan, bundle + 1, 8, &taken) == TCPCLKIT_FAULT && taken == 1);
+  CHECK(tcpclkit_scan_info(&scan, to, 1, from, 1, &info) == TCPCLKIT_FAULT);
+  CHECK(info.verdict.fault.code == TCPCLKIT_BUNDLE_NOT_A_BUNDLE);
+  CHECK(tcpclkit_scan_new(&scan) == TCPCLKIT_OK);
+  CHECK(tcpclkit_scan_feed(&scan, named, sizeof named, &taken) == TCPCLKIT_OK);
+  CHECK(tcpclkit_scan_info(&scan, to, 3, from, sizeof from, &info) == TCPCLKIT_TOO_SMALL);
+  CHECK(info.destination.name_length == 4 && begins(to, "//b") && begins(from, "//a"));
+  /* what a caller may get wrong */
+  CHECK(tcpclkit_scan_new(NULL) == TCPCLKIT_NULL);
+  CHECK(tcpclkit_scan_feed(NULL, bundle, 1, &taken) == TCPCLKIT_NULL);
+  CHECK(tcpclkit_scan_feed(&scan, NULL, 1, &taken) == TCPCLKIT_NULL);
+  CHECK(tcpclkit_scan_feed(&scan, bundle, 1, NULL) == TCPCLKIT_NULL);
+  CHECK(tcpclkit_scan_feed(&scan, bundle, SIZE_MAX, &taken) == TCPCLKIT_RANGE);
+  CHECK(tcpclkit_scan_verdict(NULL, &verdict) == TCPCLKIT_NULL);
+  CHECK(tcpclkit_scan_verdict(&scan, NULL) == TCPCLKIT_NULL);
+  CHECK(tcpclkit_scan_info(NULL, NULL, 0, NULL, 0, &info) == TCPCLKIT_NULL);
+  CHECK(tcpclkit_scan_info(&scan, NULL, 1, NULL, 0, &info) == TCPCLKIT_NULL);
+  CHECK(tcpclkit_scan_info(&scan, to, SIZE_MAX, NULL, 0, &info) == TCPCLKIT_RANGE);
+  CHECK(tcpclkit_scan_info(&scan, NULL, 0, NULL, 0, NULL) == TCPCLKIT_NULL);
+}
+
 static void messages(void) {
   struct tcpclkit_contact contact;
   struct tcpclkit_message message;
@@ -351,6 +441,7 @@ static void refusals(int tool) {
 int main(void) {
   verdicts();
   infos();
+  scans();
   messages();
   items();
   orders();

@@ -2,6 +2,7 @@
  * Examples of how the C library is called, which docs/LIBRARIES.md shows word for word.
  *
  *     example bundle < BUNDLE      writes the endpoint IDs of a bundle, or its fault
+ *     example payload < BUNDLE     writes the payload of a bundle while it comes
  *     example data < RECORDING     writes the data of a recording
  *     example pack < BUNDLES       writes bundles as the stream of a sender
  */
@@ -40,6 +41,30 @@ static int show_bundle(const uint8_t *bytes, size_t length) {
   show_eid(&bundle.destination, destination);
   printf(": %" PRIu64 " bytes\n", bundle.payload_length);
   return 1;
+}
+
+/* Writes the payload of a bundle while it comes. Returns whether the bundle is good. */
+static int copy_payload(FILE *input, FILE *output) {
+  struct tcpclkit_scan scan;
+  struct tcpclkit_verdict verdict;
+  uint8_t piece[32];
+  uint64_t taken, start, end, before = 0;
+  size_t length;
+  uint32_t status;
+  tcpclkit_scan_new(&scan);
+  do {
+    length = fread(piece, 1, sizeof piece, input);
+    status = tcpclkit_scan_feed(&scan, piece, length, &taken);
+    tcpclkit_scan_verdict(&scan, &verdict);
+    start = verdict.payload_offset > before ? verdict.payload_offset : before;
+    end = verdict.payload_offset + verdict.payload_seen;
+    if (verdict.has_payload && start < end)
+      fwrite(piece + (start - before), 1, end - start, output);
+    before += taken;
+  } while (status == TCPCLKIT_TRUNCATED && length > 0);
+  if (status != TCPCLKIT_OK)
+    show_fault(&verdict.fault);
+  return status == TCPCLKIT_OK;
 }
 
 /* Writes the data of a recording's segments, joined. Returns whether the recording has no fault. */
@@ -81,7 +106,10 @@ static int pack_bundles(const uint8_t *bytes, size_t length, FILE *output) {
 
 int main(int count, char **words) {
   static uint8_t bytes[1 << 20];
-  size_t length = fread(bytes, 1, sizeof bytes, stdin);
+  size_t length;
+  if (count == 2 && strcmp(words[1], "payload") == 0)
+    return !copy_payload(stdin, stdout);
+  length = fread(bytes, 1, sizeof bytes, stdin);
   if (count == 2 && strcmp(words[1], "bundle") == 0)
     return !show_bundle(bytes, length);
   if (count == 2 && strcmp(words[1], "pack") == 0)

@@ -1,6 +1,7 @@
 """Examples of how the module is called, which docs/LIBRARIES.md shows word for word.
 
     example.py bundle < BUNDLE      writes the endpoint IDs of a bundle, or its fault
+    example.py payload < BUNDLE     writes the payload of a bundle while it comes
     example.py data < RECORDING     writes the data of a recording
     example.py pack < BUNDLES       writes bundles as the stream of a sender
 """
@@ -14,6 +15,19 @@ def show_bundle(content):
     """Returns the endpoint IDs and the length of the payload of a good bundle, as a text."""
     it = tcpclkit.bundle(content)
     return f"{it.source} -> {it.destination}: {len(it.payload)} bytes"
+
+
+def copy_payload(source, output):
+    """Writes the payload of a bundle while it comes."""
+    scan, piece, before = tcpclkit.Scan(), None, 0
+    while scan.is_going and piece != b"":
+        piece = source.read(32)
+        taken = scan.feed(piece)
+        payload = scan.verdict().payload
+        if payload is not None and payload.stop > before:
+            output.write(piece[max(payload.start - before, 0):payload.stop - before])
+        before += taken
+    scan.bundle()
 
 
 def copy_data(recording, output):
@@ -31,8 +45,11 @@ def pack_bundles(bundles):
 
 def main():
     """Does what the argument asks for. Returns the exit status, or the text of a fault."""
-    content = sys.stdin.buffer.read()
     try:
+        if sys.argv[1:] == ["payload"]:
+            copy_payload(sys.stdin.buffer, sys.stdout.buffer)
+            return 0
+        content = sys.stdin.buffer.read()
         if sys.argv[1:] == ["bundle"]:
             print(show_bundle(content))
         elif sys.argv[1:] == ["pack"]:

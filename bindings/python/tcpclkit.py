@@ -19,6 +19,7 @@ bytes, a bytearray, or a memoryview of a mapped file.
 
 import ctypes
 import os
+import threading
 from ctypes import POINTER, byref, c_size_t, c_uint32, c_uint64, c_void_p
 from enum import IntEnum
 from typing import NamedTuple, Optional, Tuple, Union
@@ -29,6 +30,7 @@ OK, END, TRUNCATED, DATA_TRUNCATED, FAULT, TOO_SMALL, RANGE, NULL, MEMORY = rang
 CONTACT_LENGTH = 6
 SEGMENT_END, SEGMENT_START = 1, 2
 EID_LIMIT = 1024
+SCAN_WORDS = 512
 FAULT_ROOM, EID_ROOM = 64, 4100
 
 
@@ -114,9 +116,14 @@ _PackOptions = _struct(
 )
 
 _SLICE = [c_void_p, c_size_t]
+_SCAN = c_uint64 * SCAN_WORDS
 _PARAMETERS = {
     "bundle_verdict": [*_SLICE, POINTER(_Verdict)],
     "bundle_info": [*_SLICE, *_SLICE, *_SLICE, POINTER(_Bundle)],
+    "scan_new": [_SCAN],
+    "scan_feed": [_SCAN, *_SLICE, POINTER(c_uint64)],
+    "scan_verdict": [_SCAN, POINTER(_Verdict)],
+    "scan_info": [_SCAN, *_SLICE, *_SLICE, POINTER(_Bundle)],
     "contact": [*_SLICE, POINTER(_Contact)],
     "message": [*_SLICE, c_uint64, POINTER(_Message)],
     "item": [*_SLICE, c_uint64, c_uint64, POINTER(_Item)],
@@ -295,7 +302,8 @@ class Verdict(NamedTuple):
 class Bundle(NamedTuple):
     """A good bundle. Times are in milliseconds, and `time` counts from 2000-01-01 UTC.
 
-    `fragment` is the offset of a fragment and the total length, or None.
+    `fragment` is the offset of a fragment and the total length, or None. `payload` has the bytes,
+    or, of a Scan, their place in the bundle.
     """
     flags: int
     destination: EndpointId
@@ -305,7 +313,7 @@ class Bundle(NamedTuple):
     lifetime: int
     fragment: Optional[Tuple[int, int]]
     blocks: int
-    payload: bytes
+    payload: Union[bytes, slice]
 
 
 def _verdict(status, it):
@@ -328,14 +336,72 @@ def bundle(content):
     status = _call(
         "bundle_info", *lent.slice, names[0], EID_LIMIT, names[1], EID_LIMIT, byref(it)
     )
+    place = _bundle(status, it, *names)
+    return place._replace(payload=lent[place.payload])
+
+
+def _bundle(status, it, destination, source):
+    """Returns the bundle that the library wrote, with the payload's place, or raises its fault."""
     judged = _verdict(status, it.verdict)
     if judged.fault is not None:
         raise judged.fault
     return Bundle(
-        it.flags, _eid(it.destination, names[0]), _eid(it.source, names[1]), it.time, it.sequence,
+        it.flags, _eid(it.destination, destination), _eid(it.source, source), it.time, it.sequence,
         it.lifetime, (it.fragment_offset, it.fragment_total) if it.is_fragment else None,
-        it.blocks, lent[judged.payload],
+        it.blocks, judged.payload,
     )
+
+
+class Scan:
+    """A scan of one bundle that comes in pieces of any size.
+
+        scan = tcpclkit.Scan()
+        while scan.is_going:
+            piece = receive()
+            taken = scan.feed(piece)
+        bundle = scan.bundle()
+
+    It keeps what the heads of the bundle say, and no byte of the payload.
+    """
+
+    def __init__(self):
+        self._memory = _SCAN()
+        self._lock = threading.Lock()  # Two calls of the library may not share a scan.
+        self.restart()
+
+    def _call(self, name, *arguments):
+        with self._lock:
+            return _call(name, self._memory, *arguments)
+
+    def restart(self):
+        """Makes the scan new, whatever it has seen."""
+        self._call("scan_new")
+
+    def feed(self, piece):
+        """Takes the bytes of the next piece that belong to the bundle, and returns their number.
+
+        After the end of the bundle and after its first fault, that is 0.
+        """
+        lent, taken = _Lent(piece), c_uint64()
+        if self._call("scan_feed", *lent.slice, byref(taken)) == RANGE:
+            raise ValueError("a bundle has 2^63 bytes")
+        return taken.value
+
+    @property
+    def is_going(self):
+        """Whether the bundle goes on after the bytes that were taken."""
+        return self._call("scan_verdict", byref(_Verdict())) == TRUNCATED
+
+    def verdict(self):
+        """Returns the verdict on the bytes that were taken."""
+        it = _Verdict()
+        return _verdict(self._call("scan_verdict", byref(it)), it)
+
+    def bundle(self):
+        """Returns the good bundle that was taken, or raises the Fault of any other bytes."""
+        it, names = _Bundle(), (_room(EID_LIMIT), _room(EID_LIMIT))
+        status = self._call("scan_info", names[0], EID_LIMIT, names[1], EID_LIMIT, byref(it))
+        return _bundle(status, it, *names)
 
 
 # ---- recordings

@@ -129,6 +129,30 @@ static int put_judgement(struct text *text, const uint8_t *bytes, size_t length,
   return status == TCPCLKIT_OK;
 }
 
+/* Feeds the bytes to a scan in pieces. What it has found is what the bytes that it took are. */
+static void compare_scan(const struct job *job) {
+  uint8_t names[4][TCPCLKIT_EID_LIMIT] = {{0}};
+  struct tcpclkit_bundle it, same;
+  struct tcpclkit_scan scan;
+  size_t at = 0, size = 1 + job->length % 13;
+  uint64_t taken;
+  uint32_t status;
+  memset(&it, 0, sizeof it);
+  memset(&same, 0, sizeof same);
+  tcpclkit_scan_new(&scan);
+  do {
+    size_t piece = job->length - at < size ? job->length - at : size;
+    status = tcpclkit_scan_feed(&scan, job->bytes + at, piece, &taken);
+    at += (size_t)taken;
+  } while (status == TCPCLKIT_TRUNCATED && at < job->length);
+  if (tcpclkit_scan_info(&scan, names[0], sizeof names[0], names[1], sizeof names[1], &it) !=
+          status ||
+      tcpclkit_bundle_info(job->bytes, at, names[2], sizeof names[2], names[3], sizeof names[3],
+                           &same) != status ||
+      memcmp(&it, &same, sizeof it) != 0 || memcmp(names[0], names[2], 2 * sizeof names[0]) != 0)
+    die("the bytes in pieces are another bundle");
+}
+
 static int judge(const struct job *job) {
   struct tcpclkit_bundle it;
   struct tcpclkit_verdict same;
@@ -136,6 +160,7 @@ static int judge(const struct job *job) {
   if ((tcpclkit_bundle_verdict(job->bytes, job->length, &same) == TCPCLKIT_OK) != is_good ||
       memcmp(&same, &it.verdict, sizeof same) != 0)
     die("the verdict differs from that of tcpclkit_bundle_info");
+  compare_scan(job);
   put(&output, "\n");
   if (same.has_payload)
     put(&output, "payload %" PRIu64 " %" PRIu64 "\n", same.payload_offset, same.payload_seen);

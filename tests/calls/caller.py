@@ -34,12 +34,28 @@ def judgement(content):
     return text + (f" fragment={it.fragment[0]}/{it.fragment[1]}" if it.fragment else ""), it
 
 
+def compare_scan(content):
+    """Feeds the bytes to a scan in pieces. What it has found is what the bytes that it took are."""
+    scan, at, size = tcpclkit.Scan(), 0, 1 + len(content) % 13
+    while scan.is_going and at < len(content):
+        at += scan.feed(content[at:at + size])
+    if scan.verdict() != tcpclkit.verdict(content[:at]):
+        raise ValueError("the bytes in pieces have another verdict")
+    try:
+        it = scan.bundle()
+    except tcpclkit.Fault:
+        return
+    if it._replace(payload=content[it.payload]) != tcpclkit.bundle(content[:at]):
+        raise ValueError("the bytes in pieces are another bundle")
+
+
 def judge(content):
     """The verdict, where the payload is, and further fields of a good bundle."""
     text, it = judgement(content)
     lines, verdict = [text], tcpclkit.verdict(content)
     if (verdict.fault is None) != (it is not None):
         raise ValueError("the verdict differs from that of `bundle`")
+    compare_scan(content)
     if verdict.payload is not None:
         start, end = verdict.payload.start, verdict.payload.stop
         lines.append(f"payload {start} {end - start}")

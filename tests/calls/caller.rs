@@ -4,9 +4,10 @@
 
 use std::fmt::Write as _;
 use std::io::{BufRead, Read, Write};
+use std::ops::Range;
 use tcpclkit::{
     bundle, contact, list, messages, pack, unpack, verdict, Bundle, Fault, Fields, Items, Message,
-    Order, PackOptions, Run, ToolError, Turn, UnpackOptions, CONTACT_LENGTH, SEGMENT_START,
+    Order, PackOptions, Run, Scan, ToolError, Turn, UnpackOptions, CONTACT_LENGTH, SEGMENT_START,
 };
 
 /// A status and two texts.
@@ -28,7 +29,7 @@ fn fault_line(fault: &Fault) -> String {
 }
 
 /// The judgement of a bundle as `unpack` writes it.
-fn judgement(it: &Result<Bundle<'_>, Fault>) -> String {
+fn judgement(it: &Result<Bundle<&[u8]>, Fault>) -> String {
     match it {
         Ok(it) => {
             let mut text = format!("good source={} time={}", it.source, it.time);
@@ -51,10 +52,29 @@ fn judgement(it: &Result<Bundle<'_>, Fault>) -> String {
     }
 }
 
+/// Feeds the bytes to a scan in pieces. What it has found is what the bytes that it took are.
+fn compare_scan(bytes: &[u8]) {
+    let (mut scan, mut at) = (Scan::new(), 0);
+    for piece in bytes.chunks(1 + bytes.len() % 13) {
+        at += scan.feed(piece);
+    }
+    let (found, same) = (scan.verdict(), verdict(&bytes[..at]));
+    let part = |place: Range<u64>| &bytes[place.start as usize..place.end as usize];
+    assert_eq!((found.fault, found.payload.map(part)), (same.fault, same.payload));
+    match (scan.bundle(), bundle(&bytes[..at])) {
+        (Ok(found), Ok(same)) => assert_eq!(
+            (found.source, found.destination, part(found.payload)),
+            (same.source, same.destination, same.payload)
+        ),
+        (found, same) => assert_eq!(found.err(), same.err()),
+    }
+}
+
 /// The verdict, where the payload is, and further fields of a good bundle.
 fn judge(bytes: &[u8]) -> Answer {
     let (it, verdict) = (bundle(bytes), verdict(bytes));
     assert_eq!(it.as_ref().err(), verdict.fault.as_ref());
+    compare_scan(bytes);
     let mut text = judgement(&it) + "\n";
     if let Some(payload) = verdict.payload {
         let offset = payload.as_ptr() as usize - bytes.as_ptr() as usize;

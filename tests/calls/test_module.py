@@ -73,6 +73,41 @@ class Bundles(unittest.TestCase):
             self.assertRaises(TypeError, tcpclkit.bundle, content)
 
 
+
+class Scans(unittest.TestCase):
+    """Bundles in pieces."""
+
+    def test_each_size_of_pieces(self):
+        content, scan = example("two.bundles"), tcpclkit.Scan()
+        for size in range(1, len(content) + 1):
+            scan.restart()
+            taken = sum(scan.feed(content[at:at + size]) for at in range(0, len(content), size))
+            it = scan.bundle()
+            self.assertEqual((taken, it.payload), (34, slice(28, 33)))
+            self.assertEqual(it._replace(payload=b"hello"), tcpclkit.bundle(HELLO))
+            self.assertEqual((scan.is_going, scan.feed(content)), (False, 0))
+
+    def test_what_has_come(self):
+        scan = tcpclkit.Scan()
+        for length, byte in enumerate(HELLO):
+            self.assertEqual(scan.verdict(), tcpclkit.verdict(HELLO[:length]))
+            self.assertEqual((scan.is_going, scan.feed(b"")), (True, 0))
+            with self.assertRaises(Fault) as raised:
+                scan.bundle()
+            self.assertTrue(raised.exception.is_truncated)
+            self.assertEqual(scan.feed(bytes([byte])), 1)
+        self.assertEqual(scan.verdict(), (None, slice(28, 33)))
+
+    def test_a_fault_stays(self):
+        scan = tcpclkit.Scan()
+        self.assertEqual(scan.feed(HELLO[:2] + b"\6" + HELLO[3:]), 3)
+        self.assertEqual((scan.feed(HELLO), scan.is_going), (0, False))
+        self.assertEqual(scan.verdict(), (Fault(Code.BUNDLE_BAD_VERSION, 0, 2), None))
+        scan.restart()
+        self.assertEqual(scan.feed(bytearray(FRAGMENT)), len(FRAGMENT))
+        self.assertEqual(scan.bundle().source, Dtn(b"//x"))
+
+
 class Recordings(unittest.TestCase):
     """Messages, items and their order."""
 

@@ -1,6 +1,7 @@
 //! Examples of how the crate is called, which docs/LIBRARIES.md shows word for word.
 //!
 //!     example bundle < BUNDLE      writes the endpoint IDs of a bundle, or its fault
+//!     example payload < BUNDLE     writes the payload of a bundle while it comes
 //!     example data < RECORDING     writes the data of a recording
 //!     example pack < BUNDLES       writes bundles as the stream of a sender
 
@@ -8,7 +9,8 @@ use std::error::Error;
 use std::io::{self, Read, Write};
 use std::process::ExitCode;
 use tcpclkit::{
-    bundle, contact, messages, pack, Fault, Fields, PackOptions, Run, ToolError, CONTACT_LENGTH,
+    bundle, contact, messages, pack, Fault, Fields, PackOptions, Run, Scan, ToolError,
+    CONTACT_LENGTH,
 };
 
 /// Returns the endpoint IDs and the length of the payload of a good bundle, as a text.
@@ -19,6 +21,29 @@ fn show_bundle(bytes: &[u8]) -> Result<String, Fault> {
         "{} -> {}: {length} bytes",
         it.source, it.destination
     ))
+}
+
+/// Writes the payload of a bundle while it comes.
+fn copy_payload(input: &mut impl Read, output: &mut impl Write) -> Result<(), Box<dyn Error>> {
+    let (mut scan, mut piece, mut before) = (Scan::new(), [0; 32], 0);
+    loop {
+        let length = input.read(&mut piece)?;
+        let taken = scan.feed(&piece[..length]);
+        let verdict = scan.verdict();
+        if let Some(payload) = &verdict.payload {
+            let start = payload.start.max(before);
+            if start < payload.end {
+                let (start, end) = (start - before, payload.end - before);
+                output.write_all(&piece[start as usize..end as usize])?;
+            }
+        }
+        before += taken as u64;
+        match verdict.fault {
+            None => return Ok(()),
+            Some(fault) if length == 0 || !fault.is_truncated() => return Err(fault.into()),
+            Some(_) => {}
+        }
+    }
 }
 
 /// Writes the data of a recording's segments, joined.
@@ -44,6 +69,10 @@ fn pack_bundles(bundles: &[u8]) -> Result<Run, ToolError> {
 /// Does what the argument asks for. Returns the exit status.
 fn run() -> Result<u8, Box<dyn Error>> {
     let mut bytes = Vec::new();
+    if std::env::args().nth(1).as_deref() == Some("payload") {
+        copy_payload(&mut io::stdin(), &mut io::stdout())?;
+        return Ok(0);
+    }
     io::stdin().read_to_end(&mut bytes)?;
     match std::env::args().nth(1).as_deref() {
         Some("bundle") => println!("{}", show_bundle(&bytes)?),

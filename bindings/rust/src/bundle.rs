@@ -1,16 +1,20 @@
-//! Bundles that lie in one slice.
+//! Bundles that lie in one slice, and what is said of any bundle.
 
 use crate::fault::Fault;
 use crate::raw;
+use std::ops::Range;
 
 /// The verdict on bytes as one bundle.
+///
+/// `P` is what it has of the payload: the bytes, or their place in the bundle if a
+/// [`Scan`](crate::Scan) has passed them.
 #[derive(Clone, Copy, Debug, PartialEq, Eq)]
-pub struct Verdict<'a> {
+pub struct Verdict<P> {
     /// The first fault, or `None` if the bytes are a good bundle.
     pub fault: Option<Fault>,
     /// The payload's bytes that are there. They are `None` if the head of the payload was not
     /// accepted. A bad bundle may have them too.
-    pub payload: Option<&'a [u8]>,
+    pub payload: Option<P>,
 }
 
 /// An endpoint ID.
@@ -48,8 +52,10 @@ pub struct Fragment {
 }
 
 /// A good bundle.
+///
+/// `P` is what it has of the payload, as in a [`Verdict`].
 #[derive(Clone, Debug, PartialEq, Eq)]
-pub struct Bundle<'a> {
+pub struct Bundle<P> {
     /// The bundle processing control flags.
     pub flags: u64,
     /// The destination.
@@ -67,16 +73,16 @@ pub struct Bundle<'a> {
     /// The number of canonical blocks.
     pub blocks: u64,
     /// The payload.
-    pub payload: &'a [u8],
+    pub payload: P,
 }
 
 /// Judges the bytes as one bundle.
-pub fn verdict(bytes: &[u8]) -> Verdict<'_> {
+pub fn verdict(bytes: &[u8]) -> Verdict<&[u8]> {
     let (status, verdict) = raw::answer(|verdict| {
         // SAFETY: the slice and the struct are valid, and do not overlap.
         unsafe { raw::tcpclkit_raw_bundle_verdict(bytes.as_ptr(), bytes.len(), verdict) }
     });
-    Verdict::of(bytes, status, &verdict)
+    Verdict::of(status, &verdict, |place| part(bytes, place))
 }
 
 /// Judges the bytes as one bundle, and returns the fields of a good one.
@@ -85,9 +91,9 @@ pub fn verdict(bytes: &[u8]) -> Verdict<'_> {
 ///
 /// The first fault, if the bytes are no good bundle. It [is truncated](Fault::is_truncated) if they
 /// end inside one.
-pub fn bundle(bytes: &[u8]) -> Result<Bundle<'_>, Fault> {
+pub fn bundle(bytes: &[u8]) -> Result<Bundle<&[u8]>, Fault> {
     let (mut destination, mut source) = ([0; raw::EID_LIMIT], [0; raw::EID_LIMIT]);
-    let (status, it) = raw::answer(|bundle: &mut raw::Bundle| {
+    let (status, it) = raw::answer(|bundle| {
         // SAFETY: the slices and the struct are valid, and do not overlap.
         unsafe {
             raw::tcpclkit_raw_bundle_info(
@@ -101,37 +107,57 @@ pub fn bundle(bytes: &[u8]) -> Result<Bundle<'_>, Fault> {
             )
         }
     });
-    let verdict = Verdict::of(bytes, status, &it.verdict);
-    let fragment = Fragment {
-        offset: it.fragment_offset,
-        total: it.fragment_total,
-    };
-    match verdict.fault {
-        Some(fault) => Err(fault),
-        None => Ok(Bundle {
-            flags: it.flags,
-            destination: EndpointId::of(&it.destination, &destination),
-            source: EndpointId::of(&it.source, &source),
-            time: it.time,
-            sequence: it.sequence,
-            lifetime: it.lifetime,
-            fragment: (it.is_fragment == 1).then_some(fragment),
-            blocks: it.blocks,
-            payload: verdict.payload.unwrap_or_default(),
-        }),
+    let payload = |place| part(bytes, place);
+    Bundle::of(status, &it, &destination, &source, payload)
+}
+
+/// The bytes at a place that the library wrote.
+fn part(bytes: &[u8], place: Range<u64>) -> &[u8] {
+    &bytes[place.start as usize..place.end as usize]
+}
+
+impl<P> Bundle<P> {
+    /// The bundle that the library wrote, or the fault. The names begin with those that it has.
+    pub(crate) fn of(
+        status: u32,
+        it: &raw::Bundle,
+        destination: &[u8],
+        source: &[u8],
+        payload: impl FnOnce(Range<u64>) -> P,
+    ) -> Result<Bundle<P>, Fault> {
+        let verdict = Verdict::of(status, &it.verdict, payload);
+        let fragment = Fragment {
+            offset: it.fragment_offset,
+            total: it.fragment_total,
+        };
+        match verdict.fault {
+            Some(fault) => Err(fault),
+            None => Ok(Bundle {
+                flags: it.flags,
+                destination: EndpointId::of(&it.destination, destination),
+                source: EndpointId::of(&it.source, source),
+                time: it.time,
+                sequence: it.sequence,
+                lifetime: it.lifetime,
+                fragment: (it.is_fragment == 1).then_some(fragment),
+                blocks: it.blocks,
+                payload: verdict.payload.expect("a good bundle has a payload"),
+            }),
+        }
     }
 }
 
-impl<'a> Verdict<'a> {
-    /// The verdict that the library wrote of these bytes.
-    fn of(bytes: &'a [u8], status: u32, it: &raw::Verdict) -> Verdict<'a> {
-        let payload = || {
-            let start = it.payload_offset as usize;
-            &bytes[start..start + it.payload_seen as usize]
-        };
+impl<P> Verdict<P> {
+    /// The verdict that the library wrote, with what is made of the place of the payload.
+    pub(crate) fn of(
+        status: u32,
+        it: &raw::Verdict,
+        payload: impl FnOnce(Range<u64>) -> P,
+    ) -> Verdict<P> {
+        let place = it.payload_offset..it.payload_offset + it.payload_seen;
         Verdict {
             fault: (status != raw::OK).then(|| Fault::of(it.fault)),
-            payload: (it.has_payload == 1).then(payload),
+            payload: (it.has_payload == 1).then(|| payload(place)),
         }
     }
 

@@ -22,6 +22,7 @@ mod fault;
 mod order;
 mod raw;
 mod recording;
+mod scan;
 mod text;
 mod tools;
 
@@ -32,4 +33,5 @@ pub use recording::{
     contact, messages, Contact, Fields, Item, Items, Message, Messages, CONTACT_LENGTH,
     SEGMENT_END, SEGMENT_START,
 };
+pub use scan::Scan;
 pub use tools::{list, pack, unpack, PackOptions, Run, ToolError, UnpackOptions};

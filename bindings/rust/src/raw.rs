@@ -23,6 +23,8 @@ pub const EID_IPN: u64 = 2;
 pub const EID_IPN3: u64 = 3;
 pub const EID_LIMIT: usize = 1024;
 
+pub const SCAN_WORDS: usize = 512;
+
 pub const XFER_SEGMENT: u64 = 1;
 pub const XFER_ACK: u64 = 2;
 pub const XFER_REFUSE: u64 = 3;
@@ -89,6 +91,24 @@ extern "C" {
         source_room: usize,
         bundle: *mut Bundle,
     ) -> u32;
+    pub fn tcpclkit_raw_scan_new(memory: *mut u64) -> u32;
+    pub fn tcpclkit_raw_scan_feed(
+        memory: *mut u64,
+        piece: *const u8,
+        length: usize,
+        taken: *mut u64,
+    ) -> u32;
+    pub fn tcpclkit_raw_scan_verdict(memory: *mut u64, verdict: *mut Verdict) -> u32;
+    pub fn tcpclkit_raw_scan_info(
+        memory: *mut u64,
+        destination_name: *mut u8,
+        destination_room: usize,
+        source_name: *mut u8,
+        source_room: usize,
+        bundle: *mut Bundle,
+    ) -> u32;
+    pub fn tcpclkit_raw_scan_size() -> usize;
+    pub fn tcpclkit_raw_scan_alignment() -> usize;
     pub fn tcpclkit_raw_contact(bytes: *const u8, length: usize, contact: *mut Contact) -> u32;
     pub fn tcpclkit_raw_message(
         bytes: *const u8,

@@ -1,2 +1,4 @@
 pub mod Judging
 pub mod Runs
+mod Scanning
+mod Walks

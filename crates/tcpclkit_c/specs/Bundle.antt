@@ -6,7 +6,7 @@ use Rattle.link_bundle_types.specs.declared.eid.Eid.TheVariants.{DtnNone, Dtn, I
 use Rattle.link_bundle_types.specs.declared.fault.State.{State}
 use Rattle.link_bundle_types.specs.declared.fault.State.TheVariants.{Going, Ended, Failed}
 use Rattle.link_bundle_types.specs.declared.info.BundleInfo.{BundleInfo}
-use Rattle.link_bundle.specs.Bundle.{state_of}
+use Rattle.link_bundle.specs.Bundle.{verdict, payload_span, state_of}
 use Rattle.link_bundle.specs.Scan.{HasScanned, may_scan}
 use Rattle.link_bundle.specs.declared.scan.BundleScan.{BundleScan}
 use Rattle.tcpclkit_c.specs.Slice.{HoldsFront}
@@ -44,6 +44,11 @@ with_span fault (Some (place, count)) =
 -- a verdict, and where the payload's bytes are, as numbers
 abbrev pub verdict_shown : Result BundleInfo (BundleFault × ℕ) → Option (ℕ × ℕ) → Verdict
 verdict_shown outcome span = with_span (fault_of outcome) span
+
+-- the numbers and the status are those of the verdict on the bytes
+pub record GivesVerdict (bytes : List ℕ) (answer : Verdict) (status : ℕ) : Type 0 where
+  pub numbers : answer ≡ verdict_shown (verdict bytes) (payload_span bytes)
+  pub answers : status ≡ state_status (state_of (verdict bytes))
 
 -- an endpoint ID as its kind and numbers
 abbrev pub eid_shown : whole.Eid → Eid

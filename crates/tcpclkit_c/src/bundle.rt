@@ -1,11 +1,11 @@
 //! Exports about a bundle that lies in one slice.
 
-ghost use Rattle.std.specs.Prelude.{◌≡◌, [], length, Option};
+ghost use Rattle.std.specs.Prelude.{◌≡◌, ℕ, List, [], length, Option};
 ghost use Rattle.link_bundle_types.specs.BundleView.{viewed_info, viewed_verdict};
 ghost use Rattle.link_bundle_types.specs.EidView.{viewed_eid};
 ghost use Rattle.link_bundle.specs.Bundle.{verdict, payload_span, state_of};
 ghost use Rattle.link_bundle.specs.Scan.{HasScanned, scan_size};
-ghost use Rattle.tcpclkit_c.specs.Bundle.{IsJudged, state_status, fault_of, with_span, verdict_shown, eid_shown, name_of, bundle_shown, GivesBundle, GivesInfo};
+ghost use Rattle.tcpclkit_c.specs.Bundle.{IsJudged, state_status, fault_of, with_span, verdict_shown, eid_shown, name_of, bundle_shown, GivesVerdict, GivesBundle, GivesInfo};
 
 use crate::fault::Fault;
 use crate::slice::copy_front;
@@ -86,7 +86,7 @@ fn judge(scan: &mut BundleScan, bytes: &[u8])
 }
 
 /// The status of a state.
-fn state_status(state: State) -> u32
+pub(crate) fn state_status(state: State) -> u32
     ensures { result ≡ state_status state }
 {
     match state {
@@ -126,12 +126,20 @@ fn with_span(fault: Fault, span: Option<(u64, u64)>) -> Verdict
     }
 }
 
-/// What a scan has found of these bytes.
-fn found(scan: &BundleScan, bytes: &[u8]) -> Verdict
-    requires { IsJudged scan.now bytes.now }
-    ensures { result ≡ verdict_shown (verdict bytes.now) (payload_span bytes.now) }
+/// What a scan has found of the bytes that it has judged.
+fn found(scan: &BundleScan) -> Verdict
+    ensures { (bytes : List ℕ) → IsJudged scan.now bytes
+        → result ≡ verdict_shown (verdict bytes) (payload_span bytes) }
 {
     with_span(fault_of(scan.view()), scan.payload_seen())
+}
+
+/// Gives the verdict on the bytes that a scan has judged.
+pub(crate) fn give_verdict(scan: &BundleScan, answer: &mut Verdict) -> u32
+    ensures { (bytes : List ℕ) → IsJudged scan.now bytes → GivesVerdict bytes answer.new result }
+{
+    *answer = found(scan);
+    state_status(scan.state())
 }
 
 /// Judges the bytes as one bundle.
@@ -142,8 +150,7 @@ pub extern "C" fn tcpclkit_raw_bundle_verdict(bytes: &[u8], answer: &mut Verdict
 {
     let mut scan = BundleScan::new();
     judge(&mut scan, bytes);
-    *answer = found(&scan, bytes);
-    state_status(scan.state())
+    give_verdict(&scan, answer)
 }
 
 /// The kind and the numbers of an endpoint ID.
@@ -235,6 +242,27 @@ fn give(
     }
 }
 
+/// Gives the verdict on the bytes that a scan has judged, and the fields of a good bundle.
+pub(crate) fn give_info(
+    scan: &BundleScan,
+    destination_name: &mut [u8],
+    source_name: &mut [u8],
+    answer: &mut Bundle,
+) -> u32
+    ensures { (bytes : List ℕ) → IsJudged scan.now bytes
+        → GivesInfo (verdict bytes) (payload_span bytes) destination_name.new source_name.new
+        answer.new result }
+{
+    let verdict = found(scan);
+    match scan.view() {
+        Ok(info) => give(&info, verdict, destination_name, source_name, answer),
+        Err(_) => {
+            answer.verdict = verdict;
+            state_status(scan.state())
+        }
+    }
+}
+
 /// Judges the bytes as one bundle, and gives the fields of a good one.
 #[unsafe(no_mangle)]
 pub extern "C" fn tcpclkit_raw_bundle_info(
@@ -248,12 +276,5 @@ pub extern "C" fn tcpclkit_raw_bundle_info(
 {
     let mut scan = BundleScan::new();
     judge(&mut scan, bytes);
-    let verdict = found(&scan, bytes);
-    match scan.view() {
-        Ok(info) => give(&info, verdict, destination_name, source_name, answer),
-        Err(_) => {
-            answer.verdict = verdict;
-            state_status(scan.state())
-        }
-    }
+    give_info(&scan, destination_name, source_name, answer)
 }

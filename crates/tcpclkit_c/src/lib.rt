@@ -4,6 +4,9 @@
 //! slices, numbers and structs of numbers, which [`fault`] and the other modules define. It tests
 //! what a caller may get wrong, calls one proved function, and writes the answer as numbers. Its
 //! contract has the words of that function's contract, so no export has a condition.
+//!
+//! The exports of [`scan`] also take a pointer to memory that has a scan in it. A raw pointer has no
+//! loan, so each of their contracts says what memory the caller gives up and gets back.
 #![tactic(auto)]
 
 ghost use Rattle.std.specs.Prelude.{◌≡◌};
@@ -13,6 +16,7 @@ mod device;
 mod fault;
 mod order;
 mod recording;
+mod scan;
 mod slice;
 mod status;
 mod text;

@@ -6,10 +6,9 @@ use Rattle.tcpclkit_c.proofs.Judging.{verdict_judged, span_judged}
 use Rattle.tcpclkit_c.proofs.bundle.found.Goals as goal
 
 pub returns : goal.returns
-returns c =
-    let judged = c.requires in
+returns c = λ bytes judged.
     c.with_span.ensures
     ∙ ap (λ (fault : Fault). with_span fault c.payload_seen.result)
     (c.fault_of.ensures ∙ ap fault_of (c.view.ensures.seen judged.seen judged.scanned ∙ verdict_judged _ _ judged))
-    ∙ ap (λ (span : Option (ℕ × ℕ)). with_span (fault_of (verdict c.args.bytes.now)) span)
+    ∙ ap (λ (span : Option (ℕ × ℕ)). with_span (fault_of (verdict bytes)) span)
     (c.payload_seen.ensures judged.seen judged.scanned ∙ span_judged _ _ judged)

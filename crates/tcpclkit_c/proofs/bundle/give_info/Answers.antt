@@ -7,13 +7,11 @@ use Rattle.tcpclkit_c.specs.Bundle.{state_status, verdict_shown, GivesBundle, Gi
 use Rattle.tcpclkit_c.specs.declared.bundle.Bundle.{Bundle}
 use Rattle.tcpclkit_c.specs.declared.bundle.Verdict.{Verdict}
 use Rattle.tcpclkit_c.proofs.Judging.{verdict_judged}
-use Rattle.tcpclkit_c.proofs.bundle.tcpclkit_raw_bundle_info.Goals as goal
+use Rattle.tcpclkit_c.proofs.bundle.give_info.Goals as goal
 
 pub returns-in-Ok : goal.returns-in-Ok
-returns-in-Ok c =
-    let bytes = c.args.bytes.now in
+returns-in-Ok c = λ bytes judged.
     let span = payload_span bytes in
-    let judged = c.judge.ensures in
     let info = viewed_info c.in-Ok.info in
     let destination = c.give.new.destination_name in
     let source = c.give.new.source_name in
@@ -21,7 +19,7 @@ returns-in-Ok c =
     ap viewed_verdict (sym c.in-Ok.is) ∙ c.view.ensures.seen judged.seen judged.scanned
     ∙ verdict_judged _ _ judged in
     let shown : c.found-verdict.result ≡ verdict_shown (Ok info) span =
-    c.found-verdict.ensures ∙ ap (λ outcome. verdict_shown outcome span) (sym is) in
+    c.found-verdict.ensures bytes judged ∙ ap (λ outcome. verdict_shown outcome span) (sym is) in
     subst (λ (outcome : Result BundleInfo (BundleFault × ℕ)).
     GivesInfo outcome span destination source c.give.new.answer c.give.result) is
     (subst (λ (verdict : Verdict).
@@ -37,11 +35,10 @@ refused (Ok info) stop span destination source bundle status is shown same = cc
 refused (Err other) stop span destination source bundle status is shown same = (shown, same)
 
 pub returns-in-Err : goal.returns-in-Err
-returns-in-Err c =
-    let judged = c.judge.ensures in
+returns-in-Err c = λ bytes judged.
     let seen = verdict_judged _ _ judged in
-    refused (verdict c.args.bytes.now) c.in-Err.field-0 (payload_span c.args.bytes.now) _ _ _ _
+    refused (verdict bytes) c.in-Err.field-0 (payload_span bytes) _ _ _ _
     (ap viewed_verdict (sym c.in-Err.is) ∙ c.view.ensures.seen judged.seen judged.scanned ∙ seen)
-    c.found-verdict.ensures
+    (c.found-verdict.ensures bytes judged)
     (c.state_status.ensures ∙ ap state_status (c.state.ensures.seen judged.seen judged.scanned)
     ∙ ap (λ outcome. state_status (state_of outcome)) seen)

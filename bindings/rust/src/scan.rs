@@ -1,0 +1,119 @@
+//! Bundles that come in pieces.
+
+use crate::bundle::{Bundle, Verdict};
+use crate::fault::Fault;
+use crate::raw;
+use std::fmt;
+use std::ops::Range;
+
+/// A scan of one bundle that comes in pieces of any size.
+///
+/// It keeps what the heads of the bundle say, and no byte of the payload. So the payload of what it
+/// returns is a place: the offsets in the bundle where it begins and where it ends.
+///
+/// ```
+/// let bytes = std::fs::read("../../examples/two.bundles").unwrap();
+/// let mut scan = tcpclkit::Scan::new();
+/// let mut taken = 0;
+/// for piece in bytes.chunks(10) {
+///     taken += scan.feed(piece);
+///     if !scan.verdict().is_truncated() {
+///         break;
+///     }
+/// }
+/// let bundle = scan.bundle().unwrap();
+/// assert_eq!((taken, bundle.payload), (34, 28..33));
+/// ```
+pub struct Scan {
+    /// The library's, which finds it where it was made.
+    memory: Box<[u64; raw::SCAN_WORDS]>,
+}
+
+impl Scan {
+    /// A scan that has seen no byte.
+    pub fn new() -> Scan {
+        let mut scan = Scan {
+            memory: Box::new([0; raw::SCAN_WORDS]),
+        };
+        scan.restart();
+        scan
+    }
+
+    /// Makes the scan new, whatever it has seen.
+    pub fn restart(&mut self) {
+        raw::answer(|()| {
+            // SAFETY: the memory is as large and as aligned as a scan.
+            unsafe { raw::tcpclkit_raw_scan_new(self.memory.as_mut_ptr()) }
+        });
+    }
+
+    /// Takes the bytes of the next piece that belong to the bundle, and returns their number.
+    ///
+    /// After the end of the bundle and after its first fault, that is 0. The verdict is truncated
+    /// while the bundle goes on.
+    ///
+    /// # Panics
+    ///
+    /// If the pieces have 2^63 bytes or more.
+    pub fn feed(&mut self, piece: &[u8]) -> usize {
+        let (status, taken) = raw::answer(|taken: &mut u64| {
+            // SAFETY: the memory has a scan, the slice is valid, and nothing overlaps.
+            unsafe {
+                raw::tcpclkit_raw_scan_feed(
+                    self.memory.as_mut_ptr(),
+                    piece.as_ptr(),
+                    piece.len(),
+                    taken,
+                )
+            }
+        });
+        assert_ne!(status, raw::RANGE, "a bundle of 2^63 bytes");
+        taken as usize
+    }
+
+    /// The verdict on the bytes that were taken.
+    pub fn verdict(&mut self) -> Verdict<Range<u64>> {
+        let (status, it) = raw::answer(|verdict| {
+            // SAFETY: the memory has a scan, the struct is valid, and they do not overlap.
+            unsafe { raw::tcpclkit_raw_scan_verdict(self.memory.as_mut_ptr(), verdict) }
+        });
+        Verdict::of(status, &it, |place| place)
+    }
+
+    /// The fields of a good bundle, if the bytes that were taken are one.
+    ///
+    /// # Errors
+    ///
+    /// The first fault. It [is truncated](Fault::is_truncated) while the bundle goes on.
+    pub fn bundle(&mut self) -> Result<Bundle<Range<u64>>, Fault> {
+        let (mut destination, mut source) = ([0; raw::EID_LIMIT], [0; raw::EID_LIMIT]);
+        let (status, it) = raw::answer(|bundle| {
+            // SAFETY: the memory has a scan, the slices and the struct are valid, and nothing
+            // overlaps.
+            unsafe {
+                raw::tcpclkit_raw_scan_info(
+                    self.memory.as_mut_ptr(),
+                    destination.as_mut_ptr(),
+                    destination.len(),
+                    source.as_mut_ptr(),
+                    source.len(),
+                    bundle,
+                )
+            }
+        });
+        Bundle::of(status, &it, &destination, &source, |place| place)
+    }
+}
+
+impl Default for Scan {
+    fn default() -> Scan {
+        Scan::new()
+    }
+}
+
+/// Shows nothing of the bundle.
+impl fmt::Debug for Scan {
+    fn fmt(&self, f: &mut fmt::Formatter<'_>) -> fmt::Result {
+        f.debug_struct("Scan").finish_non_exhaustive()
+    }
+}

@@ -1,0 +1,81 @@
+//! Bundles of `examples/` in pieces.
+
+use tcpclkit::{bundle, verdict, Code, EndpointId, Scan};
+
+/// Two bundles, of 34 and of 37 bytes.
+fn bundles() -> Vec<u8> {
+    let path = format!("{}/../../examples/two.bundles", env!("CARGO_MANIFEST_DIR"));
+    std::fs::read(path).unwrap()
+}
+
+#[test]
+fn the_pieces_make_no_difference() {
+    let bytes = bundles();
+    let whole = bundle(&bytes[..34]).unwrap();
+    let mut scan = Scan::new();
+    for size in 1..=bytes.len() {
+        scan.restart();
+        let taken: usize = bytes.chunks(size).map(|piece| scan.feed(piece)).sum();
+        let found = scan.bundle().unwrap();
+        assert_eq!((taken, found.payload), (34, 28..33));
+        assert_eq!(found.source, whole.source);
+        assert_eq!((found.sequence, found.blocks), (whole.sequence, whole.blocks));
+    }
+}
+
+#[test]
+fn a_scan_shows_what_has_come() {
+    let bytes = bundles();
+    let mut scan = Scan::default();
+    for length in 0..34 {
+        let (found, same) = (scan.verdict(), verdict(&bytes[..length]));
+        assert!(found.is_truncated());
+        assert_eq!(found.fault, same.fault);
+        assert_eq!(found.payload.is_some(), same.payload.is_some());
+        assert!(scan.bundle().unwrap_err().is_truncated());
+        assert_eq!(scan.feed(&[]), 0);
+        assert_eq!(scan.feed(&bytes[length..=length]), 1);
+    }
+    assert!(scan.verdict().is_good());
+    assert_eq!(scan.feed(&bytes[34..]), 0);
+}
+
+#[test]
+fn bundles_follow_one_another() {
+    let bytes = bundles();
+    let (mut scan, mut left, mut lengths) = (Scan::new(), &bytes[..], vec![]);
+    while !left.is_empty() {
+        scan.restart();
+        let taken = scan.feed(left);
+        assert_eq!(
+            scan.bundle().unwrap().source,
+            bundle(&left[..taken]).unwrap().source
+        );
+        left = &left[taken..];
+        lengths.push(taken);
+    }
+    assert_eq!(lengths.iter().sum::<usize>(), bytes.len());
+    assert_eq!((lengths.len(), lengths[0]), (2, 34));
+}
+
+#[test]
+fn a_fault_stays() {
+    let mut bytes = bundles();
+    bytes[2] = 6;
+    let mut scan = Scan::new();
+    assert_eq!(scan.feed(&bytes), 3);
+    assert_eq!(scan.feed(&bytes), 0);
+    let fault = scan.verdict().fault.unwrap();
+    assert_eq!((fault.code, fault.offset), (Code::BundleBadVersion, 2));
+    assert_eq!(scan.bundle(), Err(fault));
+    scan.restart();
+    assert_eq!(scan.feed(&bundles()), 34);
+    let source = scan.bundle().unwrap().source;
+    assert_eq!(
+        source,
+        EndpointId::Ipn {
+            node: 1,
+            service: 1
+        }
+    );
+}

@@ -1,0 +1,15 @@
+use Rattle.std.proofs.Common.{◌≡◌, ◌++◌, true, arith}
+use Rattle.std.proofs.lemmas.Bool.{le-leb}
+use Rattle.link_cbor.specs.Pieces.{taken}
+use Rattle.link_bundle.specs.Bundle.{bundle_goes}
+use Rattle.tcpclkit_c.specs.Scan.{has_room}
+use Rattle.tcpclkit_c.proofs.Scanning.{feeds}
+use Rattle.tcpclkit_c.proofs.scan.feed.Goals as goal
+
+pub returns : goal.returns
+returns c = λ seen has.
+    let room : has_room seen c.args.piece.now ≡ true =
+    le-leb _ _ (omega (arith, c.count.ensures.seen seen has, c.saturating_add.ensures, c.if-saturating_add-gt-LONGEST.false)) in
+    let come = c.feed.ensures.seen seen has in
+    feeds seen c.args.piece.now room _ _ _ _ come (c.feed.ensures.count seen has)
+    (c.state.ensures.seen (seen ++ taken bundle_goes seen c.args.piece.now) come) c.state_status.ensures
