@@ -4,7 +4,8 @@
  *
  * Each call is made twice, into structs and slices that were filled with other bytes, and both
  * answers have to be the same. A call is made again of a prefix of the bytes, of the bytes from an
- * offset on, or with less room, and the answers have to agree.
+ * offset on, or with less room, and the answers have to agree. A bundle is also handed over in
+ * pieces.
  *
  * The archive has no instruments of its own. So each slice that is lent ends at a page that may not
  * be touched, and begins after bytes that are compared afterwards. What the library returned is
