@@ -222,7 +222,9 @@ fn give(
     source_name: &mut [u8],
     answer: &mut Bundle,
 ) -> u32
-    ensures { GivesBundle (viewed_info info.now) verdict destination_name.new source_name.new
+    ensures { GivesBundle (viewed_info info.now) verdict
+        (record { destination = destination_name.old; source = source_name.old })
+        (record { destination = destination_name.new; source = source_name.new })
         answer.new result }
 {
     *answer = bundle_shown(verdict, info);
@@ -243,8 +245,10 @@ pub extern "C" fn tcpclkit_raw_bundle_info(
     source_name: &mut [u8],
     answer: &mut Bundle,
 ) -> u32
-    ensures { GivesInfo (verdict bytes.now) (payload_span bytes.now) destination_name.new
-        source_name.new answer.new result }
+    ensures { GivesInfo (verdict bytes.now) (payload_span bytes.now)
+        (record { destination = destination_name.old; source = source_name.old })
+        (record { destination = destination_name.new; source = source_name.new })
+        answer.new result }
 {
     let mut scan = BundleScan::new();
     judge(&mut scan, bytes);
