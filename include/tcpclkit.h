@@ -288,8 +288,9 @@ static inline uint32_t tcpclkit_contact(const uint8_t *bytes, size_t length,
  *
  * TCPCLKIT_OK: the message and its data are there, and the next one begins at `next`.
  * TCPCLKIT_DATA_TRUNCATED: as TCPCLKIT_OK, but the bytes end inside the data; `next` has no
- * meaning, and `fault` is that of a recording that ends there. TCPCLKIT_END: no byte is at the offset, which is the length. TCPCLKIT_TRUNCATED: the
- * bytes end inside the head. TCPCLKIT_FAULT. TCPCLKIT_RANGE: the offset is past the end.
+ * meaning, and `fault` is that of a recording that ends there. TCPCLKIT_END: no byte is at the
+ * offset, which is the length. TCPCLKIT_TRUNCATED: the bytes end inside the head. TCPCLKIT_FAULT.
+ * TCPCLKIT_RANGE: the offset is past the end.
  *
  * The messages of a recording begin at TCPCLKIT_CONTACT_LENGTH. The bytes may also be a part of a
  * recording that begins with a message: then offsets are counted from there.

@@ -23,18 +23,24 @@ static void count(int holds, int line, const char *what) {
 #ifdef REFUSES_MEMORY
 /* Built with --wrap=malloc and --wrap=realloc: the library's request of this number is refused. */
 static unsigned requests, refused_request;
+static size_t largest_request;
 
 void *__real_malloc(size_t size);
 void *__real_realloc(void *block, size_t size);
 void *__wrap_malloc(size_t size);
 void *__wrap_realloc(void *block, size_t size);
 
-void *__wrap_malloc(size_t size) {
-  return ++requests == refused_request ? NULL : __real_malloc(size);
+/* Whether a request of this size is let through. */
+static int is_given(size_t size) {
+  if (size > largest_request)
+    largest_request = size;
+  return ++requests != refused_request;
 }
 
+void *__wrap_malloc(size_t size) { return is_given(size) ? __real_malloc(size) : NULL; }
+
 void *__wrap_realloc(void *block, size_t size) {
-  return ++requests == refused_request ? NULL : __real_realloc(block, size);
+  return is_given(size) ? __real_realloc(block, size) : NULL;
 }
 #endif
 
@@ -135,6 +141,7 @@ static void messages(void) {
   uint8_t other[sizeof recording];
   CHECK(tcpclkit_contact(recording, sizeof recording, &contact) == TCPCLKIT_OK);
   CHECK(contact.flags == 0);
+  CHECK(tcpclkit_contact(recording, TCPCLKIT_CONTACT_LENGTH, &contact) == TCPCLKIT_OK);
   CHECK(tcpclkit_contact(recording, 5, &contact) == TCPCLKIT_TRUNCATED);
   CHECK(contact.fault.code == TCPCLKIT_WIRE_TRUNCATED && contact.fault.offset == 0);
   CHECK(tcpclkit_contact(NULL, 0, &contact) == TCPCLKIT_TRUNCATED);
@@ -480,6 +487,8 @@ static void unwritten_answers(void) {
   memset(&item, MARK, sizeof item);
   LEAVES(tcpclkit_bundle_verdict(NULL, 1, &verdict), TCPCLKIT_NULL, verdict);
   LEAVES(tcpclkit_bundle_verdict(bundle, SIZE_MAX, &verdict), TCPCLKIT_RANGE, verdict);
+  LEAVES(tcpclkit_bundle_verdict(bundle, (size_t)PTRDIFF_MAX + 1, &verdict), TCPCLKIT_RANGE,
+         verdict);
   LEAVES(tcpclkit_bundle_info(NULL, 1, NULL, 0, NULL, 0, &info), TCPCLKIT_NULL, info);
   LEAVES(tcpclkit_bundle_info(bundle, 9, NULL, 1, NULL, 0, &info), TCPCLKIT_NULL, info);
   LEAVES(tcpclkit_bundle_info(bundle, 9, NULL, 0, NULL, 1, &info), TCPCLKIT_NULL, info);
@@ -520,7 +529,7 @@ static void unwritten_texts(void) {
 }
 
 static void unwritten_runs(void) {
-  const struct tcpclkit_unpack_options one = {2, 0, 0}, payload = {0, 0, 2};
+  const struct tcpclkit_unpack_options all = {0, 0, 0}, one = {2, 0, 0}, payload = {0, 0, 2};
   const struct tcpclkit_pack_options pack = {60, 65536, 1048576, 0, 1048576, 0, 0};
   const uint8_t *node = (const uint8_t *)"ipn:1.0";
   const size_t size = sizeof recording;
@@ -531,6 +540,7 @@ static void unwritten_runs(void) {
   LEAVES(tcpclkit_unpack(recording, size, &payload, to, 9, report, 9, &it.run), TCPCLKIT_RANGE,
          it);
   LEAVES(tcpclkit_unpack(recording, size, NULL, to, 9, report, 9, &it.run), TCPCLKIT_NULL, it);
+  LEAVES(tcpclkit_unpack(NULL, 1, &all, to, 9, report, 9, &it.run), TCPCLKIT_NULL, it);
   LEAVES(tcpclkit_pack(bundle, 9, &pack, node, 7, to, 9, report, 9, &it.run), TCPCLKIT_RANGE, it);
   LEAVES(tcpclkit_pack(bundle, 9, &pack, NULL, 7, to, 9, report, 9, &it.run), TCPCLKIT_NULL, it);
   LEAVES(tcpclkit_pack(bundle, 9, NULL, node, 7, to, 9, report, 9, &it.run), TCPCLKIT_NULL, it);
@@ -568,6 +578,15 @@ static void refusals_of(int tool) {
   CHECK(run_tool(tool, &it, sizeof it.output, sizeof it.report) == TCPCLKIT_OK);
   refusals(tool, (size_t)it.run.output_length, (size_t)it.run.report_length);
 }
+
+/* Texts that are longer than their slices take no memory for what is not given. */
+static void short_slices(void) {
+  struct lent it;
+  largest_request = 0;
+  CHECK(run_tool(0, &it, 9, 9) == TCPCLKIT_TOO_SMALL);
+  CHECK(run_tool(1, &it, 9, 9) == TCPCLKIT_TOO_SMALL);
+  CHECK(largest_request > 0 && largest_request <= 2 * 9);
+}
 #endif
 
 int main(void) {
@@ -593,6 +612,7 @@ int main(void) {
   refusals_of(0);
   refusals_of(1);
   refusals_of(2);
+  short_slices();
 #endif
   printf("%u passed, %u failed\n", passed, failed);
   return failed > 0;
