@@ -4,7 +4,8 @@
  *
  * Each call is made twice, into structs and slices that were filled with other bytes, and both
  * answers have to be the same. A call is made again of a prefix of the bytes, of the bytes from an
- * offset on, or with less room, and the answers have to agree.
+ * offset on, or with less room, and the answers have to agree. A bundle is also handed over in
+ * pieces.
  *
  * The archive has no instruments of its own. So each slice that is lent ends at a page that may not
  * be touched, and begins after bytes that are compared afterwards. What the library returned is
@@ -91,6 +92,14 @@ static void give_back(int which, size_t length) {
 
 static size_t least(size_t one, size_t other) { return one < other ? one : other; }
 
+/* The bytes of a slice after those that were written are as they were lent. */
+static void keeps_rest(const uint8_t *slice, size_t length, uint64_t written, int fill) {
+  const uint8_t *rest = slice + least(written, length);
+  size_t left = length - least(written, length);
+  if (left > 0)
+    CHECK(rest[0] == fill && memcmp(rest, rest + 1, left - 1) == 0);
+}
+
 /* -- bundles */
 
 static uint32_t ask_verdict(const uint8_t *bytes, size_t length, struct tcpclkit_verdict *it) {
@@ -131,6 +140,13 @@ struct names {
   uint8_t bytes[2][TCPCLKIT_EID_LIMIT];
 };
 
+/* How many bytes a good bundle's endpoint ID has in its slice, if there is room. */
+static uint64_t name_length(uint32_t status, const struct tcpclkit_eid *eid) {
+  if (status != TCPCLKIT_OK && status != TCPCLKIT_TOO_SMALL)
+    return 0;
+  return eid->kind == TCPCLKIT_EID_DTN ? eid->name_length : 0;
+}
+
 static uint32_t ask_info(const uint8_t *bytes, size_t length, int fill, struct names *it) {
   uint8_t *destination = lend(FIRST, it->rooms[0], fill);
   uint8_t *source = lend(SECOND, it->rooms[1], fill);
@@ -140,6 +156,8 @@ static uint32_t ask_info(const uint8_t *bytes, size_t length, int fill, struct n
                                 &it->bundle);
   give_back(FIRST, it->rooms[0]);
   give_back(SECOND, it->rooms[1]);
+  keeps_rest(destination, it->rooms[0], name_length(status, &it->bundle.destination), fill);
+  keeps_rest(source, it->rooms[1], name_length(status, &it->bundle.source), fill);
   memcpy(it->bytes[0], destination, it->rooms[0]);
   memcpy(it->bytes[1], source, it->rooms[1]);
   return status;
@@ -251,6 +269,8 @@ static void ask_texts_of_fault(uint64_t code, uint64_t number, size_t room) {
   uint32_t again = tcpclkit_fault_text(code, number, other, room, &cut);
   give_back(FIRST, 64);
   give_back(SECOND, room);
+  keeps_rest(text, 64, written, 0x11);
+  keeps_rest(other, room, cut, 0xee);
   count(4, status, code, number);
   CHECK(status == TCPCLKIT_OK || (status == TCPCLKIT_RANGE && again == TCPCLKIT_RANGE));
   if (status == TCPCLKIT_OK)
@@ -264,6 +284,8 @@ static void ask_texts_of_eid(const struct tcpclkit_eid *eid, const uint8_t *name
   uint32_t again = tcpclkit_eid_text(eid, name, other, room, &cut);
   give_back(FIRST, 4100);
   give_back(SECOND, room);
+  keeps_rest(text, 4100, written, 0x11);
+  keeps_rest(other, room, cut, 0xee);
   count(5, status, eid->kind, written);
   CHECK(status == TCPCLKIT_OK || (status == TCPCLKIT_RANGE && again == TCPCLKIT_RANGE));
   if (status == TCPCLKIT_OK)
@@ -313,6 +335,8 @@ static uint32_t ask_message(const uint8_t *bytes, size_t length, uint64_t offset
     CHECK(it->data_offset <= length && it->data_offset > offset);
   if (status == TCPCLKIT_OK)
     CHECK(it->next <= length && it->next - it->data_offset == it->data_length);
+  if (status == TCPCLKIT_DATA_TRUNCATED)
+    CHECK(it->fault.code == TCPCLKIT_WIRE_TRUNCATED && it->fault.offset == offset);
   SAME_ANSWER(status, *it, again);
   return status;
 }
@@ -344,7 +368,7 @@ static void ask_message_alone(const uint8_t *bytes, size_t length, uint64_t offs
   CHECK(alone.reason == whole->reason && alone.acknowledged == whole->acknowledged);
   CHECK(alone.items_length == whole->items_length && alone.node_length == whole->node_length);
   CHECK(alone.data_offset + offset == whole->data_offset);
-  CHECK(alone.data_length == whole->data_length);
+  CHECK(alone.data_length == whole->data_length && alone.fault.code == whole->fault.code);
 }
 
 /* Reads all items of a message, or the bytes of a list that was not judged. */
@@ -457,8 +481,13 @@ static uint32_t run_tool(const uint8_t *bytes, size_t length, const uint64_t *nu
   status = call_tool(bytes, length, numbers, it);
   give_back(FIRST, it->rooms[0]);
   give_back(SECOND, it->rooms[1]);
-  if (status == TCPCLKIT_RANGE)
+  if (status == TCPCLKIT_RANGE) {
+    keeps_rest(it->bytes[0], it->rooms[0], 0, fill);
+    keeps_rest(it->bytes[1], it->rooms[1], 0, fill);
     return status;
+  }
+  keeps_rest(it->bytes[0], it->rooms[0], it->run.output_length, fill);
+  keeps_rest(it->bytes[1], it->rooms[1], it->run.report_length, fill);
   CHECK(status == TCPCLKIT_OK || status == TCPCLKIT_TOO_SMALL);
   CHECK(it->run.output_length <= it->rooms[0] && it->run.report_length <= it->rooms[1]);
   if (status == TCPCLKIT_TOO_SMALL)

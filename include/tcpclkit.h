@@ -35,6 +35,9 @@
  * has ended, and then copy them into the slices. No other function takes memory. On x86-64, 128 KiB
  * of stack are enough for a whole tool, and 32 KiB for any other function.
  *
+ * Slices. What a function writes into a slice begins at its first byte. The bytes after it stay as
+ * they were.
+ *
  * Fields. Each field of each struct is a uint64_t, so there is no padding. A field that the
  * comments do not name for a status, or for a kind of message, has no meaning then.
  */
@@ -68,7 +71,8 @@ enum {
   /* The bytes end inside the bundle, the contact header or the head of the message. More bytes may
    * complete it, so a caller that gets more asks again. */
   TCPCLKIT_TRUNCATED = 2,
-  /* The head of the segment is whole, and the bytes end inside its data. */
+  /* The head of the segment is whole, and the bytes end inside its data. For a recording that ends
+   * there, this is the fault TCPCLKIT_WIRE_TRUNCATED. */
   TCPCLKIT_DATA_TRUNCATED = 3,
   /* A fault, which stays one whatever bytes follow. */
   TCPCLKIT_FAULT = 4,
@@ -128,7 +132,10 @@ enum {
   TCPCLKIT_BUNDLE_NO_PAYLOAD_LAST = 117
 };
 
-/* Why bytes are refused. It has a meaning after TCPCLKIT_TRUNCATED and TCPCLKIT_FAULT. */
+/*
+ * Why bytes are refused. It has a meaning after TCPCLKIT_TRUNCATED, TCPCLKIT_DATA_TRUNCATED and
+ * TCPCLKIT_FAULT.
+ */
 struct tcpclkit_fault {
   uint64_t code;   /* one of those above */
   uint64_t number; /* the number that the code is about, or 0 */
@@ -198,10 +205,11 @@ static inline uint32_t tcpclkit_bundle_verdict(const uint8_t *bytes, size_t leng
  *
  * The name of a dtn endpoint ID is copied into the slice that is lent for it. TCPCLKIT_TOO_SMALL:
  * the bundle is good and every field is given, but a name is longer than its slice, which has the
- * name's first bytes.
+ * name's first bytes. If the bundle is not good, nothing is written into the slices.
  *
  * Proved: `verdict` is as above. After TCPCLKIT_OK the fields and the names are the bundle that
- * `verdict` gives. After TCPCLKIT_TOO_SMALL they are too, with each name cut to its room.
+ * `verdict` gives. After TCPCLKIT_TOO_SMALL they are too, with each name cut to its room. The other
+ * bytes of the slices are as they were.
  */
 static inline uint32_t tcpclkit_bundle_info(const uint8_t *bytes, size_t length,
                                             uint8_t *destination_name, size_t destination_room,
@@ -359,8 +367,9 @@ static inline uint32_t tcpclkit_contact(const uint8_t *bytes, size_t length,
  *
  * TCPCLKIT_OK: the message and its data are there, and the next one begins at `next`.
  * TCPCLKIT_DATA_TRUNCATED: as TCPCLKIT_OK, but the bytes end inside the data; `next` has no
- * meaning. TCPCLKIT_END: no byte is at the offset, which is the length. TCPCLKIT_TRUNCATED: the
- * bytes end inside the head. TCPCLKIT_FAULT. TCPCLKIT_RANGE: the offset is past the end.
+ * meaning, and `fault` is that of a recording that ends there. TCPCLKIT_END: no byte is at the
+ * offset, which is the length. TCPCLKIT_TRUNCATED: the bytes end inside the head. TCPCLKIT_FAULT.
+ * TCPCLKIT_RANGE: the offset is past the end.
  *
  * The messages of a recording begin at TCPCLKIT_CONTACT_LENGTH. The bytes may also be a part of a
  * recording that begins with a message: then offsets are counted from there.
@@ -437,7 +446,8 @@ static inline uint32_t tcpclkit_order(struct tcpclkit_order *order, uint64_t kin
  * is longer, and its first bytes were written. TCPCLKIT_RANGE: no fault has this code, or the code
  * has no such number. 64 bytes are enough for every text.
  *
- * Proved: the text is `wire_text`, `order_text`, or `code_text` and `bundle_fault_text`.
+ * Proved: the text is `wire_text`, `order_text`, or `code_text` and `bundle_fault_text`, and the
+ * bytes after it are as they were.
  */
 static inline uint32_t tcpclkit_fault_text(uint64_t code, uint64_t number, uint8_t *text,
                                            size_t room, uint64_t *written);
@@ -450,7 +460,7 @@ static inline uint32_t tcpclkit_fault_text(uint64_t code, uint64_t number, uint8
  * other kinds it may be null. `*written` is as above. TCPCLKIT_RANGE: the kind is none, or the name
  * is longer than TCPCLKIT_EID_LIMIT. 4,100 bytes are enough for every text.
  *
- * Proved: the text is `eid_text`.
+ * Proved: the text is `eid_text`, and the bytes after it are as they were.
  */
 static inline uint32_t tcpclkit_eid_text(const struct tcpclkit_eid *eid, const uint8_t *name,
                                          uint8_t *text, size_t room, uint64_t *written);

@@ -23,18 +23,24 @@ static void count(int holds, int line, const char *what) {
 #ifdef REFUSES_MEMORY
 /* Built with --wrap=malloc and --wrap=realloc: the library's request of this number is refused. */
 static unsigned requests, refused_request;
+static size_t largest_request;
 
 void *__real_malloc(size_t size);
 void *__real_realloc(void *block, size_t size);
 void *__wrap_malloc(size_t size);
 void *__wrap_realloc(void *block, size_t size);
 
-void *__wrap_malloc(size_t size) {
-  return ++requests == refused_request ? NULL : __real_malloc(size);
+/* Whether a request of this size is let through. */
+static int is_given(size_t size) {
+  if (size > largest_request)
+    largest_request = size;
+  return ++requests != refused_request;
 }
 
+void *__wrap_malloc(size_t size) { return is_given(size) ? __real_malloc(size) : NULL; }
+
 void *__wrap_realloc(void *block, size_t size) {
-  return ++requests == refused_request ? NULL : __real_realloc(block, size);
+  return is_given(size) ? __real_realloc(block, size) : NULL;
 }
 #endif
 
@@ -42,6 +48,21 @@ void *__wrap_realloc(void *block, size_t size) {
 static int begins(const uint8_t *slice, const char *text) {
   return memcmp(slice, text, strlen(text)) == 0;
 }
+
+/* What bytes and structs are full of before a call that has to leave some of them. */
+#define MARK 0xa5
+
+/* Whether all of these bytes are marks. */
+static int is_marked(const void *bytes, size_t length) {
+  const uint8_t *start = (const uint8_t *)bytes;
+  size_t at;
+  for (at = 0; at < length; at++)
+    if (start[at] != MARK)
+      return 0;
+  return 1;
+}
+
+#define IS_MARKED(it) is_marked(&(it), sizeof(it))
 
 /* A bundle from ipn:1.1 to ipn:2.1 with the payload `hello`. */
 #define BUNDLE_BYTES                                                                              \
@@ -210,6 +231,7 @@ static void messages(void) {
   uint8_t other[sizeof recording];
   CHECK(tcpclkit_contact(recording, sizeof recording, &contact) == TCPCLKIT_OK);
   CHECK(contact.flags == 0);
+  CHECK(tcpclkit_contact(recording, TCPCLKIT_CONTACT_LENGTH, &contact) == TCPCLKIT_OK);
   CHECK(tcpclkit_contact(recording, 5, &contact) == TCPCLKIT_TRUNCATED);
   CHECK(contact.fault.code == TCPCLKIT_WIRE_TRUNCATED && contact.fault.offset == 0);
   CHECK(tcpclkit_contact(NULL, 0, &contact) == TCPCLKIT_TRUNCATED);
@@ -232,6 +254,8 @@ static void messages(void) {
   CHECK(tcpclkit_message(recording, sizeof recording, UINT64_MAX, &message) == TCPCLKIT_RANGE);
   CHECK(tcpclkit_message(recording, 93, 38, &message) == TCPCLKIT_DATA_TRUNCATED);
   CHECK(message.data_offset == 60 && message.data_length == 34);
+  CHECK(message.fault.code == TCPCLKIT_WIRE_TRUNCATED && message.fault.number == 0);
+  CHECK(message.fault.offset == 38);
   CHECK(tcpclkit_message(recording, 59, 38, &message) == TCPCLKIT_TRUNCATED);
   CHECK(message.fault.code == TCPCLKIT_WIRE_TRUNCATED && message.fault.offset == 38);
   CHECK(tcpclkit_message(recording, sizeof recording, 0, &message) == TCPCLKIT_FAULT);
@@ -257,6 +281,25 @@ static void items(void) {
   CHECK(tcpclkit_item(announcing, sizeof announcing, 15, 14, &item) == TCPCLKIT_RANGE);
   CHECK(tcpclkit_item(announcing, sizeof announcing, 14, 36, &item) == TCPCLKIT_RANGE);
   CHECK(tcpclkit_item(NULL, 0, 0, 0, &item) == TCPCLKIT_END);
+}
+
+/* A node ID without bytes, and lists without items, are where the caller may ask for them. */
+static void empty_parts(void) {
+  static const uint8_t init[] = {0x07, 0, 60, 0, 0, 0, 0, 0, 0, 0, 9, 0, 0, 0, 0, 0,
+                                 0,    0, 9,  0, 0, 0, 0, 0, 0};
+  static const uint8_t start[] = {0x01, 0x02, 0, 0, 0, 0, 0, 0, 0, 5, 0, 0, 0, 0,
+                                  0,    0,    0, 0, 0, 0, 0, 0};
+  struct tcpclkit_message message;
+  struct tcpclkit_item item;
+  CHECK(tcpclkit_message(init, sizeof init, 0, &message) == TCPCLKIT_OK);
+  CHECK(message.node_offset == 21 && message.node_length == 0);
+  CHECK(message.items_offset == 25 && message.items_length == 0 && message.next == 25);
+  CHECK(tcpclkit_item(init, sizeof init, message.items_offset, message.items_offset, &item) ==
+        TCPCLKIT_END);
+  CHECK(tcpclkit_message(start, sizeof start, 0, &message) == TCPCLKIT_OK);
+  CHECK(message.items_offset == 14 && message.items_length == 0 && message.next == 22);
+  CHECK(tcpclkit_item(start, sizeof start, message.items_offset, message.items_offset, &item) ==
+        TCPCLKIT_END);
 }
 
 static void orders(void) {
@@ -318,6 +361,25 @@ static void texts(void) {
   CHECK(tcpclkit_eid_text(&eid, NULL, text, sizeof text, &written) == TCPCLKIT_RANGE);
 }
 
+/* The room that is enough for every text, by the comments of the header. */
+static void longest_texts(void) {
+  static const uint64_t greatest[] = {0, 255, 65535, 4294967295, UINT64_MAX};
+  struct tcpclkit_eid eid = {TCPCLKIT_EID_IPN3, UINT64_MAX, UINT64_MAX, UINT64_MAX, 0};
+  uint8_t name[TCPCLKIT_EID_LIMIT], text[4101];
+  uint64_t code, written;
+  size_t at;
+  for (code = 0; code < 200; code++)
+    for (at = 0; at < sizeof greatest / sizeof *greatest; at++)
+      CHECK(tcpclkit_fault_text(code, greatest[at], text, 64, &written) != TCPCLKIT_TOO_SMALL);
+  CHECK(tcpclkit_eid_text(&eid, NULL, text, 4100, &written) == TCPCLKIT_OK && written == 66);
+  eid.kind = TCPCLKIT_EID_DTN;
+  eid.name_length = sizeof name;
+  memset(name, 0, sizeof name);
+  CHECK(tcpclkit_eid_text(&eid, name, text, 4100, &written) == TCPCLKIT_OK && written == 4100);
+  CHECK(begins(text, "dtn:\\x00") && begins(text + 4096, "\\x00"));
+  CHECK(tcpclkit_eid_text(&eid, name, text, 4099, &written) == TCPCLKIT_TOO_SMALL);
+}
+
 #define CONTACT_LINE "0 contact version=4 flags=00\n"
 #define LINES                                                                                     \
   CONTACT_LINE                                                                                    \
@@ -347,6 +409,10 @@ static void lists(void) {
   CHECK(tcpclkit_list(recording, 70, output, sizeof output, report, 29, &run) == TCPCLKIT_OK);
   CHECK(tcpclkit_list(recording, 6, NULL, 0, NULL, 0, &run) == TCPCLKIT_TOO_SMALL);
   CHECK(run.output_length == 0 && run.report_length == 0);
+  CHECK(tcpclkit_list(recording, 6, output, strlen(CONTACT_LINE), NULL, 0, &run) == TCPCLKIT_OK);
+  CHECK(run.output_length == strlen(CONTACT_LINE) && begins(output, CONTACT_LINE));
+  CHECK(tcpclkit_list(recording, 6, output, strlen(CONTACT_LINE) - 1, NULL, 0, &run) ==
+        TCPCLKIT_TOO_SMALL);
   CHECK(tcpclkit_list(NULL, 0, output, sizeof output, report, sizeof report, &run) ==
         TCPCLKIT_OK);
   CHECK(run.exit_status == 3 && begins(report, "tcpclkit: byte 0: truncated\n"));
@@ -394,6 +460,8 @@ static void packs(void) {
   CHECK(run.exit_status == 0 && run.output_length == sizeof recording);
   CHECK(memcmp(output, recording, sizeof recording) == 0);
   CHECK(pack(&options, 7, output, 50, &run) == TCPCLKIT_TOO_SMALL && run.output_length == 50);
+  CHECK(pack(&options, 7, output, sizeof recording, &run) == TCPCLKIT_OK);
+  CHECK(pack(&options, 7, output, sizeof recording - 1, &run) == TCPCLKIT_TOO_SMALL);
   options.send_term = 1;
   CHECK(pack(&options, 7, output, sizeof output, &run) == TCPCLKIT_OK);
   CHECK(run.output_length == sizeof recording + 3);
@@ -413,28 +481,201 @@ static void packs(void) {
   CHECK(pack(NULL, 7, output, sizeof output, &run) == TCPCLKIT_NULL);
 }
 
-#ifdef REFUSES_MEMORY
-/* Runs a tool again and again, with one request more let through each time. */
-static void refusals(int tool) {
+/* The bytes of a slice after what was written stay as they were. */
+static void rests(void) {
+  const struct tcpclkit_eid eid = {TCPCLKIT_EID_IPN, 0, 2, 1, 0};
+  struct tcpclkit_bundle info;
+  uint8_t to[100], from[100];
+  uint64_t written;
+  memset(to, MARK, sizeof to);
+  memset(from, MARK, sizeof from);
+  CHECK(tcpclkit_fault_text(113, 0, to, sizeof to, &written) == TCPCLKIT_OK);
+  CHECK(written == 17 && is_marked(to + 17, sizeof to - 17));
+  CHECK(tcpclkit_eid_text(&eid, NULL, from, sizeof from, &written) == TCPCLKIT_OK);
+  CHECK(written == 7 && is_marked(from + 7, sizeof from - 7));
+  memset(to, MARK, sizeof to);
+  memset(from, MARK, sizeof from);
+  CHECK(tcpclkit_bundle_info(named, 20, to, sizeof to, from, sizeof from, &info) ==
+        TCPCLKIT_TRUNCATED);
+  CHECK(IS_MARKED(to) && IS_MARKED(from));
+  CHECK(tcpclkit_bundle_info(bundle, BUNDLE_LENGTH, to, sizeof to, from, sizeof from, &info) ==
+        TCPCLKIT_OK);
+  CHECK(IS_MARKED(to) && IS_MARKED(from));
+  CHECK(tcpclkit_bundle_info(named, sizeof named, to, sizeof to, from, sizeof from, &info) ==
+        TCPCLKIT_OK);
+  CHECK(is_marked(to + 4, sizeof to - 4) && is_marked(from + 3, sizeof from - 3));
+}
+
+/* What a run of a tool is lent. */
+struct lent {
+  uint8_t output[300];
+  uint8_t report[200];
+  struct tcpclkit_run run;
+};
+
+/* Runs a tool: 0 is list, 1 is unpack, 2 is pack. The input of pack is the bundle. */
+static uint32_t run_tool(int tool, struct lent *it, size_t output_room, size_t report_room) {
   const struct tcpclkit_pack_options usual = {60, 65536, 1048576, 65536, 1048576, 0, 0};
   const struct tcpclkit_unpack_options all = {0, 0, 0};
-  struct tcpclkit_run run;
-  uint8_t output[300], report[200];
+  memset(it, MARK, sizeof *it);
+  if (tool == 0)
+    return tcpclkit_list(recording, sizeof recording, it->output, output_room, it->report,
+                         report_room, &it->run);
+  if (tool == 1)
+    return tcpclkit_unpack(recording, sizeof recording, &all, it->output, output_room, it->report,
+                           report_room, &it->run);
+  return tcpclkit_pack(bundle, BUNDLE_LENGTH, &usual, (const uint8_t *)"ipn:1.0", 7, it->output,
+                       output_room, it->report, report_room, &it->run);
+}
+
+/* A tool with these rooms: it succeeds exactly if its texts fit. */
+static void room(int tool, const struct lent *whole, size_t output, size_t report) {
+  int fits = output >= whole->run.output_length && report >= whole->run.report_length;
+  struct lent it;
+  CHECK(run_tool(tool, &it, output, report) == (fits ? TCPCLKIT_OK : TCPCLKIT_TOO_SMALL));
+  CHECK(!fits || it.run.exit_status == whole->run.exit_status);
+  CHECK(it.run.output_length <= output && it.run.report_length <= report);
+  CHECK(fits || it.run.output_length == output || it.run.report_length == report);
+  CHECK(memcmp(it.output, whole->output, (size_t)it.run.output_length) == 0);
+  CHECK(memcmp(it.report, whole->report, (size_t)it.run.report_length) == 0);
+  CHECK(is_marked(it.output + it.run.output_length, sizeof it.output - it.run.output_length));
+  CHECK(is_marked(it.report + it.run.report_length, sizeof it.report - it.run.report_length));
+}
+
+static void rooms(int tool) {
+  struct lent whole;
+  size_t output, report, at;
+  CHECK(run_tool(tool, &whole, sizeof whole.output, sizeof whole.report) == TCPCLKIT_OK);
+  output = (size_t)whole.run.output_length;
+  report = (size_t)whole.run.report_length;
+  for (at = 0; at <= output + 1; at++)
+    room(tool, &whole, at, report);
+  for (at = 0; at <= report + 1; at++)
+    room(tool, &whole, output, at);
+  room(tool, &whole, 0, 0);
+  room(tool, &whole, output - 1, report > 0 ? report - 1 : 0);
+}
+
+#define LEAVES(call, status, it) \
+  do {                           \
+    CHECK((call) == (status));   \
+    CHECK(IS_MARKED(it));        \
+  } while (0)
+
+/* Nothing is written after TCPCLKIT_NULL, TCPCLKIT_RANGE and TCPCLKIT_END. */
+static void unwritten_answers(void) {
+  struct tcpclkit_verdict verdict;
+  struct tcpclkit_bundle info;
+  struct tcpclkit_contact contact;
+  struct tcpclkit_message message;
+  struct tcpclkit_item item;
+  const size_t size = sizeof recording;
+  memset(&verdict, MARK, sizeof verdict);
+  memset(&info, MARK, sizeof info);
+  memset(&contact, MARK, sizeof contact);
+  memset(&message, MARK, sizeof message);
+  memset(&item, MARK, sizeof item);
+  LEAVES(tcpclkit_bundle_verdict(NULL, 1, &verdict), TCPCLKIT_NULL, verdict);
+  LEAVES(tcpclkit_bundle_verdict(bundle, SIZE_MAX, &verdict), TCPCLKIT_RANGE, verdict);
+  LEAVES(tcpclkit_bundle_verdict(bundle, (size_t)PTRDIFF_MAX + 1, &verdict), TCPCLKIT_RANGE,
+         verdict);
+  LEAVES(tcpclkit_bundle_info(NULL, 1, NULL, 0, NULL, 0, &info), TCPCLKIT_NULL, info);
+  LEAVES(tcpclkit_bundle_info(bundle, 9, NULL, 1, NULL, 0, &info), TCPCLKIT_NULL, info);
+  LEAVES(tcpclkit_bundle_info(bundle, 9, NULL, 0, NULL, 1, &info), TCPCLKIT_NULL, info);
+  LEAVES(tcpclkit_contact(NULL, 1, &contact), TCPCLKIT_NULL, contact);
+  LEAVES(tcpclkit_message(NULL, 1, 0, &message), TCPCLKIT_NULL, message);
+  LEAVES(tcpclkit_message(recording, size, size + 1, &message), TCPCLKIT_RANGE, message);
+  LEAVES(tcpclkit_message(recording, size, size, &message), TCPCLKIT_END, message);
+  LEAVES(tcpclkit_item(NULL, 1, 0, 1, &item), TCPCLKIT_NULL, item);
+  LEAVES(tcpclkit_item(recording, size, 1, 0, &item), TCPCLKIT_RANGE, item);
+  LEAVES(tcpclkit_item(recording, size, 0, size + 1, &item), TCPCLKIT_RANGE, item);
+  LEAVES(tcpclkit_item(recording, size, size + 1, size + 1, &item), TCPCLKIT_RANGE, item);
+  LEAVES(tcpclkit_item(recording, size, size, size, &item), TCPCLKIT_END, item);
+  CHECK(tcpclkit_bundle_info(bundle, 9, NULL, 0, NULL, 0, NULL) == TCPCLKIT_NULL);
+  CHECK(tcpclkit_contact(recording, size, NULL) == TCPCLKIT_NULL);
+  CHECK(tcpclkit_message(recording, size, 6, NULL) == TCPCLKIT_NULL);
+  CHECK(tcpclkit_item(recording, size, 0, 9, NULL) == TCPCLKIT_NULL);
+}
+
+static void unwritten_texts(void) {
+  const struct tcpclkit_eid eid = {4, 0, 0, 0, 0};
+  struct tcpclkit_order order = {0, 0, 0, 0};
+  struct tcpclkit_turn turn;
+  uint8_t text[100];
+  uint64_t written;
+  memset(&turn, MARK, sizeof turn);
+  memset(text, MARK, sizeof text);
+  memset(&written, MARK, sizeof written);
+  LEAVES(tcpclkit_order(&order, 8, 0, 0, &turn), TCPCLKIT_RANGE, turn);
+  CHECK(tcpclkit_order(&order, 7, 0, 0, NULL) == TCPCLKIT_NULL && order.initiated == 0);
+  LEAVES(tcpclkit_fault_text(9, 0, text, sizeof text, &written), TCPCLKIT_RANGE, text);
+  LEAVES(tcpclkit_fault_text(1, 0, NULL, 1, &written), TCPCLKIT_NULL, written);
+  LEAVES(tcpclkit_fault_text(1, 0, text, sizeof text, NULL), TCPCLKIT_NULL, text);
+  LEAVES(tcpclkit_eid_text(&eid, NULL, text, sizeof text, &written), TCPCLKIT_RANGE, text);
+  LEAVES(tcpclkit_eid_text(&eid, NULL, NULL, 1, &written), TCPCLKIT_NULL, written);
+  LEAVES(tcpclkit_eid_text(NULL, NULL, text, sizeof text, &written), TCPCLKIT_NULL, text);
+  LEAVES(tcpclkit_eid_text(&eid, NULL, text, sizeof text, NULL), TCPCLKIT_NULL, text);
+  CHECK(IS_MARKED(written));
+}
+
+static void unwritten_runs(void) {
+  const struct tcpclkit_unpack_options all = {0, 0, 0}, one = {2, 0, 0}, payload = {0, 0, 2};
+  const struct tcpclkit_pack_options pack = {60, 65536, 1048576, 0, 1048576, 0, 0};
+  const uint8_t *node = (const uint8_t *)"ipn:1.0";
+  const size_t size = sizeof recording;
+  struct lent it;
+  uint8_t *to = it.output, *report = it.report;
+  memset(&it, MARK, sizeof it);
+  LEAVES(tcpclkit_unpack(recording, size, &one, to, 9, report, 9, &it.run), TCPCLKIT_RANGE, it);
+  LEAVES(tcpclkit_unpack(recording, size, &payload, to, 9, report, 9, &it.run), TCPCLKIT_RANGE,
+         it);
+  LEAVES(tcpclkit_unpack(recording, size, NULL, to, 9, report, 9, &it.run), TCPCLKIT_NULL, it);
+  LEAVES(tcpclkit_unpack(NULL, 1, &all, to, 9, report, 9, &it.run), TCPCLKIT_NULL, it);
+  LEAVES(tcpclkit_pack(bundle, 9, &pack, node, 7, to, 9, report, 9, &it.run), TCPCLKIT_RANGE, it);
+  LEAVES(tcpclkit_pack(bundle, 9, &pack, NULL, 7, to, 9, report, 9, &it.run), TCPCLKIT_NULL, it);
+  LEAVES(tcpclkit_pack(bundle, 9, NULL, node, 7, to, 9, report, 9, &it.run), TCPCLKIT_NULL, it);
+  LEAVES(tcpclkit_list(NULL, 1, to, 9, report, 9, &it.run), TCPCLKIT_NULL, it);
+  LEAVES(tcpclkit_list(recording, size, NULL, 9, report, 9, &it.run), TCPCLKIT_NULL, it);
+  LEAVES(tcpclkit_list(recording, size, to, 9, NULL, 9, &it.run), TCPCLKIT_NULL, it);
+  LEAVES(tcpclkit_list(recording, size, to, 9, report, 9, NULL), TCPCLKIT_NULL, it);
+  LEAVES(tcpclkit_list(recording, SIZE_MAX, to, 9, report, 9, &it.run), TCPCLKIT_RANGE, it);
+}
+
+#ifdef REFUSES_MEMORY
+/* Runs a tool again and again, with one request more let through each time. */
+static void refusals(int tool, size_t output, size_t report) {
+  struct lent whole, it;
   uint32_t status;
+  CHECK(run_tool(tool, &whole, sizeof whole.output, sizeof whole.report) == TCPCLKIT_OK);
   for (refused_request = 1; refused_request < 100; refused_request++) {
     requests = 0;
-    status = tool == 0   ? tcpclkit_list(recording, sizeof recording, output, sizeof output, report,
-                                         sizeof report, &run)
-             : tool == 1 ? tcpclkit_unpack(recording, sizeof recording, &all, output,
-                                           sizeof output, report, sizeof report, &run)
-                         : pack(&usual, 7, output, sizeof output, &run);
+    status = run_tool(tool, &it, output, report);
     if (requests < refused_request)
       break;
     CHECK(status == TCPCLKIT_MEMORY);
-    CHECK(tool != 0 || memcmp(output, LINES SEGMENT_LINE, (size_t)run.output_length) == 0);
+    CHECK(it.run.output_length <= output && it.run.report_length <= report);
+    CHECK(memcmp(it.output, whole.output, (size_t)it.run.output_length) == 0);
+    CHECK(memcmp(it.report, whole.report, (size_t)it.run.report_length) == 0);
   }
   CHECK(refused_request > 1 && status == TCPCLKIT_OK);
   refused_request = 0;
+}
+
+/* In slices with room to spare, and in slices that have no byte to spare. */
+static void refusals_of(int tool) {
+  struct lent it;
+  refusals(tool, sizeof it.output, sizeof it.report);
+  CHECK(run_tool(tool, &it, sizeof it.output, sizeof it.report) == TCPCLKIT_OK);
+  refusals(tool, (size_t)it.run.output_length, (size_t)it.run.report_length);
+}
+
+/* Texts that are longer than their slices take no memory for what is not given. */
+static void short_slices(void) {
+  struct lent it;
+  largest_request = 0;
+  CHECK(run_tool(0, &it, 9, 9) == TCPCLKIT_TOO_SMALL);
+  CHECK(run_tool(1, &it, 9, 9) == TCPCLKIT_TOO_SMALL);
+  CHECK(largest_request > 0 && largest_request <= 2 * 9);
 }
 #endif
 
@@ -444,15 +685,25 @@ int main(void) {
   scans();
   messages();
   items();
+  empty_parts();
   orders();
   texts();
+  longest_texts();
   lists();
   unpacks();
   packs();
+  rests();
+  rooms(0);
+  rooms(1);
+  rooms(2);
+  unwritten_answers();
+  unwritten_texts();
+  unwritten_runs();
 #ifdef REFUSES_MEMORY
-  refusals(0);
-  refusals(1);
-  refusals(2);
+  refusals_of(0);
+  refusals_of(1);
+  refusals_of(2);
+  short_slices();
 #endif
   printf("%u passed, %u failed\n", passed, failed);
   return failed > 0;

@@ -81,10 +81,8 @@ static int copy_data(const uint8_t *bytes, size_t length, FILE *output) {
     fwrite(bytes + message.data_offset, 1, message.data_length, output);
     offset = message.next;
   }
-  if (status == TCPCLKIT_DATA_TRUNCATED) {
+  if (status == TCPCLKIT_DATA_TRUNCATED)
     fwrite(bytes + message.data_offset, 1, length - message.data_offset, output);
-    message.fault = (struct tcpclkit_fault){TCPCLKIT_WIRE_TRUNCATED, 0, offset};
-  }
   if (status != TCPCLKIT_END)
     show_fault(&message.fault);
   return status == TCPCLKIT_END;

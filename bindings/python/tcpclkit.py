@@ -476,8 +476,6 @@ def messages(content, offset=CONTACT_LENGTH):
             return
         if status in (OK, DATA_TRUNCATED):
             yield _message(lent, offset, it)
-        if status == DATA_TRUNCATED:
-            raise Fault(Code.WIRE_TRUNCATED, 0, offset)
         if status != OK:
             raise _fault(it.fault)
         offset = it.next

@@ -226,12 +226,6 @@ static void put_message(const struct job *job, uint64_t offset, const struct tcp
   put(&output, "\n");
 }
 
-/* Appends the line of the fault that ends a recording, by the status of its last message. */
-static void put_end(uint32_t status, uint64_t offset, const struct tcpclkit_message *it) {
-  struct tcpclkit_fault truncated = {TCPCLKIT_WIRE_TRUNCATED, 0, offset};
-  put_fault(&report, status == TCPCLKIT_DATA_TRUNCATED ? &truncated : &it->fault);
-}
-
 /* Reads the contact header. Returns its flags, or -1 after it has appended a fault. */
 static int read_contact(const struct job *job) {
   struct tcpclkit_contact it;
@@ -255,7 +249,7 @@ static int read_messages(const struct job *job) {
   }
   if (status == TCPCLKIT_END)
     return 0;
-  put_end(status, offset, &it);
+  put_fault(&report, &it.fault);
   return 3;
 }
 
@@ -355,7 +349,7 @@ static int walk(const struct job *job) {
     ended = taken == 1 ? 1 : ended;
     offset = it.next;
   }
-  put_end(status, offset, &it);
+  put_fault(&report, &it.fault);
   return 3;
 }
 

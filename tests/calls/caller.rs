@@ -60,7 +60,10 @@ fn compare_scan(bytes: &[u8]) {
     }
     let (found, same) = (scan.verdict(), verdict(&bytes[..at]));
     let part = |place: Range<u64>| &bytes[place.start as usize..place.end as usize];
-    assert_eq!((found.fault, found.payload.map(part)), (same.fault, same.payload));
+    assert_eq!(
+        (found.fault, found.payload.map(part)),
+        (same.fault, same.payload)
+    );
     match (scan.bundle(), bundle(&bytes[..at])) {
         (Ok(found), Ok(same)) => assert_eq!(
             (found.source, found.destination, part(found.payload)),

@@ -1,6 +1,6 @@
 //! Recordings: the contact header, the messages after it, and their extension items.
 
-use crate::fault::{Code, Fault};
+use crate::fault::Fault;
 use crate::raw;
 
 /// The length of a contact header. The first message begins there.
@@ -122,8 +122,8 @@ pub struct Messages<'a> {
 enum State {
     /// A message is read next, at this offset.
     At(usize),
-    /// The data of the segment at this offset is cut. Its fault is next.
-    Cut(usize),
+    /// The data of the last segment is cut. Its fault is next.
+    Cut(Fault),
     Ended,
 }
 
@@ -169,14 +169,7 @@ impl<'a> Iterator for Messages<'a> {
     fn next(&mut self) -> Option<Self::Item> {
         match std::mem::replace(&mut self.state, State::Ended) {
             State::At(offset) => self.read(offset),
-            State::Cut(offset) => {
-                let offset = offset as u64;
-                Some(Err(Fault {
-                    code: Code::WireTruncated,
-                    number: 0,
-                    offset,
-                }))
-            }
+            State::Cut(fault) => Some(Err(fault)),
             State::Ended => None,
         }
     }
@@ -192,7 +185,7 @@ impl<'a> Messages<'a> {
         });
         match status {
             raw::OK => self.state = State::At(it.next as usize),
-            raw::DATA_TRUNCATED => self.state = State::Cut(offset),
+            raw::DATA_TRUNCATED => self.state = State::Cut(Fault::of(it.fault)),
             raw::TRUNCATED | raw::FAULT => return Some(Err(Fault::of(it.fault))),
             _ => return None, // the end, or an offset past it
         }

@@ -19,7 +19,10 @@ fn the_pieces_make_no_difference() {
         let found = scan.bundle().unwrap();
         assert_eq!((taken, found.payload), (34, 28..33));
         assert_eq!(found.source, whole.source);
-        assert_eq!((found.sequence, found.blocks), (whole.sequence, whole.blocks));
+        assert_eq!(
+            (found.sequence, found.blocks),
+            (whole.sequence, whole.blocks)
+        );
     }
 }
 

@@ -9,7 +9,7 @@ use Rattle.link_bundle_types.specs.declared.info.BundleInfo.{BundleInfo}
 use Rattle.link_bundle.specs.Bundle.{verdict, payload_span, state_of}
 use Rattle.link_bundle.specs.Scan.{HasScanned, may_scan}
 use Rattle.link_bundle.specs.declared.scan.BundleScan.{BundleScan}
-use Rattle.tcpclkit_c.specs.Slice.{HoldsFront}
+use Rattle.tcpclkit_c.specs.Slice.{HoldsFront, KeepsRest}
 use Rattle.tcpclkit_c.specs.Fault.{no_fault, bundle_fault}
 use Rattle.tcpclkit_c.specs.declared.fault.Fault.{Fault}
 use Rattle.tcpclkit_c.specs.declared.bundle.Bundle.{Bundle}
@@ -91,25 +91,38 @@ bundle_shown verdict info =
       payload_length = info.payload;
     }
 
+-- the slices for the two names, before or after a call
+pub record Names : Type 0 where
+  pub destination : List ℕ
+  pub source : List ℕ
+
 -- TCPCLKIT_OK, or TCPCLKIT_TOO_SMALL if a name is longer than the slice for it
-abbrev pub names_status : BundleInfo → (destination source : List ℕ) → ℕ
-names_status info destination source =
-    if nat_le (length (name_of info.destination)) (length destination)
-    && nat_le (length (name_of info.source)) (length source) then 0 else 5
+abbrev pub names_status : BundleInfo → Names → ℕ
+names_status info names =
+    if nat_le (length (name_of info.destination)) (length names.destination)
+    && nat_le (length (name_of info.source)) (length names.source) then 0 else 5
 
 -- the numbers are those of the bundle, and the slices have its names
-pub record GivesBundle (info : BundleInfo) (verdict : Verdict) (destination source : List ℕ)
+pub record GivesBundle (info : BundleInfo) (verdict : Verdict) (old new : Names)
     (bundle : Bundle) (status : ℕ) : Type 0 where
   pub numbers : bundle ≡ bundle_shown verdict info
-  pub destination_name : HoldsFront destination (name_of info.destination)
-  pub source_name : HoldsFront source (name_of info.source)
-  pub fits : status ≡ names_status info destination source
+  pub destination_name : HoldsFront new.destination (name_of info.destination)
+  pub destination_rest : KeepsRest old.destination new.destination (name_of info.destination)
+  pub source_name : HoldsFront new.source (name_of info.source)
+  pub source_rest : KeepsRest old.source new.source (name_of info.source)
+  pub fits : status ≡ names_status info new
+
+-- the bytes are no good bundle: of the answer only the verdict is given, and no name
+pub record GivesStop (verdict : Verdict) (state : State) (old new : Names) (bundle : Bundle)
+    (status : ℕ) : Type 0 where
+  pub verdict_is : bundle.verdict ≡ verdict
+  pub no_names : new ≡ old
+  pub stops : status ≡ state_status state
 
 -- the answer, by the verdict and by where the payload's bytes are
 abbrev pub GivesInfo : Result BundleInfo (BundleFault × ℕ) → Option (ℕ × ℕ)
-    → (destination source : List ℕ) → Bundle → ℕ → Type 0
-GivesInfo (Ok info) span destination source bundle status =
-    GivesBundle info (verdict_shown (Ok info) span) destination source bundle status
-GivesInfo (Err stop) span destination source bundle status =
-    (bundle.verdict ≡ verdict_shown (Err stop) span)
-    × (status ≡ state_status (state_of (Err stop)))
+    → (old new : Names) → Bundle → ℕ → Type 0
+GivesInfo (Ok info) span old new bundle status =
+    GivesBundle info (verdict_shown (Ok info) span) old new bundle status
+GivesInfo (Err stop) span old new bundle status =
+    GivesStop (verdict_shown (Err stop) span) (state_of (Err stop)) old new bundle status

@@ -4,6 +4,7 @@ use Rattle.link_wire.specs.InSlice.{LiesAt, ItemLies}
 use Rattle.link_wire.specs.Message.{item_head_at, total_at}
 use Rattle.link_wire.specs.Part.{Part, ◌>>=◌}
 use Rattle.link_wire.specs.declared.fault.WireFault.{WireFault}
+use Rattle.link_wire.specs.declared.fault.WireFault.TheVariants.{Truncated}
 use Rattle.link_wire.specs.declared.message.Contact as wire
 use Rattle.link_wire.specs.declared.message.Fields.{Fields}
 use Rattle.link_wire.specs.declared.message.Fields.TheVariants.{SessInit, Segment, Ack, Refuse, Keepalive, SessTerm, MsgReject}
@@ -74,10 +75,16 @@ fields_shown (MsgReject reason header) =
 abbrev pub size_of : MessageAt → ℕ
 size_of place = (fields_shown place.fields).data_length
 
--- a message among this many bytes, with its places
-abbrev pub message_shown : ℕ → MessageAt → Message
-message_shown size place =
+-- no fault, or that of a message at this offset whose data is not all among this many bytes
+abbrev pub data_fault : (size offset : ℕ) → MessageAt → Fault
+data_fault size offset place =
+    if nat_le (size_of place) (size - place.end) then no_fault else wire_fault Truncated offset
+
+-- a message at this offset among this many bytes, with its places
+abbrev pub message_shown : (size offset : ℕ) → MessageAt → Message
+message_shown size offset place =
     record (fields_shown place.fields) {
+      fault = data_fault size offset place;
       node_offset = place.node.offset;
       node_length = place.node.length;
       items_offset = place.items.offset;
@@ -91,18 +98,18 @@ abbrev pub data_status : ℕ → MessageAt → ℕ
 data_status size place = if nat_le (size_of place) (size - place.end) then 0 else 3
 
 -- the numbers are those of the message, and its parts lie where they say
-pub record ShowsMessage (bytes : List ℕ) (part : Part read.Message) (answer : Message)
-    (status : ℕ) : Type 0 where
+pub record ShowsMessage (bytes : List ℕ) (offset : ℕ) (part : Part read.Message)
+    (answer : Message) (status : ℕ) : Type 0 where
   pub place : MessageAt
   pub lies : LiesAt bytes part place
-  pub numbers : answer ≡ message_shown (length bytes) place
+  pub numbers : answer ≡ message_shown (length bytes) offset place
   pub gives : status ≡ data_status (length bytes) place
 
 -- the answer, by the reading of the message at the offset
 pub record GivesMessage (bytes : List ℕ) (offset : ℕ) (part : Part read.Message)
     (answer : Message) (status : ℕ) : Type 0 where
   pub whole : (message : read.Message) (rest : List ℕ) → part ≡ Ok (message, rest)
-      → ShowsMessage bytes part answer status
+      → ShowsMessage bytes offset part answer status
   pub fault : (fault : WireFault) → part ≡ Err fault → GivesFault fault offset answer.fault status
 
 -- whether there is a total, and which

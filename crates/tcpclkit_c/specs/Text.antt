@@ -13,7 +13,7 @@ use Rattle.link_transfer.specs.declared.fault.OrderFault.{OrderFault}
 use Rattle.link_transfer.specs.declared.fault.OrderFault.TheVariants as order
 use Rattle.link_wire.specs.declared.fault.WireFault.{WireFault}
 use Rattle.link_wire.specs.declared.fault.WireFault.TheVariants as wire
-use Rattle.tcpclkit_c.specs.Slice.{HoldsFront}
+use Rattle.tcpclkit_c.specs.Slice.{HoldsFront, KeepsRest}
 use Rattle.tcpclkit_c.specs.declared.bundle.Eid.{Eid}
 use Rattle.tcpclkit_c.specs.declared.text.Named.{Named}
 use Rattle.tcpclkit_c.specs.declared.text.Named.TheVariants as named
@@ -109,13 +109,15 @@ abbrev pub option_eid_text : Option whole.Eid → Option (List ℕ)
 option_eid_text None = None
 option_eid_text (Some eid) = Some (eid_text eid)
 
--- the slice begins with the text, or has the text's first bytes; as many bytes as that were written
-pub record HoldsText (text slice : List ℕ) (written status : ℕ) : Type 0 where
+-- The slice begins with the text, or has the text's first bytes. As many bytes as that were
+-- written, and the bytes after them are as they were.
+pub record HoldsText (text old slice : List ℕ) (written status : ℕ) : Type 0 where
   pub front : HoldsFront slice text
+  pub rest : KeepsRest old slice text
   pub count : written ≡ min (length text) (length slice)
   pub fits : status ≡ (if nat_le (length text) (length slice) then 0 else 5)
 
 -- the text, or TCPCLKIT_RANGE if there is none
-abbrev pub GivesText : Option (List ℕ) → (slice : List ℕ) → (written status : ℕ) → Type 0
-GivesText None slice written status = status ≡ 6
-GivesText (Some text) slice written status = HoldsText text slice written status
+abbrev pub GivesText : Option (List ℕ) → (old slice : List ℕ) → (written status : ℕ) → Type 0
+GivesText None old slice written status = status ≡ 6
+GivesText (Some text) old slice written status = HoldsText text old slice written status

@@ -229,7 +229,9 @@ fn give(
     source_name: &mut [u8],
     answer: &mut Bundle,
 ) -> u32
-    ensures { GivesBundle (viewed_info info.now) verdict destination_name.new source_name.new
+    ensures { GivesBundle (viewed_info info.now) verdict
+        (record { destination = destination_name.old; source = source_name.old })
+        (record { destination = destination_name.new; source = source_name.new })
         answer.new result }
 {
     *answer = bundle_shown(verdict, info);
@@ -250,7 +252,9 @@ pub(crate) fn give_info(
     answer: &mut Bundle,
 ) -> u32
     ensures { (bytes : List ℕ) → IsJudged scan.now bytes
-        → GivesInfo (verdict bytes) (payload_span bytes) destination_name.new source_name.new
+        → GivesInfo (verdict bytes) (payload_span bytes)
+        (record { destination = destination_name.old; source = source_name.old })
+        (record { destination = destination_name.new; source = source_name.new })
         answer.new result }
 {
     let verdict = found(scan);
@@ -271,8 +275,10 @@ pub extern "C" fn tcpclkit_raw_bundle_info(
     source_name: &mut [u8],
     answer: &mut Bundle,
 ) -> u32
-    ensures { GivesInfo (verdict bytes.now) (payload_span bytes.now) destination_name.new
-        source_name.new answer.new result }
+    ensures { GivesInfo (verdict bytes.now) (payload_span bytes.now)
+        (record { destination = destination_name.old; source = source_name.old })
+        (record { destination = destination_name.new; source = source_name.new })
+        answer.new result }
 {
     let mut scan = BundleScan::new();
     judge(&mut scan, bytes);

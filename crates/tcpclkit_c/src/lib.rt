@@ -5,8 +5,8 @@
 //! what a caller may get wrong, calls one proved function, and writes the answer as numbers. Its
 //! contract has the words of that function's contract, so no export has a condition.
 //!
-//! The exports of [`scan`] also take a pointer to memory that has a scan in it. A raw pointer has no
-//! loan, so each of their contracts says what memory the caller gives up and gets back.
+//! The exports of [`scan`] also take a pointer to memory that has a scan in it. No loan follows a
+//! raw pointer, so their contracts say what memory the caller gives up and gets back.
 #![tactic(auto)]
 
 ghost use Rattle.std.specs.Prelude.{◌≡◌};

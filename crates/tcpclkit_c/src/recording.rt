@@ -7,7 +7,7 @@ ghost use Rattle.tcpclkit_c.specs.Recording.{GivesContact, fields_shown, message
 use crate::fault::{Fault, wire_status};
 use crate::status::{DATA_TRUNCATED, END, OK, RANGE};
 use link_wire::{
-    Fields, ItemAt, ListOf, MAX_LIST_LENGTH, MessageAt, contact_in, item_in, message_in,
+    Fields, ItemAt, ListOf, MAX_LIST_LENGTH, MessageAt, WireFault, contact_in, item_in, message_in,
 };
 
 /// `struct tcpclkit_contact`: a contact header, or its fault.
@@ -171,9 +171,11 @@ fn fields_shown(fields: Fields) -> Message
 }
 
 /// A message as numbers, and whether its data is there; `size` is the number of the bytes.
-fn shown(place: &MessageAt, size: usize) -> (Message, u32)
+///
+/// If the data is cut, the message has the fault of a message at this offset.
+fn shown(place: &MessageAt, size: usize, offset: u64) -> (Message, u32)
     requires { place.now.end ≤ size }
-    ensures message { result.0 ≡ message_shown size place.now }
+    ensures message { result.0 ≡ message_shown size offset place.now }
     ensures status { result.1 ≡ data_status size place.now }
 {
     let fields = fields_shown(place.fields);
@@ -189,7 +191,8 @@ fn shown(place: &MessageAt, size: usize) -> (Message, u32)
         let next = place.end as u64 + fields.data_length;
         (Message { next, ..placed }, OK)
     } else {
-        (placed, DATA_TRUNCATED)
+        let fault = Fault::of_wire(WireFault::Truncated, offset);
+        (Message { fault, ..placed }, DATA_TRUNCATED)
     }
 }
 
@@ -210,7 +213,7 @@ pub extern "C" fn tcpclkit_raw_message(bytes: &[u8], offset: u64, answer: &mut M
     }
     match message_in(bytes, offset as usize) {
         Ok(place) => {
-            let (message, status) = shown(&place, size);
+            let (message, status) = shown(&place, size, offset);
             *answer = message;
             status
         }

@@ -96,8 +96,10 @@ pub unsafe extern "C" fn tcpclkit_raw_scan_info(
     ghost seen: { List ℕ }
     requires* { sem 𝓛 (HoldsScan memory seen) }
     ensures* scan { sem 𝓛 (HoldsScan memory seen) }
-    ensures answer { GivesInfo (verdict seen) (payload_span seen) destination_name.new
-        source_name.new answer.new result }
+    ensures answer { GivesInfo (verdict seen) (payload_span seen)
+        (record { destination = destination_name.old; source = source_name.old })
+        (record { destination = destination_name.new; source = source_name.new })
+        answer.new result }
 {
     give_info(
         &*(memory as *mut BundleScan),

@@ -112,7 +112,7 @@ fn put_named(line: &mut Line, named: Named)
 
 /// Copies a text into the slice, as far as there is room.
 fn give(text: &[u8], slice: &mut [u8], written: &mut u64) -> u32
-    ensures { HoldsText text.now slice.new written.new result }
+    ensures { HoldsText text.now slice.old slice.new written.new result }
 {
     *written = text.len().min(slice.len()) as u64;
     if copy_front(slice, text) {
@@ -130,7 +130,8 @@ pub extern "C" fn tcpclkit_raw_fault_text(
     text: &mut [u8],
     written: &mut u64,
 ) -> u32
-    ensures text { GivesText (option_text (named_by code number)) text.new written.new result }
+    ensures text { GivesText (option_text (named_by code number)) text.old text.new written.new
+        result }
     ensures range { result ≡ 6 → (text.new ≡ text.old) × (written.new ≡ written.old) }
 {
     match named_by(code, number) {
@@ -165,7 +166,8 @@ pub extern "C" fn tcpclkit_raw_eid_text(
     text: &mut [u8],
     written: &mut u64,
 ) -> u32
-    ensures text { GivesText (option_eid_text (eid_by eid.now name.now)) text.new written.new result }
+    ensures text { GivesText (option_eid_text (eid_by eid.now name.now)) text.old text.new
+        written.new result }
     ensures range { result ≡ 6 → (text.new ≡ text.old) × (written.new ≡ written.old) }
 {
     match eid_by(eid, name) {

@@ -6,7 +6,7 @@ use Rattle.link_bundle.specs.declared.scan.BundleScan.{BundleScan}
 use Rattle.link_bundle.specs.contracts.scan.BundleScan.{the_row as R}
 use Rattle.link_bundle.specs.Bundle.{verdict, payload_span}
 use Rattle.link_bundle.proofs.scan.BundleScan.TheLaws.{the_row_laws, the_within}
-use Rattle.tcpclkit_c.specs.Bundle.{IsJudged, GivesInfo}
+use Rattle.tcpclkit_c.specs.Bundle.{IsJudged, Names, GivesInfo}
 use Rattle.tcpclkit_c.specs.Scan.{HoldsScan}
 use Rattle.tcpclkit_c.proofs.Scanning.{all_judged}
 use Rattle.tcpclkit_c.specs.contracts.bundle.Bundle.{the_row as B}
@@ -31,6 +31,7 @@ tcpclkit_raw_scan_info_spec 𝓤 𝓛 𝓜 𝓡 wired =
     (λ κs. (rawptr_Tells, (mut_slice_Tells (named 0) κs.0 u8, (mut_slice_Tells (named 1) κs.1.0 u8, (mut_Tells (named 2) κs.1.1.0 B, tt))))) (λ κs qs bounds a seen are.
     let destination = a.1.0 in
     let source = a.1.1.0 in
+    let before : Names = record { destination = destination.now; source = source.now } in
     let answer = a.1.1.1.0 in
     let y : Ptr → W.Ghost = λ p. ((κs, qs, bounds, (p, a.1), (rawptr_vals p, (mut_slice_vals destination, (mut_slice_vals source, (mut_vals answer, tt))))), seen) in
     let Tokens = (‵ (flft κs.0 qs.0) ⊛ (‵ (flft κs.1.0 qs.1.0) ⊛ (‵ (flft κs.1.1.0 qs.1.1.0) ⊛ ‵ ftrue))) in
@@ -62,7 +63,7 @@ tcpclkit_raw_scan_info_spec 𝓤 𝓛 𝓜 𝓡 wired =
     (and_then ! (get ! refl) (and_then ! (get ! refl) (and_then ! (get ! refl) (and_then ! (get ! refl) (no_more !))))) (λ v.
     use1 𝓛 (later (some (λ (r : ℕ). ((‵ (flft κ full_share) ⊛ Tokens) ⊛ ‵ (u32.own_val r (v ∷ []))) ⊛
     some (λ (ws : Lasts g.ended z.0.0 z.0.3). ‵ (lasts g.ended z.0.0 z.0.3 ws) ⊛
-    raw (fact 𝓤 ((bytes : List ℕ) → IsJudged scan bytes → GivesInfo (verdict bytes) (payload_span bytes) ws.1.0 ws.1.1.0 ws.1.1.1.0 r)))))) (id⊢ 𝓤 _) $
+    raw (fact 𝓤 ((bytes : List ℕ) → IsJudged scan bytes → GivesInfo (verdict bytes) (payload_span bytes) before (record { destination = ws.1.0; source = ws.1.1.0 }) ws.1.1.1.0 r)))))) (id⊢ 𝓤 _) $
     await ! tt $ pick ! (λ r. split ! $ split ! $ split ! $ lft_end ! tt $
     move ! (2 ∷ []) $ peeks ! u32 (Is u32) (shows 𝓛 u32) r (v ∷ []) (λ is. lands_as ! refl refl ((uint_Lawful 𝓛 w32).typed r _ is).0 $
     move ! (3 ∷ []) $ pick ! (λ ws. split ! $ move ! (1 ∷ []) $ heard ! _ (λ gives. fsplit ! $
@@ -75,7 +76,7 @@ tcpclkit_raw_scan_info_spec 𝓤 𝓛 𝓜 𝓡 wired =
     fpack ! BundleScan (λ x. fsep (lies_at R full_share (block_ptr b o) x) (fex (HasScanned x seen) (λ _. ftrue))) scan $
     move ! (1 ∷ []) $ nothing ! $ join ! $
     -- [what is left of the parameters; the scan; the result; the tokens]
-    use0 𝓛 (raw (fact 𝓤 (GivesInfo (verdict seen) (payload_span seen) ws.1.0 ws.1.1.0 ws.1.1.1.0 r))) (fact_i 𝓤 (GivesInfo (verdict seen) (payload_span seen) ws.1.0 ws.1.1.0 ws.1.1.1.0 r) (emp 𝓤) end) $
+    use0 𝓛 (raw (fact 𝓤 (GivesInfo (verdict seen) (payload_span seen) before (record { destination = ws.1.0; source = ws.1.1.0 }) ws.1.1.1.0 r))) (fact_i 𝓤 (GivesInfo (verdict seen) (payload_span seen) before (record { destination = ws.1.0; source = ws.1.1.0 }) ws.1.1.1.0 r) (emp 𝓤) end) $
     move ! (4 ∷ 1 ∷ 3 ∷ 2 ∷ []) $
     suffices ! _ (ends_at 𝓛 f.ended stayed c (y (block_ptr b o)) v r (tt, ws.1) (tt, (tt, (tt, (tt, tt))))) $
     group ! 3 $ done !)))))))))))
