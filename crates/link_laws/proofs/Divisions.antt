@@ -1,5 +1,5 @@
 -- The parts of an input, whatever bytes follow it.
-use Rattle.std.proofs.Common.{◌≡◌, ℕ, zero, suc, ◌+◌, ◌<◌, ◌≤◌, ◌⊎◌, inl, inr, Bool, true, false, if◌then◌else◌, List, [], ◌∷◌, ◌++◌, length, take, drop, Some, Result, Ok, Err, refl, ap, sym, ◌∙◌, ⊎_elim, append_assoc, length-append, length-drop, arith}
+use Rattle.std.proofs.Common.{◌≡◌, ℕ, zero, suc, ◌<◌, ◌≤◌, ◌⊎◌, inl, inr, Bool, true, false, if◌then◌else◌, List, [], ◌∷◌, ◌++◌, length, take, drop, Some, Result, Ok, Err, refl, ap, sym, ◌∙◌, ⊎_elim, append_assoc, length-append, length-drop, arith}
 use Rattle.std.proofs.lemmas.Bool.{cases_Bool, cases_lt, false≢true}
 use Rattle.std.proofs.lemmas.List.{take-append-drop, take-append-le}
 use Rattle.link_cbor.specs.PieceLaws.{joins_pieces, takes_shortest}
@@ -85,20 +85,23 @@ faulty_first limit front rest fault place is said stays within = record {
 }
 
 -- more bytes than the peer takes
-longer_front : (limit : ℕ) (bytes more : List ℕ) → limit < length (front_of bytes)
-    → divided limit (bytes ++ more) ≡ refused_so (Longer limit) (take limit (front_of bytes))
-longer_front limit bytes more beyond =
-    let run = taken bundle_goes (front_of bytes) more in
-    let front : front_of (bytes ++ more) ≡ front_of bytes ++ run = joins_pieces bundle_goes [] bytes more in
-    let some : length bytes ≡ length (front_of bytes) + length (drop (length (front_of bytes)) bytes) = ap length (follows bytes) ∙ length-append (front_of bytes) _ in
-    divided_front limit (front_of bytes ++ run) (bytes ++ more) (omega (arith, length-append bytes more)) front
-    ∙ ap (divided_by (divided limit) (front_of bytes ++ run) (bytes ++ more)) (beyond_limit limit (front_of bytes ++ run) (omega (arith, length-append (front_of bytes) run)))
-    ∙ ap (refused_so (Longer limit)) (take-append-le limit (front_of bytes) run (omega arith))
-
 longer_first : (limit : ℕ) (bytes : List ℕ)
     → limit < length (front_of bytes) → IsRefused limit bytes
-longer_first limit bytes beyond =
-    record { accepted = _; refusal = Longer limit; divides = λ more. longer_front limit bytes more beyond }
+longer_first limit bytes beyond = record {
+  accepted = take limit (front_of bytes);
+  refusal = Longer limit;
+  divides = λ more.
+      let front = front_of bytes in
+      let run = taken bundle_goes front more in
+      let size = ap length (follows bytes) ∙ length-append front _ in
+      let longer = length-append front run in
+      let some : 0 < length (bytes ++ more) = omega (arith, length-append bytes more) in
+      let joins = joins_pieces bundle_goes [] bytes more in
+      divided_front limit (front ++ run) (bytes ++ more) some joins
+      ∙ ap (divided_by (divided limit) (front ++ run) (bytes ++ more))
+      (beyond_limit limit (front ++ run) (omega arith))
+      ∙ ap (refused_so (Longer limit)) (take-append-le limit front run (omega arith));
+}
 
 -- ---- the whole input
 

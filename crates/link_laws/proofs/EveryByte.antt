@@ -96,7 +96,8 @@ module _ (transfers : List Transfer) (before : List Message) (content : List ℕ
       → Adds transfers (after_segment transfers head content) content
   segment_added true head is may = rw is (parts_more all _ transfers)
   segment_added false head is may =
-      rw is (continued_adds transfers content (closes head content) (open_before transfers before knows head may is))
+      let opened = open_before transfers before knows head may is in
+      rw is (continued_adds transfers content (closes head content) opened)
 
   -- a head that is in order adds its data
   message_added : (sent : Message) → (is_segment (event_of sent) ≡ false → content ≡ [])

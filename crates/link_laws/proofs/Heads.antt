@@ -31,8 +31,9 @@ module _ (wanted : Wanted) where
         (after_message transfers (message.Segment head) (content ++ piece))
     segment_grows head may short =
         let unclosed = unclosed_by (is_end head.flags) (length content) head.length short in
+        let opened = segment_open transfers seen knows head content may unclosed in
         rw (transfer_grows transfers head content piece)
-        (continued_front wanted _ piece _ (segment_open transfers seen knows head content may unclosed))
+        (continued_front wanted _ piece _ opened)
 
     -- more data of the segment changes only the latest transfer, which the segment has not closed
     message_grows : (sent : Message) → refusal seen (event_of sent) ≡ None
@@ -44,19 +45,20 @@ module _ (wanted : Wanted) where
         (λ segment. rw segment.1
         (segment_grows segment.0 (rw segment.1 at may)
         (subst (λ (m : Message). length content < data_length m) segment.1 short)))
-        (λ other. rw (transfers_same transfers sent content other, transfers_same transfers sent (content ++ piece) other)
-        (precedes_same wanted transfers))
+        (λ other.
+        let same = transfers_same transfers sent (content ++ piece) other in
+        rw (transfers_same transfers sent content other, same) (precedes_same wanted transfers))
         (kind_of sent)
 
   -- ---- the heads that are in order
 
-  -- of some heads and of others, which come after these transfers
+  -- the order of some heads, and of heads that go on from them, both after these transfers
   pub record OrderGoesOn (transfers : List Transfer) (before after : Ordered) : Type 0 where
     pub stays : (stop : ℕ × OrderFault) → before.refused ≡ Some stop → after ≡ before
     pub precedes : before.refused ≡ None
         → Precedes wanted (with_heads transfers before.heads) (with_heads transfers after.heads)
 
-  -- whatever comes before the heads
+  -- these heads go on from those, whatever comes before both
   abbrev pub HeadsGoOn : (heads other : List Entry) → Type 0
   HeadsGoOn heads other =
       (transfers : List Transfer) (seen : List Message) → KnowsOpen transfers seen

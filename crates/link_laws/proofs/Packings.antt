@@ -176,7 +176,8 @@ module _ (options : PackOptions) where
     module _ (opened : IsOpen options.peer_transfer begun) where
       open opened use {front, goes, within}
 
-      texts_on : AreFronts (texts_of options bundles begun) (packing_of options (bytes ++ more)).texts
+      texts_on : AreFronts (texts_of options bundles begun)
+          (packing_of options (bytes ++ more)).texts
       texts_on =
           let limit = options.peer_transfer in
           let input = divided limit (begun ++ more) in

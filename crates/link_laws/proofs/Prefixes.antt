@@ -1,4 +1,4 @@
--- What a tool makes of some bytes, and of these bytes and more.
+-- The texts that a tool determines by some bytes are prefixes of its texts for longer inputs.
 use Rattle.std.proofs.Common.{◌≡◌, ℕ, true, List, ◌++◌, Option, Some, None, refl, ap, sym, ◌∙◌, ⊎_elim}
 use Rattle.std.proofs.lemmas.Bool.{cases_Bool}
 use Rattle.link_run.specs.Made.{StreamStop, Made, whole_by, sofar_by, is_shown, tool_of}
@@ -6,7 +6,7 @@ use Rattle.link_run.proofs.Ends.{unshown_sofar, shown_sofar}
 use Rattle.link_laws.specs.Prefix.{IsPrefixed}
 use Rattle.link_laws.proofs.Fronts.{front_same, front_first, AreFronts, fronts_same, fronts_trans}
 
--- the second is made of the bytes of the first and more
+-- what is made of some bytes, and of these bytes and more
 pub record MadeOn (before after : Made) : Type 0 where
   pub texts : AreFronts before.texts after.texts
   pub ended : AreFronts after.texts after.ended

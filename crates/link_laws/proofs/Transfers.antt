@@ -88,7 +88,8 @@ module _ (wanted : Wanted) where
   pub continued_front : (transfers : List Transfer) (piece : List ℕ) (closed : Bool)
       → IsOpen transfers → Precedes transfers (continued transfers piece closed)
   continued_front [] piece closed opened = absurd opened
-  continued_front (latest ∷ earlier) piece closed opened = grown_front latest earlier piece closed opened
+  continued_front (latest ∷ earlier) piece closed opened =
+      grown_front latest earlier piece closed opened
 
 -- ---- heads that are in order
 
@@ -171,8 +172,10 @@ module _ (wanted : Wanted) where
     segment_front head may =
         ⊎_elim
         (λ starts. rw (transfer_begins transfers head content starts) (begins_front wanted _ transfers))
-        (λ continues. rw (transfer_continues transfers head content continues)
-        (continued_front wanted transfers content _ (open_before transfers before knows head may continues)))
+        (λ continues.
+        let opened = open_before transfers before knows head may continues in
+        rw (transfer_continues transfers head content continues)
+        (continued_front wanted transfers content _ opened))
         (cases_Bool (is_start head.flags))
 
     message_front : (sent : Message) → refusal before (event_of sent) ≡ None
@@ -191,7 +194,8 @@ module _ (wanted : Wanted) where
       → Precedes wanted transfers (with_heads transfers (ordered_by refused head rest).heads)
   heads_by (Some fault) transfers before head rest is knows later = precedes_same wanted transfers
   heads_by None transfers before head rest is knows later =
-      fronts_trans _ _ _ (message_front transfers before head.content knows head.message is) (later refl)
+      fronts_trans _ _ _
+      (message_front transfers before head.content knows head.message is) (later refl)
 
   pub heads_front : (heads : List Entry) (transfers : List Transfer) (before : List Message)
       → KnowsOpen transfers before
