@@ -49,8 +49,8 @@ written_by (entry ∷ more) = entry.written + written_by more
 abbrev pub stop_at : List ℕ → Option StreamStop
 stop_at bytes = stop_by (order_of bytes).refused (reading_of bytes).end
 
--- The transfers that have a line. A clean end abandons one that is open: nothing follows. At a fault
--- it has no line, since it might have gone on.
+-- The transfers that have a line. An open transfer is abandoned at a clean end, and has its line.
+-- At a fault it has no line, since it might have gone on.
 abbrev pub lined : Option StreamStop → List Transfer → List Transfer
 lined None transfers = transfers
 lined (Some stop) transfers = settled transfers

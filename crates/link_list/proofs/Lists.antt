@@ -1,4 +1,4 @@
--- What each call of a session lets a step of `list` give.
+-- What holds after a step of `list`, by the result of its call of the session.
 use Rattle.std.proofs.Common.{◌≡◌, ℕ, ◌+◌, ◌<◌, ◌≤◌, Bool, true, false, List, [], ◌∷◌, ◌++◌, length, inl, Result, Ok, nat_lt, if◌then◌else◌, refl, ap, sym, ◌∙◌, subst, append-nil, append_assoc, arith}
 use Rattle.std.proofs.lemmas.Bool.{lt-ltb, le-ltb}
 use Rattle.std.proofs.lemmas.Grind.{flat_map-append}
@@ -37,7 +37,7 @@ pub by_reading : (bytes : List ℕ) → listing_of bytes ≡ listing_by (reading
 unfolding listing_of
 by_reading bytes = refl
 
--- the lines of a reading that has gone on
+-- the lines of a reading, followed by those of the stream after it
 lines_joined : (reading : Reading) (more : Stream)
     → lines_of (joined reading more) ≡ lines_of reading ++ message_lines more.entries
 unfolding message_lines
@@ -75,13 +75,13 @@ module _ (history given : List ℕ) (more : Stream)
   texts_were : (listing_of history).texts ≡ on_output (lines_of (reading_of history))
   texts_were = ap (λ (m : Made). m.texts) (by_reading history)
 
-  -- nothing of what follows has a line yet
+  -- the bytes that follow complete no message, so no line is added
   texts_same : more.entries ≡ [] → (listing_of history).texts then no_texts ≡ (listing_of (history ++ given)).texts
   texts_same none =
       then_none (listing_of history).texts ∙ texts_were
       ∙ sym (texts_are ∙ ap (λ es. on_output (lines_of (reading_of history) ++ message_lines es)) none ∙ ap (λ xs. on_output (lines_of (reading_of history) ++ xs)) no_lines ∙ ap on_output (append-nil _))
 
-  -- one message has a line
+  -- the bytes that follow complete one message, so its line is added
   texts_one : (entry : Entry) → more.entries ≡ entry ∷ []
       → (listing_of history).texts then on_output (message_text entry.offset entry.message) ≡ (listing_of (history ++ given)).texts
   texts_one entry one =
@@ -177,7 +177,7 @@ module _ {R W E : Type 0} {look : Looks R W E} {start : Devices R W E} (old new 
 
 -- ---- data
 
--- inside the data of a segment, whose line waits
+-- the reading ends inside the data of a segment, and the segment's line waits
 pub record Inside (line history : List ℕ) (left : ℕ) : Type 0 where
   pub offset : ℕ
   pub message : Message
@@ -216,7 +216,7 @@ module _ {R W E : Type 0} {look : Looks R W E} {start : Devices R W E} (old mid 
   takes : Takes look.input (source_of old) (source_of new) bytes
   takes = Readies-takes look.input (source_of old) (source_of mid) (source_of new) bytes ready gave.takes some
 
-  -- the reading with these bytes
+  -- the reading of the history and these bytes
   read_data : (test : Bool) → nat_lt 0 (left_of new) ≡ test
       → reading_of (history ++ bytes) ≡ joined (reading_of history) (if test
       then ended (Cut within.offset within.message (within.content ++ bytes))

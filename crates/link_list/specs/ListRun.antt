@@ -1,4 +1,4 @@
--- Where a run of `list` stands.
+-- The state of a run of `list`.
 use Rattle.std.specs.Prelude.{◌≡◌, ℕ, ◌<◌, ◌≤◌, Bool, List, [], ◌++◌, length, true}
 use Rattle.link_wire.specs.Device.{Input}
 use Rattle.link_wire.specs.Limits.{longest_head, window_size}
@@ -25,13 +25,14 @@ most_given stage.Contact = 6
 most_given stage.Message = longest_head
 most_given stage.Data = 4096
 
--- the session may be asked for what a step at this stage asks for
+-- whether the session permits the call of a step at this stage
 abbrev pub may_go_on : {R : Type 0} → Stage → Session R → Bool
 may_go_on stage.Contact session = may_open session
 may_go_on stage.Message session = may_read session
 may_go_on stage.Data session = is_opened session
 
--- the same of what comes after the first part of a step: after a line a message is read
+-- Whether the session permits the call that comes after the first part of a step. After a line,
+-- that call reads a message.
 abbrev pub may_follow : {R : Type 0} → Read → Session R → Bool
 may_follow read.Whole session = may_read session
 may_follow read.Waits session = is_opened session
@@ -41,16 +42,17 @@ may_follow (read.Ended answer) session = true
 abbrev pub latest_line : Latest → List ℕ
 latest_line latest = message_text latest.offset (message_of latest.message)
 
--- The stage and what waits, by how the reading of the bytes so far ends. Between two messages, a
--- message comes next, and nothing waits. Inside the data of a segment, data does, and the segment's
--- line waits.
+-- The stage and the line that waits, by how the reading of the bytes so far ends. Between two
+-- messages, a message comes next, and no line waits. Inside the data of a segment, data comes next,
+-- and the segment's line waits.
 abbrev pub IsWaiting : Stage → List ℕ → End → Type 0
 IsWaiting now line Clean = (now ≡ stage.Message)
 IsWaiting now line (Cut offset message content) =
     (now ≡ stage.Data) × (line ≡ message_text offset message)
 IsWaiting now line (Fault offset fault) = ⊥
 
--- how the reading ends where data waits after a step: a step at a message is given none of it
+-- How the reading ends if data is to come after a step. A step that reads a head is given none of
+-- the data.
 abbrev pub IsWaitingAfter : Stage → End → Type 0
 IsWaitingAfter stage.Message (Cut offset message content) = content ≡ []
 IsWaitingAfter now end = Unit {0}
@@ -61,13 +63,13 @@ module _ {R : Type 0} (look : R → Input) where
     pub nothing : history ≡ []
     pub opens : may_open session ≡ true
 
-  -- a run that was given these bytes
+  -- the state of a run that was given these bytes, the contact header among them
   pub record Lists (now : Stage) (line : List ℕ) (session : Session R)
       (history : List ℕ) : Type 0 where
     pub session_at : IsSessionAt look session history
     pub waits : IsWaiting now line (reading_of history).end
 
-  -- by the stage, with the line of the message that was read last
+  -- the state at each stage; `line` is that of the message that was read last
   abbrev pub IsListing : Stage → (line : List ℕ) → Session R → (history : List ℕ) → Type 0
   IsListing stage.Contact line session history = Begins session history
   IsListing stage.Message line session history = Lists stage.Message line session history
@@ -75,7 +77,7 @@ module _ {R : Type 0} (look : R → Input) where
 
 module _ {R W E : Type 0} (look : Looks R W E) (start : Devices R W E) (now : Stage)
     (old new : Session R) (w : Writers W E) (line history : List ℕ) where
-  -- the message that a step was given is whole: nothing but its line is still to be written
+  -- the message is whole, and only its line is still to be written
   pub record IsDue : Type 0 where
     pub given : List ℕ
     pub some : 0 < length given
@@ -88,7 +90,7 @@ module _ {R W E : Type 0} (look : Looks R W E) (start : Devices R W E) (now : St
     pub session_at : IsSessionAt look.input new (history ++ given)
     pub clean : (reading_of (history ++ given)).end ≡ Clean
 
-  -- what the first part of a step gives
+  -- what holds after the first part of a step
   abbrev pub GivesRead : Read → Type 0
   GivesRead read.Whole = IsDue
   GivesRead read.Waits =
@@ -100,7 +102,7 @@ module _ {R W E : Type 0} (look : Looks R W E) (start : Devices R W E) (now : St
       LastStep look list_tool start (devices_at (place_of (source_of new) w)) (most_given now)
       history answer
 
--- the line waits where data is to come, and is due where none is
+-- the line waits if data is to come, and is due if none is
 abbrev pub GoesOn : (left : ℕ) → Read → Type 0
 GoesOn left read.Whole = left ≡ 0
 GoesOn left read.Waits = 0 < left

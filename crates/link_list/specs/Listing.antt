@@ -1,4 +1,4 @@
--- What `list` writes of a recorded stream.
+-- What `list` writes for a recorded stream.
 use Rattle.std.specs.Prelude.{ℕ, true, List, [], ◌++◌, Option, Some, None}
 use Rattle.std.specs.List.{flat_map}
 use Rattle.link_wire.specs.Stream.{Entry, Reading, reading_of}
@@ -8,7 +8,7 @@ use Rattle.link_run.specs.Made.{Made, tool_of, stop_of}
 use Rattle.link_run.specs.Run.{Tool}
 use Rattle.link_run.specs.Writers.{on_output}
 
--- the line of the contact header, where there is one
+-- the line of the contact header, if the stream has one
 abbrev pub contact_lines : Option Contact → List ℕ
 contact_lines None = []
 contact_lines (Some contact) = contact_text contact
@@ -20,7 +20,7 @@ message_lines entries = flat_map (λ entry. message_text entry.offset entry.mess
 abbrev pub lines_of : Reading → List ℕ
 lines_of reading = contact_lines reading.contact ++ message_lines reading.entries
 
--- the output has a line for each message that is whole; without a fault all is good
+-- The output has a line for each whole message. If no fault stops the stream, everything is good.
 abbrev pub listing_by : Reading → Made
 listing_by reading = record {
   texts = on_output (lines_of reading);

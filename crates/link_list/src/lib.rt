@@ -1,6 +1,6 @@
-//! `list`: what a recorded TCPCLv4 session (RFC 9174) has, message by message.
+//! `list`: the contents of a recorded TCPCLv4 session (RFC 9174), message by message.
 //!
-//! [`list`] is the whole run. [`list_run`] makes the same run, to be taken step by step.
+//! [`list`] does the whole run. [`list_run`] makes the same run for a caller that takes the steps.
 //!
 //! ```ignore
 //! let end = list(reader, output, report);

@@ -13,7 +13,7 @@ use link_report::{KeptDigits, MessageText, contact_line};
 use link_run::{Input, Progress, Run, RunEnd, Stages, Status, ToolRun, Writers};
 use link_wire::{InDevice, IoFault, MessageBuffer, OutDevice, Session, Source};
 
-/// How many bytes of a segment's data one step is given at most.
+/// The most bytes of a segment's data that one step is given.
 const PIECE: usize = 4096;
 
 /// What a step reads.
@@ -21,29 +21,29 @@ const PIECE: usize = 4096;
 enum Stage {
     /// The contact header.
     Contact,
-    /// A message.
+    /// The head of a message.
     Message,
-    /// Data of a segment, whose line waits.
+    /// Data of a segment. The line of the segment is written after all of its data.
     Data,
 }
 
 /// What the first part of a step has read.
 #[derive(Clone, Copy, Debug, PartialEq, Eq)]
 enum Read {
-    /// The last byte of a message, whose line is due.
+    /// The last byte of a message. Its line is due.
     Whole,
-    /// A head or data, after which data is to come.
+    /// A head or data. More data of the message is to come.
     Waits,
-    /// Nothing more: the run has ended.
+    /// The run has ended.
     Ended(Result<Status, IoFault>),
 }
 
 /// The message that was read last.
 #[derive(Drop)]
 struct Latest {
-    /// The offset of its type byte.
+    /// The offset of its type byte in the input.
     offset: u64,
-    /// Digits of that offset.
+    /// The digits of an offset, kept to make those of the next one.
     kept: KeptDigits,
     message: MessageBuffer,
 }
@@ -73,7 +73,7 @@ impl<R: InDevice, W: OutDevice, E: OutDevice> Stages<Session<R>, W, E> for Listi
 
     ghost most = { λ tool. most_given tool.stage };
 
-    /// The line of a message is written in one place, which is inlined once.
+    /// Only one place writes the line of a message, so the code for it is inlined once.
     #[inline(always)]
     fn stage(
         &mut self,
@@ -226,7 +226,7 @@ fn pass_data<R: InDevice, W: OutDevice, E: OutDevice>(
     }
 }
 
-/// The line of the message that was read last is due, unless data of it is to come.
+/// Returns whether the message that was read last is whole, or more of its data is to come.
 #[inline(always)]
 fn go_on<R: InDevice>(input: &Input<Session<R>>) -> Read
     requires { IsTrue (is_opened (inner_of input.now)) }
@@ -284,8 +284,13 @@ pub fn list_run<R: InDevice, W: OutDevice, E: OutDevice>(
     ToolRun::new(tool, Session::new(Source::new(reader)), output, report)
 }
 
-/// Lists a recorded stream: the output has the line of the contact header and of each message, the
-/// report that of the fault which ended the stream, if any; status 3 at a fault, else 0.
+/// Lists a recorded stream, to the end of the run.
+///
+/// The output has a line for the contact header and for each message. If a fault stops the stream,
+/// the report has the line of that fault, and the status is 3. Otherwise the report is empty, and
+/// the status is 0.
+///
+/// The answer is an error if a device failed, or the input has more than 2^63 - 1 bytes.
 #[inline(never)]
 pub fn list<R: InDevice, W: OutDevice, E: OutDevice>(
     reader: R,

@@ -15,7 +15,7 @@ use Rattle.link_pack.specs.Packer.{IsCut}
 
 -- ---- prefixes
 
--- of what is taken all is taken
+-- all of the taken bytes are taken again
 pub taken_again : (goes : List ℕ → Bool) (seen bytes : List ℕ)
     → taken goes seen (taken goes seen bytes) ≡ taken goes seen bytes
 taken_again goes seen [] = rw (taken-nil goes seen) (taken-nil goes seen)
@@ -27,7 +27,7 @@ taken_again goes seen (byte ∷ bytes) =
     (λ idle. rw (taken-idle goes seen (byte ∷ bytes) idle) (taken-nil goes seen))
     (cases_Bool (goes seen))
 
--- bytes that are taken whole take of what follows what they need
+-- bytes that are taken whole are followed by the bytes that they still need
 pub front_more : (part more : List ℕ) → front_of part ≡ part
     → front_of (part ++ more) ≡ part ++ taken bundle_goes part more
 front_more part more front =
@@ -39,7 +39,7 @@ front_kept part piece front =
     front_more part (taken bundle_goes part piece) front
     ∙ ap (λ (bytes : List ℕ). part ++ bytes) (taken_again bundle_goes part piece)
 
--- nothing, where no more are needed
+-- if no more bytes are needed, none are taken
 pub front_stopped : (front more : List ℕ) → front_of front ≡ front → bundle_goes front ≡ false
     → front_of (front ++ more) ≡ front
 front_stopped front more is idle =
@@ -60,14 +60,14 @@ pub faulty_stops : (front : List ℕ) (fault : BundleFault) (place : ℕ)
 faulty_stops front fault place is stays =
     ap (λ said. is_going (state_of said)) is ∙ ap (λ test. is_going (if test then state.Failed fault place else state.Going)) stays
 
--- nothing has come
+-- before the first byte, more bytes are needed
 pub none_goes : bundle_goes [] ≡ true
 none_goes = ap (λ said. is_going (state_of said)) verdict_none
 
 pub none_front : front_of [] ≡ []
 none_front = taken-nil bundle_goes []
 
--- a whole bundle, and bytes that show a fault, are not empty
+-- bytes that need no more are not empty
 pub some_stopped : (front : List ℕ) → bundle_goes front ≡ false → 0 < length front
 some_stopped [] idle = absurd (false≢true (sym idle ∙ none_goes))
 some_stopped (byte ∷ bytes) idle = omega arith
@@ -82,7 +82,7 @@ cut_by : (part : List ℕ) (said : Result BundleInfo (BundleFault × ℕ)) → v
 cut_by part (Ok info) is goes = absurd (cc)
 cut_by part (Err (fault, place)) is goes = record { fault = fault; place = place; is = is; mends = going_mends (lasts fault) fault place goes }
 
--- such a fault is mended by more bytes
+-- the fault of bytes that need more does not last
 pub open_mends : (part : List ℕ) (fault : BundleFault) (place : ℕ)
     → verdict part ≡ Err (fault, place) → bundle_goes part ≡ true → lasts fault ≡ false
 open_mends part fault place is goes = going_mends (lasts fault) fault place (ap (λ said. is_going (state_of said)) (sym is) ∙ goes)
@@ -90,7 +90,7 @@ open_mends part fault place is goes = going_mends (lasts fault) fault place (ap 
 pub goes_cut : (part : List ℕ) → bundle_goes part ≡ true → IsCut part
 goes_cut part goes = cut_by part (verdict part) refl goes
 
--- ---- a prefix judged
+-- ---- the judgement of a prefix
 
 pub within_limit : (limit : ℕ) (front : List ℕ) → length front ≤ limit
     → judged_front limit front ≡ refused_by (verdict front)
@@ -111,14 +111,14 @@ judged_whole_by : (beyond : Bool) (limit : ℕ) (front : List ℕ) (info : Bundl
 judged_whole_by true limit front info is = absurd (cc)
 judged_whole_by false limit front info is = refused_whole (verdict front) info is
 
--- what is taken for a bundle is one
+-- bytes that are judged to be a bundle are one
 judged_whole : (limit : ℕ) (front : List ℕ) (info : BundleInfo) → judged_front limit front ≡ Ok info
     → verdict front ≡ Ok info
 judged_whole limit front info is = judged_whole_by (nat_lt limit (length front)) limit front info is
 
--- ---- an input divided
+-- ---- the division of an input
 
--- two ways to divide what stands after a bundle that agree there
+-- `next` and `other` divide the same if they agree on the bytes after the bundle
 divided_by-same : (next other : List ℕ → Divided) (front bytes : List ℕ)
     (said : Result BundleInfo Refusal)
     → ((info : BundleInfo) → said ≡ Ok info
@@ -135,7 +135,7 @@ fewer_left limit byte bytes front info is =
     let some = some_stopped front (whole_stops front info (judged_whole limit front info is)) in
     omega (arith, length-drop (length front) (byte ∷ bytes))
 
--- as many turns as there are bytes are enough
+-- each count of at least the number of bytes divides them the same
 enough_turns : (count other limit : ℕ) (bytes : List ℕ) → length bytes ≤ count
     → length bytes ≤ other → divided_in count limit bytes ≡ divided_in other limit bytes
 unfolding divided_in
@@ -158,7 +158,7 @@ pub divided_none : (limit : ℕ) → divided limit [] ≡ record { bundles = [];
 unfolding divided divided_in
 divided_none limit = refl
 
--- bytes that there are, by the prefix that is taken
+-- bytes that are not empty are divided by their front
 pub divided_front : (limit : ℕ) (front bytes : List ℕ) → 0 < length bytes → front_of bytes ≡ front
     → divided limit bytes ≡ divided_by (divided limit) front bytes (judged_front limit front)
 unfolding divided divided_in
@@ -168,7 +168,7 @@ divided_front limit front (byte ∷ bytes) some is =
     ∙ divided_by-same (divided_in (length bytes) limit) (divided limit) front (byte ∷ bytes) (judged_front limit front) (λ info whole.
     enough_turns (length bytes) (length (drop (length front) (byte ∷ bytes))) limit (drop (length front) (byte ∷ bytes)) (fewer_left limit byte bytes front info whole) (omega arith))
 
--- a bundle that the peer takes stands first
+-- the bytes begin with a bundle that the peer takes
 pub divided_whole : (limit : ℕ) (bundle more : List ℕ) (info : BundleInfo)
     → front_of bundle ≡ bundle → verdict bundle ≡ Ok info → length bundle ≤ limit
     → divided limit (bundle ++ more)
@@ -180,7 +180,7 @@ divided_whole limit bundle more info front is within =
     ∙ ap (divided_by (divided limit) bundle (bundle ++ more)) (within_limit limit bundle within ∙ ap refused_by is)
     ∙ ap (λ (left : List ℕ). with_bundle (record { bytes = bundle; info = info }) (divided limit left)) (drop-append_seam bundle more)
 
--- more than the peer takes of what goes on
+-- an incomplete bundle has more bytes than the peer takes
 pub divided_longer : (limit : ℕ) (part : List ℕ) (byte : ℕ) (more : List ℕ) → front_of part ≡ part
     → bundle_goes part ≡ true → length part ≡ limit
     → divided limit (part ++ byte ∷ more)
@@ -225,7 +225,7 @@ divided_open limit part fault place front goes some within said =
     ∙ ap (divided_by (divided limit) part part) (within_limit limit part within ∙ ap refused_by said)
     ∙ ap (λ test. refused_with (Faulty fault place) (if test then take (length part - 1) part else part)) (open_mends part fault place said goes)
 
--- ---- what is divided so far
+-- ---- the bundles so far
 
 pub joined_push : (bundles : List Packed) (bundle : Packed) (more : Divided)
     → joined bundles (with_bundle bundle more) ≡ joined (bundles ++ bundle ∷ []) more

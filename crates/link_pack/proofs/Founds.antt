@@ -1,4 +1,4 @@
--- What a step of `pack` gives, by what its bytes make of the bundle.
+-- What holds after a step of `pack`, by what its bytes show of the bundle.
 use Rattle.std.proofs.Common.{◌≡◌, ℕ, ◌+◌, ◌-◌, ◌^◌, ◌<◌, ◌≤◌, min, inl, inr, true, false, List, [], ◌∷◌, ◌++◌, length, take, drop, OnOk, Option, Some, None, Result, Ok, Err, refl, ap, sym, ◌∙◌, subst, append-nil, append_assoc, length-append, length-take, arith}
 use Rattle.std.proofs.lemmas.List.{take-take}
 use Rattle.link_wire.specs.Device.{Input}
@@ -34,7 +34,7 @@ use Rattle.link_pack.proofs.Dividing.{divided_whole, joined_push, none_front, no
 use Rattle.link_pack.proofs.Grown.{texts_grown, texts_refused, texts_whole}
 use Rattle.link_pack.proofs.Outcomes.{made_as, made_none, prelude_texts, refused_so, stopped, clean, whole_of, texts_going, unshown_going, whole_clean, whole_cut}
 
--- the first step: nothing is given
+-- the first step is given no bytes
 pub prelude_written : {R W E : Type 0} {look : Looks R W E} {start : Devices R W E} (source : Source R)
     (before after : Writers W E) (packer : Packer) {history : List ℕ}
     → Stands look (packing_of packer.options) start false (place_of source before) history
@@ -79,7 +79,7 @@ module _ {R W E : Type 0} {look : Looks R W E} {start : Devices R W E} (old : So
         ap (divided limit) (append_assoc history run rest) ∙ at.divides (run ++ rest)
         ∙ ap (λ (bytes : List ℕ). joined at.bundles (divided limit bytes)) (sym (append_assoc at.begun run rest))
 
-    -- with the options and the number as they stood
+    -- the new options and number are those before the step
     as_stood : (P : PackOptions → ℕ → Type 0) → P mid.options mid.number
         → P options (length at.bundles)
     as_stood P is = subst (λ o. P o (length at.bundles)) same (subst (λ n. P mid.options n) (numbered ∙ at.holds.number) is)
@@ -130,7 +130,7 @@ module _ {R W E : Type 0} {look : Looks R W E} {start : Devices R W E} (old : So
         (texts_grown options at.bundles at.begun run) divides (omega (arith, length-append at.begun run, length-append history run))
         (as_stood (λ o n. WritesOn look.output look.report before after (on_output (run_segments o n at.begun run false)) (Holds packed at.bundles (at.begun ++ run)) result) gave)
 
-    -- the bundle that has come
+    -- the whole bundle
     abbrev bundle_of : BundleInfo → Packed
     bundle_of info = record { bytes = at.begun ++ run; info = info }
 
@@ -216,13 +216,13 @@ module _ {R W E : Type 0} {look : Looks R W E} {start : Devices R W E} (old : So
 
 -- ---- the bytes that the packer takes of the window
 
--- what it took of these bytes
+-- the packer took the first `count` bytes of the window
 pub record Took (packer : Packer) (begun window : List ℕ) (count : ℕ) (what : Found) : Type 0 where
   pub some : 0 < length (take count window)
   pub size : length (take count window) ≤ 4096
   pub makes : MakesOf packer begun (take count window) what
 
--- an input of at most 2 ^ 63 - 1 bytes has room for the window
+-- the bytes of the bundle and those of the window are fewer than 2 ^ 63
 pub window_bound : {R : Type 0} {look : R → Input} (packer : Packer) (old mid : Source R) {history : List ℕ}
     (at : Packs look packer old history) → Readies look old mid → (shown : List ℕ) (most : ℕ)
     → shown ≡ window_of mid → length at.begun + length (take most shown) < 2 ^ 63

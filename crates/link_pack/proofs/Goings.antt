@@ -28,7 +28,7 @@ use Rattle.link_pack.specs.declared.packer.Packer.{Packer}
 use Rattle.link_pack.proofs.Dividing.{none_front, none_goes}
 use Rattle.link_pack.proofs.Sending.{all_given_open, all_given_ended, open_none}
 
--- segments, and then a line
+-- the texts of segments, followed by a line
 segments_then : (segments line : List ℕ) → on_output segments
     then on_report line ≡ record { output = segments; report = line }
 segments_then segments line = texts_as (append-nil segments) refl
@@ -86,7 +86,7 @@ module _ {W E : Type 0} (out_look : W → Output) (report_look : E → Output) w
       within = rw options took.0.within;
     }
 
-    -- it is whole
+    -- the bundle is whole
     pub next_begun : (took : MakesOf old begun run found.Whole) (packed : Packer)
         (result : Result (Unit {0}) IoFault) → packed.options ≡ old.options
         → IsCutterAt packed.cutter (all_given (with_bytes run true (cutting old.options begun)))
@@ -113,7 +113,7 @@ module _ {W E : Type 0} (out_look : W → Output) (report_look : E → Output) w
     ended took after packed written result is holds writes gives =
         record { written = written; is = is; gives = line_given before mid after _ _ writes written gives; holds = holds }
 
-    -- it is refused
+    -- the bundle is refused
     pub refused : (why : Fault) (took : MakesOf old begun run (found.Refused why))
         (after : Writers W E) (packed : Packer) (answer : Result Status IoFault)
         (result : Result Progress IoFault) → result ≡ answer_of answer

@@ -1,4 +1,4 @@
--- What is written once a run of bytes more has come.
+-- What is written once more bytes have come.
 use Rattle.std.proofs.Common.{◌≡◌, ℕ, ◌+◌, ◌<◌, Bool, true, false, List, [], ◌∷◌, ◌++◌, length, refl, ap, sym, ◌∙◌, append-nil, append_assoc, arith}
 use Rattle.link_run.specs.Writers.{on_output, on_report}
 use Rattle.link_run.specs.Run.{◌then◌}
@@ -30,7 +30,7 @@ module _ (options : PackOptions) where
       ∙ append-nil _ ∙ ap (λ (bytes : List ℕ). segments_of number (sending options false bytes)) (sym (append-nil begun))
   grown_any number begun (byte ∷ bytes) = grown number begun (byte ∷ bytes) false (omega arith)
 
-  -- after what stands before it
+  -- the same, after the texts of the bundles before it
   followed : (bundles : List Packed) (segments more all : List ℕ) → segments ++ more ≡ all
       → (prelude_bytes options ++ transfers_of options 0 bundles ++ segments) ++ more
       ≡ prelude_bytes options ++ transfers_of options 0 bundles ++ all
@@ -46,7 +46,7 @@ module _ (options : PackOptions) where
   texts_grown bundles begun run =
       texts_as (followed bundles _ _ _ (grown_any (length bundles) begun run)) (append-nil (lines_of options 0 bundles))
 
-  -- it is refused
+  -- the bundle is refused
   pub texts_refused : (bundles : List Packed) (begun run line : List ℕ)
       → texts_of options bundles begun
       then (record {
@@ -56,7 +56,7 @@ module _ (options : PackOptions) where
   texts_refused bundles begun run line =
       texts_as (followed bundles _ _ _ (grown_any (length bundles) begun run) ∙ sym (append-nil _)) refl
 
-  -- it is whole, and nothing of the next one has come
+  -- the bundle is whole, and no byte of the next one has come
   whole_output : (bundles : List Packed) (bundle : Packed) (idle : List ℕ) → idle ≡ []
       → prelude_bytes options ++ transfers_of options 0 bundles
       ++ segments_of (length bundles) (sending options true bundle.bytes)

@@ -1,4 +1,4 @@
--- What `pack` makes of an input that is divided so far.
+-- What `pack` makes of an input, from its bundles and the bytes of the next one.
 use Rattle.std.proofs.Common.{◌≡◌, ℕ, ◌<◌, ◌≤◌, true, false, List, [], ◌∷◌, ◌++◌, length, Option, Some, None, refl, ap, sym, ◌∙◌, append-nil, arith}
 use Rattle.link_bundle.specs.Bundle.{bundle_goes}
 use Rattle.link_run.specs.Made.{Made, with_fault, whole_by, is_shown}
@@ -15,7 +15,7 @@ use Rattle.link_pack.specs.declared.options.PackOptions.{PackOptions}
 use Rattle.link_pack.proofs.Dividing.{divided_none, divided_open, goes_cut}
 use Rattle.link_pack.proofs.Sending.{segments_none}
 
--- how an input ends of which these bytes have begun a bundle
+-- the end of an input, after the bytes `begun` of a bundle
 abbrev pub rest_of : (begun : List ℕ) → IsCut begun → Option Rest
 rest_of [] cut = None
 rest_of (byte ∷ bytes) cut = Some (record { accepted = byte ∷ bytes; refusal = Faulty cut.fault cut.place })
@@ -34,7 +34,7 @@ unshown_rest : (number : ℕ) (begun : List ℕ) (cut : IsCut begun)
 unshown_rest number [] cut = refl
 unshown_rest number (byte ∷ bytes) cut = cut.mends
 
--- what comes of an input of which this is made
+-- the outcome of an input, from what `pack` makes of it
 abbrev pub whole_of : Made → Outcome
 whole_of made = whole_by made.stop made
 

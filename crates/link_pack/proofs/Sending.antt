@@ -1,4 +1,4 @@
--- The segments of a bundle whose bytes still come.
+-- The segments of a bundle that is still incomplete.
 use Rattle.std.proofs.Common.{◌≡◌, ℕ, zero, suc, ◌+◌, ◌-◌, ◌*◌, ◌<◌, ◌≤◌, Bool, true, false, ltb, leb, eqb, cond, ◌&&◌, List, [], ◌∷◌, ◌++◌, length, take, drop, Option, Some, None, refl, ap, ap₂, sym, ◌∙◌, append_assoc, length-append, arith}
 use Rattle.std.proofs.lemmas.Bool.{le-ltb}
 use Rattle.std.proofs.lemmas.Bool.Decides.{nat_tests}
@@ -10,7 +10,7 @@ use Rattle.link_transfer.proofs.Chunking.{first_chunks-zero}
 use Rattle.link_transfer.proofs.Due.{fits_back, given_within, due_more}
 use Rattle.link_pack.specs.Segments.{segment_bytes, Sending, cut_at, segments_from, segments_of, segments_left, all_given, going}
 
--- some segments, and then some more
+-- `a` segments, and then `b` more
 pub segments_from-add : (id : ℕ) (sending : Sending) (k a b : ℕ)
     → segments_from id sending k (a + b) ≡ segments_from id sending k a
     ++ segments_from id sending (k + a) b
@@ -24,16 +24,16 @@ segments_from-add id sending k (suc a) b =
     ∙ ap (λ more. segment ++ more) (segments_from-add id sending (suc k) a b ∙ ap (λ n. segments_from id sending (suc k) a ++ segments_from id sending n b) first)
     ∙ sym (append_assoc segment (segments_from id sending (suc k) a) (segments_from id sending (k + suc a) b))
 
--- ---- a segment that is due of a bundle that goes on stays as it is
+-- ---- a due segment of an incomplete bundle stays the same
 
--- its chunk is full
+-- its chunk is full, so more bytes do not change it
 chunk_kept : (segment k : ℕ) (bundle run : List ℕ) → k * segment + segment ≤ length bundle
     → chunk_at segment k bundle ≡ chunk_at segment k (bundle ++ run)
 chunk_kept segment k bundle run within = sym
     (ap (take segment) (drop-append-le (k * segment) bundle run (omega arith))
     ∙ take-append-le segment (drop (k * segment) bundle) run (omega (arith, length-drop (k * segment) bundle)))
 
--- it is not the last
+-- it is not the last segment
 last_kept : (last : Bool) (segment k size more : ℕ) → 0 < segment → 0 < more
     → k * segment + segment ≤ size
     → false ≡ (last && eqb (k + 1) (chunk_count segment (size + more)))
@@ -42,23 +42,23 @@ last_kept true segment k size more some next within =
     let room : (k + 2) * segment ≤ size + more + (segment - 1) = omega arith in
     grind (arith, nat_tests, fits_back segment (k + 2) (size + more + (segment - 1)) some room)
 
--- and it announces nothing
+-- it announces no length
 none_kept : (last : Bool) (segment hold size : ℕ) → hold < size
     → None ≡ cond (last && (ltb segment size && leb size hold)) (Some size) None
 none_kept false segment hold size over = refl
 none_kept true segment hold size over = grind (arith, nat_tests)
 
--- how it is cut
+-- two cuts are equal if their fields are
 same_cut : (first l m : Bool) (a b : Option ℕ) → l ≡ m → a ≡ b
     → ◌≡◌ {A = Cut} (record { first = first; last = l; announce = a })
     (record { first = first; last = m; announce = b })
 same_cut first l m a b last announce = cc
 
--- the bytes that have come, and whether they are all
+-- the bytes that have come, and whether they are the whole bundle
 abbrev sends : (segment hold : ℕ) (bundle : List ℕ) (last : Bool) → Sending
 sends segment hold bundle last = record { segment = segment; hold = hold; bundle = bundle; whole = last }
 
--- it is cut as it was
+-- its cut stays the same
 cut_kept : (segment hold : ℕ) (bundle run : List ℕ) (last : Bool) (k : ℕ)
     → 0 < segment → 0 < length run
     → hold < length bundle → k * segment + segment ≤ length bundle
@@ -83,7 +83,7 @@ kept_from id segment hold bundle run last k (suc count) some next over within =
     (ap₂ (segment_bytes id) (cut_kept segment hold bundle run last k some next over full) (chunk_kept segment k bundle run full))
     (kept_from id segment hold bundle run last (suc k) count some next over (omega arith))
 
--- a chunk is due only where no length is announced
+-- a chunk is due only if the bundle is too long to be announced
 due_over : (segment hold size count : ℕ) → 0 < count → count ≤ due_of false segment hold size
     → hold < size
 due_over segment hold size count some few = grind (arith, nat_tests)
@@ -101,7 +101,7 @@ segments_kept id segment hold bundle run last (suc count) some next few =
     kept_from id segment hold bundle run last 0 (suc count) some next over
     (omega (arith, given_within segment hold (suc count) (length bundle) some few))
 
--- ---- a bundle that goes on, of which all that are due were given
+-- ---- an incomplete bundle, with all due chunks given
 
 first_chunks-length : (segment count : ℕ) (bundle : List ℕ)
     → length (first_chunks segment count bundle) ≡ count
@@ -113,7 +113,7 @@ first_chunks-length segment (suc count) bundle =
 pub due_none : (segment hold : ℕ) → due_of false segment hold 0 ≡ 0
 due_none segment hold = rw (le-ltb hold 0 (omega arith)) refl
 
--- of no bytes none is due
+-- before the first byte, no segment is due
 pub segments_none : (id segment hold : ℕ)
     → segments_of id (record { segment = segment; hold = hold; bundle = []; whole = false }) ≡ []
 unfolding segments_from due
@@ -129,7 +129,7 @@ left_none id sending k due same =
     let none : due - k ≡ 0 = omega arith in
     rw none refl
 
--- nothing more is due until more bytes come
+-- no further segment is due until more bytes come
 pub segments_idle : (id segment hold : ℕ) (bundle : List ℕ)
     → segments_left id (going segment hold bundle) ≡ []
 unfolding due
@@ -137,7 +137,7 @@ segments_idle id segment hold bundle =
     let count = due_of false segment hold (length bundle) in
     left_none id (sends segment hold bundle false) (length (first_chunks segment count bundle)) count (first_chunks-length segment count bundle)
 
--- the segments before, and those that are due with more bytes
+-- the segments so far, followed by those that become due with more bytes
 grow_from : (id segment hold : ℕ) (bundle run : List ℕ) (last : Bool) (given before after : ℕ)
     → 0 < segment → 0 < length run
     → before ≡ due_of false segment hold (length bundle) → given ≡ before → before ≤ after
@@ -166,7 +166,7 @@ segments_grow id segment hold bundle (byte ∷ bytes) last some next =
     grow_from id segment hold bundle (byte ∷ bytes) last (length (first_chunks segment before bundle)) before
     (due_of last segment hold (length (bundle ++ byte ∷ bytes))) some next refl (first_chunks-length segment before bundle) more
 
--- ---- once all that are due were given
+-- ---- once all due chunks were given
 
 pub all_given_open : (segment hold : ℕ) (bundle run : List ℕ) → 0 < length run
     → all_given (with_bytes run false (going segment hold bundle))

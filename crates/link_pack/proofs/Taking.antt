@@ -1,4 +1,4 @@
--- What a run of bytes makes of the bundle that is being packed.
+-- What a run of bytes shows of the bundle that is being packed.
 use Rattle.std.proofs.Common.{◌≡◌, ℕ, ◌+◌, ◌-◌, ◌*◌, ◌/◌, ◌%◌, ◌<◌, ◌≤◌, min, Bool, true, false, List, [], ◌∷◌, ◌++◌, length, take, Result, Ok, Err, refl, sym, ap, ◌∙◌, subst, append_assoc, append-nil, length-append, arith}
 use Rattle.std.specs.Prelude.{◌==◌, if◌then◌else◌}
 use Rattle.std.proofs.lemmas.Bool.{eq-eqb}
@@ -56,7 +56,7 @@ taken_is : (begun piece : List ℕ)
     → taken bundle_goes begun piece ≡ take (length (taken bundle_goes begun piece)) piece
 taken_is begun piece = ((takes_shortest bundle_goes begun piece (taken bundle_goes begun piece)).1 refl).is_front
 
--- of the first `size` bytes of a piece these are taken
+-- a scan takes `count` of the first `size` bytes of a piece
 module _ (begun piece : List ℕ) (size count : ℕ)
     (counted : count ≡ length (taken bundle_goes begun (take size piece))) where
   taken_few : (count ≤ size) × (count ≤ length piece)
@@ -77,7 +77,7 @@ pub record Comes (packer : Packer) (begun run : List ℕ) : Type 0 where
   pub front : front_of (begun ++ run) ≡ begun ++ run
   pub within : length (begun ++ run) ≤ packer.options.peer_transfer
 
--- these are the bytes that a scan takes of the first `size` bytes of a piece
+-- the run is the bytes that a scan takes of the first `size` bytes of a piece
 pub comes : (packer : Packer) (begun piece : List ℕ) (size count : ℕ)
     → count ≡ length (taken bundle_goes begun (take size piece))
     → 0 < count → HasScanned packer.scan (begun ++ taken bundle_goes begun (take size piece))
@@ -101,7 +101,7 @@ but_last begun run some =
     ap (λ n. take n (begun ++ run)) size ∙ take-append-add begun run (length run - 1)
 
 module _ (packer : Packer) (begun run : List ℕ) (here : Comes packer begun run) where
-  -- the cutter was handed what is accepted
+  -- the accepted bytes were pushed to the cutter
   Cuts : Found → Type 0
   Cuts found = IsCutterAt packer.cutter (with_bytes (accepted_of found run) (is_whole found) (cutting packer.options begun))
 
@@ -144,7 +144,7 @@ module _ (packer : Packer) (begun run : List ℕ) (here : Comes packer begun run
   unfolding Cuts
   took found is cut = subst (MakesOf packer begun run) (sym is) (took_told (verdict (begun ++ run)) refl (subst Cuts is cut))
 
--- the cutter took a whole run, with the bundle's last byte
+-- the cutter took a whole run, which ends with the bundle's last byte
 pub whole_pushed : (cutter : Cutter) (so_far : Cutting) (run : List ℕ)
     (count : ℕ) → count ≡ length run
     → IsCutterAt cutter (with_bytes (take count run) (count == length run) so_far)
@@ -161,7 +161,7 @@ rounded_up : (segment size count : ℕ) → 0 < segment → size ≤ count * seg
 rounded_up segment size count some least most =
     grind (arith, fits_back segment count (size + (segment - 1)) some, fits segment (count + 1) (size + (segment - 1)) some)
 
--- the chunks of `size` bytes, counted by a division that rounds up
+-- a division that rounds up counts the chunks of `size` bytes
 pub chunks_counted : (segment size : ℕ) → 0 < segment
     → size / segment + min 1 (size % segment) ≡ chunk_count segment size
 chunks_counted segment size some =

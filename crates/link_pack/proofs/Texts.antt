@@ -1,11 +1,11 @@
--- What is written of the bundles so far, with one bundle more.
+-- What is written for the bundles so far and one more.
 use Rattle.std.proofs.Common.{◌≡◌, ℕ, suc, ◌+◌, true, List, [], ◌∷◌, ◌++◌, length, ap, sym, ◌∙◌, append-nil, append_assoc, arith}
 use Rattle.link_pack.specs.Bundles.{Packed}
 use Rattle.link_pack.specs.Packing.{sending, transfers_of, line_of, lines_of}
 use Rattle.link_pack.specs.Segments.{segments_of}
 use Rattle.link_pack.specs.declared.options.PackOptions.{PackOptions}
 
--- the bundle that comes has the number after the others
+-- the first bundle has the number at which the list begins
 own_number : (number : ℕ) → number ≡ number + 0
 own_number number = omega arith
 

@@ -28,7 +28,7 @@ head_of id size true last announce = refl
 head_of id size false true announce = refl
 head_of id size false false announce = refl
 
--- the head that was put into an empty buffer
+-- a head that is put into an empty buffer is all of its bytes
 pub head_put : (id size flags : ℕ) (cut : Cut) (announce : Option ℕ) (before after : List ℕ)
     → before ≡ [] → after ≡ before ++ segment_head_bytes flags id size announce
     → flags ≡ flags_of cut.first cut.last → announce ≡ cond cut.first cut.announce None
@@ -54,7 +54,7 @@ module _ {W E : Type 0} (out_look : W → Output) (report_look : E → Output) w
 
 -- ---- a cut
 
--- Where a cut waits, it is that of the next chunk.
+-- a cut that waits is that of the next chunk
 cut_is : (now : Cutting) (cut : Cut) → next_cut now ≡ Some cut
     → (length now.given < due now) × (cut_at (sending_of now) (length now.given) ≡ cut)
 unfolding next_cut announcement
@@ -62,7 +62,7 @@ cut_is now cut is =
     let parts = cond_some (ltb (length now.given) (due now)) (cut_at (sending_of now) (length now.given)) cut is in
     (ltb-true (length now.given) (due now) parts.0, parts.1)
 
--- after the last chunk all are given
+-- after the last chunk, all due chunks are given
 last_due : (now : Cutting) → is_last now ≡ true
     → (now.whole ≡ true) × (length now.given + 1 ≡ due now)
 unfolding due
@@ -70,13 +70,13 @@ last_due now is =
     let parts = and_parts now.whole _ is in
     (parts.0, rw parts.0 (eqb-true _ _ parts.1))
 
--- and of the bundle that begins then nothing is due
+-- of the bundle that begins next, no segment is due
 none_left : (id segment hold : ℕ) (chunk : Option (List ℕ))
     → segments_left id (record (beginning segment hold) { chunk = chunk }) ≡ []
 unfolding due
 none_left id segment hold chunk = left_none id (sending_of (beginning segment hold)) 0 _ (sym (due_none segment hold))
 
--- the next segment, and the others
+-- the segments left are the next one, and then the others
 segment_then : (id : ℕ) (sending : Sending) (k next due : ℕ) → k < due → k + 1 ≡ next
     → segments_from id sending k (due - k)
     ≡ segment_bytes id (cut_at sending k) (chunk_at sending.segment k sending.bundle) ++ segments_from id sending next (due - next)
@@ -87,7 +87,7 @@ segment_then id sending k next due some is =
     ap (segments_from id sending k) count
     ∙ ap (λ n. segment_bytes id (cut_at sending k) (chunk_at sending.segment k sending.bundle) ++ segments_from id sending n (due - next)) step
 
--- what the next chunk's cut leaves; `last` says whether it is the last
+-- the history of the cutter after the next cut; `last` is whether that chunk is the last
 abbrev left_by : (last : Bool) → Cutting → Cutting
 left_by last now =
     cond last (record (beginning now.segment now.hold) { chunk = Some (next_chunk now) })
@@ -122,7 +122,7 @@ after_is : (now : Cutting) (cut : Cut) → next_cut now ≡ Some cut
 unfolding after_cut
 after_is now cut is = rw is refl
 
--- its segment is the first of those that are left
+-- the segment of a cut that waits is the first of those left
 cut_left : (id : ℕ) (now : Cutting) (cut : Cut) → next_cut now ≡ Some cut
     → segments_left id now ≡ segment_bytes id cut (shown (after_cut now))
     ++ segments_left id (after_cut now)
@@ -136,7 +136,7 @@ cut_ends : (now : Cutting) (cut : Cut) → next_cut now ≡ Some cut
     → all_given (after_cut now) ≡ all_given now
 cut_ends now cut is = rw (after_is now cut is) (ends_after now (is_last now) refl)
 
--- ---- where no cut waits
+-- ---- no cut waits
 
 all_due : (cutter : Cutter) (now : Cutting) → IsCutterAt cutter now → next_cut now ≡ None
     → length now.given ≡ due now
@@ -162,7 +162,7 @@ quiet_ends cutter now at is =
 -- ---- the cuts of a cutter, one after another
 
 module _ {W E : Type 0} (out_look : W → Output) (report_look : E → Output) where
-  -- the writers and the cutter after some segments: these were written, and the others are left
+  -- the state after some segments were written and the others are left
   pub record Sent (id : ℕ) (start : Cutting) (old new : Writers W E)
       (cutter : Cutter) : Type 0 where
     pub now : Cutting
@@ -204,7 +204,7 @@ module _ {W E : Type 0} (out_look : W → Output) (report_look : E → Output) w
       (part_behind out_look report_look old mid new some.sent (on_output _) fault some.writes
       (part_more out_look report_look mid new (segment_bytes id cut chunk) (segments_left id (after_cut some.now)) fault part))
 
-  -- all that were left are written
+  -- all segments that were left are written
   pub sent_all : (id : ℕ) (start : Cutting) (old new : Writers W E) (cutter : Cutter)
       → (all : Sent id start old new cutter)
       → next_cut all.now ≡ None

@@ -1,4 +1,4 @@
--- The bundles of an input that is one bundle (RFC 9171 section 4.1) after another, with nothing between.
+-- The bundles of an input: one bundle (RFC 9171 section 4.1) after another, with nothing between.
 use Rattle.std.specs.Prelude.{ℕ, zero, suc, ◌-◌, nat_lt, List, [], ◌∷◌, ◌++◌, length, take, drop, Option, Some, None, Result, Ok, Err, if◌then◌else◌}
 use Rattle.link_cbor.specs.Pieces.{taken}
 use Rattle.link_bundle_types.specs.Faults.{lasts}
@@ -6,27 +6,30 @@ use Rattle.link_bundle_types.specs.declared.fault.BundleFault.{BundleFault}
 use Rattle.link_bundle_types.specs.declared.info.BundleInfo.{BundleInfo}
 use Rattle.link_bundle.specs.Bundle.{verdict, bundle_goes}
 
--- why bytes begin with no bundle that the peer takes: they have more bytes of one than its limit, or this fault
+-- Why bytes do not begin with a bundle that the peer takes: the bundle has more bytes than this
+-- limit, or it has this fault.
 pub data Refusal : Type 0 where
   Longer : (limit : ℕ) → Refusal
   Faulty : (fault : BundleFault) (place : ℕ) → Refusal
 
--- a bundle, and what it says of itself
+-- a bundle, and what its blocks say about it
 pub record Packed : Type 0 where
   pub bytes : List ℕ
   pub info : BundleInfo
 
--- what is no bundle that the peer takes: its bytes before the one that shows it, and why
+-- The end of an input, if it is not a bundle that the peer takes. `accepted` are the bytes before
+-- the one that shows this, and `refusal` is the reason.
 pub record Rest : Type 0 where
   pub accepted : List ℕ
   pub refusal : Refusal
 
--- the bundles of an input, and what follows them
+-- the bundles of an input, and what follows them if it is not a bundle
 pub record Divided : Type 0 where
   pub bundles : List Packed
   pub rest : Option Rest
 
--- the bytes by which it is decided what the others begin with: the fewest that are a bundle or show that none begins here, else all
+-- The shortest prefix that is a bundle, or that shows that the bytes do not begin with one. If
+-- there is no such prefix, it is all bytes.
 abbrev pub front_of : List ℕ → List ℕ
 front_of bytes = taken bundle_goes [] bytes
 
@@ -34,12 +37,12 @@ abbrev pub refused_by : Result BundleInfo (BundleFault × ℕ) → Result Bundle
 refused_by (Ok info) = Ok info
 refused_by (Err (fault, place)) = Err (Faulty fault place)
 
--- whether they are a bundle that the peer takes: of at most `limit` bytes (RFC 9174 section 4.6)
+-- whether they are a bundle that the peer takes, of at most `limit` bytes (RFC 9174 section 4.6)
 abbrev pub judged_front : (limit : ℕ) → (front : List ℕ) → Result BundleInfo Refusal
 judged_front limit front =
     if nat_lt limit (length front) then Err (Longer limit) else refused_by (verdict front)
 
--- the byte that shows a fault is not accepted
+-- the bytes that are accepted; the byte that shows a fault is not one of them
 abbrev pub accepted_by : Refusal → (front : List ℕ) → List ℕ
 accepted_by (Longer limit) front = take limit front
 accepted_by (Faulty fault place) front =
@@ -48,7 +51,7 @@ accepted_by (Faulty fault place) front =
 abbrev pub with_bundle : Packed → Divided → Divided
 with_bundle bundle more = record { bundles = bundle ∷ more.bundles; rest = more.rest }
 
--- `next` divides what stands after the bundle
+-- `next` divides the bytes after the bundle
 abbrev pub divided_by : (next : List ℕ → Divided) → (front bytes : List ℕ)
     → Result BundleInfo Refusal → Divided
 divided_by next front bytes (Ok info) =
@@ -59,8 +62,8 @@ divided_by next front bytes (Err refusal) =
       rest = Some (record { accepted = accepted_by refusal front; refusal = refusal });
     }
 
--- `count` bundles at most. The second case is never met where `count` is the number of the bytes, since each bundle has a
--- byte at least.
+-- At most `count` bundles. If `count` is the number of bytes, the second case never occurs, since
+-- each bundle has at least one byte.
 unfoldable pub divided_in : (count limit : ℕ) → List ℕ → Divided
 divided_in count limit [] = record { bundles = []; rest = None }
 divided_in zero limit (byte ∷ bytes) = record { bundles = []; rest = None }
@@ -71,6 +74,6 @@ divided_in (suc count) limit (byte ∷ bytes) =
 unfoldable pub divided : (limit : ℕ) → List ℕ → Divided
 divided limit bytes = divided_in (length bytes) limit bytes
 
--- bundles before what others are divided into
+-- these bundles, and then those of `more`
 abbrev pub joined : List Packed → Divided → Divided
 joined bundles more = record { bundles = bundles ++ more.bundles; rest = more.rest }

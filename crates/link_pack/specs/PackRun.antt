@@ -1,4 +1,4 @@
--- Where a run of `pack` stands.
+-- The state of a run of `pack`.
 use Rattle.std.specs.Prelude.{◌≡◌, ℕ, ◌+◌, ◌≤◌, Bool, true, false, List, [], ◌∷◌, ◌++◌, length, Option, Some, None, OnOk, Result, Err}
 use Rattle.link_wire.specs.Device.{Input, Output}
 use Rattle.link_wire.specs.Source.{window_of, IsSourceAt, IsLive}
@@ -29,12 +29,12 @@ abbrev pub most_given : Stage → ℕ
 most_given stage.Prelude = 0
 most_given stage.Bundles = 4096
 
--- what comes before the bundles was written
+-- whether the contact header and SESS_INIT were written
 abbrev pub is_begun : Stage → Bool
 is_begun stage.Prelude = false
 is_begun stage.Bundles = true
 
--- what is written of these bundles, and of the bytes of one that has begun
+-- the texts for these bundles, and for the bytes `begun` of the next one
 abbrev pub texts_of : PackOptions → List Packed → (begun : List ℕ) → Texts
 texts_of options bundles begun = record {
   output =
@@ -44,14 +44,15 @@ texts_of options bundles begun = record {
 }
 
 module _ {R : Type 0} (look : R → Input) (packer : Packer) (s : Source R) (history : List ℕ) where
-  -- the packer holds what these bytes have begun
+  -- The history is these bundles, and then the bytes `begun` of the next one. The packer has taken
+  -- exactly these.
   pub record Packs : Type 0 where
     pub source : IsSourceAt s history
     pub live : IsLive look s
     pub bundles : List Packed
     pub begun : List ℕ
     pub holds : Holds packer bundles begun
-    -- however the bytes go on
+    -- whatever bytes follow
     pub divides : (more : List ℕ)
         → divided packer.options.peer_transfer (history ++ more)
         ≡ joined bundles (divided packer.options.peer_transfer (begun ++ more))
@@ -64,7 +65,7 @@ module _ {R : Type 0} (look : R → Input) (packer : Packer) (s : Source R) (his
 
 -- ---- what the parts of a step do
 
--- the texts that are due once a run of bytes has come: segments, and a line
+-- the segments that are due once the bytes `run` have come
 abbrev pub run_segments : PackOptions → (number : ℕ) → (begun run : List ℕ)
     → (whole : Bool) → List ℕ
 run_segments options number begun run whole =
@@ -72,7 +73,8 @@ run_segments options number begun run whole =
 
 module _ {W E : Type 0} (out_look : W → Output) (report_look : E → Output)
     (old new : Writers W E) where
-  -- these texts were written, and the run goes on where this holds; or a writer failed in them
+  -- these texts were written, the step is not the last, and `stands` holds; or a writer failed in
+  -- them
   pub record WritesOn (texts : Texts) (stands : Type 0)
       (result : Result Progress IoFault) : Type 0 where
     pub written : Result (Unit {0}) IoFault
@@ -80,14 +82,14 @@ module _ {W E : Type 0} (out_look : W → Output) (report_look : E → Output)
     pub gives : GivesTexts out_look report_look old new texts written
     pub holds : OnOk written stands
 
-  -- these texts were the last, with this status; or a writer failed in them
+  -- these texts were written, and the run ends with this status; or a writer failed in them
   pub record WritesLast (texts : Texts) (status : ℕ)
       (result : Result Progress IoFault) : Type 0 where
     pub answer : Result Status IoFault
     pub is : result ≡ answer_of answer
     pub gives : GivesLast out_look report_look old new texts status answer
 
-  -- what is written once a run of bytes has come, after these bundles
+  -- what is written once the bytes `run` have come, after these bundles and the bytes `begun`
   abbrev pub GivesFound : (before : Packer) → (bundles : List Packed) → (begun run : List ℕ)
       → (after : Packer) → (what : Found) → MakesOf before begun run what
       → Result Progress IoFault → Type 0
@@ -109,7 +111,7 @@ module _ {W E : Type 0} (out_look : W → Output) (report_look : E → Output)
         report = fault_text fault;
       }) 3 result
 
-  -- why the input's last bytes are no bundle is reported, or the stream is ended
+  -- the fault of an input that ends inside a bundle is reported, or else the end is written
   abbrev pub GivesShort : PackOptions → Option Fault → Result Status IoFault → Type 0
   GivesShort options None answer =
       GivesLast out_look report_look old new (on_output (end_bytes options)) 0 answer
@@ -123,7 +125,7 @@ module _ {W E : Type 0} (out_look : W → Output) (report_look : E → Output)
     pub why : CutShort packer.number begun short
     pub gave : GivesShort packer.options short answer
 
--- no memory was given, and nothing was read or written
+-- the request for memory was refused, and nothing was read or written
 pub record LacksMemory {R W E : Type 0} (start now : Devices R W E)
     (answer : Result Status IoFault) : Type 0 where
   pub unchanged : now ≡ start

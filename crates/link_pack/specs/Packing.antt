@@ -1,4 +1,4 @@
--- What `pack` writes of an input: the stream of a sender (RFC 9174) that carries its bundles.
+-- What `pack` writes for an input: the stream of a sender (RFC 9174) that carries its bundles.
 use Rattle.std.specs.Prelude.{ℕ, suc, min, Bool, true, false, List, [], ◌∷◌, ◌++◌, length, Option, Some, None, if◌then◌else◌}
 use Rattle.link_bundle_types.specs.Faults.{lasts}
 use Rattle.link_wire.specs.Spelling.{contact_bytes, sess_init_bytes, sess_term_bytes}
@@ -20,11 +20,11 @@ prelude_bytes options =
     contact_bytes 0 ++ sess_init_bytes options.keepalive options.segment_mru
     options.transfer_mru options.node.items
 
--- the most data of a segment: what the peer takes, and no more than 65,536 bytes
+-- the most bytes of data in a segment: what the peer takes, but no more than 65,536
 abbrev pub segment_size : PackOptions → ℕ
 segment_size options = min options.peer_segment 65536
 
--- a whole bundle, or the bytes of one that are accepted so far, for the segments of a transfer
+-- the bytes that the segments of a transfer carry: a whole bundle, or those accepted so far
 abbrev pub sending : PackOptions → (whole : Bool) → List ℕ → Sending
 sending options whole bundle =
     record {
@@ -40,12 +40,13 @@ transfers_of options number [] = []
 transfers_of options number (bundle ∷ more) =
     segments_of number (sending options true bundle.bytes) ++ transfers_of options (suc number) more
 
--- what is no bundle that the peer takes: the segments of its accepted bytes that are due, none of which is the last
+-- The due segments of the accepted bytes at the end of an input, if these are not a bundle. None of
+-- them is the last of its transfer.
 abbrev pub rest_segments : PackOptions → (number : ℕ) → Option Rest → List ℕ
 rest_segments options number None = []
 rest_segments options number (Some rest) = segments_of number (sending options false rest.accepted)
 
--- after the last bundle of an input that does not stop, SESS_TERM (section 6.1), if it is asked for
+-- SESS_TERM (section 6.1), if the options ask for it, after an input that does not stop at a fault
 abbrev pub end_bytes : PackOptions → List ℕ
 end_bytes options = if options.send_term then sess_term_bytes 0 0 else []
 
@@ -71,7 +72,8 @@ abbrev pub refusal_fault : (number : ℕ) → Refusal → Fault
 refusal_fault number (Longer limit) = TooLong number limit
 refusal_fault number (Faulty fault place) = Bundle number place fault
 
--- more bytes do not mend it: all but that the bytes end inside a bundle
+-- Whether the refusal stays, whatever bytes follow. Only that of bytes that end inside a bundle
+-- does not.
 abbrev pub lasting : Refusal → Bool
 lasting (Longer limit) = true
 lasting (Faulty fault place) = lasts fault
@@ -81,7 +83,7 @@ stop_by number None = None
 stop_by number (Some rest) =
     Some (record { fault = refusal_fault number rest.refusal; lasts = lasting rest.refusal })
 
--- ---- the whole
+-- ---- the whole input
 
 abbrev pub bundles_output : PackOptions → Divided → List ℕ
 bundles_output options input =

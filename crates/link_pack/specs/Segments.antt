@@ -5,16 +5,16 @@ use Rattle.link_transfer.specs.Chunks.{chunk_at, chunk_count, first_chunks}
 use Rattle.link_transfer.specs.Cutting.{Cutting, beginning, due_of, due, announcement}
 use Rattle.link_transfer.specs.declared.cut.Cut.{Cut}
 
--- START 2, END 1
+-- the flag START is 2, and the flag END is 1
 abbrev pub flags_of : (first last : Bool) → ℕ
 flags_of first last = (if first then 2 else 0) + (if last then 1 else 0)
 
--- a chunk that was cut so, as a segment
+-- a chunk with this cut, as a segment
 abbrev pub segment_bytes : (id : ℕ) → Cut → (chunk : List ℕ) → List ℕ
 segment_bytes id cut chunk =
     segment_head_bytes (flags_of cut.first cut.last) id (length chunk) cut.announce ++ chunk
 
--- the bytes of a bundle that have come: how they are cut
+-- the bytes of a bundle that have come, and the sizes by which they are cut
 pub record Sending : Type 0 where
   pub segment : ℕ
   pub hold : ℕ
@@ -22,7 +22,7 @@ pub record Sending : Type 0 where
   pub bundle : List ℕ
   pub whole : Bool
 
--- nothing is given of it yet
+-- a cutter with these bytes, before any chunk is given
 abbrev pub cutting_of : Sending → Cutting
 cutting_of sending =
     record {
@@ -34,7 +34,7 @@ cutting_of sending =
       chunk = None;
     }
 
--- how chunk number `k`, from 0, is cut: the first chunk announces the length
+-- the cut of chunk `k`, counted from 0; only the first chunk may announce the length
 abbrev pub cut_at : Sending → (k : ℕ) → Cut
 cut_at sending k = record {
   first = k == 0;
@@ -49,11 +49,12 @@ segments_from id sending k (suc count) =
     segment_bytes id (cut_at sending k) (chunk_at sending.segment k sending.bundle)
     ++ segments_from id sending (suc k) count
 
--- all that are due: of a whole bundle all, of one that goes on those of its full chunks, once its length is announced no more
+-- All segments that are due. If the bundle is whole, they are all of its segments. If it is
+-- incomplete, they are those of its full chunks, once it is too long to be announced.
 abbrev pub segments_of : (id : ℕ) → Sending → List ℕ
 segments_of id sending = segments_from id sending 0 (due (cutting_of sending))
 
--- ---- of a cutter
+-- ---- the segments that a cutter still has to give
 
 abbrev pub sending_of : Cutting → Sending
 sending_of so_far =
@@ -69,7 +70,7 @@ abbrev pub segments_left : (id : ℕ) → Cutting → List ℕ
 segments_left id so_far =
     segments_from id (sending_of so_far) (length so_far.given) (due so_far - length so_far.given)
 
--- all that are due were given; after a whole bundle another begins
+-- all due chunks were given; after a whole bundle the next one begins
 abbrev pub all_given : Cutting → Cutting
 all_given so_far =
     if so_far.whole then beginning so_far.segment so_far.hold
@@ -78,7 +79,7 @@ all_given so_far =
       chunk = None;
     }
 
--- a bundle that goes on, of which all chunks that are due were given
+-- an incomplete bundle, with all due chunks given
 abbrev pub going : (segment hold : ℕ) → (bundle : List ℕ) → Cutting
 going segment hold bundle = record {
   segment = segment;

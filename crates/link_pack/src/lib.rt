@@ -1,7 +1,7 @@
-//! `pack`: bundles as the stream of a TCPCLv4 sender (RFC 9174), within the limits of a peer.
+//! `pack`: writes bundles as the stream of a TCPCLv4 sender (RFC 9174), within a peer's limits.
 //!
-//! [`pack`] is the whole run. [`pack_run`] makes the same run, to be taken step by step.
-//! [`PackOptions`] has what the stream says of its sender, and the limits of the peer.
+//! [`pack`] does the whole run. [`pack_run`] makes the same run for a caller that takes the steps.
+//! [`PackOptions`] describes the sender, and has the limits of the peer.
 //!
 //! ```ignore
 //! let memory = cutter_for(alloc, &options);

@@ -1,4 +1,4 @@
-//! The packing of one bundle after another: each is scanned, and cut into chunks.
+//! Packs one bundle after another: each is scanned, and cut into chunks.
 
 ghost use Rattle.std.specs.Prelude.{◌≡◌, ◌<◌, min, IfOk};
 ghost use Rattle.link_pack.specs.Packer.{IsCutterFor};
@@ -16,7 +16,7 @@ use std::alloc::{AllocError, Global};
 /// The most bytes of data in a segment, whatever the peer takes.
 const SEGMENT_LIMIT: u64 = 65_536;
 
-/// What the packer knows of the current bundle after a run of its bytes.
+/// What a run of bytes shows of the current bundle.
 #[derive(Clone, Copy, Debug, PartialEq, Eq)]
 pub enum Found {
     /// The bundle is incomplete.
@@ -90,7 +90,8 @@ impl Packer {
         }
     }
 
-    /// The number of further bytes that the peer's limit and [`INPUT_LIMIT`] leave the bundle.
+    /// The number of further bytes that the bundle may have, by the peer's limit and
+    /// [`INPUT_LIMIT`].
     fn room(&self) -> u64
         ensures { result
             ≡ min self.now.options.peer_transfer (2 ^ 63 - 1) - scan_size self.now.scan }
@@ -198,7 +199,7 @@ impl Packer {
         self.number = self.number.saturating_add(1);
     }
 
-    /// The fault of an input that ends here, inside a bundle.
+    /// Returns the fault of an input that ends here, inside a bundle.
     ///
     /// It is `None` if no byte of the bundle has come.
     pub fn cut_short(&self) -> Option<Fault>

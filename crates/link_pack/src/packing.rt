@@ -1,4 +1,4 @@
-//! `pack`: bundles as the stream of a sender, and a line for each bundle.
+//! `pack`: the stream of a sender that carries the bundles, and a line for each bundle.
 
 ghost use Rattle.std.specs.Prelude.{◌≡◌, ◌+◌, ◌^◌, ◌<◌, IfErr, IfOk, OnOk, false, true, [], List, ℕ, length, Ok, Err};
 ghost use Rattle.link_wire.specs.Device.{HasBytes};
@@ -26,7 +26,7 @@ use link_wire::{
 };
 use std::alloc::AllocError;
 
-/// How many bytes one step is given at most.
+/// The most bytes that one step is given.
 const PIECE: usize = 4096;
 
 /// What a step does.
@@ -43,7 +43,7 @@ enum Stage {
 pub struct Packing {
     stage: Stage,
     packer: Packer,
-    /// The head of a message that is written next.
+    /// The buffer for the head of a message.
     head: HeadBuf,
 }
 
@@ -87,7 +87,8 @@ fn put_prelude(head: &mut HeadBuf, options: &PackOptions)
     requires { head.old.items ≡ [] }
     ensures { head.new.items ≡ prelude_bytes options.now }
 {
-    // It has at most 1,024 bytes.
+    // By the contract of `len`, the node ID has at most 1,024 bytes. So the buffer has room for
+    // all.
     let _length = options.node.len();
     put_contact(head, 0);
     put_sess_init(
@@ -99,7 +100,7 @@ fn put_prelude(head: &mut HeadBuf, options: &PackOptions)
     );
 }
 
-/// Writes what comes before the bundles.
+/// Writes the contact header and SESS_INIT.
 #[inline(never)]
 fn write_prelude<W: OutDevice, E: OutDevice>(
     writers: &mut Writers<W, E>,
@@ -114,7 +115,7 @@ fn write_prelude<W: OutDevice, E: OutDevice>(
     writers.write_output(head.as_slice())
 }
 
-/// Reads bytes, as far as they belong to one chunk of one bundle.
+/// Reads bytes of one chunk of one bundle, and writes what they make due.
 fn take_bundles<R: InDevice, W: OutDevice, E: OutDevice>(
     input: &mut Input<Source<R>>,
     writers: &mut Writers<W, E>,
@@ -147,7 +148,7 @@ fn take_bundles<R: InDevice, W: OutDevice, E: OutDevice>(
     go_on(found, writers, packer, head)
 }
 
-/// Writes what is due once bytes have come.
+/// Writes what new bytes make due: segments, and then the line of a whole bundle or of a fault.
 #[inline(never)]
 fn go_on<W: OutDevice, E: OutDevice>(
     found: Found,
@@ -173,7 +174,7 @@ fn go_on<W: OutDevice, E: OutDevice>(
     }
 }
 
-/// A bundle is whole: its line is written, and another begins.
+/// Writes the line of a whole bundle, and begins the next one.
 fn end_bundle<W: OutDevice, E: OutDevice>(
     writers: &mut Writers<W, E>,
     packer: &mut Packer,
@@ -196,7 +197,7 @@ fn end_bundle<W: OutDevice, E: OutDevice>(
     Ok(())
 }
 
-/// The input has ended: inside a bundle that is a fault.
+/// Ends the run at the end of the input. It is a fault if the input ends inside a bundle.
 #[inline(never)]
 fn finish<W: OutDevice, E: OutDevice>(
     writers: &mut Writers<W, E>,
@@ -213,7 +214,7 @@ fn finish<W: OutDevice, E: OutDevice>(
     Ok(Status::CLEAN)
 }
 
-/// Writes SESS_TERM, if it is asked for.
+/// Writes SESS_TERM, if the options ask for it.
 fn write_end<W: OutDevice, E: OutDevice>(
     writers: &mut Writers<W, E>,
     options: &PackOptions,
@@ -232,7 +233,7 @@ fn write_end<W: OutDevice, E: OutDevice>(
 
 /// Makes a run of `pack` that has read and written nothing.
 ///
-/// The cutter is new, as [`cutter_for`](crate::cutter_for) makes it.
+/// The cutter has to be new, as [`cutter_for`](crate::cutter_for) makes it for these options.
 pub fn pack_run<R: InDevice, W: OutDevice, E: OutDevice>(
     cutter: Cutter,
     options: PackOptions,
@@ -260,10 +261,13 @@ pub fn pack_run<R: InDevice, W: OutDevice, E: OutDevice>(
 
 /// Packs the bundles of an input into the stream of a sender (RFC 9174), to the end of the run.
 ///
-/// The stream goes to the output, and a line for each bundle to the report. The first byte that
-/// shows a fault of a bundle, or that the bundle is longer than the peer takes, stops the run and is
-/// reported. `memory` is the result of [`cutter_for`](crate::cutter_for). If it is a refusal, the
-/// answer is [`IoFault::Memory`], and the devices are returned as they were.
+/// The stream goes to the output, and a line for each bundle to the report. The run stops at the
+/// first byte that shows a fault of a bundle, or that a bundle is longer than the peer takes. Then
+/// the report ends with the line of that fault, and the status is 3. Otherwise the status is 0.
+///
+/// The answer is an error if a device failed, or the input has more than 2^63 - 1 bytes. `memory`
+/// is the result of [`cutter_for`](crate::cutter_for). If it is a refusal, the answer is
+/// [`IoFault::Memory`], and the devices are returned as they were.
 pub fn pack<R: InDevice, W: OutDevice, E: OutDevice>(
     memory: Result<Cutter, AllocError>,
     options: PackOptions,

@@ -20,12 +20,12 @@ fn flags(cut: Cut) -> u8
     start | end
 }
 
-/// Puts the head of a chunk's segment into the buffer, in place of what it holds.
+/// Replaces the contents of the buffer by the head of a chunk's segment.
 fn put_head(head: &mut HeadBuf, id: u64, cut: Cut, size: u64)
     ensures { head.new.items
         ≡ segment_head_bytes (flags_of cut.first cut.last) id size cut.announce }
 {
-    // Only a first segment has the list in which the length stands.
+    // Only a first segment has the list that announces the length.
     let announce = if cut.first { cut.announce } else { None };
     head.clear();
     put_segment_head(head, flags(cut), id, size, announce);
@@ -47,7 +47,7 @@ fn write_segment<W: OutDevice, E: OutDevice>(
     writers.write_output(chunk)
 }
 
-/// Writes each chunk that waits as a segment of the transfer with this ID.
+/// Writes each waiting chunk as a segment of the transfer with this ID.
 pub fn write_segments<W: OutDevice, E: OutDevice>(
     id: u64,
     cutter: &mut Cutter,

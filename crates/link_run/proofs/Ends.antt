@@ -1,4 +1,4 @@
--- Where a recorded stream stops, and what a run that stands has written of it.
+-- Where a recorded stream stops, and which texts of a tool have the line of its fault.
 use Rattle.std.proofs.Common.{◌≡◌, ℕ, ◌<◌, ◌⊎◌, inl, inr, Bool, true, false, List, [], ◌∷◌, ◌++◌, length, Option, Some, None, if◌then◌else◌, ⊎_elim, refl, ap, sym, ◌∙◌, length-append, append-nil, arith}
 use Rattle.link_wire.specs.Device.{Input}
 use Rattle.link_wire.specs.Limits.{window_size}
@@ -17,26 +17,26 @@ use Rattle.link_run.proofs.Runs.{ReportsFaults, few_over}
 
 -- ---- where a recorded stream stops
 
--- an end that more bytes may mend shows no fault
+-- an end that more bytes may change shows no fault
 pub undecided_unshown : (end : End) → IsUndecided end → is_shown (stop_of end) ≡ false
 undecided_unshown Clean is = refl
 undecided_unshown (Cut offset message content) is = refl
 undecided_unshown (Fault offset fault) is = ap is_lasting is
 
--- nor does one at which a session goes on
+-- an end at which a session goes on shows no fault
 pub standing_unshown : (offset left : ℕ) (end : End) → IsLeft offset left end
     → is_shown (stop_of end) ≡ false
 standing_unshown offset left Clean is = refl
 standing_unshown offset left (Cut from message content) is = refl
 standing_unshown offset left (Fault from fault) is = absurd is
 
--- a fault lasts, but for a missing field
+-- every fault except `Truncated` lasts
 pub lasts : (fault : WireFault)
     → (fault ≡ wire.Truncated) ⊎ ((fault ≡ wire.Truncated → ⊥) × (is_lasting fault ≡ true))
 lasts wire.Truncated = inl refl
 lasts fault = inr (λ is. cc, refl)
 
--- a fault that was not there before was shown by bytes
+-- if the history showed no fault, at least one byte was given to show this one
 shown_by : (history given : List ℕ) (offset : ℕ) (fault : WireFault) (reading : Reading)
     → is_lasting fault ≡ true → reading_of (history ++ given) ≡ reading
     → reading.end ≡ Fault offset fault → is_shown (stop_of (reading_of history).end) ≡ false
@@ -47,7 +47,7 @@ shown_by history [] offset fault reading lasting is ends unshown =
     in absurd (cc)
 shown_by history (b ∷ given) offset fault reading lasting is ends unshown = omega arith
 
--- a fault of the wire is shown by bytes that were given, or nothing is left of the input
+-- at a fault of the wire, bytes were given or the input is over, so less than a window is left
 pub few_at_fault : {R : Type 0} (look : R → Input) (old new : Source R) (history given : List ℕ)
     (offset : ℕ) (fault : WireFault) (reading : Reading)
     → Takes look old new given → IsRead look new (history ++ given) fault reading
@@ -63,13 +63,13 @@ few_at_fault look old new history given offset fault reading takes read ends uns
 
 -- ---- the texts and the status of a tool
 
--- without a fault that is shown the texts are those but for the line of a fault
+-- if no fault is shown, the texts so far have no line of a fault
 pub unshown_sofar : (stop : Option StreamStop) (texts : Texts) → is_shown stop ≡ false
     → sofar_by stop texts ≡ texts
 unshown_sofar None texts is = refl
 unshown_sofar (Some stop) texts is = rw is refl
 
--- a fault that is shown has its line in both texts
+-- if a fault is shown, the texts so far and the whole texts are the same
 pub shown_sofar : (stop : Option StreamStop) (made : Made) → is_shown stop ≡ true
     → sofar_by stop made.texts ≡ (whole_by stop made).texts
 shown_sofar None made is = absurd (cc)
@@ -91,6 +91,6 @@ by_stop : (stop : Option StreamStop) (made : Made) → (whole_by stop made).stat
 by_stop None made is = absurd (no_fault made.good is)
 by_stop (Some stop) made is = line_lasts stop.lasts stop.fault made.texts
 
--- the line of a fault stands in the report of the input that it stops
+-- the report of an input that a fault stops has the line of that fault
 pub made_reports : (made : List ℕ → Made) → ReportsFaults (tool_of made)
 made_reports made given is = by_stop (made given).stop (made given) is

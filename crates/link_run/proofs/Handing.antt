@@ -1,4 +1,4 @@
--- What was written is handed on before a step reads.
+-- A step hands on what was written before it reads.
 use Rattle.std.proofs.Common.{◌≡◌, ◌⊎◌, inl, inr, List, [], ℕ, Option, Result, Ok, Err, ⊎_elim, ◌∙◌, sym, ap, subst}
 use Rattle.link_wire.specs.declared.IoFault.{IoFault}
 use Rattle.link_wire.specs.declared.IoFault.TheVariants as io
@@ -36,7 +36,7 @@ module _ {R W E : Type 0} (look : Looks R W E) {out_handed : W → Option (List 
     reports = wrote.report;
   }
 
-  -- and one of a write that failed is none
+  -- the same, by the result of the write, which did not fail
   pub handed_written : (texts : Texts) (written : Result (Unit {0}) IoFault)
       → Writes look.output look.report before mid (on_output [])
       → HasHandedOn look.output look.report out_handed report_handed mid ⊎ enough
@@ -46,7 +46,7 @@ module _ {R W E : Type 0} (look : Looks R W E) {out_handed : W → Option (List 
   handed_written texts (Ok done) kept held writes other = handed_by texts kept held writes
   handed_written texts (Err fault) kept held part other = absurd (other (ap Err part.kind))
 
-  -- more texts are written
+  -- the step writes more texts
   pub handed_then : (texts : Texts) (written : Result (Unit {0}) IoFault)
       → HandedOn look out_handed report_handed enough (place_of old before) (place_of new mid)
       → GivesTexts look.output look.report mid after texts written
@@ -64,7 +64,7 @@ module _ {R W E : Type 0} (look : Looks R W E) {out_handed : W → Option (List 
   }
   handed_then texts (Err fault) handed part other = absurd (other (ap Err part.kind))
 
--- what a session has left is enough
+-- a session that has enough for its next message has enough for a step
 pub enough_by : {R : Type 0} {A : Type 0} (look : R → Input) (session : Session R)
     → A ⊎ HasNext look session → A ⊎ HasEnough look session
 enough_by look session held = ⊎_elim (λ all. inl all) (λ next. inr (inr next)) held

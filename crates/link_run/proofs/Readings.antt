@@ -1,4 +1,4 @@
--- What a run reads of a session.
+-- What a run reads from a session.
 use Rattle.std.proofs.Common.{ℕ, inl, List, [], Option, Result, Ok, Err}
 use Rattle.link_wire.specs.Session.{GivesNext, GivesLoad}
 use Rattle.link_wire.specs.declared.fault.Stop.{Stop}
@@ -9,7 +9,7 @@ use Rattle.link_run.specs.Reading.{ReadsMessage, ReadsData}
 use Rattle.link_run.specs.Writers.{on_output, Writes}
 use Rattle.link_run.specs.declared.writers.Writers.{Writers}
 
--- what the session gives, once what was written was handed on
+-- the results of the session, once what was written was handed on
 module _ {R W E : Type 0} (look : Looks R W E)
     (old new : Session R) (before after : Writers W E) (history : List ℕ)
     (writes : Writes look.output look.report before after (on_output [])) where

@@ -1,4 +1,4 @@
--- What the steps of a run write in turn the run writes in all, and how a run ends.
+-- How the texts of the steps make up the texts of a run, and how a run ends.
 use Rattle.std.proofs.Common.{◌≡◌, ℕ, ◌+◌, ◌-◌, min, ◌<◌, ◌≤◌, ◌⊎◌, inl, inr, true, false, List, [], ◌++◌, length, take, drop, Option, Some, None, Result, Err, ⊎_elim, refl, ap, sym, ◌∙◌, subst, length-append, append-nil, append_assoc, take_all, arith}
 use Rattle.std.proofs.lemmas.Bool.{false≢true}
 use Rattle.std.proofs.Math.Nat.{min-le_right}
@@ -23,7 +23,7 @@ Consumes-ahead : (window : List ℕ) (left : Option (List ℕ))
 Consumes-ahead window None = tt
 Consumes-ahead window (Some xs) = refl
 
--- texts whose parts are equal
+-- texts are equal if their outputs and their reports are equal
 pub texts_as : {p q : Texts} → p.output ≡ q.output → p.report ≡ q.report → p ≡ q
 texts_as {p} {q} output report =
     let of_output : List ℕ → Texts = λ xs. record { output = xs; report = p.report } in
@@ -37,8 +37,9 @@ then_assoc first second third = texts_as (sym (append_assoc first.output second.
 pub then_none : (texts : Texts) → texts then no_texts ≡ texts
 then_none texts = texts_as (append-nil texts.output) (append-nil texts.report)
 
--- The line of a fault that ends a run stands in the report: of one that the bytes show it is in the texts that they determine, of
--- another only in those of the whole input.
+-- The report of an input that ends in a fault has the line of that fault. If the bytes show the
+-- fault, the texts that they determine have the line. Otherwise only the texts of the whole input
+-- have it.
 abbrev pub ReportsFaults : Tool → Type 0
 ReportsFaults tool =
     (given : List ℕ) → (tool.whole given).status ≡ 3
@@ -82,7 +83,7 @@ module _ {R W E : Type 0} (look : Looks R W E) where
         reports = Appends-trans (look.report start.report).written (look.report mid.report).written (look.report new.report).written p.report q.report first.reports second.reports;
       }
 
-  -- the devices as they are handed back, with what was read and not given
+  -- the devices as the run returns them; the bytes taken include those that were not given
   pub written_left : (start : Devices R W E) (now : Place R W E) (bytes : List ℕ) (texts : Texts)
       → HasWritten look start now bytes texts
       → HandedBack look start (devices_at now) (bytes
@@ -93,7 +94,7 @@ module _ {R W E : Type 0} (look : Looks R W E) where
     reports = written.reports;
   }
 
-  -- the answer with the devices that were handed back
+  -- the answer of a run, over the devices that it has returned
   pub handed_back : (tool other : Tool) (start now devices : Devices R W E) (given : List ℕ)
       (answer result : Result Status IoFault)
       → EndedRun look tool start now given answer → tool ≡ other
@@ -112,19 +113,19 @@ none_between window start end same =
     let none : end - start ≡ 0 = omega arith in
     rw none refl
 
--- nothing is left of an input that is over
+-- less than a window is left of an input that is over
 pub few_over : {R : Type 0} (look : R → Input) (s : Source R) → IsOver look s
     → length (window_of s) < window_size
 few_over look s over = let none = ap length (none_between s.window s.start s.end over.ended.1) in omega arith
 
--- these texts are what some of the bytes determine
+-- a prefix of the bytes determines these texts
 pub record StoodAt (tool : Tool) (given : List ℕ) (texts : Texts) : Type 0 where
   pub front : List ℕ
   pub rest : List ℕ
   pub parts : given ≡ front ++ rest
   pub is : texts ≡ tool.sofar front
 
--- what was written before others: nothing to the report, or what some of the bytes determine
+-- the texts written so far: the report is empty, or a prefix of the bytes determines them
 abbrev pub Stood : Tool → (given : List ℕ) → Texts → Type 0
 Stood tool given texts = (texts.report ≡ []) ⊎ StoodAt tool given texts
 
@@ -159,7 +160,7 @@ module _ {R W E : Type 0} (look : Looks R W E) where
       let Q : Texts → Type 0 = λ t. HasWritten look start now xs t in
       subst P bytes (subst Q texts written)
 
-  -- given bytes and written texts, after what was written before
+  -- bytes are given, and the texts written so far stay the same
   pub written_given : (start : Devices R W E) (old new : Source R) (w : Writers W E)
       (history bytes : List ℕ) (texts : Texts)
       → HasWritten look start (place_of old w) history texts
@@ -195,7 +196,7 @@ module _ {R W E : Type 0} (look : Looks R W E) where
       → AllGiven look (devices_at (place_of s w)) (window_of s)
   all_given s w over = (none_between s.window s.start s.end over.ended.1, over.empty)
 
-  -- the run has written all that there is
+  -- the run has written the texts of the whole input
   pub answered : (tool : Tool) (start : Devices R W E) (s : Source R) (w : Writers W E)
       (given : List ℕ) (status : Status)
       → HasWritten look start (place_of s w) given (tool.whole given).texts
@@ -214,7 +215,7 @@ module _ {R W E : Type 0} (look : Looks R W E) where
     settled = settled;
   }
 
-  -- where the output failed in texts, nothing of the report speaks of what it lacks
+  -- if the output failed, no line of the report is about bytes that the output lacks
   behind : (tool : Tool) (given : List ℕ) (before : Texts) (output report : ℕ)
       → Stood tool given before → report ≡ 0
       → ((length before.report + report ≡ 0)
@@ -231,7 +232,7 @@ module _ {R W E : Type 0} (look : Looks R W E) where
       }))
       stood
 
-  -- where a text that is due lacks some bytes, and the input ends in a fault, one of the whole texts does
+  -- if a text that is due is incomplete and the input ends in a fault, a whole text is incomplete
   lacking : (tool : Tool) (now : Devices R W E) (given unread : List ℕ) (due : Texts)
       (output report : ℕ) → ReportsFaults tool
       → AreDue look tool now given unread due
@@ -249,7 +250,7 @@ module _ {R W E : Type 0} (look : Looks R W E) where
       let P : Texts → Type 0 = λ t. (output < length t.output) ⊎ (report < length t.report) in
       subst P is.1 less
 
-  -- a writer failed in texts that are due
+  -- a writer failed in the middle of texts that are due
   pub writer_lost : (tool : Tool) → ReportsFaults tool → (start : Devices R W E) (s : Source R)
       (old new : Writers W E) (given : List ℕ) (before texts due : Texts) (fault : IoFault)
       → HasWritten look start (place_of s old) given before
@@ -299,7 +300,7 @@ module _ {R W E : Type 0} (look : Looks R W E) where
             (⊎_elim (λ lost. let less = lost.part in inl (omega arith)) (λ lost. let less = lost.part in inr (omega arith)) part.failed);
       })
 
-  -- a writer failed when what was written was handed on
+  -- a writer failed to hand on what was written
   pub settle_lost : (tool : Tool) → ReportsFaults tool → (start : Devices R W E) (s : Source R)
       (old new : Writers W E) (given : List ℕ) (fault : IoFault)
       → HasWritten look start (place_of s old) given (tool.sofar given)
@@ -379,13 +380,14 @@ module _ {R W E : Type 0} (look : Looks R W E) where
   reader_lost tool start old new w history given texts io.Write written sound due unshown stops = absurd stops.cause
   reader_lost tool start old new w history given texts io.Memory written sound due unshown stops = absurd stops.cause
 
--- what was written of a text, with others after it that were not begun
+-- a prefix of a text is also a prefix of that text with more after it
 take_less : (count : ℕ) (text more : List ℕ)
     → take count text ≡ take (min count (length text)) (text ++ more)
 take_less count text more = sym (take-append-le (min count (length text)) text more (min-le_right count (length text)) ∙ take_min count text)
 
 module _ {W E : Type 0} (out_look : W → Output) (report_look : E → Output) where
-  -- a writer failed in texts, before others; where it was the report, these have nothing for the output
+  -- A writer failed in `texts`, before `more` was begun. If `texts` has a report, `more` has no
+  -- output.
   pub part_of_more : (old new : Writers W E) (texts more : Texts) (fault : IoFault)
       → (0 < length texts.report → more.output ≡ [])
       → WritesPart out_look report_look old new texts fault
@@ -427,7 +429,7 @@ module _ {W E : Type 0} (out_look : W → Output) (report_look : E → Output) w
     report_sound = two.report_sound ∙ one.report_sound;
   }
 
-  -- a text was written to the output, and then a writer failed in others
+  -- a text was written to the output, and then a writer failed in further texts
   pub part_behind : (old mid new : Writers W E) (first : List ℕ) (second : Texts) (fault : IoFault)
       → Writes out_look report_look old mid (on_output first)
       → WritesPart out_look report_look mid new second fault
@@ -445,7 +447,7 @@ module _ {W E : Type 0} (out_look : W → Output) (report_look : E → Output) w
   }
 
 module _ {R W E : Type 0} (look : Looks R W E) where
-  -- what was written was handed on: it is written still
+  -- handing on leaves the written texts as they are
   pub settle_kept : (start : Devices R W E) (s : Source R) (old new : Writers W E)
       (history : List ℕ) (texts : Texts)
       → HasWritten look start (place_of s old) history texts

@@ -1,4 +1,4 @@
--- How a run ends whose session stops. What the tool makes of its input is what it makes of the reading.
+-- How a run ends if its session stops. The tool depends only on the reading of its input.
 use Rattle.std.proofs.Common.{◌≡◌, ℕ, ◌<◌, ◌≤◌, inl, inr, true, false, List, [], ◌++◌, length, Some, None, Result, Err, ⊎_elim, refl, ap, sym, ◌∙◌, subst, append-nil, arith}
 use Rattle.link_wire.specs.Limits.{window_size, longest_head}
 use Rattle.link_wire.specs.Source.{window_of, Takes, StopsAfter}
@@ -36,13 +36,14 @@ undecided_uncut Clean is = tt
 undecided_uncut (Cut offset message content) is = absurd is
 undecided_uncut (Fault offset fault) is = tt
 
--- of a reading with the same messages a tool writes the same, and it stops where the reading does
+-- For every reading with the same messages the tool writes the same texts, and it stops where that
+-- reading ends.
 abbrev pub SameTexts : (Reading → Made) → Reading → Type 0
 SameTexts of first =
     (other : Reading) → SameMessages first other → IsUncut other.end
     → ((of other).texts ≡ (of first).texts) × ((of other).stop ≡ stop_of other.end)
 
--- a text, and then the line of a fault
+-- the texts, followed by the line of a fault
 pub then_fault : (fault : ReportedFault) (texts : Texts)
     → texts then on_report (fault_text fault) ≡ with_fault fault texts
 then_fault fault texts = texts_as (append-nil texts.output) refl
@@ -94,7 +95,7 @@ module _ {R W E : Type 0} {look : Looks R W E} {made : List ℕ → Made} {start
     here : (made history).texts ≡ (of (reading_of history)).texts
     here = ap (λ (m : Made). m.texts) (is history)
 
-    -- before a message, or inside one
+    -- the session stopped before a message or inside its head
     pub message_stops : (after : Writers W E) → IsSessionAt look.input old history
         → SameTexts of (reading_of history)
         → (why : Stop) (answer : Result Status IoFault)
@@ -112,7 +113,7 @@ module _ {R W E : Type 0} {look : Looks R W E} {made : List ℕ → Made} {start
         reader_fault of is longest_head (source_of old) (source_of new) before after at fault answer got.stops (omega arith)
         (kept.0 ∙ sym here) (ap is_shown kept.1 ∙ undecided_unshown _ got.undecided) gives.0 gives.1
 
-    -- inside the data of a segment
+    -- the session stopped inside the data of a segment
     pub data_stops : (most : ℕ) (after : Writers W E) → IsSessionAt look.input old history
         → (of (reading_of history)).stop ≡ stop_of (reading_of history).end
         → (why : Stop) (answer : Result Status IoFault)
@@ -134,7 +135,7 @@ module _ {R W E : Type 0} {look : Looks R W E} {made : List ℕ → Made} {start
   module _ (old new : Session R) (before mid after : Writers W E)
       (at : Stands look made start true (place_of (source_of old) before) history)
       (session : IsSessionAt look.input old history) where
-    -- the same where what was written was to be handed on before
+    -- a writer failed to hand on what was written before the read
     lost : (most : ℕ) (why : Stop) (answer : Result Status IoFault)
         → NotHandedOn look old new before mid why
         → GivesEnd look.output look.report why mid after answer
@@ -172,7 +173,7 @@ module _ {R W E : Type 0} {look : Looks R W E} {made : List ℕ → Made} {start
   none : (made []).texts ≡ (of (reading_of [])).texts
   none = ap (λ (m : Made). m.texts) (is [])
 
-  -- the contact header has a fault, or a device failed in it
+  -- the contact header has a fault, or the reader failed inside it
   pub contact_ended : SameTexts of (reading_of []) → (why : Stop) (answer : Result Status IoFault)
       → GivesContact look.input old new (Err why)
       → GivesEnd look.output look.report why before after answer

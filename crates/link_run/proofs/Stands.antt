@@ -1,4 +1,4 @@
--- What a run that stands gives in a step: it goes on, it ends, or a device fails.
+-- A step of a run for which `Stands` holds: the run goes on, it ends, or a device fails.
 use Rattle.std.proofs.Common.{◌≡◌, ℕ, ◌<◌, ◌≤◌, ◌⊎◌, inl, inr, Bool, true, false, List, [], ◌++◌, length, Result, Ok, Err, ⊎_elim, refl, ap, sym, ◌∙◌, append-nil, arith}
 use Rattle.link_wire.specs.Limits.{window_size}
 use Rattle.link_wire.specs.Source.{window_of, Takes, StopsAfter, IsOver}
@@ -13,7 +13,7 @@ use Rattle.link_run.specs.declared.writers.Writers.{Writers}
 use Rattle.link_run.proofs.Ends.{unshown_sofar, shown_sofar, made_reports}
 use Rattle.link_run.proofs.Runs.{Stood, written_as, written_given, written_more, sound_given, sound_written, all_given, answered, writer_lost, settle_lost, settle_kept, reader_lost}
 
--- what was written is what the bytes so far determine, or nothing to the report
+-- the bytes so far determine what was written, or the report is empty
 stood_by : (begun : Bool) (made : List ℕ → Made) (history given : List ℕ)
     → is_shown (made history).stop ≡ false
     → Stood (tool_of made) (history ++ given) (written_by begun (made history))
@@ -68,7 +68,7 @@ module _ {R W E : Type 0} {look : Looks R W E} {made : List ℕ → Made} {start
         at = (stands_on writes, known);
       }
 
-      -- a writer failed in them
+      -- a writer failed in the middle of them
       pub loses : (fault : IoFault) → WritesPart look.output look.report before after texts fault
           → LastStep look (tool_of made) start (devices_at (place_of new after)) most history (Err fault)
       loses fault part = record {
@@ -79,7 +79,7 @@ module _ {R W E : Type 0} {look : Looks R W E} {made : List ℕ → Made} {start
             (λ some. stood_by begun made history given at.unshown) part;
       }
 
-      -- by what came of the write
+      -- the same, by the result of the write
       pub written : (knows : List ℕ → Type 0) → (begun ≡ true → 0 < length given) → knows bytes
           → (0 < most → begun ≡ true) → (result : Result (Unit {0}) IoFault)
           → GivesTexts look.output look.report before after texts result
@@ -87,7 +87,8 @@ module _ {R W E : Type 0} {look : Looks R W E} {made : List ℕ → Made} {start
       written knows some known only (Ok done) writes = goes_on knows some known writes only
       written knows some known only (Err fault) part = loses fault part
 
-    -- these texts are the last: all of the input was given, or the bytes show a fault and no others change what comes of them
+    -- These texts are the last. The whole input was given, or the bytes show a fault and no further
+    -- bytes change what is made of them.
     module _ (after : Writers W E) (texts : Texts)
         (whole : had then texts ≡ (whole_by (made bytes).stop (made bytes)).texts)
         (over : IsOver look.input new ⊎ ((is_shown (made bytes).stop ≡ true) × ((more : List ℕ) → made (bytes ++ more) ≡ made bytes))) where
@@ -139,7 +140,7 @@ module _ {R W E : Type 0} {look : Looks R W E} {made : List ℕ → Made} {start
 module _ {R W E : Type 0} {look : Looks R W E} {made : List ℕ → Made} {start : Devices R W E}
     {history : List ℕ} (source : Source R) (before after : Writers W E)
     (at : Stands look made start true (place_of source before) history) where
-  -- what was written was handed on, and the run stands where it stood
+  -- after what was written was handed on, `Stands` holds as before
   pub settled : Writes look.output look.report before after no_texts
       → Stands look made start true (place_of source after) history
   settled writes = record {
@@ -148,7 +149,7 @@ module _ {R W E : Type 0} {look : Looks R W E} {made : List ℕ → Made} {start
     unshown = at.unshown;
   }
 
-  -- nothing is lost by a failure in that
+  -- if handing on fails, no text is lost
   pub not_handed_on : (most : ℕ) (fault : IoFault) → length (window_of source) < window_size
       → Unsettled look.output look.report before after fault
       → LastStep look (tool_of made) start (devices_at (place_of source after)) most history (Err fault)
@@ -160,7 +161,7 @@ module _ {R W E : Type 0} {look : Looks R W E} {made : List ℕ → Made} {start
         at.sound at.unshown few part);
   }
 
--- the last step, by its answer
+-- what holds after the last step, by the answer
 pub last_step : {R W E : Type 0} {look : Looks R W E} (made : List ℕ → Made) {start : Devices R W E}
     (old new : Place R W E) (stands : List ℕ → Type 0) {most : ℕ} {history : List ℕ}
     (answer : Result Status IoFault)

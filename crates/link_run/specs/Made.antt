@@ -8,40 +8,39 @@ use Rattle.link_report.specs.declared.fault.Fault.{Fault as ReportedFault}
 use Rattle.link_report.specs.declared.fault.Fault.TheVariants.{Wire}
 use Rattle.link_run.specs.Run.{Texts, Outcome, Tool}
 
--- Where an input stops: at this fault. A fault that does not last may be gone once more bytes have
--- come.
+-- An input stops at this fault. A fault that does not last may disappear when more bytes come.
 pub record StreamStop : Type 0 where
   pub fault : ReportedFault
   pub lasts : Bool
 
 -- what a tool makes of some bytes
 pub record Made : Type 0 where
-  -- the texts that these bytes determine, however they go on, but for the line of a fault
+  -- the texts that these bytes determine, whatever bytes follow, without the line of a fault
   pub texts : Texts
-  -- where they stop, if they do
+  -- the fault at which the bytes stop, if any
   pub stop : Option StreamStop
-  -- the texts of an input that is exactly these bytes and does not stop
+  -- the texts of an input of exactly these bytes, if it does not stop at a fault
   pub ended : Texts
-  -- whether all in such an input is good
+  -- whether everything in such an input is good
   pub good : Bool
 
--- these texts, and then the line of a fault
+-- these texts, with the line of a fault at the end of the report
 abbrev pub with_fault : ReportedFault → Texts → Texts
 with_fault fault texts =
     record { output = texts.output; report = texts.report ++ fault_text fault }
 
--- a fault ends the report of the input that it stops; the status is 3 then, 0 where all is good,
--- and else 1
+-- If a fault stops the input, its line ends the report, and the status is 3. Otherwise the status
+-- is 0 if everything is good, and else 1.
 abbrev pub whole_by : Option StreamStop → Made → Outcome
 whole_by None made = record { texts = made.ended; status = if made.good then 0 else 1 }
 whole_by (Some stop) made = record { texts = with_fault stop.fault made.texts; status = 3 }
 
--- the line of a fault that lasts is determined already
+-- the texts that are determined already; they have the line of a fault that lasts
 abbrev pub sofar_by : Option StreamStop → Texts → Texts
 sofar_by None texts = texts
 sofar_by (Some stop) texts = if stop.lasts then with_fault stop.fault texts else texts
 
--- such a fault is shown
+-- whether the bytes show a fault: one that lasts
 abbrev pub is_shown : Option StreamStop → Bool
 is_shown None = false
 is_shown (Some stop) = stop.lasts
@@ -55,12 +54,13 @@ tool_of made = record {
 
 -- ---- a recorded stream
 
--- every fault of the wire lasts, but for a missing field
+-- Every fault of the wire lasts, except `Truncated`: more bytes may complete the field.
 abbrev pub is_lasting : WireFault → Bool
 is_lasting Truncated = false
 is_lasting fault = true
 
--- where a recorded stream stops; one that is cut inside the data of a segment is truncated there
+-- The fault at which a recorded stream stops. A stream that ends inside the data of a segment is
+-- truncated there.
 abbrev pub stop_of : End → Option StreamStop
 stop_of Clean = None
 stop_of (Cut offset message content) =

@@ -1,4 +1,4 @@
--- What a run reads of a session or of a source, once what was written was handed on.
+-- What a run reads from a session or a source, after it has handed on what was written.
 use Rattle.std.specs.Prelude.{◌≡◌, ℕ, ◌<◌, ◌⊎◌, true, List, [], length, Option, Result, Ok, Err}
 use Rattle.link_wire.specs.Device.{Input as Seen, HasBytes}
 use Rattle.link_wire.specs.Limits.{window_size}
@@ -15,18 +15,18 @@ use Rattle.link_run.specs.Writers.{on_output, Writes, Unsettled, HasHandedOn}
 use Rattle.link_run.specs.declared.input.Input.{Input}
 use Rattle.link_run.specs.declared.writers.Writers.{Writers}
 
--- what an input reads
+-- the session or the source inside an input
 abbrev pub inner_of : {S : Type 0} → Input S → S
 inner_of input = input.inner
 
--- The input has enough left for what comes next of a session. The contact header is not counted:
--- before it a run has written nothing.
+-- The session has enough bytes left for what comes next. Before the contact header this always
+-- holds, since a run has written nothing yet.
 abbrev pub HasEnough : {R : Type 0} → (R → Seen) → Session R → Type 0
 HasEnough look session = (may_open session ≡ true) ⊎ HasNext look session
 
 module _ {R W E : Type 0} (look : Looks R W E)
     (old new : Session R) (before after : Writers W E) where
-  -- a writer failed when what was written was handed on, and nothing was read
+  -- a writer failed to hand on what was written, and nothing was read
   pub record NotHandedOn (why : Stop) : Type 0 where
     pub fault : IoFault
     pub is : why ≡ stop.Io fault
@@ -34,7 +34,8 @@ module _ {R W E : Type 0} (look : Looks R W E)
     pub few : length (window_of (source_of old)) < window_size
     pub unsettled : Unsettled look.output look.report before after fault
 
-  -- nothing was written, and the session gave this message, or stopped; or what was written could not be handed on
+  -- Nothing was written, and the session gave this message or stopped; or a writer failed to hand
+  -- on what was written.
   abbrev pub ReadsMessage : (history : List ℕ) → Result (Option (ℕ × Message)) Stop → Type 0
   ReadsMessage history (Ok next) =
       Writes look.output look.report before after (on_output [])
@@ -44,7 +45,7 @@ module _ {R W E : Type 0} (look : Looks R W E)
       × GivesNext look.input old new history (Err why))
       ⊎ NotHandedOn why
 
-  -- the same of the data of the open segment
+  -- as `ReadsMessage`, for the data of the open segment
   abbrev pub ReadsData : (history : List ℕ) → Result ℕ Stop → Type 0
   ReadsData history (Ok n) =
       Writes look.output look.report before after (on_output [])
@@ -54,8 +55,8 @@ module _ {R W E : Type 0} (look : Looks R W E)
       × GivesLoad look.input old new history (Err why))
       ⊎ NotHandedOn why
 
--- What a run gives that reads bytes: nothing was written, and bytes are ready in the window, or the source has ended or stopped; or
--- what was written could not be handed on, and nothing was read.
+-- Nothing was written, and the source made bytes ready, ended or stopped; or a writer failed to
+-- hand on what was written, and nothing was read.
 abbrev pub ReadsBytes : {R W E : Type 0} → Looks R W E → (old new : Source R) → (before after : Writers W E) → Result ℕ IoFault → Type 0
 ReadsBytes look old new before after (Ok n) =
     Writes look.output look.report before after (on_output []) × GivesReady look.input old new (Ok n)
@@ -64,15 +65,15 @@ ReadsBytes look old new before after (Err fault) =
     ⊎ ((new ≡ old) × (length (window_of old) < window_size)
     × Unsettled look.output look.report before after fault)
 
--- Nothing is held back while the input is waited for: all that was written was handed on, or the input has enough left for
--- what comes next.
+-- Nothing is held back while a read waits: everything written was handed on, or the session has
+-- enough bytes left for what comes next.
 abbrev pub HoldsNothingBack : {R W E : Type 0} → Looks R W E
     → (W → Option (List ℕ)) → (E → Option (List ℕ)) → Session R → Writers W E → Type 0
 HoldsNothingBack look out_handed report_handed session after =
     (history : List ℕ) → IsSessionAt look.input session history
     → HasHandedOn look.output look.report out_handed report_handed after ⊎ HasNext look.input session
 
--- all that was written was handed on, or the input has a byte left
+-- everything written was handed on, or the input has a byte left
 abbrev pub HoldsNoBytesBack : {R W E : Type 0} → Looks R W E
     → (W → Option (List ℕ)) → (E → Option (List ℕ)) → Source R → Writers W E → Type 0
 HoldsNoBytesBack look out_handed report_handed source after =

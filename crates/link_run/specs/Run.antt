@@ -11,7 +11,7 @@ use Rattle.link_run.specs.declared.run.Status.{Status}
 use Rattle.link_run.specs.declared.run.Progress.{Progress}
 use Rattle.link_run.specs.declared.run.Progress.TheVariants.{More, Done}
 
--- what is written of some bytes
+-- what a run writes
 pub record Texts : Type 0 where
   pub output : List ℕ
   pub report : List ℕ
@@ -19,19 +19,20 @@ pub record Texts : Type 0 where
 abbrev pub no_texts : Texts
 no_texts = record { output = []; report = [] }
 
--- one text after another
+-- `first` and then `second`: their outputs joined, and their reports joined
 infixr 30 ◌then◌
 abbrev pub ◌then◌ : Texts → Texts → Texts
 first then second =
     record { output = first.output ++ second.output; report = first.report ++ second.report }
 
--- what comes of a whole input
+-- the texts and the exit status of a whole input
 pub record Outcome : Type 0 where
   pub texts : Texts
   pub status : ℕ
 
--- A tool: what comes of an input that is exactly these bytes; the texts that these bytes determine already, however
--- they go on; and whether they show a fault that ends its run.
+-- What a tool makes of an input. `whole` is the outcome of an input of exactly these bytes. `sofar`
+-- is the texts that these bytes determine, whatever bytes follow. `shows` is whether these bytes
+-- show a fault that ends the run.
 pub record Tool : Type 0 where
   pub whole : List ℕ → Outcome
   pub sofar : List ℕ → Texts
@@ -43,7 +44,7 @@ pub record Devices (R W E : Type 0) : Type 0 where
   pub output : W
   pub report : E
 
--- What is seen of the three devices: the bytes left or written, and whether the device has failed.
+-- what is known of each device: the bytes left or written, and whether it has failed
 pub record Looks (R W E : Type 0) : Type 0 where
   pub input : R → Input
   pub output : W → Output
@@ -52,7 +53,7 @@ pub record Looks (R W E : Type 0) : Type 0 where
 abbrev pub looks : {R W E : Type 0} → (R → Input) → (W → Output) → (E → Output) → Looks R W E
 looks input output report = record { input = input; output = output; report = report }
 
--- where a run stands: what it reads, over the reader, and what it writes to
+-- the state of a run's devices: its source, which has the reader, and its two writers
 pub record Place (R W E : Type 0) : Type 0 where
   pub source : Source R
   pub output : W
@@ -67,13 +68,14 @@ abbrev pub answer_of : Result Status IoFault → Result Progress IoFault
 answer_of (Ok status) = Ok (Done status)
 answer_of (Err fault) = Err fault
 
--- a step that has written what was due goes on
+-- the result of a step, from that of its write; the step is the last only if the write failed
 abbrev pub progress_after : Result (Unit {0}) IoFault → Result Progress IoFault
 progress_after (Ok done) = Ok More
 progress_after (Err fault) = Err fault
 
--- The first `report_count` bytes of the report are not ahead of the output: a prefix of the bytes given determines at least
--- as much of the report, and the first `output_count` bytes of the output hold all output that this prefix determines.
+-- The first `report_count` bytes of the report are not ahead of the output. Some prefix of the
+-- bytes given determines at least that much of the report. The first `output_count` bytes of the
+-- output include all output that this prefix determines.
 pub record IsBehind (tool : Tool) (given : List ℕ) (output_count report_count : ℕ) : Type 0 where
   pub front : List ℕ
   pub rest : List ℕ
@@ -82,8 +84,9 @@ pub record IsBehind (tool : Tool) (given : List ℕ) (output_count report_count 
   pub report : report_count ≤ length (tool.sofar front).report
 
 module _ {R : Type 0} where
-  -- A step went on: it was given at most `most` bytes, at least one where `most` is not 0, and the run stands after them. No
-  -- more was read than is needed: less than a window was read and not given.
+  -- A step was not the last. It was given at most `most` bytes, and at least one if `most` is not
+  -- 0. The relation `stands` holds of the history and these bytes. Less than a window of bytes was
+  -- read and not given, so no more was read than is needed.
   pub record WentOn (old new : Source R) (stands : List ℕ → Type 0) (most : ℕ)
       (history : List ℕ) : Type 0 where
     pub given : List ℕ
@@ -100,7 +103,7 @@ module _ {R W E : Type 0} (look : Looks R W E) where
     pub output : (look.output devices.output).failed ≡ false
     pub report : (look.report devices.report).failed ≡ false
 
-  -- from old to new these bytes were given, and these texts were written
+  -- between `old` and `new` these bytes were given, and these texts were written
   pub record Moves (old new : Place R W E) (bytes : List ℕ) (texts : Texts) : Type 0 where
     pub takes : Consumes (ahead look.input old.source) (ahead look.input new.source) bytes
     pub count : given_by new.source ≡ given_by old.source + length bytes
@@ -108,7 +111,7 @@ module _ {R W E : Type 0} (look : Looks R W E) where
     pub reports : Appends (look.report old.report).written
         (look.report new.report).written texts.report
 
-  -- since the devices stood as in `start`, these bytes were given, and these texts were written
+  -- since the devices were as in `start`, these bytes were given, and these texts were written
   pub record HasWritten (start : Devices R W E) (now : Place R W E) (bytes : List ℕ)
       (texts : Texts) : Type 0 where
     pub takes : Consumes (look.input start.reader).left (ahead look.input now.source) bytes
@@ -117,7 +120,7 @@ module _ {R W E : Type 0} (look : Looks R W E) where
     pub reports : Appends (look.report start.report).written
         (look.report now.report).written texts.report
 
-  -- the same of devices that were handed back: these bytes were taken
+  -- as `HasWritten`, for the devices that a run has returned: these bytes were taken
   pub record HandedBack (start now : Devices R W E) (bytes : List ℕ) (texts : Texts) : Type 0 where
     pub takes : Consumes (look.input start.reader).left (look.input now.reader).left bytes
     pub writes : Appends (look.output start.output).written (look.output now.output).written texts.output
@@ -128,8 +131,9 @@ module _ {R W E : Type 0} (look : Looks R W E) where
   abbrev pub AllGiven : Devices R W E → (unread : List ℕ) → Type 0
   AllGiven now unread = (unread ≡ []) × IsAtEnd (look.input now.reader).left
 
-  -- The run has written what comes of the bytes that it was given, and no device failed. They are all of the input, or what comes of
-  -- them is the same however they go on. Nothing was read that was not needed: less than a window of bytes was read and not given.
+  -- The run has written the texts of the bytes that it was given, and no device failed. These bytes
+  -- are the whole input, or no further bytes change their outcome. Less than a window of bytes was
+  -- read and not given, so no more was read than is needed.
   pub record FinishedRun (tool : Tool) (start now : Devices R W E) (given : List ℕ)
       (status : Status) : Type 0 where
     pub unread : List ℕ
@@ -140,8 +144,8 @@ module _ {R W E : Type 0} (look : Looks R W E) where
     pub settled : AllGiven now unread
         ⊎ ((more : List ℕ) → tool.whole (given ++ more) ≡ tool.whole given)
 
-  -- The reader failed, and no writer: all bytes that were read were given, they show no fault, and the texts are those that
-  -- they determine.
+  -- The reader failed, and no writer did. All bytes that were read were given. They show no fault,
+  -- and the texts are those that they determine.
   pub record LostReader (tool : Tool) (start now : Devices R W E) (given : List ℕ) : Type 0 where
     pub unshown : tool.shows given ≡ false
     pub written : HandedBack start now given (tool.sofar given)
@@ -149,8 +153,9 @@ module _ {R W E : Type 0} (look : Looks R W E) where
     pub output : (look.output now.output).failed ≡ false
     pub report : (look.report now.report).failed ≡ false
 
-  -- A byte past the limit was read, and no device failed: the bytes `past` of the last read were not given, those before them
-  -- show no fault, and the texts are those that these determine.
+  -- A byte past the longest input was read, and no device failed. The bytes `past` of the last read
+  -- were not given. The bytes before them show no fault, and the texts are those that they
+  -- determine.
   pub record PassedLimit (tool : Tool) (start now : Devices R W E) (given : List ℕ) : Type 0 where
     pub unshown : tool.shows given ≡ false
     pub past : List ℕ
@@ -161,13 +166,14 @@ module _ {R W E : Type 0} (look : Looks R W E) where
     pub output : (look.output now.output).failed ≡ false
     pub report : (look.report now.report).failed ≡ false
 
-  -- the texts that the bytes given determine; where they are all of the input, it may be those of the whole input
+  -- The texts that the bytes given determine are due. If these bytes are the whole input, the texts
+  -- of the whole input may be due instead.
   abbrev pub AreDue : Tool → Devices R W E → (given unread : List ℕ) → Texts → Type 0
   AreDue tool now given unread texts =
       (texts ≡ tool.sofar given) ⊎ (AllGiven now unread × (texts ≡ (tool.whole given).texts))
 
-  -- Which writer failed, and not the other: the output, and no line of the report speaks of what it lacks; or the report, and
-  -- the output is whole.
+  -- Exactly one writer failed. If it is the output, no line of the report is about bytes that the
+  -- output lacks. If it is the report, the output is whole.
   abbrev pub IsLost : Tool → Devices R W E → (given : List ℕ) → (due : Texts)
       → (output report : ℕ) → Type 0
   IsLost tool now given due output report =
@@ -176,9 +182,10 @@ module _ {R W E : Type 0} (look : Looks R W E) where
       ⊎ (((look.report now.report).failed ≡ true) × ((look.output now.output).failed ≡ false)
       × (length due.output ≤ output))
 
-  -- One writer failed, and not the reader: the texts are prefixes of those that are due (`AreDue`). Where the bytes given show a
-  -- fault, it is the writer that failed which lacks some of its text. Where they are all of an input that ends in a fault, part
-  -- of its texts is missing. So a failure does not take the place of a fault that was reported.
+  -- One writer failed, and the reader did not. The texts are prefixes of those that are due
+  -- (`AreDue`). If the bytes given show a fault, the writer that failed lacks some of its text. If
+  -- they are the whole of an input that ends in a fault, the texts of that input are incomplete. So
+  -- a write failure never replaces a fault that was reported.
   pub record LostWriter (tool : Tool) (start now : Devices R W E) (given : List ℕ) : Type 0 where
     pub unread : List ℕ
     pub few : length unread < window_size
@@ -197,33 +204,33 @@ module _ {R W E : Type 0} (look : Looks R W E) where
         → (output < length (tool.whole given).texts.output)
         ⊎ (report < length (tool.whole given).texts.report)
 
-  -- what holds after each failure; want of memory is none of a run
+  -- what holds after each failure; a run never fails for lack of memory
   abbrev pub FailedRun : Tool → Devices R W E → Devices R W E → List ℕ → IoFault → Type 0
   FailedRun tool start now given io.Read = LostReader tool start now given
   FailedRun tool start now given io.InputTooLong = PassedLimit tool start now given
   FailedRun tool start now given io.Write = LostWriter tool start now given
   FailedRun tool start now given io.Memory = ⊥
 
-  -- what holds at each end
+  -- what holds after each answer
   abbrev pub EndedRun : Tool → Devices R W E → Devices R W E → List ℕ
       → Result Status IoFault → Type 0
   EndedRun tool start now given (Ok status) = FinishedRun tool start now given status
   EndedRun tool start now given (Err fault) = FailedRun tool start now given fault
 
-  -- what a whole run gives
+  -- what holds after a whole run
   pub record GivesAnswer (tool : Tool) (start now : Devices R W E)
       (answer : Result Status IoFault) : Type 0 where
     pub given : List ℕ
     pub gave : EndedRun tool start now given answer
 
-  -- a step was the last of its run: it was given at most `most` bytes
+  -- a step was the last of its run, and was given at most `most` bytes
   pub record LastStep (tool : Tool) (start now : Devices R W E) (most : ℕ) (history : List ℕ)
       (answer : Result Status IoFault) : Type 0 where
     pub given : List ℕ
     pub size : length given ≤ most
     pub gave : EndedRun tool start now (history ++ given) answer
 
-  -- what a step gives after these bytes
+  -- what holds after a step, by its result
   abbrev pub GivesStep : Tool → Devices R W E → (old new : Place R W E) → (stands : List ℕ → Type 0)
       → (most : ℕ) → (history : List ℕ) → Result Progress IoFault → Type 0
   GivesStep tool start old new stands most history (Ok More) =
@@ -233,7 +240,7 @@ module _ {R W E : Type 0} (look : Looks R W E) where
   GivesStep tool start old new stands most history (Err fault) =
       LastStep tool start (devices_at new) most history (Err fault)
 
--- the last step of a run returns this
+-- this is the result of a run's last step
 abbrev pub IsEnd : Result Progress IoFault → Type 0
 IsEnd (Ok More) = ⊥
 IsEnd (Ok (Done status)) = Unit {0}

@@ -1,4 +1,4 @@
--- Where a run stands between two steps, and what a step hands on.
+-- The state of a run between two steps, and what a step hands on.
 use Rattle.std.specs.Prelude.{◌≡◌, ℕ, ◌⊎◌, Bool, true, false, List, [], Option, Some, None, Result, Ok}
 use Rattle.std.specs.Io.KnownBytes.{Appends}
 use Rattle.link_wire.specs.declared.IoFault.{IoFault}
@@ -8,25 +8,25 @@ use Rattle.link_run.specs.declared.run.Progress.{Progress}
 use Rattle.link_run.specs.declared.run.Progress.TheVariants.{More}
 use Rattle.link_run.specs.declared.run.Status.{Status}
 
--- what a run has written of some bytes: nothing as long as it has not begun
+-- the texts that a run has written: none before it has begun
 abbrev pub written_by : (begun : Bool) → Made → Texts
 written_by true made = made.texts
 written_by false made = no_texts
 
--- A run was given exactly these bytes since its devices stood as in `start`, and has written what
--- they determine. No device failed, and the bytes show no fault.
+-- Since its devices were as in `start`, the run was given exactly these bytes, and has written
+-- exactly what they determine. No device failed, and the bytes show no fault.
 pub record Stands {R W E : Type 0} (look : Looks R W E) (made : List ℕ → Made)
     (start : Devices R W E) (begun : Bool) (now : Place R W E) (history : List ℕ) : Type 0 where
   pub written : HasWritten look start now history (written_by begun (made history))
   pub sound : NoneFailed look (devices_at now)
   pub unshown : is_shown (made history).stop ≡ false
 
--- nothing is written of no bytes, and they show no fault
+-- before the first byte, nothing is written, and no fault is shown
 pub record MayBegin (made : List ℕ → Made) (begun : Bool) : Type 0 where
   pub texts : written_by begun (made []) ≡ no_texts
   pub unshown : is_shown (made []).stop ≡ false
 
--- what a step gives: where it goes on, the run stands, and the tool keeps what it has to know
+-- what holds after a step; if it is not the last, `Stands` and `knows` hold of the bytes so far
 abbrev pub GivesStage : {R W E : Type 0} → Looks R W E → (made : List ℕ → Made)
     → (start : Devices R W E) → (begun : Bool) → (old new : Place R W E)
     → (knows : List ℕ → Type 0) → (most : ℕ) → (history : List ℕ)
@@ -35,9 +35,9 @@ GivesStage look made start begun old new knows most history result =
     GivesStep look (tool_of made) start old new
     (λ bytes. Stands look made start begun new bytes × knows bytes) most history result
 
--- Nothing was held back while the input was waited for. Before the read the writers stood as in
--- `output` and `report`. All that had been written was handed on then, or the input had enough
--- left. The texts of the step were written after that.
+-- Nothing was held back while a step waited for input. At its read the writers were `output` and
+-- `report`. By then everything written had been handed on, or the input had enough bytes left. The
+-- texts of the step itself were written after the read.
 pub record HandedOn {R W E : Type 0} (look : Looks R W E) (out_handed : W → Option (List ℕ))
     (report_handed : E → Option (List ℕ)) (enough : Type 0) (old new : Place R W E) : Type 0 where
   pub output : W
@@ -50,7 +50,7 @@ pub record HandedOn {R W E : Type 0} (look : Looks R W E) (out_handed : W → Op
   pub writes : Appends (look.output output).written (look.output new.output).written texts.output
   pub reports : Appends (look.report report).written (look.report new.report).written texts.report
 
--- the step goes on
+-- the step was not the last
 abbrev pub IsMore : Result Progress IoFault → Type 0
 IsMore (Ok More) = Unit {0}
 IsMore other = ⊥
@@ -60,7 +60,7 @@ abbrev pub most_by : Option (Result Status IoFault) → ℕ → ℕ
 most_by None most = most
 most_by (Some answer) most = 0
 
--- its steps return this answer
+-- the run has ended, and each further step returns this
 abbrev pub HasEnded : Option (Result Status IoFault) → Result Progress IoFault → Type 0
 HasEnded ended answer =
     (given : Result Status IoFault) × (ended ≡ Some given) × (answer ≡ answer_of given)

@@ -23,13 +23,13 @@ on_report text = record { output = []; report = text }
 abbrev pub next_line : {W E : Type 0} → Writers W E → List ℕ
 next_line writers = writers.line.items
 
--- where a run stands, by its source and its writers
+-- the state of a run's devices, from its source and its writers
 abbrev pub place_of : {R W E : Type 0} → Source R → Writers W E → Place R W E
 place_of source writers =
     record { source = source; output = writers.output; report = writers.report }
 
 module _ {W E : Type 0} (out_look : W → Output) (report_look : E → Output) where
-  -- these texts were written, and no writer has failed that had not
+  -- these texts were written, and no writer failed in the meantime
   pub record Writes (old new : Writers W E) (texts : Texts) : Type 0 where
     pub output : Appends (out_look old.output).written (out_look new.output).written texts.output
     pub report : Appends (report_look old.report).written
@@ -45,7 +45,7 @@ module _ {W E : Type 0} (out_look : W → Output) (report_look : E → Output) w
     pub none : report_count ≡ 0
     pub report_sound : (report_look new.report).failed ≡ (report_look old.report).failed
 
-  -- the report failed before all of its text was written, and all of the output was
+  -- the whole text of the output was written, and the report failed before all of its text was
   pub record LostReport (old new : Writers W E) (texts : Texts)
       (output_count report_count : ℕ) : Type 0 where
     pub failed : (report_look new.report).failed ≡ true
@@ -53,7 +53,8 @@ module _ {W E : Type 0} (out_look : W → Output) (report_look : E → Output) w
     pub whole : length texts.output ≤ output_count
     pub output_sound : (out_look new.output).failed ≡ (out_look old.output).failed
 
-  -- A prefix of each of these texts was written, and then a writer failed. The output is written before the report.
+  -- A writer failed after a prefix of each of these texts was written. The output is written before
+  -- the report.
   pub record WritesPart (old new : Writers W E) (texts : Texts) (fault : IoFault) : Type 0 where
     pub kind : fault ≡ io.Write
     pub output_count : ℕ
@@ -80,13 +81,14 @@ module _ {W E : Type 0} (out_look : W → Output) (report_look : E → Output) w
   GivesLast old new texts status (Ok ended) = Writes old new texts × (ended.0 ≡ status)
   GivesLast old new texts status (Err fault) = WritesPart old new texts fault
 
-  -- the line of a fault of the wire was written; a failure is returned as it is
+  -- for a fault of the wire, its line was written; any other failure is returned as it is
   abbrev pub GivesEnd : Stop → Writers W E → Writers W E → Result Status IoFault → Type 0
   GivesEnd (stop.Wire offset fault) old new answer =
       GivesLast old new (on_report (fault_text (Wire offset fault))) 3 answer
   GivesEnd (stop.Io fault) old new answer = (answer ≡ Err fault) × (new ≡ old)
 
-  -- What was written stays, and a writer failed. The output is handed on before the report.
+  -- A writer failed to hand on what was written, and no text was added. The output is handed on
+  -- before the report.
   pub record Unsettled (old new : Writers W E) (fault : IoFault) : Type 0 where
     pub kind : fault ≡ io.Write
     pub output : Appends (out_look old.output).written (out_look new.output).written []
@@ -96,12 +98,13 @@ module _ {W E : Type 0} (out_look : W → Output) (report_look : E → Output) w
         ⊎ (((report_look new.report).failed ≡ true)
         × ((out_look new.output).failed ≡ (out_look old.output).failed))
 
-  -- what was written is handed on
+  -- everything written was handed on, or a writer failed
   abbrev pub GivesHandedOn : Writers W E → Writers W E → Result (Unit {0}) IoFault → Type 0
   GivesHandedOn old new (Ok done) = Writes old new (on_output [])
   GivesHandedOn old new (Err fault) = Unsettled old new fault
 
--- no writer holds back anything of what was written; what a writer holds back no more is known by the last two functions
+-- No writer holds back anything that was written. The functions `out_handed` and `report_handed`
+-- give what a writer has handed on.
 pub record HasHandedOn {W E : Type 0} (out_look : W → Output) (report_look : E → Output)
     (out_handed : W → Option (List ℕ)) (report_handed : E → Option (List ℕ))
     (writers : Writers W E) : Type 0 where

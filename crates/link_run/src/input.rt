@@ -1,7 +1,8 @@
 //! What a run reads: a session, or a source of bytes.
 //!
-//! A stage of a tool reads only by the calls of an [`Input`]. Before a read that may have to wait,
-//! they hand on what was written. So a reader of the texts sees all that the bytes so far determine.
+//! A stage of a tool reads only through the calls of an [`Input`]. Before a read that may have to
+//! wait, these calls hand on what was written. So a reader of the output and the report sees
+//! everything that the bytes so far determine.
 
 ghost use Rattle.std.specs.Prelude.{◌≡◌, ◌<◌, ◌⊎◌, ℕ, List, [], length, Err, IfErr, IfOk, IfSome, IsOk, IsTrue, OnOk, MatchResult};
 ghost use Rattle.link_wire.specs.MessageBuffer.{message_of, SegmentHasTotals};
@@ -19,13 +20,13 @@ use link_wire::{Contact, InDevice, IoFault, MessageBuffer, OutDevice, Session, S
 pub trait Feed: Sized {
     ghost use Rattle.link_wire.specs.declared.Source.{Source};
 
-    /// The device that it reads.
+    /// The device from which the bytes come.
     type Reader: InDevice;
 
-    /// The source that it reads.
+    /// The source that gives the bytes.
     ghost source: { Self → Source Self.Reader };
 
-    /// The input has enough left for what comes next.
+    /// The input has enough bytes left for what comes next.
     ghost has_next: { Self → Type 0 };
 
     /// Returns the source.
@@ -63,9 +64,9 @@ impl<R: InDevice> Feed for Source<R> {
     }
 }
 
-/// What the stages of a tool read.
+/// The input of a tool's stages.
 ///
-/// No stage can reach what is inside. So each read is one of the calls below.
+/// The field is private, so a stage can read only by the calls below.
 #[derive(Drop)]
 pub struct Input<S> {
     inner: S,
@@ -74,14 +75,13 @@ pub struct Input<S> {
 impl<S> Input<S> {
     ghost use Rattle.link_run.specs.Reading.{inner_of};
 
-    /// Makes the input of a run.
     pub(crate) fn new(inner: S) -> Input<S>
         ensures { inner_of result ≡ inner }
     {
         Input { inner }
     }
 
-    /// What is read, as it stands.
+    /// Returns the session or the source.
     pub(crate) fn into_inner(self) -> S
         ensures { result ≡ inner_of self }
     {
@@ -98,7 +98,7 @@ impl<R: InDevice> Input<Session<R>> {
 
     /// Reads the contact header, as [`Session::open`] does.
     ///
-    /// Nothing has to be handed on: before it, a run has written nothing.
+    /// This call hands nothing on, since a run has written nothing before it.
     #[inline(always)]
     pub fn open(&mut self) -> Result<Contact, Stop>
         requires { IsTrue (may_open (inner_of self.old)) }
@@ -111,11 +111,12 @@ impl<R: InDevice> Input<Session<R>> {
         self.inner.open()
     }
 
-    /// Reads the next message, as [`Session::read_next`] does.
+    /// Reads the head of the next message, as [`Session::read_next`] does.
     ///
-    /// If its head does not lie whole in the window, and the read may have to wait, what was
-    /// written is handed on first. If that fails, the failure is returned as a stop, and nothing is
-    /// read: the session has not stopped. A session that has stopped returns its stop again.
+    /// If the window does not have the whole head and the read may have to wait, the call first
+    /// hands on what was written. If that fails, it reads nothing and returns the failure as a
+    /// stop, although the session has not stopped. A session that has stopped returns its stop
+    /// again.
     #[inline(always)]
     pub fn next_message<W: OutDevice, E: OutDevice>(
         &mut self,
@@ -142,7 +143,7 @@ impl<R: InDevice> Input<Session<R>> {
         }
     }
 
-    /// `next_message` for a head that does not lie whole in the window, or is rare.
+    /// Reads the head of the next message if it is rare, or if the window does not have all of it.
     #[cold]
     #[inline(never)]
     fn read_message<W: OutDevice, E: OutDevice>(
@@ -168,18 +169,19 @@ impl<R: InDevice> Input<Session<R>> {
         self.inner.read_next(message)
     }
 
-    /// Makes data of the segment ready in the window, as [`Session::load`] does.
+    /// Makes data of the segment ready in the window, as [`Session::load`] does. Returns how many
+    /// bytes are ready.
     ///
-    /// If none lies there yet, and the read may have to wait, what was written is handed on first.
-    /// If that fails, the failure is returned as a stop, and nothing is read: the session has not
-    /// stopped. A session that has stopped returns its stop again.
+    /// If the window has no data yet and the read may have to wait, the call first hands on what
+    /// was written. If that fails, it reads nothing and returns the failure as a stop, although the
+    /// session has not stopped. A session that has stopped returns its stop again.
     #[inline(always)]
     pub fn load_data<W: OutDevice, E: OutDevice>(
         &mut self,
         writers: &mut Writers<W, E>,
     ) -> Result<usize, Stop>
         ensures size { IfOk result (λ n. n ≡ length (data_in (inner_of self.new))) }
-        // If some lies there, nothing is handed on.
+        // If the window already has data, nothing is handed on.
         ensures here { 0 < length (data_in (inner_of self.old)) → writers.new ≡ writers.old }
         ensures opened { IsTrue (is_opened (inner_of self.old))
             → IsTrue (is_opened (inner_of self.new)) }
@@ -200,7 +202,7 @@ impl<R: InDevice> Input<Session<R>> {
         self.inner.load()
     }
 
-    /// The segment's data that lies in the window.
+    /// The segment's data in the window.
     #[inline(always)]
     pub fn loaded(&self) -> &[u8]
         ensures { result.now ≡ data_in (inner_of self.now) }
@@ -208,7 +210,7 @@ impl<R: InDevice> Input<Session<R>> {
         self.inner.loaded()
     }
 
-    /// Gives the next `count` bytes of the segment's data, which [`Input::loaded`] shows.
+    /// Gives the first `count` bytes of [`Input::loaded`].
     #[inline(always)]
     pub fn pass(&mut self, count: usize)
         requires { count ≤ length (data_in (inner_of self.old)) }
@@ -223,7 +225,7 @@ impl<R: InDevice> Input<Session<R>> {
         self.inner.pass(count);
     }
 
-    /// The number of bytes of the segment's data that were not given yet.
+    /// The number of bytes of the segment's data that are not given yet.
     #[inline(always)]
     pub fn left(&self) -> u64
         ensures left { result ≡ left_of (inner_of self.now) }
@@ -234,18 +236,19 @@ impl<R: InDevice> Input<Session<R>> {
     }
 }
 
-/// The calls that read bytes.
+/// The calls that read a source of bytes.
 impl<R: InDevice> Input<Source<R>> {
     ghost use Rattle.std.specs.Prelude.{◌≤◌, Ok, take};
     ghost use Rattle.link_wire.specs.Bytes.{AreBytes};
     ghost use Rattle.link_wire.specs.Source.{Takes};
     ghost use Rattle.link_run.specs.Reading.{inner_of};
 
-    /// Makes bytes ready in the window, as [`Source::ready`] does: 0 at the end of the input.
+    /// Makes bytes ready in the window, as [`Source::ready`] does. Returns how many: 0 at the end
+    /// of the input.
     ///
-    /// If none lies there yet, and the read may have to wait, what was written is handed on first.
-    /// If that fails, nothing is read. After the end and after a fault of the source nothing is
-    /// read, and the same is returned.
+    /// If the window is empty and the read may have to wait, the call first hands on what was
+    /// written. If that fails, it reads nothing and returns [`IoFault::Write`]. Otherwise, after
+    /// the end or a fault of the source, it reads nothing and returns the same result again.
     #[inline(always)]
     pub fn ready_bytes<W: OutDevice, E: OutDevice>(
         &mut self,
@@ -255,7 +258,7 @@ impl<R: InDevice> Input<Source<R>> {
         ensures gives { IsLive R.state (inner_of self.old)
             → ReadsBytes (looks R.state W.state E.state) (inner_of self.old) (inner_of self.new)
             writers.old writers.new result }
-        // If some lie there, nothing is handed on or read.
+        // If the window has bytes, nothing is handed on or read.
         ensures here { 0 < length (window_of (inner_of self.old)) → (self.new ≡ self.old)
             × (writers.new ≡ writers.old)
             × (result ≡ Ok (length (window_of (inner_of self.old)))) }
@@ -278,7 +281,7 @@ impl<R: InDevice> Input<Source<R>> {
         self.inner.ready()
     }
 
-    /// The bytes that lie in the window.
+    /// The bytes in the window.
     #[inline(always)]
     pub fn window(&self) -> &[u8]
         ensures window { result.now ≡ window_of (inner_of self.now) }
@@ -327,7 +330,7 @@ fn settle_before<R: InDevice, W: OutDevice, E: OutDevice>(
     }
 }
 
-/// Hands on what was written, if a read may have to wait.
+/// Hands on what was written, if the next read of the source may have to wait.
 #[cold]
 #[inline(never)]
 fn settle_before_bytes<R: InDevice, W: OutDevice, E: OutDevice>(

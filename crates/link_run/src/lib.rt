@@ -1,10 +1,9 @@
-//! What the runs of the tools have in common: each reads an input step by step, and writes an
-//! output and a report.
+//! The runs of the tools. Each run reads an input step by step, and writes an output and a report.
 //!
-//! A tool is its [`Stages`]: what it does in a step, and what it keeps between two steps. A
-//! [`ToolRun`] has all that is the same in every tool: the devices, the answer, and what comes after
-//! the end. A stage reads by the calls of an [`Input`], which hand on what was written before a
-//! read that may have to wait. It writes by its [`Writers`].
+//! Each tool implements [`Stages`]: what it does in one step, and what it keeps between two steps.
+//! A [`ToolRun`] adds what all tools share: the input, the writers, and the answer, which it
+//! returns again after the end. A stage reads only through an [`Input`]. Before a read that may
+//! have to wait, the input hands on what was written. A stage writes through its [`Writers`].
 //!
 //! ```ignore
 //! match input.next_message(writers, &mut message) {

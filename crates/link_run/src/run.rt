@@ -1,4 +1,4 @@
-//! What every run of a tool is: steps, and the whole of them.
+//! The trait of runs: its single step, and the loop over the steps.
 
 ghost use Rattle.std.specs.Prelude.{◌≡◌, ◌<◌, ℕ, List, [], Result, Err};
 ghost use Rattle.link_wire.specs.declared.IoFault.{IoFault};
@@ -15,9 +15,9 @@ pub struct Status(pub u8);
 impl Status {
     /// The input was read to its end, and nothing was wrong.
     pub const CLEAN: Status = Status(0);
-    /// The input was read to its end, and not all that it has is good.
+    /// The input was read to its end, but not everything in it is good.
     pub const NOT_GOOD: Status = Status(1);
-    /// A fault stopped the run; the report's last line is that of the fault.
+    /// A fault stopped the run. The last line of the report describes it.
     pub const FAULT: Status = Status(3);
 }
 
@@ -33,7 +33,8 @@ pub enum Progress {
 impl Progress {
     ghost use Rattle.link_run.specs.Run.{answer_of, progress_after};
 
-    /// What a step returns that has written what was due.
+    /// Turns the result of a step's write into the result of the step. If the write failed, the
+    /// step is the last of its run. Otherwise it is not.
     #[inline(always)]
     pub fn after(written: Result<(), IoFault>) -> Result<Progress, IoFault>
         ensures { result ≡ progress_after written }
@@ -44,7 +45,7 @@ impl Progress {
         }
     }
 
-    /// What the last step of a run returns.
+    /// Turns the answer of a run into the result of its last step.
     #[inline(always)]
     pub fn ended(answer: Result<Status, IoFault>) -> Result<Progress, IoFault>
         ensures { result ≡ answer_of answer }
@@ -56,42 +57,49 @@ impl Progress {
     }
 }
 
-/// A run that has ended: its devices as they stand, and its answer.
+/// The devices and the answer of a run that has ended.
 #[derive(Debug, Drop)]
 pub struct RunEnd<R, W, E> {
     /// Where the input came from.
     pub reader: R,
-    /// Where the output went to.
+    /// Where the output went.
     pub output: W,
-    /// Where the report went to.
+    /// Where the report went.
     pub report: E,
-    /// How the run ended, or the failure of a device that stopped it.
+    /// The exit status, or the failure that stopped the run.
     pub answer: Result<Status, IoFault>,
 }
 
 /// A run of a tool over an input, step by step.
 pub trait Run<R: InDevice, W: OutDevice, E: OutDevice>: Sized {
-    // what the tool makes of its input
+    // the texts and the status that an input determines
     ghost tool: { Self → Tool };
 
-    // what it reads, and what it writes to
+    // its source, its output and its report
     ghost place: { Self → Place R W E };
 
-    // it was given exactly these bytes since its devices stood so, and has written exactly what they determine
+    // Since its devices were in this state, the run was given exactly these bytes, and has written
+    // exactly what they determine.
     ghost stands: { Self → Devices R W E → List ℕ → Type 0 };
 
-    // the most bytes that its next step is given: none where it writes what stands before all of them
+    // The next step is given at most this many bytes: 0 if it reads nothing.
     ghost most: { Self → ℕ };
 
-    // the input has enough left for its next step
+    // the input has enough bytes left for the next step
     ghost has_next: { Self → Type 0 };
 
-    // it has ended with this answer
+    // the run has ended, and each further step returns this
     ghost has_ended: { Self → Result Progress IoFault → Type 0 };
 
-    /// Reads the next part of the input, and writes what the bytes given determine. Before a read that may have to wait it hands on what
-    /// was written, so that a reader of the texts sees all that the bytes so far determine. After the end, and after a failure, it returns
-    /// the same again and does no I/O.
+    /// Reads the next bytes of the input, and writes what the bytes given determine.
+    ///
+    /// Before a read that may have to wait, it hands on what was written. So a reader of the output
+    /// and the report sees everything that the bytes so far determine. After the end or a failure,
+    /// each call returns the same result and does no I/O.
+    ///
+    /// # Errors
+    ///
+    /// A device failed, or the input has more than 2^63 - 1 bytes.
     fn step(&mut self) -> Result<Progress, IoFault>
         ensures tool { tool self.new ≡ tool self.old }
         ensures gives { (start : Devices R W E) (history : List ℕ) → stands self.old start history
@@ -106,12 +114,13 @@ pub trait Run<R: InDevice, W: OutDevice, E: OutDevice>: Sized {
         ensures again { (answer : _) → has_ended self.old answer
             → (self.new ≡ self.old) × (result ≡ answer) };
 
-    /// The reader, the output and the report, as they stand.
+    /// Returns the reader, the output and the report. Bytes that were read ahead and not given are
+    /// dropped.
     fn into_parts(self) -> (R, W, E)
         ensures { record { reader = result.0; output = result.1; report = result.2 }
             ≡ devices_at (place self) };
 
-    /// Steps to the end.
+    /// Takes steps until the run has ended.
     final fn run(self) -> RunEnd<R, W, E>
         requires { stands self (devices_at (place self)) [] }
         ensures { GivesAnswer (looks R.state W.state E.state) (tool self) (devices_at (place self))
@@ -129,7 +138,7 @@ pub trait Run<R: InDevice, W: OutDevice, E: OutDevice>: Sized {
     }
 }
 
-/// The devices of a run as they stand, and its answer.
+/// Takes a run apart into its devices, and adds its answer.
 fn end<R: InDevice, W: OutDevice, E: OutDevice, T: Run<R, W, E>>(
     run: T,
     answer: Result<Status, IoFault>,

@@ -1,4 +1,4 @@
-//! What a tool does in its steps, and the run that has them.
+//! The stages of a tool, and the run that goes through them.
 
 ghost use Rattle.std.specs.Prelude.{◌≡◌, ◌<◌, ℕ, Bool, List, IsTrue, Err, None};
 ghost use Rattle.link_wire.specs.declared.IoFault.{IoFault};
@@ -15,19 +15,19 @@ use link_wire::{InDevice, IoFault, OutDevice};
 
 /// A tool, stage by stage: what it does in each step, and what it keeps between two steps.
 pub trait Stages<S: Feed, W: OutDevice, E: OutDevice>: Sized {
-    /// What it makes of its input.
+    /// What the tool makes of the bytes of an input.
     ghost made: { Self → List ℕ → Made };
 
-    /// Whether it has begun to write. A run that has not is given no bytes in its next step.
+    /// Whether the tool has begun to write. If not, its next step is given no bytes.
     ghost begun: { Self → Bool };
 
-    /// The input may be asked for what the next step asks for.
+    /// Whether the input permits the calls of the next step.
     ghost fits: { Self → S → Bool };
 
-    /// It keeps what it has to know of these bytes, which the input has given.
+    /// The input has given exactly these bytes, and the tool's fields have what follows from them.
     ghost knows: { Self → S → List ℕ → Type 0 };
 
-    /// The most bytes that its next step is given.
+    /// The next step is given at most this many bytes.
     ghost most: { Self → ℕ };
 
     /// Does the next step.
@@ -56,7 +56,7 @@ pub trait Stages<S: Feed, W: OutDevice, E: OutDevice>: Sized {
             (place_of (S.source (inner_of input.new)) writers.new) };
 }
 
-/// A run of a tool: what it reads and writes, the tool, and the answer once it has ended.
+/// A run of a tool: its input, its writers, the tool, and the answer once the run has ended.
 #[derive(Drop)]
 pub struct ToolRun<S: Feed, W: OutDevice, E: OutDevice, T: Stages<S, W, E>> {
     input: Input<S>,

@@ -1,4 +1,4 @@
-//! Where a run writes: its output, its report, and the line that it writes next.
+//! The writers of a run: its output, its report, and the line that it writes next.
 
 ghost use Rattle.std.specs.Prelude.{◌≡◌, [], OnOk};
 ghost use Rattle.link_report.specs.Fault.{fault_text};
@@ -14,14 +14,14 @@ pub struct Writers<W, E> {
     pub report: E,
     /// The line that is written next.
     pub line: Line,
-    /// Where a text is made for a device that has no room of its own for it.
+    /// The memory in which a text is made, if the output has no room of its own for it.
     page: [u8; TEXT_MAX],
 }
 
 impl<W: OutDevice, E: OutDevice> Writers<W, E> {
     ghost use Rattle.link_run.specs.Writers.{GivesTexts, GivesLast, GivesEnd, GivesHandedOn, next_line, on_output, on_report};
 
-    /// Writers to which nothing was written.
+    /// Makes the writers of a run, with an empty line.
     pub fn new(output: W, report: E) -> Writers<W, E>
         ensures output { result.output ≡ output }
         ensures report { result.report ≡ report }
@@ -35,7 +35,7 @@ impl<W: OutDevice, E: OutDevice> Writers<W, E> {
         }
     }
 
-    /// The output and the report, as they stand.
+    /// Returns the output and the report.
     pub fn into_parts(self) -> (W, E)
         ensures output { result.0 ≡ self.output }
         ensures report { result.1 ≡ self.report }
@@ -49,7 +49,7 @@ impl<W: OutDevice, E: OutDevice> Writers<W, E> {
         (output, report)
     }
 
-    /// Begins a line.
+    /// Empties the line.
     pub fn clear_line(&mut self)
         ensures line { next_line self.new ≡ [] }
         ensures output { self.new.output ≡ self.old.output }
@@ -58,7 +58,7 @@ impl<W: OutDevice, E: OutDevice> Writers<W, E> {
         self.line.clear();
     }
 
-    /// Writes the line to the output.
+    /// Writes the line to the output. The line stays as it is.
     pub fn write_line(&mut self) -> Result<(), IoFault>
         ensures gives { GivesTexts W.state E.state self.old self.new
             (on_output (next_line self.old)) result }
@@ -68,7 +68,9 @@ impl<W: OutDevice, E: OutDevice> Writers<W, E> {
         write_whole(&mut self.output, &self.line)
     }
 
-    /// Writes a text to the output, which is made where it is to stand.
+    /// Writes a text to the output.
+    ///
+    /// The text is made in the output's own memory if that has room for it. This saves a copy.
     #[inline(always)]
     pub fn write_text<T: Text>(&mut self, text: &T) -> Result<(), IoFault>
         ensures gives { GivesTexts W.state E.state self.old self.new
@@ -88,7 +90,7 @@ impl<W: OutDevice, E: OutDevice> Writers<W, E> {
         write_whole(&mut self.output, bytes)
     }
 
-    /// Writes the line to the report.
+    /// Writes the line to the report. The line stays as it is.
     pub fn report_line(&mut self) -> Result<(), IoFault>
         ensures gives { GivesTexts W.state E.state self.old self.new
             (on_report (next_line self.old)) result }
@@ -98,7 +100,8 @@ impl<W: OutDevice, E: OutDevice> Writers<W, E> {
         write_whole(&mut self.report, &self.line)
     }
 
-    /// Hands on what the writers hold back of what was written.
+    /// Hands on what was written and is still held back, first by the output and then by the
+    /// report.
     pub fn settle(&mut self) -> Result<(), IoFault>
         ensures gives { GivesHandedOn W.state E.state self.old self.new result }
         ensures output { OnOk result (W.handed self.new.output
@@ -116,7 +119,7 @@ impl<W: OutDevice, E: OutDevice> Writers<W, E> {
         Ok(())
     }
 
-    /// Writes the line of a fault to the report, and returns the status with which the run ends.
+    /// Writes the line of a fault to the report, and returns [`Status::FAULT`].
     #[cold]
     pub fn report_fault(&mut self, fault: &Fault) -> Result<Status, IoFault>
         ensures gives { GivesLast W.state E.state self.old self.new
@@ -130,7 +133,8 @@ impl<W: OutDevice, E: OutDevice> Writers<W, E> {
         Ok(Status::FAULT)
     }
 
-    /// Ends a run whose session has stopped: the report gets the line of a fault of the wire.
+    /// Ends a run whose session has stopped. The report gets a line for a fault of the wire. Any
+    /// other failure is returned as it is, without a line.
     #[cold]
     pub fn end(&mut self, stop: Stop) -> Result<Status, IoFault>
         ensures { GivesEnd W.state E.state stop self.old self.new result }

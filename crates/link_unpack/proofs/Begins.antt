@@ -1,4 +1,4 @@
--- A transfer begins, and another may be abandoned by it.
+-- A transfer begins. It may abandon the one before it.
 use Rattle.std.proofs.Common.{◌≡◌, ℕ, inl, suc, Bool, true, false, ◌&&◌, ◌==◌, List, [], ◌∷◌, ◌++◌, length, Err, if◌then◌else◌, refl, ap, sym, ◌∙◌, subst, append-nil, arith}
 use Rattle.arrayvec.specs.ArrayVec.{ArrayVec}
 use Rattle.link_wire.specs.Codes.{is_start}
@@ -71,7 +71,7 @@ pub one_last_line : (wanted : Wanted) (latest : Transfer) (earlier : List Transf
     → latest.closed ≡ false → last_lines wanted (latest ∷ earlier) ≡ line_of wanted latest earlier
 one_last_line wanted latest earlier is = rw is refl
 
--- with it all transfers have their lines
+-- with the line of the abandoned transfer, all transfers have their lines
 open_lines : (wanted : Wanted) (latest : Transfer) (earlier : List Transfer) → latest.closed ≡ false
     → texts_of wanted (latest ∷ earlier)
     then on_report (last_lines wanted (latest ∷ earlier))
@@ -111,7 +111,7 @@ module _ {R W E : Type 0} (look : Looks R W E)
     abbrev pub new : Transfer
     new = begun at.head (last && (left_of s == 0))
 
-    -- what is written once the line of the abandoned transfer is
+    -- the texts after the line of the abandoned transfer
     mid_texts : texts_of u.latest.wanted at.transfers
         then on_report (last_lines u.latest.wanted at.transfers)
         ≡ unlined u.latest.wanted new at.transfers
@@ -146,7 +146,8 @@ module _ {R W E : Type 0} (look : Looks R W E)
         ≡ texts_of u.latest.wanted (transfers_of (heads_of (reading_of history)))
     sofar = sofar_in_order u.latest.wanted history at.in_order (after_shown last (left_of s) (reading_of history).end at.after)
 
-    -- the line was not written whole: that of the new transfer is due too if it is closed
+    -- The line of the abandoned transfer was not written whole. The line of the new transfer is due
+    -- too if it is closed.
     abandon_lost_by : (closed : Bool) → (last && (left_of s == 0)) ≡ closed → (after : Writers W E)
         (fault : IoFault) → WritesPart look.output look.report w after
         (on_report (last_lines u.latest.wanted at.transfers)) fault

@@ -30,7 +30,7 @@ use Rattle.link_unpack.proofs.Joins.{after_shown}
 use Rattle.link_unpack.proofs.Orders.{in_order_more, in_order_parts}
 use Rattle.link_unpack.proofs.Texts.{unlined, parts_more, texts_open, texts_closed, texts_in_order, sofar_in_order, settled_open}
 
--- where a run stands inside the data of a segment
+-- the state of a run inside the data of a segment
 pub record Inside (now : Stage) (is_open : Bool) (latest : TransferScan) (transfers : List Transfer)
     (end : End) (last : Bool) : Type 0 where
   pub offset : ℕ
@@ -71,7 +71,7 @@ after_data_by : (test : Bool) (offset : ℕ) (sent : Message) (content : List �
 after_data_by true offset sent content last left test in_segment = (ltb-true 0 left test, in_segment)
 after_data_by false offset sent content last left test in_segment = let none : left ≤ 0 = ltb-false 0 left test in omega arith
 
--- how much data a segment has
+-- the length of a segment's data: what has come, and what is left
 size_left : (offset left : ℕ) (end : End) (from : ℕ) (sent : Message) (content : List ℕ)
     → end ≡ Cut from sent content → IsLeft offset left end
     → data_length sent ≡ length content + left
@@ -156,7 +156,7 @@ module _ {R W E : Type 0} (look : Looks R W E)
       closed : closes head (here.content ++ bytes) ≡ closing
       closed = ap (λ b. b && (length (here.content ++ bytes) == head.length)) (sym here.in_segment.ends) ∙ ap (λ b. last && b) (is_whole (length (here.content ++ bytes)) (left_of new) head.length sizes)
 
-      -- the transfers before the segment's head, and after it
+      -- the transfers with the segment, from those before its head
       with_content : (content : List ℕ)
           → transfers_of ((reading_of history).entries ++ entry here.offset here.sent content ∷ [])
           ≡ after_segment (transfers_of (reading_of history).entries) head content
@@ -176,7 +176,7 @@ module _ {R W E : Type 0} (look : Looks R W E)
           let Q : End → Type 0 = λ e. IsAfter last (left_of new) (joined (reading_of history) (data_after (left_of new) bytes e)).end in
           subst P (sym gave.reading) (subst Q (sym here.cut) (after_data_by (nat_lt 0 (left_of new)) here.offset here.sent (here.content ++ bytes) last (left_of new) refl here.in_segment))
 
-      -- what is written with a part of the data
+      -- the texts, with the bytes `part` of the data added
       module _ (part : List ℕ)
           (part_is : part_of u.latest.wanted (grown transfer bytes closing)
           ≡ part_of u.latest.wanted transfer ++ part) where

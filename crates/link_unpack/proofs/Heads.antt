@@ -20,7 +20,7 @@ use Rattle.link_unpack.specs.UnpackRun.{messages_of}
 abbrev pub entry : ℕ → Message → List ℕ → Entry
 entry offset sent content = record { offset = offset; message = sent; content = content }
 
--- the heads between two messages, and inside the data of a segment
+-- the heads of a reading that ends between two messages, or inside the data of a segment
 pub heads_clean : (reading : Reading) → reading.end ≡ Clean → heads_of reading ≡ reading.entries
 heads_clean reading clean = ap (λ e. reading.entries ++ cut_heads e) clean ∙ append-nil reading.entries
 
@@ -29,7 +29,7 @@ pub heads_cut : (reading : Reading) (offset : ℕ) (sent : Message) (content : L
     → heads_of reading ≡ reading.entries ++ entry offset sent content ∷ []
 heads_cut reading offset sent content cut = ap (λ e. reading.entries ++ cut_heads e) cut
 
--- a stream whose heads are one head and others
+-- a stream of one head adds that head, whether its data is whole or not
 one_head_by : (test : Bool) (offset : ℕ) (sent : Message) (content : List ℕ) (entries : List Entry)
     → (let rest : Stream = if test then ended (Cut offset sent content)
     else with_entry (entry offset sent content) (ended Clean) in
@@ -49,12 +49,12 @@ module _ (reading : Reading) (offset : ℕ) (sent : Message) where
       ap (λ e. heads_of (joined reading (data_after left bytes e))) cut
       ∙ one_head_by (nat_lt 0 left) offset sent (content ++ bytes) reading.entries
 
--- what follows the heads of a reading: nothing of it is another head before them
+-- the heads of a reading that goes on: those of its whole messages, and then those of the rest
 pub heads_joined : (reading : Reading) (rest : Stream)
     → heads_of (joined reading rest) ≡ reading.entries ++ (rest.entries ++ cut_heads rest.end)
 heads_joined reading rest = append_assoc reading.entries rest.entries (cut_heads rest.end)
 
--- the data of a segment goes on, and its head stays
+-- the rest begins with the same head, which has data
 pub record StaysFirst (offset : ℕ) (sent : Message) (rest : Stream) : Type 0 where
   pub content : List ℕ
   pub others : List Entry
@@ -88,7 +88,7 @@ pub transfers_push : (heads : List Entry) (head : Entry)
 unfolding transfers_of
 transfers_push heads head = fold-append (λ (ts : List Transfer) (h : Entry). after_message ts h.message h.content) [] heads (head ∷ [])
 
--- a message that is no segment
+-- a message other than a segment changes no transfer
 pub transfers_same : (transfers : List Transfer) (sent : Message) (content : List ℕ)
     → is_segment (event_of sent) ≡ false → after_message transfers sent content ≡ transfers
 transfers_same transfers (message.SessInit keepalive segment_mru transfer_mru node items) content is = refl
@@ -110,7 +110,7 @@ pub transfer_continues : (transfers : List Transfer) (head : SegmentHead) (conte
     → after_segment transfers head content ≡ continued transfers content (closes head content)
 transfer_continues transfers head content starts = rw starts refl
 
--- the latest transfer with more data of its latest segment
+-- more data of the latest segment is added to the latest transfer
 pub transfer_grows : (transfers : List Transfer) (head : SegmentHead) (content bytes : List ℕ)
     → after_segment transfers head (content ++ bytes)
     ≡ continued (after_segment transfers head content) bytes (closes head (content ++ bytes))
@@ -123,7 +123,7 @@ transfer_grows transfers head content bytes = by_start (is_start head.flags) ref
     by_start false is [] = rw is refl
     by_start false is (latest ∷ earlier) = rw is (ap (λ c. record { first = latest.first; content = c; closed = closes head (content ++ bytes) } ∷ earlier) (sym (append_assoc latest.content content bytes)))
 
--- a segment is whole once none of its data is to come
+-- a segment is whole exactly if none of its data is left
 pub is_whole : (content left size : ℕ) → size ≡ content + left → (content == size) ≡ (left == 0)
 is_whole content zero size is = eq-eqb content size (omega arith)
 is_whole content (suc left) size is = ne_eqb content size (λ same. absurd (omega arith)) ∙ sym (ne_eqb (suc left) 0 (λ same. absurd (omega arith)))

@@ -1,4 +1,4 @@
--- What stands once the head of a segment, or data of it, has come.
+-- What holds once the head of a segment, or data of it, has come.
 use Rattle.std.proofs.Common.{◌≡◌, ℕ, ◌+◌, ◌<◌, ◌≤◌, inl, Bool, true, false, not, ◌&&◌, is_some, List, [], ◌∷◌, length, Err, refl, ap, sym, ◌∙◌, subst, arith}
 use Rattle.link_wire.specs.Session.{source_of, left_of, IsSessionAt}
 use Rattle.link_wire.specs.Stream.{End, Clean, Cut, Fault, reading_of}
@@ -21,7 +21,7 @@ use Rattle.link_unpack.specs.declared.unpacking.Stage.TheVariants as stage
 use Rattle.link_unpack.specs.declared.unpacking.Unpacker.{Unpacker}
 use Rattle.link_unpack.proofs.Texts.{closes_none, closes_some, parts_sum, texts_open, texts_closed, texts_in_order, unshown_in_order, sofar_in_order, good_more, settled_open, settled_closed}
 
--- where data is to come, the reading ends inside a segment, and where none is, between two messages
+-- If data is to come, the reading ends inside a segment. Otherwise it ends between two messages.
 waits_data : (last is_open : Bool) (left : ℕ) (latest : TransferScan) (transfers : List Transfer)
     (end : End) → 0 < left → is_open ≡ not last → GoesOn latest transfers → IsAfter last left end
     → IsWaiting (stage.Data last) is_open latest transfers end
@@ -44,7 +44,7 @@ after_shown last left (Fault offset fault) after = absurd after
 
 module _ {R W E : Type 0} (look : Looks R W E)
     (start : Devices R W E) where
-  -- what stands, by the transfers that the heads make
+  -- the state of the run, from the transfers that the heads make
   pub stands : (now : Stage) (s : Session R) (w : Writers W E) (u : Unpacker) (history : List ℕ)
       (transfers : List Transfer)
       → transfers_of (heads_of (reading_of history)) ≡ transfers

@@ -1,4 +1,4 @@
--- the scan of a bundle's data in pieces, and what is judged by it
+-- The scan of a bundle's data in pieces, and the verdict on the data.
 use Rattle.std.proofs.Common.{◌≡◌, ℕ, ◌+◌, ◌<◌, ◌≤◌, inl, inr, Bool, true, false, List, [], ◌∷◌, ◌++◌, length, take, drop, get_or, Option, Some, None, Result, Ok, Err, refl, sym, ap, ◌∙◌, subst, ⊎_elim, append-nil, append_assoc, arith}
 use Rattle.std.specs.Prelude.{if◌then◌else◌, IsTrue}
 use Rattle.std.proofs.lemmas.Bool.{cases_lt, false≢true}
@@ -22,7 +22,7 @@ use Rattle.link_unpack.proofs.Parts.{part_more, part_fits, no_part}
 
 -- ---- the state
 
--- a scan may be stepped where the verdict on what it saw may change
+-- a scan may take a step exactly if another byte can change its verdict
 may_scan-seen : (scan : BundleScan) (seen : List ℕ) → HasScanned scan seen
     → may_scan scan ≡ takes_bytes (state_of (verdict seen))
 may_scan-seen scan seen come = ap takes_bytes (state_of-seen scan.stage scan.cursor scan.draft seen come scan.fits)
@@ -32,7 +32,7 @@ stuck_idle state.Going stuck = absurd (false≢true (sym stuck))
 stuck_idle state.Ended stuck = refl
 stuck_idle (state.Failed fault place) stuck = refl
 
--- more is not wanted after these bytes
+-- no more bytes are needed after these
 stuck_stops : (scan : BundleScan) (seen : List ℕ) → HasScanned scan seen → may_scan scan ≡ false
     → bundle_goes seen ≡ false
 stuck_stops scan seen come stuck =
@@ -44,7 +44,7 @@ idle_stuck state.Going idle other = absurd (false≢true (sym idle))
 idle_stuck state.Ended idle other = absurd (other refl)
 idle_stuck (state.Failed fault place) idle other = refl
 
--- what a state says of a verdict
+-- the verdict is a fault
 record HasFailed (outcome : Result BundleInfo (BundleFault × ℕ)) : Type 0 where
   fault : BundleFault
   place : ℕ
@@ -77,9 +77,9 @@ has_ended : (outcome : Result BundleInfo (BundleFault × ℕ))
 has_ended (Ok info) is = record { info = info; is = refl }
 has_ended (Err (fault, place)) is = absurd (ended_fault fault place (lasts fault) is)
 
--- ---- a piece more
+-- ---- one more piece
 
--- the data so far were judged, and a piece more was fed
+-- the data so far was judged, and one more piece was fed
 module _ (scan later : BundleScan) (content piece : List ℕ) (count : ℕ)
     (before : HasJudged scan content)
     (fed : (seen : List ℕ) → HasScanned scan seen → HasScanned later (seen ++ taken bundle_goes seen piece))
@@ -103,7 +103,7 @@ module _ (scan later : BundleScan) (content piece : List ℕ) (count : ℕ)
         enough = inr (may_scan-seen later before.seen come ∙ sym (may_scan-seen scan before.seen before.scanned) ∙ stuck);
       }
 
-  -- all was seen before
+  -- the scan had seen all data before the piece
   module _ (all : before.rest ≡ []) where
     whole : before.seen ≡ content
     whole = sym (append-nil before.seen) ∙ ap (λ xs. before.seen ++ xs) (sym all) ∙ before.parts
@@ -125,7 +125,7 @@ module _ (scan later : BundleScan) (content piece : List ℕ) (count : ℕ)
         ∙ ap (λ xs. content ++ (xs ++ drop count piece)) taken_is
         ∙ ap (λ xs. content ++ xs) (take-append-drop count piece)
 
-    -- it has every byte
+    -- the scan took the whole piece
     judged_whole : length piece ≤ count → HasJudged later (content ++ piece)
     unfolding front
     judged_whole enough = record {
@@ -136,7 +136,7 @@ module _ (scan later : BundleScan) (content piece : List ℕ) (count : ℕ)
       enough = inl (drop_all count piece enough);
     }
 
-    -- it stopped before the end
+    -- the scan stopped before the end of the piece
     front_stops : count < length piece → bundle_goes (before.seen ++ front) ≡ false
     unfolding front
     front_stops short = ⊎_elim (λ stops. stops)
@@ -157,7 +157,7 @@ module _ (scan later : BundleScan) (content piece : List ℕ) (count : ℕ)
               ∙ idle_stuck (state_of (verdict (before.seen ++ front))) (front_stops short) other);
         }
 
-    -- a byte after the bundle
+    -- after a byte that follows the bundle, no byte can change the verdict
     trailing_stuck : (byte : ℕ) → state_of (verdict (before.seen ++ front)) ≡ state.Ended
         → takes_bytes (state_of (verdict ((before.seen ++ front) ++ byte ∷ []))) ≡ false
     trailing_stuck byte is =
@@ -179,7 +179,7 @@ module _ (scan later : BundleScan) (content piece : List ℕ) (count : ℕ)
       enough = inr (may_scan-seen last ((before.seen ++ front) ++ byte ∷ []) come ∙ trailing_stuck byte ended);
     }
 
-  -- the scan was fed and does not stand at the bundle's end with bytes left
+  -- the piece was fed, and the scan is not at the bundle's end with bytes left over
   pub judged_fed : ((seen : List ℕ) → HasScanned later seen → count < length piece
       → state_of (verdict seen) ≡ state.Ended → ⊥)
       → HasJudged later (content ++ piece)
@@ -193,7 +193,7 @@ module _ (scan later : BundleScan) (content piece : List ℕ) (count : ℕ)
       (λ stuck. judged_stuck stuck)
       before.enough
 
-  -- it stood there, and was stepped over the next byte
+  -- the scan was at the bundle's end with bytes left over, and took the next byte
   pub judged_stepped : (last : BundleScan) (byte : ℕ) → count < length piece
       → byte ≡ get_or piece count 0
       → ((seen : List ℕ) → HasScanned later seen → state_of (verdict seen) ≡ state.Ended)
@@ -210,7 +210,7 @@ module _ (scan later : BundleScan) (content piece : List ℕ) (count : ℕ)
 
 -- ---- what is judged
 
--- the verdict on what was seen is that on all of the data
+-- the verdict on the bytes seen is the verdict on all of the data
 pub verdict-judged : (scan : BundleScan) (content : List ℕ) → (judged : HasJudged scan content)
     → verdict judged.seen ≡ verdict content
 verdict-judged scan content judged = ⊎_elim
@@ -222,7 +222,7 @@ verdict-judged scan content judged = ⊎_elim
     ∙ ap verdict judged.parts)
     judged.enough
 
--- and so is the payload
+-- the payload in the bytes seen is the payload in all of the data
 payload-judged : (scan : BundleScan) (content : List ℕ) → (judged : HasJudged scan content)
     → payload_in judged.seen ≡ payload_in content
 payload-judged scan content judged = ⊎_elim
@@ -235,7 +235,7 @@ payload-judged scan content judged = ⊎_elim
 
 -- ---- the payload's bytes of a piece
 
--- a span is of a payload whose place is known
+-- the payload's offset and size are known; `count` bytes of it are there
 record IsKnown (known : Option (ℕ × ℕ)) (place count there : ℕ) : Type 0 where
   size : ℕ
   is : known ≡ Some (place, size)
@@ -264,7 +264,7 @@ payload_in-known bytes payload is = ap (λ (outcome : Option (ℕ × ℕ)). byte
 
 module _ (scan : BundleScan) (content piece : List ℕ)
     (now : HasJudged scan (content ++ piece)) where
-  -- where the payload's place is known
+  -- the payload's offset is known
   pub part_some : (place count limit : ℕ)
       → ((seen : List ℕ) → HasScanned scan seen → Some (place, count) ≡ payload_span seen)
       → length (content ++ piece) < limit
@@ -286,7 +286,7 @@ module _ (scan : BundleScan) (content piece : List ℕ)
             (sym (PayloadPlaced-holds content piece place here.size where_now)),
       )
 
-  -- where it is not: then nothing of it was there before
+  -- the data with the piece has no payload bytes, so the data before the piece had none
   earlier_none : payload_in (content ++ piece) ≡ [] → (known : Option (ℕ × ℕ))
       → payload_of (judged content) ≡ known → payload_in content ≡ []
   earlier_none none None is = payload_in-known content None is

@@ -1,4 +1,4 @@
--- The head of a message has come: what it does to the transfers.
+-- How the head of a message changes the transfers.
 use Rattle.std.proofs.Common.{◌≡◌, ℕ, ◌<◌, ◌≤◌, Bool, true, false, not, ◌&&◌, ◌==◌, nat_lt, is_some, List, [], ◌∷◌, ◌++◌, length, Option, Some, None, if◌then◌else◌, refl, ap, sym, ◌∙◌, subst, append-nil, length-append, arith}
 use Rattle.std.proofs.lemmas.Bool.{ltb-true, ltb-false}
 use Rattle.link_wire.specs.Codes.{is_start, is_end}
@@ -35,7 +35,7 @@ use Rattle.link_unpack.proofs.Joins.{stands}
 use Rattle.link_unpack.proofs.Orders.{in_order_more, open_where_continued}
 use Rattle.link_unpack.proofs.Texts.{texts_in_order, unlined, parts_more, texts_open, settled_open}
 
--- between two messages
+-- at the stage of a message, the reading ends between two messages
 pub between : (is_open : Bool) (latest : TransferScan) (transfers : List Transfer) (end : End)
     → IsWaiting stage.Message is_open latest transfers end
     → (end ≡ Clean) × IsOpen is_open latest transfers
@@ -51,7 +51,7 @@ after_head_by : (test : Bool) (offset : ℕ) (sent : Message) (last : Bool) (lef
 after_head_by true offset sent last left test is in_segment = (let some : 0 < data_length sent = ltb-true 0 (data_length sent) test in omega arith, in_segment)
 after_head_by false offset sent last left test is in_segment = let none : data_length sent ≤ 0 = ltb-false 0 (data_length sent) test in omega arith
 
--- a step at a message is given none of its data
+-- the step that reads a head is given none of the data
 abbrev IsAlone : End → Type 0
 IsAlone end = IsWaitingAfter stage.Message end
 
@@ -61,12 +61,12 @@ alone_by : (test : Bool) (offset : ℕ) (sent : Message)
 alone_by true offset sent = refl
 alone_by false offset sent = tt
 
--- an open transfer, after its last segment or another
+-- a transfer is open after each segment but its last
 pub opened_by : (ends : Bool) (id : ℕ) → is_some (if ends then None else Some id) ≡ not ends
 opened_by true id = refl
 opened_by false id = refl
 
--- more data of nothing
+-- if no data is added, the written bytes stay the same
 same_part : (wanted : Wanted) (transfer : Transfer) (closed : Bool)
     → part_of wanted (grown transfer [] closed) ≡ part_of wanted transfer
 same_part wanted transfer closed = ap (λ (xs : List ℕ). if is_selected wanted.only transfer.first.id then (if wanted.payload then payload_in xs else xs) else []) (append-nil transfer.content)

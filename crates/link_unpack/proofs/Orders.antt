@@ -1,4 +1,4 @@
--- The order of heads: one more head, and what it does to the transfers.
+-- The order of heads, and what one more head does to the transfers.
 use Rattle.std.proofs.Common.{◌≡◌, ℕ, Bool, true, false, is_some, List, [], ◌∷◌, ◌++◌, Option, Some, None, Ok, Err, if◌then◌else◌, refl, ap, sym, ◌∙◌, subst, append-nil, append_assoc, ◌==◌}
 use Rattle.std.specs.Option.{option_eq}
 use Rattle.link_wire.specs.Codes.{is_start, is_end}
@@ -17,16 +17,16 @@ use Rattle.link_transfer.specs.declared.joiner.Turn.TheVariants as turn
 use Rattle.link_unpack.specs.Transfers.{Ordered, ordered_by, ordered_after, ordered}
 use Rattle.link_unpack.specs.UnpackRun.{messages_of, AreInOrder}
 
--- ---- one head more
+-- ---- one more head
 
 abbrev pub all : List Entry → Ordered
 all heads = record { heads = heads; refused = None }
 
--- what follows heads that are in order
+-- the order of a list that begins with heads that are in order
 abbrev pub followed : List Entry → Ordered → Ordered
 followed heads rest = record { heads = heads ++ rest.heads; refused = rest.refused }
 
--- a head that is followed by heads that are in order, or refused
+-- if a list is in order, its first head is not refused, and the others are in order after it
 by_first : (refused : Option OrderFault) (head : Entry) (rest : Ordered) (more : List Entry)
     → ordered_by refused head rest ≡ all (head ∷ more) → (refused ≡ None) × (rest ≡ all more)
 by_first (Some fault) head rest more is =
@@ -62,7 +62,7 @@ module _ (before : List Message) (head : Entry) (more : List Entry) where
   unfolding ordered_after
   first_refused fault is = rw is refl
 
--- more heads after heads that are in order
+-- heads that are in order, and then more: the order of the whole, from that of the others
 pub then_ordered : (before : List Message) (heads more : List Entry)
     → ordered_after before heads ≡ all heads
     → ordered_after before (heads ++ more)
@@ -78,7 +78,7 @@ ordered_none : (before : List Message) → ordered_after before [] ≡ all []
 unfolding ordered_after
 ordered_none before = refl
 
--- of heads that are in order, the last may come after the others
+-- if all heads are in order, the last is accepted after the others
 last_may : (before : List Message) (heads : List Entry) (last : Entry)
     → ordered_after before (heads ++ last ∷ []) ≡ all (heads ++ last ∷ [])
     → (ordered_after before heads ≡ all heads)
@@ -108,7 +108,7 @@ pub in_order_parts : (heads : List Entry) (head : Entry) → AreInOrder (heads +
 unfolding ordered
 in_order_parts heads head are = last_may [] heads head are
 
--- a head that is refused, whatever follows it
+-- the order ends at a refused head, whatever follows it
 pub in_order_refused : (heads : List Entry) (head : Entry) (more : List Entry) (fault : OrderFault)
     → AreInOrder heads → refusal (messages_of heads) (event_of head.message) ≡ Some fault
     → ordered (heads ++ head ∷ more) ≡ record { heads = heads; refused = Some (head.offset, fault) }
@@ -151,7 +151,7 @@ pub record Begins (transfer : Option ℕ) (happened : Event) (abandoned : Option
   pub abandons : abandoned ≡ transfer
   pub ends : last ≡ is_end flags
 
--- a segment whose head has none
+-- a segment whose head has no START
 pub record Continues (happened : Event) (last : Bool) : Type 0 where
   pub flags : ℕ
   pub id : ℕ
@@ -201,7 +201,7 @@ no_segment transfer event.SessTerm is = refl
 no_segment transfer (event.Segment flags id) is = absurd (not_other_by (is_start flags) transfer flags is)
 no_segment transfer event.Other is = refl
 
--- a transfer is open where a segment without START may come
+-- if a segment without START is accepted, a transfer is open
 open_by : (transfer : Option ℕ) (id : ℕ) → option_eq ◌==◌ transfer (Some id) ≡ true
     → is_some transfer ≡ true
 open_by None id is = is
@@ -221,7 +221,7 @@ pub open_where_continued : (before : List Message) (flags id : ℕ) → is_start
 unfolding refusal
 open_where_continued before flags id starts may = continues_open (has_sess_init before) (has_sess_term before) (option_eq ◌==◌ (open_of before) (Some id)) (is_start flags) (open_of before) flags id refl starts refl may
 
--- the message of a segment
+-- the message is a segment with these flags and this ID
 pub record IsSegment (sent : Message) (flags id : ℕ) : Type 0 where
   pub head : SegmentHead
   pub is : sent ≡ message.Segment head

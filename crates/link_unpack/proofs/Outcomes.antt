@@ -1,4 +1,4 @@
--- What comes of a stream that ends at a fault.
+-- The outcome of a stream that a fault stops.
 use Rattle.std.proofs.Common.{◌≡◌, ℕ, ◌<◌, ◌⊎◌, inl, inr, Bool, true, false, nat_lt, List, [], ◌∷◌, ◌++◌, length, Option, Some, None, if◌then◌else◌, ⊎_elim, refl, ap, sym, ◌∙◌, append-nil, append_assoc, arith}
 use Rattle.link_wire.specs.Message.{data_length}
 use Rattle.link_wire.specs.Session.{joined, with_message, rest_after}
@@ -24,23 +24,23 @@ module _ (wanted : Wanted) (heads : List Entry) (offset : ℕ) (sent : Message) 
     (in_order : AreInOrder heads)
     (refused : refusal (messages_of heads) (event_of sent) ≡ Some fault)
     (bytes content : List ℕ) (others : List Entry) (are : heads_of (reading_of bytes) ≡ heads ++ entry offset sent content ∷ others) where
-  -- nothing after it counts
+  -- what follows the refused head changes nothing
   pub made_refused : unpacking_of wanted bytes
       ≡ unpacking_by wanted Clean (refused_at heads offset fault)
   made_refused =
       made_is wanted bytes
       ∙ ap (unpacking_by wanted (reading_of bytes).end) (ap ordered are ∙ in_order_refused heads (entry offset sent content) others fault in_order refused)
 
--- ---- a head stays where it is, however the bytes go on
+-- ---- a head keeps its position, whatever bytes follow
 
--- the heads before one, it, and what follows it
+-- the heads of a reading are `heads`, then this head, and then others
 pub record HasHead (heads : List Entry) (offset : ℕ) (sent : Message)
     (reading : Reading) : Type 0 where
   pub content : List ℕ
   pub others : List Entry
   pub are : heads_of reading ≡ heads ++ entry offset sent content ∷ others
 
--- after the head of a message that begins between two messages
+-- a head that begins between two messages keeps its position
 stays_by : (test : Bool) (reading : Reading) (heads : List Entry) (offset : ℕ) (sent : Message)
     (place left : ℕ) (more : List ℕ) → reading.entries ≡ heads
     → (let came : Stream = if test then ended (Cut offset sent [])

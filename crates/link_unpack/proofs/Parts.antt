@@ -1,4 +1,4 @@
--- what a piece has of a part of the data
+-- The bytes of a piece that belong to a part of the data.
 use Rattle.std.proofs.Common.{◌≡◌, ℕ, ◌+◌, ◌-◌, ◌<◌, ◌≤◌, min, List, [], ◌++◌, length, take, drop, sym, ap, ◌∙◌, ⊎_elim, append-nil, length-append, length-take, length-drop, arith}
 use Rattle.std.proofs.Math.ListN.{drop_of_length-le}
 use Rattle.std.proofs.Math.Seq.{take-nil, take-append-add, drop-append-add}
@@ -6,7 +6,7 @@ use Rattle.std.proofs.lemmas.Bool.{cases_lt}
 use Rattle.std.proofs.lemmas.List.{take_all, take_min, take-append-le, drop-append-le, nil_from_length}
 use Rattle.link_unpack.specs.Pieces.{part_in}
 
--- the same bytes are taken where as many are there
+-- two counts take the same bytes if they take the same number of them
 take_same : (count other : ℕ) (bytes : List ℕ) → min count (length bytes) ≡ min other (length bytes)
     → take count bytes ≡ take other bytes
 take_same count other bytes same =
@@ -37,7 +37,7 @@ drop-append count front back = ⊎_elim
     ∙ ap (λ xs. xs ++ drop (count - length front) back) (sym (drop_of_length-le front past)))
     (cases_lt count (length front))
 
--- bytes of the piece alone
+-- the bytes of the part that the piece has
 piece_part : (piece : List ℕ) (before place size count : ℕ)
     → count ≡ min size (before + length piece - place)
     → take (size - (before - place)) (drop (place - before) piece)
@@ -56,7 +56,8 @@ piece_part piece before place size count all = ⊎_elim
     ∙ ap (λ n. take n (drop (min (place - before) end) piece)) {x = 0} (sym none))
     (cases_lt place (before + length piece))
 
--- `count` of the `size` bytes at `place` are there, and the piece has those that were not there before it
+-- The data has `count` of the `size` bytes at `place`. The piece has those of them that the data
+-- before it does not have.
 pub part_more : (content piece : List ℕ) (place size count : ℕ)
     → count ≡ length (take size (drop place (content ++ piece)))
     → take size (drop place (content ++ piece))
@@ -71,7 +72,7 @@ part_more content piece place size count all =
     ∙ ap (λ n. take size (drop place content) ++ take n (drop (place - length content) piece)) left
     ∙ ap (λ rest. take size (drop place content) ++ rest) (piece_part piece (length content) place size count there)
 
--- no part of the whole is none of a prefix
+-- if the whole has no bytes of the part, neither has a prefix
 pub no_part : (content piece : List ℕ) (place size : ℕ)
     → take size (drop place (content ++ piece)) ≡ []
     → take size (drop place content) ≡ []
@@ -87,7 +88,7 @@ no_part content piece place size none =
       length-drop place content,
     ))
 
--- where some of them are there, the place is one of the bytes
+-- the bytes of a part that are there end within the data
 pub part_fits : (bytes : List ℕ) (place size count limit : ℕ)
     → count ≡ length (take size (drop place bytes))
     → length bytes < limit → 0 < count → place + count < limit

@@ -1,4 +1,4 @@
--- What each call of a session lets a step of `unpack` give.
+-- What holds after a step of `unpack`, by the result of its call of the session.
 use Rattle.std.proofs.Common.{◌≡◌, ℕ, ◌<◌, ◌≤◌, inl, inr, Bool, true, false, is_some, List, [], ◌++◌, length, Some, Result, Ok, Err, if◌then◌else◌, refl, ap, sym, ◌∙◌, subst, append-nil, arith}
 use Rattle.link_wire.specs.Limits.{longest_head}
 use Rattle.link_wire.proofs.Contacts.{reading-none}
@@ -40,7 +40,7 @@ use Rattle.link_unpack.proofs.Orders.{all, in_order_none}
 use Rattle.link_unpack.proofs.Outcomes.{refused_at, made_refused, HasHead, head_stays}
 use Rattle.link_unpack.proofs.Texts.{by_reading, made_is, texts_in_order, unshown_in_order}
 
--- what holds once bytes were given, as their step gives it
+-- `StandsAfter` for the bytes given implies `GivesNext` for the step
 pub stage_given : {R W E : Type 0} (look : Looks R W E) (start : Devices R W E) (wanted : Wanted)
     (now : Stage) (old new : Session R) (after : Writers W E) (u : Unpacker)
     (history given : List ℕ) (result : Result Stage IoFault)

@@ -1,4 +1,4 @@
--- What is written of transfers, by the latest.
+-- The texts of transfers, from the latest and those before it.
 use Rattle.std.proofs.Common.{◌≡◌, ℕ, ◌+◌, ◌<◌, Bool, true, false, ◌&&◌, ◌==◌, List, [], ◌∷◌, ◌++◌, length, refl, ap, sym, ◌∙◌, append-nil, length-append, arith}
 use Rattle.std.proofs.lemmas.Bool.{eq-eqb, ne_eqb}
 use Rattle.link_wire.specs.Stream.{Reading, reading_of}
@@ -12,7 +12,7 @@ use Rattle.link_unpack.specs.Unpacking.{part_of, parts_of, line_of, lines_of, ju
 use Rattle.link_unpack.specs.UnpackRun.{AreInOrder, texts_of}
 use Rattle.link_unpack.specs.declared.wanted.Wanted.{Wanted}
 
--- the last segment of a transfer closes it once none of its data is to come
+-- the last segment of a transfer closes it once none of its data is left
 pub closes_none : (last : Bool) (left : ℕ) → left ≡ 0 → (last && (left == 0)) ≡ last
 closes_none true left none = eq-eqb left 0 none
 closes_none false left none = refl
@@ -38,7 +38,7 @@ module _ (wanted : Wanted) where
       → start + written ≡ length (parts_of wanted (latest ∷ earlier))
   parts_sum latest earlier start written before part = rw parts_more (omega (arith, before, part, length-append (parts_of wanted earlier) (part_of wanted latest)))
 
-  -- all that is written of a transfer but its line
+  -- the texts of all transfers, without the line of the latest
   abbrev pub unlined : Transfer → List Transfer → Texts
   unlined latest earlier = record { output = parts_of wanted (latest ∷ earlier); report = lines_of wanted earlier }
 
@@ -46,7 +46,7 @@ module _ (wanted : Wanted) where
       → texts_of wanted (latest ∷ earlier) ≡ unlined latest earlier
   texts_open latest earlier is = rw is refl
 
-  -- its line comes last
+  -- the line of the latest comes last
   pub texts_lined : (latest : Transfer) (earlier : List Transfer) → unlined latest earlier
       then on_report (line_of wanted latest earlier)
       ≡ record {
@@ -69,7 +69,7 @@ pub made_is : (wanted : Wanted) (bytes : List ℕ)
 unfolding unpacking_of
 made_is wanted bytes = refl
 
--- where all heads of a reading are in order
+-- all heads of the reading are in order
 module _ (wanted : Wanted) (reading : Reading) (in_order : AreInOrder (heads_of reading)) where
   pub texts_by : (by_reading wanted reading).texts ≡ texts_of wanted (transfers_of (heads_of reading))
   texts_by = ap (λ (o : Ordered). (unpacking_by wanted reading.end o).texts) in_order
@@ -86,7 +86,7 @@ module _ (wanted : Wanted) (bytes : List ℕ) (in_order : AreInOrder (heads_of (
       → is_shown (unpacking_of wanted bytes).stop ≡ false
   unshown_in_order none = ap (λ (m : Made). is_shown m.stop) (made_is wanted bytes) ∙ ap is_shown (stop_is wanted (reading_of bytes) in_order) ∙ none
 
-  -- what these bytes determine, where no fault is shown
+  -- the texts that these bytes determine, if no fault is shown
   pub sofar_in_order : is_shown (stop_of (reading_of bytes).end) ≡ false
       → (unpack_tool wanted).sofar bytes ≡ texts_of wanted (transfers_of (heads_of (reading_of bytes)))
   sofar_in_order none = unshown_sofar (unpacking_of wanted bytes).stop (unpacking_of wanted bytes).texts (unshown_in_order none) ∙ texts_in_order

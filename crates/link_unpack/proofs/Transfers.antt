@@ -1,4 +1,4 @@
--- what is written and reported of the latest transfer
+-- What is written and reported for the latest transfer.
 use Rattle.std.proofs.Common.{◌≡◌, ℕ, Bool, true, false, not, List, [], ◌++◌, length, Result, refl, ap, ◌∙◌}
 use Rattle.std.specs.Prelude.{if◌then◌else◌}
 use Rattle.link_bundle_types.specs.declared.fault.BundleFault.{BundleFault}
@@ -31,12 +31,12 @@ nothing_chosen false payload = refl
 nothing_chosen true false = refl
 nothing_chosen true true = no_payload
 
--- nothing of it is written
+-- none of its bytes are written yet
 pub part_of-begun : (wanted : Wanted) (head : SegmentHead) (closed : Bool)
     → part_of wanted (begun head closed) ≡ []
 part_of-begun wanted head closed = nothing_chosen (is_selected wanted.only head.id) wanted.payload
 
--- ---- a piece more
+-- ---- one more piece
 
 pub part_of-payload : (wanted : Wanted) (transfer : Transfer) (piece more : List ℕ) (closed : Bool)
     → is_selected wanted.only transfer.first.id ≡ true → wanted.payload ≡ true
@@ -44,7 +44,7 @@ pub part_of-payload : (wanted : Wanted) (transfer : Transfer) (piece more : List
     → part_of wanted (grown transfer piece closed) ≡ part_of wanted transfer ++ more
 part_of-payload wanted transfer piece more closed selected payload is = rw (selected, payload) is
 
--- ---- its line
+-- ---- the line of a transfer
 
 same_entry : (id start written size : ℕ) (judgement : Judgement)
     (id' start' written' size' : ℕ) (judgement' : Judgement)

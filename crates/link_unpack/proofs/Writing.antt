@@ -26,7 +26,7 @@ module _ {W E : Type 0} (out_look : W → Output) (report_look : E → Output)
   some_last texts status (Ok ended) writes = (texts, writes.0)
   some_last texts status (Err fault) part = part.kind
 
--- the line that is written next changes nothing of what was written
+-- writers with the same devices have written the same, whatever their line is
 pub some_after : {W E A : Type 0} (out_look : W → Output) (report_look : E → Output)
     (old mid new : Writers W E) (output : mid.output ≡ old.output) (report : mid.report ≡ old.report)
     (result : Result A IoFault) → WritesSome out_look report_look mid new result
@@ -39,7 +39,7 @@ some_after out_look report_look old mid new output report (Ok value) wrote = (wr
 })
 some_after out_look report_look old mid new output report (Err fault) kind = kind
 
--- more is written after some texts
+-- some texts were written, and then more
 pub then_some : {W E B : Type 0} (out_look : W → Output) (report_look : E → Output)
     (old mid new : Writers W E) (texts : Texts) (result : Result B IoFault)
     → Writes out_look report_look old mid texts
@@ -53,7 +53,7 @@ then_some out_look report_look old mid new texts (Ok value) had more = (texts th
 })
 then_some out_look report_look old mid new texts (Err fault) had kind = kind
 
--- what is written after the read of a step was not held back
+-- texts that a step writes after its read were not held back during the read
 pub handed_some : {R W E B : Type 0} (look : Looks R W E) {out_handed : W → Option (List ℕ)}
     {report_handed : E → Option (List ℕ)} {enough : Type 0} (old new : Source R)
     (before mid after : Writers W E) (result : Result B IoFault)

@@ -1,4 +1,4 @@
--- What is known of the latest transfer.
+-- What is known about the latest transfer.
 use Rattle.std.specs.Prelude.{◌≡◌, ℕ, Bool, List, [], ◌++◌, length}
 use Rattle.link_transfer.specs.Announced.{announced_of}
 use Rattle.link_wire.specs.declared.message.SegmentHead.{SegmentHead}
@@ -7,7 +7,7 @@ use Rattle.link_unpack.specs.Transfers.{Transfer}
 use Rattle.link_unpack.specs.Unpacking.{part_of, parts_of}
 use Rattle.link_unpack.specs.declared.transfer.TransferScan.{TransferScan}
 
--- a transfer of which no data has come
+-- a transfer before any of its data has come
 abbrev pub begun : SegmentHead → Bool → Transfer
 begun head closed = record { first = head; content = []; closed = closed }
 
@@ -16,7 +16,7 @@ abbrev pub grown : Transfer → List ℕ → Bool → Transfer
 grown transfer content closed =
     record { first = transfer.first; content = transfer.content ++ content; closed = closed }
 
--- it is this transfer, which follows those
+-- the scan is at the transfer `transfer`, which comes after those of `earlier`
 pub record Follows (now : TransferScan) (transfer : Transfer)
     (earlier : List Transfer) : Type 0 where
   pub id : now.id ≡ transfer.first.id

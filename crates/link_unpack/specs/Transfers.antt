@@ -1,4 +1,5 @@
--- The transfers of a recorded stream (RFC 9174 section 5.2): which of its heads are in order, and what their data are.
+-- The transfers of a recorded stream (RFC 9174 section 5.2): which of its heads are in order, and
+-- which data each transfer has.
 use Rattle.std.specs.Prelude.{ℕ, Bool, ◌&&◌, ◌==◌, List, [], ◌∷◌, ◌++◌, length, Option, Some, None, if◌then◌else◌}
 use Rattle.std.specs.List.{fold}
 use Rattle.link_wire.specs.Codes.{is_start, is_end}
@@ -12,14 +13,14 @@ use Rattle.link_transfer.specs.declared.fault.OrderFault.{OrderFault}
 
 -- ---- heads
 
--- the head of a segment whose data is cut, with the data that is there
+-- the head of a segment whose data is incomplete, with the data so far
 abbrev pub cut_heads : End → List Entry
 cut_heads Clean = []
 cut_heads (Cut offset message content) =
     record { offset = offset; message = message; content = content } ∷ []
 cut_heads (Fault offset fault) = []
 
--- all heads that are whole: those of whole messages, and that of a segment whose data is cut
+-- all whole heads: those of whole messages, and that of a segment whose data is incomplete
 abbrev pub heads_of : Reading → List Entry
 heads_of reading = reading.entries ++ cut_heads reading.end
 
@@ -34,7 +35,8 @@ abbrev pub ordered_by : Option OrderFault → Entry → Ordered → Ordered
 ordered_by (Some fault) head rest = record { heads = []; refused = Some (head.offset, fault) }
 ordered_by None head rest = record { heads = head ∷ rest.heads; refused = rest.refused }
 
--- of heads that come after these messages: each is judged by all messages before it
+-- The order of heads that come after these messages. All messages before a head decide whether it
+-- is in order.
 unfoldable pub ordered_after : List Message → List Entry → Ordered
 ordered_after before [] = record { heads = []; refused = None }
 ordered_after before (head ∷ more) =
@@ -46,32 +48,32 @@ ordered heads = ordered_after [] heads
 
 -- ---- transfers
 
--- a transfer: the head of its first segment, the data of its segments joined, and whether its last segment has END and
--- is whole (section 5.2.2)
+-- A transfer: the head of its first segment, the joined data of its segments, and whether it is
+-- closed. It is closed if its last segment has END and is whole (section 5.2.2).
 pub record Transfer : Type 0 where
   pub first : SegmentHead
   pub content : List ℕ
   pub closed : Bool
 
--- the segment has END, and all of its data is there
+-- whether the segment has END, and all of its data has come
 abbrev pub closes : SegmentHead → List ℕ → Bool
 closes head content = is_end head.flags && (length content == head.length)
 
--- the latest transfer with the data of a segment more
+-- the transfers, with the data of a segment added to the latest
 abbrev pub continued : List Transfer → List ℕ → Bool → List Transfer
 continued [] content closed = []
 continued (latest ∷ earlier) content closed =
     record { first = latest.first; content = latest.content ++ content; closed = closed } ∷ earlier
 
--- A segment with START is the first of a transfer, also where the latest was not closed (section 5.2.4); another goes on with the
--- latest.
+-- A segment with START begins a transfer, even if the latest was not closed (section 5.2.4). Any
+-- other segment continues the latest transfer.
 abbrev pub after_segment : List Transfer → SegmentHead → List ℕ → List Transfer
 after_segment transfers head content =
     if is_start head.flags
     then record { first = head; content = content; closed = closes head content } ∷ transfers
     else continued transfers content (closes head content)
 
--- no other message is about a transfer of this direction
+-- only segments change the transfers; no other message is about a transfer of this direction
 abbrev pub after_message : List Transfer → Message → List ℕ → List Transfer
 after_message transfers (SessInit keepalive segment_mru transfer_mru node items) content = transfers
 after_message transfers (Segment head) content = after_segment transfers head content
@@ -86,7 +88,7 @@ unfoldable pub transfers_of : List Entry → List Transfer
 transfers_of heads =
     fold (λ transfers head. after_message transfers head.message head.content) [] heads
 
--- those that are over: all but a latest that is not closed
+-- the transfers that are over: all, except the latest if it is not closed
 abbrev pub settled : List Transfer → List Transfer
 settled [] = []
 settled (latest ∷ earlier) = if latest.closed then latest ∷ earlier else earlier

@@ -1,4 +1,4 @@
--- Where a run of `unpack` stands.
+-- The state of a run of `unpack`.
 use Rattle.std.specs.Prelude.{◌≡◌, ℕ, ◌+◌, ◌<◌, ◌≤◌, ◌==◌, Bool, true, false, not, ◌&&◌, is_some, List, [], ◌∷◌, map, length, None, Result, Ok, Err, if◌then◌else◌}
 use Rattle.link_wire.specs.Device.{Input, Output}
 use Rattle.link_wire.specs.Codes.{is_start, is_end}
@@ -37,18 +37,18 @@ most_given stage.Contact = 6
 most_given stage.Message = longest_head
 most_given (stage.Data last) = 4096
 
--- what a session may be asked for at each stage
+-- whether the session permits the call of a step at this stage
 abbrev pub may_go_on : {R : Type 0} → Stage → Session R → Bool
 may_go_on stage.Contact session = may_open session
 may_go_on stage.Message session = may_read session
 may_go_on (stage.Data last) session = is_opened session
 
--- what comes after what was written
+-- what comes after a write
 abbrev pub next_of : Result Stage IoFault → Next
 next_of (Ok stage) = next.Stage stage
 next_of (Err fault) = next.Ended (Err fault)
 
--- the same of what comes next
+-- whether the session permits the call that comes next
 abbrev pub may_follow : {R : Type 0} → Next → Session R → Bool
 may_follow (next.Stage stage) session = may_go_on stage session
 may_follow (next.Ended answer) session = true
@@ -62,12 +62,12 @@ messages_of heads = map (λ (head : Entry). head.message) heads
 abbrev pub AreInOrder : List Entry → Type 0
 AreInOrder heads = ordered heads ≡ record { heads = heads; refused = None }
 
--- what is written of transfers of which the latest may go on
+-- the texts for these transfers; the latest has no line yet if it is not closed
 abbrev pub texts_of : Wanted → List Transfer → Texts
 texts_of wanted transfers =
     record { output = parts_of wanted transfers; report = lines_of wanted (settled transfers) }
 
--- the latest transfer is open, and known
+-- the latest transfer is open, and the scan is at it
 pub record GoesOn (latest : TransferScan) (transfers : List Transfer) : Type 0 where
   pub transfer : Transfer
   pub earlier : List Transfer
@@ -80,13 +80,14 @@ abbrev pub IsOpen : Bool → TransferScan → List Transfer → Type 0
 IsOpen true latest transfers = GoesOn latest transfers
 IsOpen false latest transfers = settled transfers ≡ transfers
 
--- a segment of the latest transfer, of which the data comes
+-- the message is a segment whose data is being read; `last` is whether it has END
 pub record IsInSegment (last : Bool) (message : Message) : Type 0 where
   pub head : SegmentHead
   pub is : message ≡ Segment head
   pub ends : last ≡ is_end head.flags
 
--- what waits, by how the reading of the bytes so far ends
+-- The stage and the latest transfer, by how the reading of the bytes so far ends. `is_open` is
+-- whether the order of the messages permits another segment of that transfer.
 abbrev pub IsWaiting : Stage → Bool → TransferScan → List Transfer → End → Type 0
 IsWaiting now is_open latest transfers Clean =
     (now ≡ stage.Message) × IsOpen is_open latest transfers
@@ -95,18 +96,19 @@ IsWaiting now is_open latest transfers (Cut offset message content) =
     × GoesOn latest transfers
 IsWaiting now is_open latest transfers (Fault offset fault) = ⊥
 
--- how the reading ends once the head of a segment, or data of it, has come
+-- how the reading ends after the head of a segment or after data of it
 abbrev pub IsAfter : (last : Bool) (left : ℕ) → End → Type 0
 IsAfter last left Clean = left ≡ 0
 IsAfter last left (Cut offset message content) = (0 < left) × IsInSegment last message
 IsAfter last left (Fault offset fault) = ⊥
 
--- how the reading ends where data waits after a step: a step at a message is given none of it
+-- How the reading ends if data is to come after a step. A step that reads a head is given none of
+-- the data.
 abbrev pub IsWaitingAfter : Stage → End → Type 0
 IsWaitingAfter stage.Message (Cut offset message content) = content ≡ []
 IsWaitingAfter now end = Unit {0}
 
--- the line of a latest transfer that was abandoned
+-- the line of the latest transfer if it is abandoned, and nothing if it is closed
 abbrev pub last_lines : Wanted → List Transfer → List ℕ
 last_lines wanted [] = []
 last_lines wanted (latest ∷ earlier) = if latest.closed then [] else line_of wanted latest earlier
@@ -121,7 +123,7 @@ module _ {R : Type 0} (look : R → Input) where
     pub total : u.latest.total ≡ 0
     pub good : u.good ≡ true
 
-  -- what is known of the bytes that were given
+  -- the state of a run that was given these bytes
   pub record Unpacks (now : Stage) (s : Session R) (u : Unpacker) (history : List ℕ) : Type 0 where
     pub session : IsSessionAt look s history
     pub in_order : AreInOrder (heads_of (reading_of history))
@@ -141,13 +143,13 @@ module _ {R : Type 0} (look : R → Input) where
       Unpacks (stage.Data last) session unpacker history
 
 module _ {R W E : Type 0} (look : Looks R W E) (start : Devices R W E) where
-  -- a run stands, and this is known
+  -- `Stands` and `Unpacks` hold of a run
   abbrev pub StandsAt : Wanted → Stage → Session R → Writers W E → Unpacker → List ℕ → Type 0
   StandsAt wanted now s w u history =
       Stands look (unpacking_of wanted) start true (place_of (source_of s) w) history
       × Unpacks look.input now s u history
 
-  -- what holds once these bytes were given: a stage comes, or a writer failed
+  -- what holds after these bytes were given: a stage comes next, or a writer failed
   abbrev pub StandsAfter : Wanted → Session R → Writers W E → Unpacker → (history : List ℕ)
       → Result Stage IoFault → Type 0
   StandsAfter wanted s w u history (Ok now) = StandsAt wanted now s w u history
@@ -155,7 +157,7 @@ module _ {R W E : Type 0} (look : Looks R W E) (start : Devices R W E) where
       EndedRun look (unpack_tool wanted) start (devices_at (place_of (source_of s) w)) history
       (Err fault)
 
-  -- what a step at the stage `now` gives
+  -- what holds after a step at the stage `now`
   abbrev pub GivesNext : Wanted → (now : Stage) → (old new : Session R) → Writers W E → Unpacker
       → (history : List ℕ) → Next → Type 0
   GivesNext wanted now old new after u history (next.Stage stage) =
@@ -166,7 +168,8 @@ module _ {R W E : Type 0} (look : Looks R W E) (start : Devices R W E) where
       LastStep look (unpack_tool wanted) start (devices_at (place_of (source_of new) after))
       (most_given now) history answer
 
-  -- The head of a segment, or data of it, has come. All that is due of its transfer is written but for its line.
+  -- The head of a segment, or data of it, has come. Everything that is due for its transfer is
+  -- written, except the line.
   pub record IsJoining (last : Bool) (s : Session R) (w : Writers W E) (u : Unpacker)
       (history : List ℕ) : Type 0 where
     pub session : IsSessionAt look.input s history
@@ -189,7 +192,8 @@ module _ {R W E : Type 0} (look : Looks R W E) (start : Devices R W E) where
     pub opened : is_some (open_of (messages_of (heads_of (reading_of history)))) ≡ not last
     pub after : IsAfter last (left_of s) (reading_of history).end
 
-  -- The head of a transfer's first segment has come. `transfers` are those before it, of which the latest is abandoned or none is open.
+  -- The head of a transfer's first segment has come. The transfers before it are `transfers`. Their
+  -- latest is abandoned, or none of them is open.
   pub record IsBeginning (abandoned last : Bool) (s : Session R) (w : Writers W E) (u : Unpacker)
       (message : MessageBuffer) (history : List ℕ) : Type 0 where
     pub session : IsSessionAt look.input s history
@@ -214,7 +218,8 @@ module _ {R W E : Type 0} (look : Looks R W E) (start : Devices R W E) where
 
 -- ---- what the parts of a step do
 
--- the line of a transfer that is open is written, and the run ends with the status
+-- The line of a transfer that is still open is written. Then the run ends with status 0 if all
+-- transfers are good, and else with 1.
 abbrev pub GivesFinish : {W E : Type 0} → (W → Output) → (E → Output) → Unpacker → List Transfer
     → (old new : Writers W E) → Result Status IoFault → Type 0
 GivesFinish out_look report_look unpacker transfers old new answer =

@@ -1,4 +1,4 @@
--- What `unpack` writes of a recorded stream.
+-- What `unpack` writes for a recorded stream.
 use Rattle.std.specs.Prelude.{ℕ, Bool, true, false, not, ◌==◌, List, [], ◌∷◌, ◌++◌, length, Option, Some, None, if◌then◌else◌}
 use Rattle.std.specs.List.{list_all}
 use Rattle.link_wire.specs.Stream.{End, reading_of}
@@ -23,14 +23,15 @@ abbrev pub is_selected : Option ℕ → ℕ → Bool
 is_selected None id = true
 is_selected (Some only) id = only == id
 
--- the bytes of a transfer that are written: of one that is selected its data, or the payload of the bundle in them
+-- The bytes of a transfer that are written. If it is selected, they are its data, or only the
+-- payload of its bundle.
 abbrev pub part_of : Wanted → Transfer → List ℕ
 part_of wanted transfer =
     if is_selected wanted.only transfer.first.id
     then (if wanted.payload then payload_in transfer.content else transfer.content)
     else []
 
--- transfers stand the latest first
+-- the written bytes of all transfers; the latest transfer is first in the list
 unfoldable pub parts_of : Wanted → List Transfer → List ℕ
 parts_of wanted [] = []
 parts_of wanted (latest ∷ earlier) = parts_of wanted earlier ++ part_of wanted latest
@@ -43,7 +44,7 @@ judgement_of transfer =
     judged (not transfer.closed) (announced_of transfer.first.items.items) (length transfer.content)
     (verdict transfer.content)
 
--- what the line of a transfer says whose bytes begin at `start` in the output
+-- the entry for the line of a transfer, whose bytes begin at offset `start` of the output
 abbrev pub entry_of : Wanted → Transfer → (start : ℕ) → TransferEntry
 entry_of wanted transfer start = record {
   id = transfer.first.id;
@@ -53,7 +54,7 @@ entry_of wanted transfer start = record {
   judgement = judgement_of transfer;
 }
 
--- the line of a transfer after those
+-- the line of a transfer that comes after `earlier`
 abbrev pub line_of : Wanted → Transfer → List Transfer → List ℕ
 line_of wanted transfer earlier =
     transfer_text (entry_of wanted transfer (length (parts_of wanted earlier)))
@@ -75,13 +76,13 @@ are_good transfers = list_all (λ transfer. is_good (judgement_of transfer)) tra
 
 -- ---- a stream
 
--- where a stream stops: at the first head that is not in order, and else where the reading does
+-- a stream stops at the first head that is not in order, or else where its reading stops
 abbrev pub stop_by : Option (ℕ × OrderFault) → End → Option StreamStop
 stop_by (Some (offset, fault)) end = Some (record { fault = Order offset fault; lasts = true })
 stop_by None end = stop_of end
 
--- A transfer that is open has no line, since it might go on. At a clean end it is abandoned: nothing
--- follows.
+-- An open transfer has no line, since it may go on. If the stream ends between two messages, the
+-- open transfer is abandoned, and has its line.
 abbrev pub unpacking_by : Wanted → End → Ordered → Made
 unpacking_by wanted end order =
     let transfers = transfers_of order.heads in

@@ -1,7 +1,7 @@
-//! `unpack`: the bundles that a recorded TCPCLv4 session (RFC 9174) carried, cut out, named and judged.
+//! `unpack`: extracts, names and judges the bundles of a recorded TCPCLv4 session (RFC 9174).
 //!
-//! [`unpack`] is the whole run. [`unpack_run`] makes the same run, to be taken step by step.
-//! [`Wanted`] says what of the transfers is written.
+//! [`unpack`] does the whole run. [`unpack_run`] makes the same run for a caller that takes the
+//! steps. [`Wanted`] selects the data that is written.
 //!
 //! ```ignore
 //! let wanted = Wanted { only: None, payload: false };

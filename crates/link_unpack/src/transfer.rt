@@ -1,4 +1,4 @@
-//! The latest transfer of a stream: what is written of it, and its line.
+//! The latest transfer of a stream: the bytes of it that are written, and its line.
 
 ghost use Rattle.std.specs.Prelude.{◌≡◌, ◌+◌, ◌^◌, ◌≤◌, ◌<◌, ◌++◌, length, List, ℕ};
 ghost use Rattle.link_bundle.specs.Scan.{scan_size};
@@ -13,24 +13,24 @@ use link_cbor::Piecewise;
 use link_report::{JudgementView, Line, TransferView, judge_view, transfer_view_line};
 use link_transfer::Announced;
 
-/// No input has more bytes.
+/// The most bytes that an input can have.
 const INPUT_LIMIT: u64 = (1 << 63) - 1;
 
-/// Scans one transfer after another. It holds what a line says and no bytes of the data.
+/// Scans one transfer after another. It keeps the values for a transfer's line, but no data.
 #[derive(Drop)]
 pub struct TransferScan {
     wanted: Wanted,
     /// The transfer ID.
     id: u64,
-    /// What its extension items announce.
+    /// The length that its extension items announce.
     announced: Announced,
     /// The offset in the output where its bytes begin.
     start: u64,
-    /// How many of its bytes were written.
+    /// The number of its bytes that were written.
     written: u64,
-    /// How many bytes of data it has had.
+    /// The number of its bytes of data so far.
     size: u64,
-    /// How many bytes of data all transfers have had.
+    /// The number of bytes of data of all transfers so far.
     total: u64,
     scan: BundleScan,
     ghost scanned: { scan_size scan ≤ size },
@@ -39,7 +39,8 @@ pub struct TransferScan {
     ghost limit: { total < 2 ^ 63 },
 }
 
-/// The next bytes of a bundle's data that has had `before` bytes: those of its payload.
+/// Returns the payload bytes in a piece of a bundle. The piece comes after the first `before` bytes
+/// of the bundle. The payload bytes so far are the `count` bytes at offset `place` of the bundle.
 fn payload_part(piece: &[u8], before: u64, place: u64, count: u64) -> &[u8]
     ensures part { (0 < count → place + count < 2 ^ 64) → result.now ≡ part_in piece.now before
         place count }
@@ -53,7 +54,8 @@ fn payload_part(piece: &[u8], before: u64, place: u64, count: u64) -> &[u8]
     &piece[start as usize..end as usize]
 }
 
-/// Scans the next piece of a bundle, as far as it changes the verdict.
+/// Scans the next piece of a bundle, until no further byte can change the verdict. If bytes follow
+/// a whole bundle, it scans the first of them, which makes the verdict a fault.
 #[inline(always)]
 fn scan_piece(scan: &mut BundleScan, piece: &[u8])
     requires { scan_size scan.old + length piece.now < 2 ^ 63 }
@@ -84,7 +86,7 @@ impl TransferScan {
     ghost use Rattle.link_unpack.specs.Unpacking.{is_selected, parts_of, part_of, entry_of, judgement_of, is_good};
     ghost use Rattle.link_unpack.specs.TransferScan.{Follows, begun, grown};
 
-    /// Nothing was written, and no transfer has begun.
+    /// Makes a scan for the first transfer of a stream.
     pub fn new(wanted: Wanted) -> TransferScan
         ensures wanted { result.wanted ≡ wanted }
         ensures start { result.start ≡ 0 }
@@ -103,7 +105,7 @@ impl TransferScan {
         }
     }
 
-    /// A transfer begins.
+    /// Begins a transfer. Its bytes in the output come after those of the transfer before it.
     pub fn begin(&mut self, id: u64, announced: Announced)
         ensures follows { (head : SegmentHead) (closed : _) (earlier : List Transfer) → head.id ≡
             id → announced_of head.items.items ≡ announced
@@ -120,7 +122,10 @@ impl TransferScan {
         self.scan.restart();
     }
 
-    /// Takes the next piece of its data, and returns what of it is written.
+    /// Takes the next piece of the transfer's data, and returns the bytes of it to be written.
+    ///
+    /// If all data together would be longer than any input, it takes nothing. This never happens in
+    /// a run, since the data is part of its input.
     #[inline(always)]
     pub fn take<'a>(&mut self, piece: &'a [u8]) -> &'a [u8]
         ensures follows { (transfer : Transfer) (closed : _) (earlier : List Transfer)
@@ -146,7 +151,7 @@ impl TransferScan {
         part
     }
 
-    /// Whether the transfer is written.
+    /// Whether the transfer is selected.
     fn is_selected(&self) -> bool
         ensures { result ≡ is_selected self.now.wanted.only self.now.id }
     {
@@ -156,7 +161,8 @@ impl TransferScan {
         }
     }
 
-    /// What of the latest piece is written: the scan has seen it, and it is counted.
+    /// Returns the bytes of the latest piece to be written. The scan has seen the piece, and `size`
+    /// includes it.
     fn part<'a>(&self, piece: &'a [u8]) -> &'a [u8]
         requires { length piece.now ≤ self.now.size }
         ensures part { (transfer : Transfer) (closed : _) → self.now.id ≡ transfer.first.id
@@ -180,8 +186,8 @@ impl TransferScan {
         }
     }
 
-    /// Makes an empty line that of the transfer, which was abandoned or is closed, and returns
-    /// whether it is good.
+    /// Writes the transfer's line into an empty line, and returns whether the transfer is good. A
+    /// transfer that was not abandoned is closed.
     pub fn put_line(&self, line: &mut Line, abandoned: bool) -> bool
         requires { line.old.items ≡ [] }
         ensures text { (transfer : Transfer) (earlier : List Transfer) → Follows self.now transfer

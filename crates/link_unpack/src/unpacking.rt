@@ -24,7 +24,7 @@ use link_run::{Input, Progress, Run, RunEnd, Stages, Status, ToolRun, Writers};
 use link_transfer::{Event, Joiner, Turn, announced};
 use link_wire::{Fields, InDevice, IoFault, MessageBuffer, OutDevice, Session, Source};
 
-/// How many bytes of a segment's data one step is given at most.
+/// The most bytes of a segment's data that one step is given.
 const PIECE: usize = 4096;
 
 /// What a step reads.
@@ -34,7 +34,7 @@ enum Stage {
     Contact,
     /// The head of a message.
     Message,
-    /// Data of a segment, which is its transfer's last or not.
+    /// Data of a segment. `last` is whether the segment is the last of its transfer.
     Data { last: bool },
 }
 
@@ -50,7 +50,7 @@ enum Next {
 impl Next {
     ghost use Rattle.link_unpack.specs.UnpackRun.{next_of};
 
-    /// What comes after what was written: a stage, or nothing if a writer failed.
+    /// What comes after a write: a stage, or the end of the run if a writer failed.
     #[inline(always)]
     fn of(written: Result<Stage, IoFault>) -> Next
         ensures { result ≡ next_of written }
@@ -62,13 +62,13 @@ impl Next {
     }
 }
 
-/// What is known of the transfers so far.
+/// What is known about the transfers so far.
 #[derive(Drop)]
 struct Unpacker {
-    /// The order of the messages.
+    /// Judges the order of the messages.
     joiner: Joiner,
     latest: TransferScan,
-    /// Whether each transfer that has a line is good.
+    /// Whether every transfer that has its line is good.
     good: bool,
 }
 
@@ -121,7 +121,7 @@ impl<R: InDevice, W: OutDevice, E: OutDevice> Stages<Session<R>, W, E> for Unpac
     }
 }
 
-/// Does what comes at this stage, and says what comes next.
+/// Takes the step of this stage, and returns what comes next.
 fn advance<R: InDevice, W: OutDevice, E: OutDevice>(
     stage: Stage,
     input: &mut Input<Session<R>>,
@@ -179,7 +179,7 @@ fn open<R: InDevice, W: OutDevice, E: OutDevice>(
     }
 }
 
-/// Reads the head of a message, and does what it makes of the transfers.
+/// Reads the head of a message, and begins, continues or closes a transfer with it.
 fn take_message<R: InDevice, W: OutDevice, E: OutDevice>(
     input: &mut Input<Session<R>>,
     writers: &mut Writers<W, E>,
@@ -218,7 +218,8 @@ fn take_message<R: InDevice, W: OutDevice, E: OutDevice>(
     }
 }
 
-/// A transfer begins with the segment whose head was read; the open one is abandoned.
+/// Begins a transfer with the segment whose head was read. A transfer that is still open is
+/// abandoned, and its line is written first.
 fn begin<R: InDevice, W: OutDevice, E: OutDevice>(
     abandoned: bool,
     last: bool,
@@ -245,7 +246,7 @@ fn begin<R: InDevice, W: OutDevice, E: OutDevice>(
     go_on(last, input, writers, unpacker)
 }
 
-/// The transfer of the segment whose head was read is the latest.
+/// Begins the scan of the transfer to which the head that was read belongs.
 fn begin_latest(latest: &mut TransferScan, message: &MessageBuffer)
     requires { SegmentHasTotals message.now }
     ensures follows { (head : SegmentHead) (closed : _) (earlier : List Transfer) → message_of
@@ -260,7 +261,7 @@ fn begin_latest(latest: &mut TransferScan, message: &MessageBuffer)
     }
 }
 
-/// Passes on a piece of a segment's data.
+/// Reads a piece of a segment's data, and writes the selected bytes of it.
 fn take_data<R: InDevice, W: OutDevice, E: OutDevice>(
     last: bool,
     input: &mut Input<Session<R>>,
@@ -298,8 +299,8 @@ fn take_data<R: InDevice, W: OutDevice, E: OutDevice>(
     }
 }
 
-/// After the head of a message, or after data: the transfer is over once all data of its last
-/// segment has come.
+/// Goes on after the head of a message or after data. Once all data of a transfer's last segment
+/// has come, the transfer's line is written.
 fn go_on<R: InDevice, W: OutDevice, E: OutDevice>(
     last: bool,
     input: &Input<Session<R>>,
@@ -329,7 +330,7 @@ fn go_on<R: InDevice, W: OutDevice, E: OutDevice>(
     Ok(Stage::Message)
 }
 
-/// The line of the latest transfer, which was abandoned or is closed.
+/// Writes the line of the latest transfer, which was abandoned or is closed.
 fn report<W: OutDevice, E: OutDevice>(
     writers: &mut Writers<W, E>,
     unpacker: &mut Unpacker,
@@ -375,7 +376,7 @@ fn abandon<W: OutDevice, E: OutDevice>(
     }
 }
 
-/// The stream has ended between two messages: an open transfer is abandoned.
+/// Ends the run after a stream that ends between two messages. An open transfer is abandoned.
 fn finish<W: OutDevice, E: OutDevice>(
     writers: &mut Writers<W, E>,
     unpacker: &mut Unpacker,
@@ -394,7 +395,7 @@ fn finish<W: OutDevice, E: OutDevice>(
     }
 }
 
-/// How a run ends whose input was read to its end.
+/// The status of a run whose input was read to its end.
 fn status(good: bool) -> Status
     ensures { result.0 ≡ (if good then 0 else 1) }
 {
@@ -433,9 +434,14 @@ pub fn unpack_run<R: InDevice, W: OutDevice, E: OutDevice>(
     ToolRun::new(tool, Session::new(Source::new(reader)), output, report)
 }
 
-/// Unpacks a recorded stream: the output has the data of the transfers that are wanted, joined, the
-/// report a line for each transfer, and that of the fault which ended the stream, if any; status 3
-/// at a fault, else 1 where a transfer is not good, else 0.
+/// Unpacks a recorded stream, to the end of the run.
+///
+/// The output has the selected data of the transfers, one after another. The report has a line for
+/// each transfer. If a fault stops the stream, a transfer that is still open has no line. Then the
+/// report ends with the line of the fault, and the status is 3. Otherwise the status is 1 if a
+/// transfer is not good, and else 0.
+///
+/// The answer is an error if a device failed, or the input has more than 2^63 - 1 bytes.
 #[inline(never)]
 pub fn unpack<R: InDevice, W: OutDevice, E: OutDevice>(
     wanted: Wanted,

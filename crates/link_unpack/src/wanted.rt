@@ -1,11 +1,12 @@
-//! What of the transfers is wanted.
+//! The choice of the data that is written.
 
-/// What of the transfers of a stream is written to the output. Each has its line, written or not.
+/// Selects the data that is written to the output. Every transfer has its line in the report,
+/// selected or not.
 #[derive(Clone, Copy, Debug, Default, PartialEq, Eq)]
 pub struct Wanted {
-    /// The transfers with this ID alone; `None`: all.
+    /// Only the transfers with this ID, or all transfers if it is `None`.
     pub only: Option<u64>,
-    /// Of each only the bytes of its bundle's payload, as far as they are there and no fault of the
-    /// bundle came before them; else all of its data.
+    /// If true, only the payload bytes of each bundle that came before any fault of that bundle. If
+    /// false, all data of each transfer.
     pub payload: bool,
 }

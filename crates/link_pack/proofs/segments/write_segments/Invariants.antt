@@ -3,7 +3,7 @@ use Rattle.link_transfer.specs.Cutter.{IsCutterAt, held_size}
 use Rattle.link_pack.proofs.Writing.{Sent}
 use Rattle.link_pack.proofs.segments.write_segments.Given as goal
 
--- of what was left some segments are written, and the others are left
+-- some of the segments that were left are written, and the others are still left
 abbrev pub invariant-loop-cut : goal.invariant-loop-cut
 invariant-loop-cut g l = (so_far : Cutting) → IsCutterAt l.fn.cutter so_far
     → Sent g.W.OutDevice.state g.E.OutDevice.state l.id so_far l.fn.writers l.writers l.cutter

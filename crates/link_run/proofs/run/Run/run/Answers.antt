@@ -6,7 +6,8 @@ use Rattle.link_run.proofs.run.Run.run.Goals as goal
 pub steps-init : goal.steps-init
 steps-init g c = (refl, ([], c.requires))
 
--- each step is given a byte, and the one before them all is the first
+-- The measure of the loop falls. Each step is given a byte, except that the first may be given
+-- none.
 falls : (limit before after size most next : ℕ) → after ≡ before + size → after < limit
     → (0 < most → 0 < size) → (next ≡ 0 → ⊥)
     → (limit - after) + (1 - next) < (limit - before) + (1 - most)
