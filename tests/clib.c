@@ -2,8 +2,11 @@
  * Calls each function of include/tcpclkit.h as a program in C does: on worked bytes, and on what a
  * caller may get wrong. Prints each check that fails, and then `N passed, M failed`.
  */
+#define _POSIX_C_SOURCE 200809L /* for pthread_attr_setstack */
+
 #include "tcpclkit.h"
 
+#include <pthread.h>
 #include <stdio.h>
 #include <string.h>
 
@@ -641,6 +644,67 @@ static void unwritten_runs(void) {
   LEAVES(tcpclkit_list(recording, SIZE_MAX, to, 9, report, 9, &it.run), TCPCLKIT_RANGE, it);
 }
 
+/* What is called on a stack of its own. Its variables are static, so that they are not on it. */
+static void no_call(void) {}
+
+static void small_calls(void) {
+  static struct tcpclkit_bundle info;
+  static struct tcpclkit_contact contact;
+  static struct tcpclkit_message message;
+  static struct tcpclkit_item item;
+  static struct tcpclkit_order order;
+  static struct tcpclkit_turn turn;
+  static const struct tcpclkit_eid eid = {TCPCLKIT_EID_DTN, 0, 0, 0, TCPCLKIT_EID_LIMIT};
+  static uint8_t name[TCPCLKIT_EID_LIMIT], text[4100];
+  static uint64_t written;
+  tcpclkit_bundle_verdict(bundle, sizeof bundle, &info.verdict);
+  tcpclkit_bundle_info(named, sizeof named, text, sizeof text, name, sizeof name, &info);
+  tcpclkit_contact(recording, sizeof recording, &contact);
+  tcpclkit_message(recording, sizeof recording, 6, &message);
+  tcpclkit_message(announcing, sizeof announcing, 0, &message);
+  tcpclkit_item(announcing, sizeof announcing, 14, 27, &item);
+  tcpclkit_order(&order, TCPCLKIT_SESS_INIT, 0, 0, &turn);
+  tcpclkit_fault_text(TCPCLKIT_BUNDLE_CUT, 0, text, sizeof text, &written);
+  tcpclkit_eid_text(&eid, name, text, sizeof text, &written);
+}
+
+static void tool_calls(void) {
+  static struct lent it;
+  int tool;
+  for (tool = 0; tool < 3; tool++)
+    run_tool(tool, &it, sizeof it.output, sizeof it.report);
+}
+
+static void *called(void *calls) {
+  (*(void (*const *)(void))calls)();
+  return NULL;
+}
+
+/* How much of a stack the calls take, with what a thread takes. */
+static size_t stack_of(void (*calls)(void)) {
+  static uint8_t stack[1 << 20];
+  size_t unused = 0;
+  pthread_attr_t attributes;
+  pthread_t thread;
+  memset(stack, MARK, sizeof stack);
+  CHECK(pthread_attr_init(&attributes) == 0);
+  CHECK(pthread_attr_setstack(&attributes, stack, sizeof stack) == 0);
+  CHECK(pthread_create(&thread, &attributes, called, &calls) == 0);
+  CHECK(pthread_join(thread, NULL) == 0);
+  CHECK(pthread_attr_destroy(&attributes) == 0);
+  while (unused < sizeof stack && stack[unused] == MARK)
+    unused++;
+  return sizeof stack - unused;
+}
+
+/* The room that the header says is enough, on x86-64. */
+static void stacks(void) {
+  size_t thread = stack_of(no_call), small = stack_of(small_calls), tool = stack_of(tool_calls);
+  printf("stack: %zu bytes, and %zu bytes for a tool\n", small - thread, tool - thread);
+  CHECK(small - thread <= 32768);
+  CHECK(tool - thread <= 131072);
+}
+
 #ifdef REFUSES_MEMORY
 /* Runs a tool again and again, with one request more let through each time. */
 static void refusals(int tool, size_t output, size_t report) {
@@ -699,6 +763,7 @@ int main(void) {
   unwritten_answers();
   unwritten_texts();
   unwritten_runs();
+  stacks();
 #ifdef REFUSES_MEMORY
   refusals_of(0);
   refusals_of(1);
