@@ -15,5 +15,6 @@ pub mod Lengths
 pub mod Payloads
 pub mod Feeding
 pub mod Alone
+pub mod Items
 pub mod Readings
 pub mod Judgings

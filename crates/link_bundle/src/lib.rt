@@ -34,6 +34,7 @@
 mod checks;
 mod cursor;
 mod draft;
+mod item;
 mod judging;
 pub mod laws;
 mod scan;

@@ -1,13 +1,13 @@
 //! Reads a bundle that lies whole in a slice.
 //!
-//! Each function has the name of its definition in specs/. An error means only that the slice
-//! begins with no complete bundle or with a fault. The scan then finds out which, byte by byte.
-ghost use Rattle.std.specs.Prelude.{◌≡◌, ℕ, suc, ◌+◌, ◌<◌, ◌≤◌, ◌++◌, [], length, replicate, is_some, true, Some, Ok, IfOk, IsTrue};
+//! Each function has the name of its definition in specs/. An error means only that no bundle was
+//! read: it is cut or has a fault, or a head in it is spelled at greater length than it has to be.
+//! The scan then finds out which, byte by byte.
+ghost use Rattle.std.specs.Prelude.{◌≡◌, ℕ, suc, ◌<◌, ◌≤◌, ◌++◌, [], length, replicate, is_some, true, Some, Ok, IfOk, IsTrue};
 ghost use Rattle.link_bundle_types.specs.EidView.{viewed_eid};
 ghost use Rattle.link_bundle_types.specs.ShortNames.{IsShort};
 ghost use Rattle.link_cbor.specs.Crc.{crc};
-ghost use Rattle.link_bundle_rows.specs.Rows.{unsigned, pair, check_width, closing};
-ghost use Rattle.link_bundle.specs.Reading.{head_at, row_at, bytes_at};
+ghost use Rattle.link_bundle_rows.specs.Rows.{check_width};
 ghost use Rattle.link_bundle.specs.EndpointId.{eid_at, specific_at};
 ghost use Rattle.link_bundle.specs.CheckField.{number_from, field_at};
 ghost use Rattle.link_bundle.specs.Canonical.{content_at};
@@ -18,78 +18,55 @@ ghost use Rattle.link_bundle.specs.Whole.{after_heads, bundle_by};
 ghost use Rattle.link_bundle_rows.specs.declared.endpoint.Scheme.TheVariants.{Dtn, Ipn};
 
 use crate::draft::Draft;
+use crate::item::{bytes_at, closing_at, item_at, pair_at, small_at, unsigned_at};
 use crate::scan::OPENING;
+use byteorder::{BigEndian, ByteOrder};
 use link_bundle_kept::BlockNumbers;
 use link_bundle_rows::{Scheme, row};
 use link_bundle_types::{BundleFault, EidView};
-use link_cbor::{Check, CheckKind, Head};
+use link_cbor::{Check, CheckKind};
 
-/// The head of an array of two elements, encoded in one byte.
-const PAIR: u8 = 0x82;
+/// The first three bytes of an ipn endpoint ID of two numbers: an array, the scheme, an array.
+const IPN: u32 = 0x82_02_82;
 
-/// Reads the head at an offset, and returns it and the offset after it.
-#[inline(always)]
-fn head_at(bytes: &[u8], place: usize) -> Result<(Head, usize), BundleFault>
-    ensures { IfOk result (λ read. head_at bytes.now place ≡ Ok read) }
-{
-    if place > bytes.len() {
-        return Err(BundleFault::Cut);
-    }
-    match Head::front(&bytes[place..]) {
-        Some((head, size)) => Ok((head, place + size)),
-        None => Err(BundleFault::BadHead),
-    }
-}
-
-/// Reads an unsigned integer.
-///
-/// Most are encoded in one byte, which is the value.
-#[inline(always)]
-#[tactic(auto, using(crate::proofs::Heads::heads, crate::proofs::Readings::one_byte))]
-fn unsigned_at(bytes: &[u8], place: usize) -> Result<(u64, usize), BundleFault>
-    ensures { IfOk result (λ read. row_at unsigned bytes.now place ≡ Ok read) }
-{
-    if place < bytes.len() && bytes[place] < 24 {
-        return Ok((u64::from(bytes[place]), place + 1));
-    }
-    let (head, next) = head_at(bytes, place)?;
-    Ok((row::unsigned(head)?, next))
-}
-
-/// Reads the head of an array of two elements.
-#[inline(always)]
-#[tactic(auto, using(crate::proofs::Heads::heads, crate::proofs::Readings::one_byte))]
-fn pair_at(bytes: &[u8], place: usize) -> Result<(u64, usize), BundleFault>
-    ensures { IfOk result (λ read. row_at pair bytes.now place ≡ Ok read) }
-{
-    if place < bytes.len() && bytes[place] == PAIR {
-        return Ok((2, place + 1));
-    }
-    let (head, next) = head_at(bytes, place)?;
-    Ok((row::pair(head)?, next))
-}
-
-/// Reads that many bytes from an offset on, and returns them and the offset after them.
-fn bytes_at(size: u64, bytes: &[u8], place: usize) -> Result<(&[u8], usize), BundleFault>
-    ensures read { IfOk result (λ read. bytes_at size bytes.now place ≡ Ok (read.0.now, read.1)) }
-    ensures size { IfOk result (λ read. length read.0.now ≡ size) }
-    ensures within { IfOk result (λ read. place + size ≤ length bytes.now) }
-{
-    if place > bytes.len() || size > (bytes.len() - place) as u64 {
-        return Err(BundleFault::Cut);
-    }
-    let next = place + size as usize;
-    Ok((&bytes[place..next], next))
-}
+/// The bytes of `dtn:none`: an array, the scheme, the number 0.
+const DTN_NONE: u32 = 0x82_01_00;
 
 /// Reads an endpoint ID (RFC 9171 section 4.2.5.1).
-#[tactic(auto, using(crate::proofs::Heads::heads), unfolding(crate::specs::EndpointId::eid_at))]
+///
+/// Nearly all are ipn endpoint IDs of two numbers, or `dtn:none`. Their first three bytes say so.
+#[inline(always)]
 fn eid_at(bytes: &[u8], place: usize) -> Result<(EidView<'_>, usize), BundleFault>
     ensures read { IfOk result (λ read. eid_at bytes.now place ≡ Ok (viewed_eid read.0, read.1)) }
     ensures short { IfOk result (λ read. IsShort (viewed_eid read.0)) }
 {
-    let (_, place) = pair_at(bytes, place)?;
-    let (head, place) = head_at(bytes, place)?;
+    if place > bytes.len() {
+        return Err(BundleFault::Cut);
+    }
+    if bytes.len() - place < 4 {
+        return Err(BundleFault::Cut);
+    }
+    match BigEndian::read_u32(&bytes[place..]) >> 8 {
+        IPN => {
+            let (node, place) = unsigned_at(bytes, place + 3)?;
+            let (service, place) = unsigned_at(bytes, place)?;
+            Ok((EidView::Ipn(node, service), place))
+        }
+        DTN_NONE => Ok((EidView::DtnNone, place + 3)),
+        _ => any_eid_at(bytes, place),
+    }
+}
+
+/// Reads an endpoint ID, head by head.
+#[cold]
+#[inline(never)]
+#[tactic(auto, using(crate::proofs::Heads::heads), unfolding(crate::specs::EndpointId::eid_at))]
+fn any_eid_at(bytes: &[u8], place: usize) -> Result<(EidView<'_>, usize), BundleFault>
+    ensures read { IfOk result (λ read. eid_at bytes.now place ≡ Ok (viewed_eid read.0, read.1)) }
+    ensures short { IfOk result (λ read. IsShort (viewed_eid read.0)) }
+{
+    let place = pair_at(bytes, place)?;
+    let (head, place) = small_at(row::UNSIGNED, bytes, place)?;
     match row::scheme(head)? {
         Scheme::Dtn => dtn_at(bytes, place),
         Scheme::Ipn => ipn_at(bytes, place),
@@ -103,7 +80,7 @@ fn dtn_at(bytes: &[u8], place: usize) -> Result<(EidView<'_>, usize), BundleFaul
         ≡ Ok (viewed_eid read.0, read.1)) }
     ensures short { IfOk result (λ read. IsShort (viewed_eid read.0)) }
 {
-    let (head, place) = head_at(bytes, place)?;
+    let (head, place) = item_at(row::TEXT_STRING, bytes, place)?;
     match row::dtn_part(head)? {
         None => Ok((EidView::DtnNone, place)),
         Some(size) => {
@@ -120,7 +97,7 @@ fn ipn_at(bytes: &[u8], place: usize) -> Result<(EidView<'_>, usize), BundleFaul
         ≡ Ok (viewed_eid read.0, read.1)) }
     ensures short { IfOk result (λ read. IsShort (viewed_eid read.0)) }
 {
-    let (head, place) = head_at(bytes, place)?;
+    let (head, place) = small_at(row::ARRAY, bytes, place)?;
     let count = row::ipn_part(head)?;
     let (first, place) = unsigned_at(bytes, place)?;
     let (second, place) = unsigned_at(bytes, place)?;
@@ -132,6 +109,7 @@ fn ipn_at(bytes: &[u8], place: usize) -> Result<(EidView<'_>, usize), BundleFaul
 }
 
 /// Reads the fragment offset and the total length, if the bundle is a fragment.
+#[inline(always)]
 #[tactic(auto, unfolding(crate::specs::Primary::fragment_at))]
 fn fragment_at(
     is_fragment: bool,
@@ -149,6 +127,7 @@ fn fragment_at(
 }
 
 /// The number that the content of a check field spells.
+#[inline(always)]
 fn number_of(stored: &[u8]) -> u32
     requires { length stored.now ≤ 4 }
     ensures { result ≡ number_from 0 stored.now }
@@ -168,9 +147,11 @@ fn check_of(kind: CheckKind, block: &[u8]) -> u32
 {
     let mut check = Check::new(kind);
     check.push_slice(block);
-    match kind {
-        CheckKind::Crc16 => check.push_slice(&[0, 0]),
-        CheckKind::Crc32 => check.push_slice(&[0, 0, 0, 0]),
+    check.push(0);
+    check.push(0);
+    if let CheckKind::Crc32 = kind {
+        check.push(0);
+        check.push(0);
     }
     check.value()
 }
@@ -178,6 +159,7 @@ fn check_of(kind: CheckKind, block: &[u8]) -> u32
 /// Reads the check field of a block, if it has one (RFC 9171 section 4.2.1).
 ///
 /// The block begins at `start`. Returns the offset after the field.
+#[inline(always)]
 #[tactic(auto, unfolding(crate::specs::CheckField::field_at))]
 fn field_at(
     check: Option<CheckKind>,
@@ -196,6 +178,7 @@ fn field_at(
 /// Reads the check field of a block that has a check of this kind.
 ///
 /// The block begins at `start`. Returns the offset after the field.
+#[inline(always)]
 fn stored_at(
     kind: CheckKind,
     start: usize,
@@ -204,7 +187,7 @@ fn stored_at(
 ) -> Result<usize, BundleFault>
     ensures { IfOk result (λ next. field_at (Some kind) start bytes.now place ≡ Ok (true, next)) }
 {
-    let (head, content) = head_at(bytes, place)?;
+    let (head, content) = small_at(row::BYTE_STRING, bytes, place)?;
     row::check_field(kind, head)?;
     let (stored, next) = bytes_at(row::check_width(kind), bytes, content)?;
     if start > content || number_of(stored) != check_of(kind, &bytes[start..content]) {
@@ -216,6 +199,7 @@ fn stored_at(
 /// Reads the data of a canonical block and its check field.
 ///
 /// The block begins at `start`. Returns the offset after the field.
+#[inline(always)]
 #[tactic(auto, unfolding(crate::specs::Canonical::content_at))]
 fn content_at(
     size: u64,
@@ -242,25 +226,28 @@ struct Heads {
 /// Reads the heads of a canonical block (RFC 9171 section 4.3.2).
 ///
 /// `numbers` are the numbers of the blocks before it.
+#[inline(always)]
 fn heads_at(numbers: &[u64], bytes: &[u8], place: usize) -> Result<(Heads, usize), BundleFault>
     ensures { IfOk result (λ read. (left : ℕ) (primary : Primary)
         → blocks_at (suc left) numbers.now primary bytes.now place
         ≡ after_heads read.0 left numbers.now primary place bytes.now read.1) }
 {
-    let (head, place) = head_at(bytes, place)?;
+    let (head, place) = small_at(row::ARRAY, bytes, place)?;
     let count = row::block(head)?;
     let (block_type, place) = unsigned_at(bytes, place)?;
-    let (head, place) = head_at(bytes, place)?;
-    let number = row::block_number(block_type, numbers, head)?;
+    let (number_head, place) = item_at(row::UNSIGNED, bytes, place)?;
     let (_, place) = unsigned_at(bytes, place)?;
-    let (head, place) = head_at(bytes, place)?;
+    let (head, place) = small_at(row::UNSIGNED, bytes, place)?;
     let check = row::block_check_type(count, head)?;
-    let (head, place) = head_at(bytes, place)?;
+    let (head, place) = item_at(row::BYTE_STRING, bytes, place)?;
+    let size = row::byte_string(head)?;
+    // The call comes last, where little has to be kept over it.
+    let number = row::block_number(block_type, numbers, number_head)?;
     let heads = Heads {
         block_type,
         number,
         check,
-        size: row::byte_string(head)?,
+        size,
     };
     Ok((heads, place))
 }
@@ -268,6 +255,7 @@ fn heads_at(numbers: &[u64], bytes: &[u8], place: usize) -> Result<(Heads, usize
 /// Reads the canonical blocks, and the break after the payload block.
 ///
 /// Returns the offset and the length of the payload, and the offset after the break.
+#[inline(always)]
 fn blocks_at(
     numbers: &mut BlockNumbers,
     bytes: &[u8],
@@ -284,8 +272,7 @@ fn blocks_at(
         numbers.push(heads.number);
         let next = content_at(heads.size, heads.check, start, bytes, place)?;
         if heads.block_type == row::PAYLOAD_TYPE {
-            let (head, end) = head_at(bytes, next)?;
-            row::closing(head)?;
+            let end = closing_at(bytes, next)?;
             return Ok(((place as u64, heads.size), end));
         }
         start = next;
@@ -297,6 +284,7 @@ impl Draft {
     /// Reads the primary block up to its check field (RFC 9171 section 4.3.1).
     ///
     /// Returns the block's check type, and the offset after what was read.
+    #[inline(always)]
     fn primary_at(
         &mut self,
         bytes: &[u8],
@@ -306,24 +294,24 @@ impl Draft {
             ≡ Ok ((primary_of self.new, read.0), read.1)) }
         ensures numbers { self.new.numbers ≡ self.old.numbers }
     {
-        let (head, place) = head_at(bytes, place)?;
+        let (head, place) = small_at(row::ARRAY, bytes, place)?;
         let count = row::primary_block(head)?;
-        let (head, place) = head_at(bytes, place)?;
+        let (head, place) = small_at(row::UNSIGNED, bytes, place)?;
         row::version(head)?;
         let (flags, place) = unsigned_at(bytes, place)?;
-        let (head, place) = head_at(bytes, place)?;
+        let (head, place) = small_at(row::UNSIGNED, bytes, place)?;
         let check = row::primary_check_type(count, flags, head)?;
         let (destination, place) = eid_at(bytes, place)?;
+        self.destination.keep(destination);
         let (source, place) = eid_at(bytes, place)?;
+        self.source.keep(source);
         let (_report_to, place) = eid_at(bytes, place)?;
-        let (_, place) = pair_at(bytes, place)?;
+        let place = pair_at(bytes, place)?;
         let (time, place) = unsigned_at(bytes, place)?;
         let (sequence, place) = unsigned_at(bytes, place)?;
         let (lifetime, place) = unsigned_at(bytes, place)?;
         let (fragment, place) = fragment_at(row::is_fragment(flags), bytes, place)?;
         self.flags = flags;
-        self.destination.keep(destination);
-        self.source.keep(source);
         self.time = time;
         self.sequence = sequence;
         self.lifetime = lifetime;
@@ -334,6 +322,7 @@ impl Draft {
     /// Reads the bundle that the bytes begin with, and returns its length.
     ///
     /// After an error, the draft has to be restarted before it is used again.
+    #[inline(always)]
     pub fn whole(&mut self, bytes: &[u8]) -> Result<usize, BundleFault>
         requires some { 0 < length bytes.now }
         requires blank { self.old.numbers ≡ [] }

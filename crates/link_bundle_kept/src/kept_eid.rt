@@ -67,6 +67,7 @@ impl KeptEid {
     }
 
     /// Keeps an endpoint ID of this form, whose dtn name has no bytes yet.
+    #[inline(always)]
     pub fn set(&mut self, form: EidForm)
         ensures { self.new ≡ formed form [] }
     {
@@ -77,6 +78,9 @@ impl KeptEid {
     /// Appends bytes to the dtn name.
     ///
     /// The endpoint ID has a dtn name, which has at most 1,024 bytes with them.
+    // Names are rare, and a copy of them is a call.
+    #[cold]
+    #[inline(never)]
     pub fn extend(&mut self, bytes: &[u8])
         requires { IsTrue (name_fits self.old (length bytes.now)) }
         ensures { self.new ≡ Dtn (record { items = name_of self.old ++ bytes.now }) }
@@ -86,6 +90,7 @@ impl KeptEid {
     }
 
     /// Keeps this endpoint ID, whose dtn name has at most 1,024 bytes.
+    #[inline(always)]
     pub fn keep(&mut self, eid: EidView<'_>)
         requires { IsShort (viewed_eid eid) }
         ensures { self.new ≡ viewed_eid eid.entry }

@@ -1,4 +1,6 @@
 //! The rows of the tables in docs/FORMATS.md, each from a head to its value or its first fault.
+//!
+//! They are inlined, since a result passes through memory at a call, and a row is a few compares.
 ghost use Rattle.std.specs.Prelude.{◌≡◌, ◌≤◌, IfOk, IfErr, IfSome, IsTrue};
 ghost use Rattle.link_bundle_types.specs.Faults.{lasts};
 ghost use Rattle.link_bundle_rows.specs.Rows as row;
@@ -8,13 +10,13 @@ use link_bundle_types::{BundleFault, EID_LIMIT};
 use link_cbor::{CheckKind, Head};
 
 /// The major types of heads in a bundle (RFC 8949 section 3.1).
-const UNSIGNED: u8 = 0;
+pub const UNSIGNED: u8 = 0;
 
-const BYTE_STRING: u8 = 2;
+pub const BYTE_STRING: u8 = 2;
 
-const TEXT_STRING: u8 = 3;
+pub const TEXT_STRING: u8 = 3;
 
-const ARRAY: u8 = 4;
+pub const ARRAY: u8 = 4;
 
 const SIMPLE: u8 = 7;
 
@@ -31,6 +33,7 @@ pub const PAYLOAD_TYPE: u64 = 1;
 const PAYLOAD_NUMBER: u64 = 1;
 
 /// The value of a head, which has to have this major type.
+#[inline(always)]
 fn of_major(major: u8, head: Head) -> Result<u64, BundleFault>
     ensures judged { result ≡ row.of_major major head }
     ensures lasts { IfErr result (λ fault. IsTrue (lasts fault)) }
@@ -44,6 +47,7 @@ fn of_major(major: u8, head: Head) -> Result<u64, BundleFault>
 /// The value of an unsigned integer.
 ///
 /// The fault of another item is `WrongKind`.
+#[inline(always)]
 #[tactic(auto, unfolding(crate::specs::Rows::unsigned))]
 pub fn unsigned(head: Head) -> Result<u64, BundleFault>
     ensures judged { result ≡ row.unsigned head }
@@ -55,6 +59,7 @@ pub fn unsigned(head: Head) -> Result<u64, BundleFault>
 /// The length of a byte string in bytes.
 ///
 /// The fault of another item is `WrongKind`.
+#[inline(always)]
 #[tactic(auto, unfolding(crate::specs::Rows::byte_string))]
 pub fn byte_string(head: Head) -> Result<u64, BundleFault>
     ensures judged { result ≡ row.byte_string head }
@@ -63,6 +68,7 @@ pub fn byte_string(head: Head) -> Result<u64, BundleFault>
     of_major(BYTE_STRING, head)
 }
 
+#[inline(always)]
 #[tactic(auto, unfolding(crate::specs::Rows::array))]
 fn array(head: Head) -> Result<u64, BundleFault>
     ensures judged { result ≡ row.array head }
@@ -74,6 +80,7 @@ fn array(head: Head) -> Result<u64, BundleFault>
 /// The number of elements of an array, which has to be two.
 ///
 /// The faults are `WrongKind` and `BadCount`, in this order.
+#[inline(always)]
 #[tactic(auto, unfolding(crate::specs::Rows::pair))]
 pub fn pair(head: Head) -> Result<u64, BundleFault>
     ensures judged { result ≡ row.pair head }
@@ -86,6 +93,7 @@ pub fn pair(head: Head) -> Result<u64, BundleFault>
 }
 
 /// Whether the head is the break of an indefinite length (RFC 8949 section 3.2.1).
+#[inline(always)]
 #[tactic(auto, unfolding(crate::specs::Rows::is_break))]
 fn is_break(head: Head) -> bool
     ensures { result ≡ row.is_break head }
@@ -96,6 +104,7 @@ fn is_break(head: Head) -> bool
 /// The number of elements of the primary block's array, 8 to 11 (RFC 9171 section 4.3.1).
 ///
 /// The faults are `WrongKind` and `BadCount`, in this order.
+#[inline(always)]
 #[tactic(auto, unfolding(crate::specs::Rows::primary_block))]
 pub fn primary_block(head: Head) -> Result<u64, BundleFault>
     ensures judged { result ≡ row.primary_block head }
@@ -110,6 +119,7 @@ pub fn primary_block(head: Head) -> Result<u64, BundleFault>
 /// The version of a bundle, which has to be 7 (RFC 9171 section 4.3.1).
 ///
 /// The faults are `WrongKind` and `BadVersion`, in this order.
+#[inline(always)]
 #[tactic(auto, unfolding(crate::specs::Rows::version))]
 pub fn version(head: Head) -> Result<u64, BundleFault>
     ensures judged { result ≡ row.version head }
@@ -122,6 +132,7 @@ pub fn version(head: Head) -> Result<u64, BundleFault>
 }
 
 /// Whether a bundle with these flags is a fragment.
+#[inline(always)]
 #[tactic(auto, unfolding(crate::specs::Rows::is_fragment))]
 pub fn is_fragment(flags: u64) -> bool
     ensures { result ≡ row.is_fragment flags }
@@ -130,6 +141,7 @@ pub fn is_fragment(flags: u64) -> bool
 }
 
 /// The check type, which is `None` for 0 (RFC 9171 section 4.2.1).
+#[inline(always)]
 #[tactic(auto, unfolding(crate::specs::Rows::check_type))]
 fn check_type(head: Head) -> Result<Option<CheckKind>, BundleFault>
     ensures judged { result ≡ row.check_type head }
@@ -144,6 +156,7 @@ fn check_type(head: Head) -> Result<Option<CheckKind>, BundleFault>
 }
 
 /// The number of elements that the check field adds to the array of its block.
+#[inline(always)]
 fn check_elements(kind: Option<CheckKind>) -> u64
     ensures { result ≡ row.check_elements kind }
 {
@@ -157,6 +170,7 @@ fn check_elements(kind: Option<CheckKind>) -> u64
 ///
 /// The faults are `WrongKind`, `BadCheckType` and `BadCount`, in this order. `BadCount` means that
 /// `count` does not fit the flags and the check type.
+#[inline(always)]
 #[tactic(auto, unfolding(crate::specs::Rows::primary_check_type))]
 pub fn primary_check_type(
     count: u64,
@@ -178,6 +192,7 @@ pub fn primary_check_type(
 /// The scheme of an endpoint ID, dtn or ipn (RFC 9171 section 4.2.5.1).
 ///
 /// The faults are `WrongKind` and `BadScheme`, in this order.
+#[inline(always)]
 #[tactic(auto, unfolding(crate::specs::Rows::scheme))]
 pub fn scheme(head: Head) -> Result<Scheme, BundleFault>
     ensures judged { result ≡ row.scheme head }
@@ -194,6 +209,7 @@ pub fn scheme(head: Head) -> Result<Scheme, BundleFault>
 ///
 /// The fault of a name of more than 1,024 bytes is `EidTooLong`, and that of another item is
 /// `BadSpecificPart`.
+#[inline(always)]
 #[tactic(auto, unfolding(crate::specs::Rows::dtn_part))]
 pub fn dtn_part(head: Head) -> Result<Option<u64>, BundleFault>
     ensures judged { result ≡ row.dtn_part head }
@@ -211,6 +227,7 @@ pub fn dtn_part(head: Head) -> Result<Option<u64>, BundleFault>
 /// The specific part of scheme ipn: the number of elements of its array, two or three.
 ///
 /// The fault of another array is `BadCount`, and that of another item is `BadSpecificPart`.
+#[inline(always)]
 #[tactic(auto, unfolding(crate::specs::Rows::ipn_part))]
 pub fn ipn_part(head: Head) -> Result<u64, BundleFault>
     ensures judged { result ≡ row.ipn_part head }
@@ -227,6 +244,7 @@ pub fn ipn_part(head: Head) -> Result<u64, BundleFault>
 ///
 /// The fault of the break is `NoPayloadLast`. The faults of other heads are `WrongKind` and
 /// `BadCount`, in this order.
+#[inline(always)]
 #[tactic(auto, unfolding(crate::specs::Rows::block))]
 pub fn block(head: Head) -> Result<u64, BundleFault>
     ensures judged { result ≡ row.block head }
@@ -244,6 +262,7 @@ pub fn block(head: Head) -> Result<u64, BundleFault>
 /// The number of a block of this type, after blocks with these numbers.
 ///
 /// The faults are `WrongKind`, `BadBlockNumber` and `RepeatedBlockNumber`, in this order.
+#[inline(always)]
 #[tactic(auto, unfolding(crate::specs::Rows::block_number))]
 pub fn block_number(block_type: u64, numbers: &[u64], head: Head) -> Result<u64, BundleFault>
     ensures judged { result ≡ row.block_number block_type numbers.now head }
@@ -263,6 +282,7 @@ pub fn block_number(block_type: u64, numbers: &[u64], head: Head) -> Result<u64,
 ///
 /// The faults are `WrongKind`, `BadCheckType` and `BadCount`, in this order. `BadCount` means that
 /// `count` does not fit the check type.
+#[inline(always)]
 #[tactic(auto, unfolding(crate::specs::Rows::block_check_type))]
 pub fn block_check_type(count: u64, head: Head) -> Result<Option<CheckKind>, BundleFault>
     ensures judged { result ≡ row.block_check_type count head }
@@ -277,6 +297,7 @@ pub fn block_check_type(count: u64, head: Head) -> Result<Option<CheckKind>, Bun
 }
 
 /// The length of a check value in bytes (RFC 9171 section 4.2.1).
+#[inline(always)]
 pub fn check_width(kind: CheckKind) -> u64
     ensures { result ≡ row.check_width kind }
 {
@@ -289,6 +310,7 @@ pub fn check_width(kind: CheckKind) -> u64
 /// The length of a check field's content in bytes, which has to be that of this kind of check.
 ///
 /// The faults are `WrongKind` and `BadCheckLength`, in this order.
+#[inline(always)]
 #[tactic(auto, unfolding(crate::specs::Rows::check_field))]
 pub fn check_field(kind: CheckKind, head: Head) -> Result<u64, BundleFault>
     ensures judged { result ≡ row.check_field kind head }
@@ -305,6 +327,7 @@ pub fn check_field(kind: CheckKind, head: Head) -> Result<u64, BundleFault>
 /// Returns true for the break after the payload block.
 ///
 /// Any other head has the fault `NoPayloadLast`.
+#[inline(always)]
 #[tactic(auto, unfolding(crate::specs::Rows::closing))]
 pub fn closing(head: Head) -> Result<bool, BundleFault>
     ensures judged { result ≡ row.closing head }

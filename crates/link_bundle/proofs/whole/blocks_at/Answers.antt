@@ -1,11 +1,9 @@
 use Rattle.std.proofs.Common.{ℕ, ◌≡◌, suc, ◌-◌, ◌<◌, List, [], ◌∷◌, ◌++◌, length, Ok, sym, ap, ◌∙◌, subst, length-append, arith}
 use Rattle.std.proofs.lemmas.Bool.{eq-eqb, ne_eqb}
 use Rattle.std.proofs.lemmas.Bool.Decides.{nat_tests}
-use Rattle.link_bundle_rows.specs.Rows.{closing}
 use Rattle.link_bundle.specs.Primary.{Primary}
 use Rattle.link_bundle.specs.Bundle.{blocks_at}
 use Rattle.link_bundle.specs.Whole.{after_heads, bundle_by}
-use Rattle.link_bundle.proofs.Heads.{row_at-accepted}
 use Rattle.link_bundle.proofs.Readings.{payload_read, next_read}
 use Rattle.link_bundle.proofs.whole.blocks_at.Goals as goal
 use Rattle.link_bundle.proofs.whole.blocks_at.Goals.{In_ok-heads}
@@ -33,11 +31,10 @@ returns-then-heads-eq-PAYLOAD_TYPE c = λ primary.
     let heads = c.in_ok-heads.heads in
     let bytes = c.args.bytes.now in
     turned (goal.at.returns-then-heads-eq-PAYLOAD_TYPE c).In_ok-heads primary
-    ∙ payload_read heads (63 - length numbers) numbers primary c.loop-numbers.start c.in_ok-heads.place c.in_ok-next.next c.in_ok-head.end c.in_ok-closing.field-0 bytes
+    ∙ payload_read heads (63 - length numbers) numbers primary c.loop-numbers.start c.in_ok-heads.place c.in_ok-next.next c.in_ok-end.end bytes
     (eq-eqb heads.block_type 1 c.if-heads-eq-PAYLOAD_TYPE.true) c.in_ok-next.ensures
-    (row_at-accepted closing bytes c.in_ok-next.next c.in_ok-head.end c.in_ok-head.head c.in_ok-closing.field-0 c.in_ok-head.ensures
-    (sym c.closing.ensures.judged ∙ c.in_ok-closing.was))
-    ∙ ap (λ (blocks : ℕ). Ok (bundle_by primary blocks (c.in_ok-heads.place, heads.size) c.in_ok-head.end))
+    c.in_ok-end.ensures
+    ∙ ap (λ (blocks : ℕ). Ok (bundle_by primary blocks (c.in_ok-heads.place, heads.size) c.in_ok-end.end))
     (sym (ap length c.push.ensures ∙ length-append numbers (heads.number ∷ [])))
 
 pub loop-numbers-preserved : goal.loop-numbers-preserved

@@ -1,6 +1,6 @@
 use Rattle.std.proofs.Common.{ℕ, ◌≡◌, ◌+◌, ◌-◌, take, drop, Ok, ap, ◌∙◌, sym, arith}
 use Rattle.link_bundle.proofs.Readings.{bytes_at-whole}
-use Rattle.link_bundle.proofs.whole.bytes_at.Goals as goal
+use Rattle.link_bundle.proofs.item.bytes_at.Goals as goal
 
 pub returns-clause-read : goal.returns-clause-read
 returns-clause-read c =
