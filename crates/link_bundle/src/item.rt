@@ -79,7 +79,7 @@ pub fn item_at(major: u8, bytes: &[u8], place: usize) -> Result<(Head, usize), B
         let value = Some(u64::from(information));
         return Ok((Head { major, value }, place + 1));
     }
-    if bytes.len() - place < LONGEST {
+    if bytes.len() < place + LONGEST {
         return Err(BundleFault::Cut);
     }
     let size = argument_size(information)?;

@@ -40,10 +40,7 @@ fn eid_at(bytes: &[u8], place: usize) -> Result<(EidView<'_>, usize), BundleFaul
     ensures read { IfOk result (λ read. eid_at bytes.now place ≡ Ok (viewed_eid read.0, read.1)) }
     ensures short { IfOk result (λ read. IsShort (viewed_eid read.0)) }
 {
-    if place > bytes.len() {
-        return Err(BundleFault::Cut);
-    }
-    if bytes.len() - place < 4 {
+    if bytes.len().saturating_sub(place) < 4 {
         return Err(BundleFault::Cut);
     }
     match BigEndian::read_u32(&bytes[place..]) >> 8 {

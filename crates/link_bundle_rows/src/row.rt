@@ -1,7 +1,8 @@
 //! The rows of the tables in docs/FORMATS.md, each from a head to its value or its first fault.
 //!
 //! They are inlined, since a result passes through memory at a call, and a row is a few compares.
-ghost use Rattle.std.specs.Prelude.{◌≡◌, ◌≤◌, IfOk, IfErr, IfSome, IsTrue};
+ghost use Rattle.std.specs.Prelude.{◌≡◌, ◌≤◌, ◌==◌, IfOk, IfErr, IfSome, IsTrue};
+ghost use Rattle.std.specs.List.{list_any};
 ghost use Rattle.link_bundle_types.specs.Faults.{lasts};
 ghost use Rattle.link_bundle_rows.specs.Rows as row;
 
@@ -259,6 +260,20 @@ pub fn block(head: Head) -> Result<u64, BundleFault>
     }
 }
 
+/// Whether a number is one of these.
+// A loop, since `contains` is a call: for a few numbers it takes longer than the comparisons.
+#[inline(always)]
+fn is_among(number: u64, numbers: &[u64]) -> bool
+    ensures { result ≡ list_any (λ earlier. earlier == number) numbers.now }
+{
+    for &earlier in numbers {
+        if earlier == number {
+            return true;
+        }
+    }
+    false
+}
+
 /// The number of a block of this type, after blocks with these numbers.
 ///
 /// The faults are `WrongKind`, `BadBlockNumber` and `RepeatedBlockNumber`, in this order.
@@ -272,7 +287,7 @@ pub fn block_number(block_type: u64, numbers: &[u64], head: Head) -> Result<u64,
     if number == 0 || (number == PAYLOAD_NUMBER) != (block_type == PAYLOAD_TYPE) {
         return Err(BundleFault::BadBlockNumber);
     }
-    if numbers.contains(&number) {
+    if is_among(number, numbers) {
         return Err(BundleFault::RepeatedBlockNumber);
     }
     Ok(number)
