@@ -82,6 +82,12 @@ static const uint8_t named[] = {
     '/',  '/',  'a',  0x82, 0x01, 0x00, 0x82, 0x05, 0x06, 0x07, 0x85, 0x01, 0x01, 0x00, 0x00,
     0x40, 0xff};
 
+/* The first 3 of 9 payload bytes of a bundle from dtn:none to ipn:2.1, as a fragment. */
+static const uint8_t fragment[] = {
+    0x9f, 0x8a, 0x07, 0x01, 0x00, 0x82, 0x02, 0x82, 0x02, 0x01, 0x82, 0x01, 0x00, 0x82, 0x01,
+    0x00, 0x82, 0x05, 0x06, 0x07, 0x02, 0x09, 0x85, 0x01, 0x01, 0x00, 0x00, 0x43, 'h',  'e',
+    'l',  0xff};
+
 /* A contact header, a SESS_INIT, and the bundle in one segment. */
 static const uint8_t recording[] = {
     0x64, 0x74, 0x6e, 0x21, 0x04, 0x00, 0x07, 0x00, 0x3c, 0x00, 0x00, 0x00, 0x00, 0x00, 0x01,
@@ -129,6 +135,9 @@ static void infos(void) {
   CHECK(info.destination.kind == TCPCLKIT_EID_DTN && info.destination.name_length == 4);
   CHECK(begins(to, "//bc") && info.source.name_length == 3 && begins(from, "//a"));
   CHECK(info.time == 5 && info.sequence == 6 && info.lifetime == 7 && info.payload_length == 0);
+  CHECK(tcpclkit_bundle_info(fragment, sizeof fragment, NULL, 0, NULL, 0, &info) == TCPCLKIT_OK);
+  CHECK(info.flags == 1 && info.source.kind == TCPCLKIT_EID_DTN_NONE && info.is_fragment == 1);
+  CHECK(info.fragment_offset == 2 && info.fragment_total == 9 && info.payload_length == 3);
   to[2] = from[2] = 'x';
   CHECK(tcpclkit_bundle_info(named, sizeof named, to, 2, from, 3, &info) == TCPCLKIT_TOO_SMALL);
   CHECK(info.destination.name_length == 4 && begins(to, "//x") && begins(from, "//a"));
@@ -268,22 +277,47 @@ static void messages(void) {
 }
 
 static void items(void) {
+  static const uint8_t other[] = {1, 0, 2, 0, 3, 'a', 'b', 'c'};
   struct tcpclkit_message message;
   struct tcpclkit_item item;
   uint64_t end;
   CHECK(tcpclkit_message(announcing, sizeof announcing, 0, &message) == TCPCLKIT_DATA_TRUNCATED);
   CHECK(message.items_offset == 14 && message.items_length == 13 && message.data_length == 3);
+  CHECK(message.flags == TCPCLKIT_SEGMENT_START);
   end = message.items_offset + message.items_length;
   CHECK(tcpclkit_item(announcing, sizeof announcing, message.items_offset, end, &item) ==
         TCPCLKIT_OK);
   CHECK(item.flags == 1 && item.type == 1 && item.value_offset == 19 && item.value_length == 8);
   CHECK(item.has_total == 1 && item.total == 256 && item.next == end);
   CHECK(tcpclkit_item(announcing, sizeof announcing, end, end, &item) == TCPCLKIT_END);
+  CHECK(tcpclkit_item(other, sizeof other, 0, sizeof other, &item) == TCPCLKIT_OK);
+  CHECK(item.flags == 1 && item.type == 2 && item.value_length == 3 && item.has_total == 0);
   CHECK(tcpclkit_item(announcing, sizeof announcing, 14, 26, &item) == TCPCLKIT_FAULT);
   CHECK(item.fault.code == TCPCLKIT_WIRE_ITEMS_OVERRUN && item.fault.offset == 14);
   CHECK(tcpclkit_item(announcing, sizeof announcing, 15, 14, &item) == TCPCLKIT_RANGE);
   CHECK(tcpclkit_item(announcing, sizeof announcing, 14, 36, &item) == TCPCLKIT_RANGE);
   CHECK(tcpclkit_item(NULL, 0, 0, 0, &item) == TCPCLKIT_END);
+}
+
+/* A message of each kind that `messages` does not have, and a further segment of a transfer. */
+static void kinds(void) {
+  static const uint8_t ack[] = {2, 3, 0, 0, 0, 0, 0, 0, 0, 4, 0, 0, 0, 0, 0, 0, 0, 5};
+  static const uint8_t refuse[] = {3, 4, 0, 0, 0, 0, 0, 0, 0, 5}, keepalive[] = {4};
+  static const uint8_t term[] = {5, 1, 4}, reject[] = {6, 2, 0x16};
+  static const uint8_t more[] = {1, 1, 0, 0, 0, 0, 0, 0, 0, 9, 0, 0, 0, 0, 0, 0, 0, 0};
+  struct tcpclkit_message it;
+  CHECK(tcpclkit_message(ack, sizeof ack, 0, &it) == TCPCLKIT_OK && it.kind == TCPCLKIT_XFER_ACK);
+  CHECK(it.flags == 3 && it.id == 4 && it.acknowledged == 5 && it.next == sizeof ack);
+  CHECK(tcpclkit_message(refuse, sizeof refuse, 0, &it) == TCPCLKIT_OK);
+  CHECK(it.kind == TCPCLKIT_XFER_REFUSE && it.reason == 4 && it.id == 5);
+  CHECK(tcpclkit_message(keepalive, 1, 0, &it) == TCPCLKIT_OK && it.kind == TCPCLKIT_KEEPALIVE);
+  CHECK(it.data_offset == 1 && it.data_length == 0 && it.next == 1);
+  CHECK(tcpclkit_message(term, sizeof term, 0, &it) == TCPCLKIT_OK);
+  CHECK(it.kind == TCPCLKIT_SESS_TERM && it.flags == 1 && it.reason == 4);
+  CHECK(tcpclkit_message(reject, sizeof reject, 0, &it) == TCPCLKIT_OK);
+  CHECK(it.kind == TCPCLKIT_MSG_REJECT && it.reason == 2 && it.header == 0x16);
+  CHECK(tcpclkit_message(more, sizeof more, 0, &it) == TCPCLKIT_OK && it.id == 9);
+  CHECK(it.flags == TCPCLKIT_SEGMENT_END && it.items_length == 0 && it.next == sizeof more);
 }
 
 /* A node ID without bytes, and lists without items, are where the caller may ask for them. */
@@ -317,10 +351,16 @@ static void orders(void) {
   CHECK(tcpclkit_order(&order, TCPCLKIT_XFER_SEGMENT, 2, 7, &turn) == TCPCLKIT_OK);
   CHECK(turn.turn == TCPCLKIT_TURN_BEGIN && turn.last == 0 && turn.abandons == 0);
   CHECK(order.is_open == 1 && order.transfer == 7);
+  CHECK(tcpclkit_order(&order, TCPCLKIT_XFER_SEGMENT, 2, 7, &turn) == TCPCLKIT_FAULT);
+  CHECK(turn.fault == TCPCLKIT_ORDER_START_REPEATS_OPEN_ID);
+  CHECK(tcpclkit_order(&order, TCPCLKIT_XFER_SEGMENT, 0, 7, &turn) == TCPCLKIT_OK);
+  CHECK(turn.turn == TCPCLKIT_TURN_CONTINUE && turn.last == 0);
   CHECK(tcpclkit_order(&order, TCPCLKIT_XFER_SEGMENT, 0, 8, &turn) == TCPCLKIT_FAULT);
   CHECK(turn.fault == TCPCLKIT_ORDER_NO_SUCH_OPEN_TRANSFER && order.transfer == 7);
   CHECK(tcpclkit_order(&order, TCPCLKIT_XFER_SEGMENT, 3, 8, &turn) == TCPCLKIT_OK);
   CHECK(turn.abandons == 1 && turn.abandoned == 7 && turn.last == 1 && order.is_open == 0);
+  CHECK(tcpclkit_order(&order, TCPCLKIT_XFER_SEGMENT, 3, 9, &turn) == TCPCLKIT_OK);
+  CHECK(turn.turn == TCPCLKIT_TURN_BEGIN && turn.last == 1 && turn.abandons == 0);
   CHECK(tcpclkit_order(&order, TCPCLKIT_SESS_TERM, 0, 0, &turn) == TCPCLKIT_OK);
   CHECK(tcpclkit_order(&order, TCPCLKIT_XFER_SEGMENT, 2, 9, &turn) == TCPCLKIT_FAULT);
   CHECK(turn.fault == TCPCLKIT_ORDER_START_AFTER_SESS_TERM);
@@ -362,6 +402,54 @@ static void texts(void) {
   CHECK(tcpclkit_eid_text(&eid, NULL, text, 4, &written) == TCPCLKIT_TOO_SMALL && written == 4);
   eid.kind = 4;
   CHECK(tcpclkit_eid_text(&eid, NULL, text, sizeof text, &written) == TCPCLKIT_RANGE);
+}
+
+/* Each code by its name in the header, a number that it has, and the words of docs/FORMATS.md. */
+static const struct {
+  uint64_t code, number;
+  const char *text;
+} codes[] = {
+    {TCPCLKIT_WIRE_TRUNCATED, 0, "truncated"},
+    {TCPCLKIT_WIRE_BAD_MAGIC, 0, "not a contact header"},
+    {TCPCLKIT_WIRE_BAD_VERSION, 200, "unsupported version 200"},
+    {TCPCLKIT_WIRE_UNKNOWN_TYPE, 200, "unknown message type c8"},
+    {TCPCLKIT_WIRE_NODE_ID_TOO_LONG, 2000, "node id too long: 2000"},
+    {TCPCLKIT_WIRE_LIST_TOO_LONG, 70000, "extension list too long: 70000"},
+    {TCPCLKIT_WIRE_TOO_MANY_ITEMS, 0, "too many extension items"},
+    {TCPCLKIT_WIRE_ITEMS_OVERRUN, 0, "extension items overrun their list"},
+    {TCPCLKIT_ORDER_SECOND_SESS_INIT, 0, "second session initiation"},
+    {TCPCLKIT_ORDER_SEGMENT_BEFORE_SESS_INIT, 0, "segment before session initiation"},
+    {TCPCLKIT_ORDER_NO_SUCH_OPEN_TRANSFER, 0, "no such open transfer"},
+    {TCPCLKIT_ORDER_START_REPEATS_OPEN_ID, 0, "start repeats the open transfer"},
+    {TCPCLKIT_ORDER_START_AFTER_SESS_TERM, 0, "start after session termination"},
+    {TCPCLKIT_BUNDLE_CUT, 0, "B1 input ends inside a bundle"},
+    {TCPCLKIT_BUNDLE_TRAILING, 0, "B2 bytes after the bundle"},
+    {TCPCLKIT_BUNDLE_NOT_A_BUNDLE, 0, "B3 not a bundle"},
+    {TCPCLKIT_BUNDLE_BAD_HEAD, 0, "B4 ill-formed head"},
+    {TCPCLKIT_BUNDLE_WRONG_KIND, 0, "B5 wrong kind of item"},
+    {TCPCLKIT_BUNDLE_BAD_COUNT, 0, "B6 wrong number of elements"},
+    {TCPCLKIT_BUNDLE_BAD_VERSION, 0, "B7 unsupported bundle version"},
+    {TCPCLKIT_BUNDLE_BAD_CHECK_TYPE, 0, "B8 unknown check type"},
+    {TCPCLKIT_BUNDLE_BAD_SCHEME, 0, "B9 unknown endpoint scheme"},
+    {TCPCLKIT_BUNDLE_BAD_SPECIFIC_PART, 0, "B10 wrong scheme-specific part"},
+    {TCPCLKIT_BUNDLE_EID_TOO_LONG, 0, "B11 endpoint id too long"},
+    {TCPCLKIT_BUNDLE_BAD_CHECK_LENGTH, 0, "B12 wrong check length"},
+    {TCPCLKIT_BUNDLE_CHECK_DIFFERS, 0, "B13 check differs"},
+    {TCPCLKIT_BUNDLE_BAD_BLOCK_NUMBER, 0, "B14 wrong block number"},
+    {TCPCLKIT_BUNDLE_REPEATED_BLOCK_NUMBER, 0, "B15 repeated block number"},
+    {TCPCLKIT_BUNDLE_TOO_MANY_BLOCKS, 0, "B16 too many blocks"},
+    {TCPCLKIT_BUNDLE_NO_PAYLOAD_LAST, 0, "B17 no payload block at the end"},
+};
+
+static void names_of_codes(void) {
+  uint8_t text[64];
+  uint64_t written;
+  size_t at;
+  for (at = 0; at < sizeof codes / sizeof *codes; at++) {
+    CHECK(tcpclkit_fault_text(codes[at].code, codes[at].number, text, sizeof text, &written) ==
+          TCPCLKIT_OK);
+    CHECK(written == strlen(codes[at].text) && begins(text, codes[at].text));
+  }
 }
 
 /* The room that is enough for every text, by the comments of the header. */
@@ -455,10 +543,15 @@ static uint32_t pack(const struct tcpclkit_pack_options *options, size_t node_le
 }
 
 static void packs(void) {
-  const struct tcpclkit_pack_options usual = {60, 65536, 1048576, 65536, 1048576, 0, 0};
-  struct tcpclkit_pack_options options = usual;
+  struct tcpclkit_pack_options usual = {0, 0, 0, 0, 0, 0, 0}, options;
   struct tcpclkit_run run;
   uint8_t output[sizeof recording + 3];
+  usual.keepalive = 60;
+  usual.segment_mru = 65536;
+  usual.transfer_mru = 1048576;
+  usual.peer_segment = 65536;
+  usual.peer_transfer = 1048576;
+  options = usual;
   CHECK(pack(&options, 7, output, sizeof output, &run) == TCPCLKIT_OK);
   CHECK(run.exit_status == 0 && run.output_length == sizeof recording);
   CHECK(memcmp(output, recording, sizeof recording) == 0);
@@ -749,9 +842,11 @@ int main(void) {
   scans();
   messages();
   items();
+  kinds();
   empty_parts();
   orders();
   texts();
+  names_of_codes();
   longest_texts();
   lists();
   unpacks();
