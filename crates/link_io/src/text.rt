@@ -3,7 +3,7 @@
 ghost use Rattle.std.specs.Prelude.{◌≡◌, ℕ, ◌+◌, ◌≤◌, List, ◌++◌, length, take, drop};
 
 /// The greatest length of a text, in bytes.
-pub const TEXT_MAX: usize = 8192;
+pub const TEXT_MAX: usize = 9216;
 
 /// A text that can be made in a page.
 pub trait Text {

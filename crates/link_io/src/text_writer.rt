@@ -21,7 +21,7 @@ pub struct TextWriter<D> {
     page: Vec<u8>,
     /// The number of bytes of the page that wait to be handed on.
     end: usize,
-    ghost room: { 8192 ≤ length page.items },
+    ghost room: { 9216 ≤ length page.items },
     ghost within: { end ≤ length page.items },
 }
 

@@ -8,9 +8,10 @@ use crate::options::PackOptions;
 use link_bundle::BundleScan;
 use link_bundle_types::State;
 use link_cbor::Piecewise;
-use link_report::{Fault, Line, PackedView, packed_view_line};
+use link_report::{Fault, PackedText, PackedView};
+use link_run::Writers;
 use link_transfer::Cutter;
-use link_wire::INPUT_LIMIT;
+use link_wire::{INPUT_LIMIT, IoFault, OutDevice};
 use std::alloc::{AllocError, Global};
 
 /// The most bytes of data in a segment, whatever the peer takes.
@@ -68,6 +69,7 @@ impl Packer {
     ghost use Rattle.link_bundle.specs.Scan.{HasScanned, scan_size};
     ghost use Rattle.link_bundle_types.specs.declared.info.BundleInfo.{BundleInfo};
     ghost use Rattle.link_report.specs.Fault.{fault_text};
+    ghost use Rattle.link_run.specs.Writers.{GivesTexts, on_report};
     ghost use Rattle.link_transfer.specs.Cutter.{IsCutterAt, cut_waits, wanted_by};
     ghost use Rattle.link_transfer.specs.Cutting.{Cutting, with_bytes};
     ghost use Rattle.link_pack.specs.Bundles.{Packed};
@@ -168,24 +170,31 @@ impl Packer {
         };
     }
 
-    /// Writes the line of the bundle, which is whole, into an empty line.
-    pub fn put_line(&self, line: &mut Line)
-        requires { line.old.items ≡ [] }
+    /// Writes the line of the bundle, which is whole, to the report.
+    pub fn report<W: OutDevice, E: OutDevice>(
+        &self,
+        writers: &mut Writers<W, E>,
+    ) -> Result<(), IoFault>
         ensures { (bytes : List ℕ) (info : BundleInfo) → HasScanned self.now.scan bytes
             → verdict bytes ≡ Ok info
-            → line.new.items ≡ line_of self.now.options self.now.number
-            (record { bytes = bytes; info = info }) }
+            → GivesTexts W.state E.state writers.old writers.new
+            (on_report (line_of self.now.options self.now.number
+            (record { bytes = bytes; info = info }))) result }
     {
-        if let Ok(info) = self.scan.view() {
-            let length = self.scan.count();
-            let entry = PackedView {
+        let info = match self.scan.view() {
+            Ok(info) => info,
+            Err(_) => return Ok(()),
+        };
+        let length = self.scan.count();
+        let line = PackedText {
+            entry: PackedView {
                 number: self.number,
                 segments: length.div_ceil(segment(&self.options)),
                 length,
                 info,
-            };
-            packed_view_line(line, &entry);
-        }
+            },
+        };
+        writers.report_text(&line)
     }
 
     /// Begins the next bundle.

@@ -190,9 +190,7 @@ fn end_bundle<W: OutDevice, E: OutDevice>(
     ensures options { packer.new.options ≡ packer.old.options }
     ensures cutter { packer.new.cutter ≡ packer.old.cutter }
 {
-    writers.clear_line();
-    packer.put_line(&mut writers.line);
-    writers.report_line()?;
+    packer.report(writers)?;
     packer.next();
     Ok(())
 }

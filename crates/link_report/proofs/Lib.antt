@@ -1,7 +1,6 @@
 pub mod Faults
 mod Digits
 mod Lengths
-mod Escapes
 mod Segments
 mod Pages
 mod Pairs

@@ -8,3 +8,4 @@ pub mod Judgement
 pub mod Transfer
 pub mod Packed
 pub mod Fault
+pub mod ShortNames

@@ -1,90 +1,157 @@
 //! The text of a bundle in a line (RFC 9171 section 4.3.1), and the texts of endpoint IDs.
 
-ghost use Rattle.std.specs.Prelude.{◌≡◌, ◌+◌, ◌≤◌, ◌++◌, length};
+ghost use Rattle.std.specs.Prelude.{◌≡◌, ◌+◌, ◌≤◌, ◌++◌, length, take, codes};
 ghost use Rattle.arrayvec.specs.ArrayVec.{array_vec_len};
 ghost use Rattle.link_bundle_types.specs.EidView.{viewed_eid};
 ghost use Rattle.link_bundle_types.specs.BundleView.{viewed_info};
 ghost use Rattle.link_bundle_types.specs.ShortNames.{IsShort, HasShortNames};
 ghost use Rattle.link_report.specs.Eid.{eid_text};
 ghost use Rattle.link_report.specs.Identity.{fragment_text, origin_text, identity_text};
+ghost use Rattle.link_report.specs.Text.{escaped, number_text};
 
-use crate::put::{LINE_MAX, Line, put_escaped, put_number, put_text};
-use link_bundle_types::{BundleView, EidView};
+use crate::page::{write_bytes, write_escaped, write_number};
+use crate::put::{LINE_MAX, Line, put_bytes};
+use link_bundle_types::{BundleView, EID_LIMIT, EidView};
+
+/// The greatest length of an endpoint ID's text: 4 bytes, and a name with each byte escaped.
+const EID_MAX: usize = 4 + 4 * EID_LIMIT;
+
+/// The greatest length of a fragment's text: 11 bytes and two numbers.
+const FRAGMENT_MAX: usize = 51;
+
+/// The greatest length of a bundle's text in bytes.
+///
+/// It is two endpoint IDs, 45 bytes, three numbers and the text of a fragment.
+pub(crate) const IDENTITY_MAX: usize = 2 * EID_MAX + 105 + FRAGMENT_MAX;
+
+/// Writes an endpoint ID that is a name.
+#[cold]
+#[inline(never)]
+fn write_name(page: &mut [u8], at: usize, name: &[u8]) -> usize
+    requires short { length name.now ≤ EID_LIMIT }
+    requires room { at + EID_MAX ≤ length page.old }
+    ensures text { take result page.new ≡ take at page.old ++ codes "dtn:" ++ escaped name.now }
+    ensures fits { result ≤ at + EID_MAX }
+    ensures size { length page.new ≡ length page.old }
+{
+    let at = write_bytes(page, at, *b"dtn:");
+    write_escaped(page, at, name)
+}
+
+/// Writes an endpoint ID of three numbers.
+#[cold]
+#[inline(never)]
+fn write_three(page: &mut [u8], at: usize, allocator: u64, node: u64, service: u64) -> usize
+    requires { at + EID_MAX ≤ length page.old }
+    ensures text { take result page.new ≡ take at page.old ++ number_text (codes "ipn:") allocator
+        ++ number_text (codes ".") node ++ number_text (codes ".") service }
+    ensures fits { result ≤ at + EID_MAX }
+    ensures size { length page.new ≡ length page.old }
+{
+    let at = write_number(page, at, *b"ipn:", allocator);
+    let at = write_number(page, at, *b".", node);
+    write_number(page, at, *b".", service)
+}
+
+/// Writes an endpoint ID.
+#[tactic(auto, unfolding(crate::specs::Eid::eid_text))]
+#[inline(always)]
+fn write_eid(page: &mut [u8], at: usize, eid: &EidView<'_>) -> usize
+    requires short { IsShort (viewed_eid eid.now) }
+    requires room { at + EID_MAX ≤ length page.old }
+    ensures text { take result page.new ≡ take at page.old ++ eid_text (viewed_eid eid.now) }
+    ensures fits { result ≤ at + EID_MAX }
+    ensures size { length page.new ≡ length page.old }
+{
+    match *eid {
+        EidView::DtnNone => write_bytes(page, at, *b"dtn:none"),
+        EidView::Dtn(name) => write_name(page, at, name),
+        EidView::Ipn(node, service) => {
+            let at = write_number(page, at, *b"ipn:", node);
+            write_number(page, at, *b".", service)
+        }
+        EidView::Ipn3(allocator, node, service) => {
+            write_three(page, at, allocator, node, service)
+        }
+    }
+}
+
+/// Writes the fragment offset and the total length of a fragment.
+#[cold]
+#[inline(never)]
+fn write_part(page: &mut [u8], at: usize, offset: u64, total: u64) -> usize
+    requires { at + FRAGMENT_MAX ≤ length page.old }
+    ensures text { take result page.new ≡ take at page.old
+        ++ number_text (codes " fragment=") offset ++ number_text (codes "/") total }
+    ensures fits { result ≤ at + FRAGMENT_MAX }
+    ensures size { length page.new ≡ length page.old }
+{
+    let at = write_number(page, at, *b" fragment=", offset);
+    write_number(page, at, *b"/", total)
+}
+
+/// Writes the fragment offset and the total length, or nothing if the bundle is no fragment.
+#[tactic(auto, unfolding(crate::specs::Identity::fragment_text))]
+#[inline(always)]
+fn write_fragment(page: &mut [u8], at: usize, fragment: Option<(u64, u64)>) -> usize
+    requires { at + FRAGMENT_MAX ≤ length page.old }
+    ensures text { take result page.new ≡ take at page.old ++ fragment_text fragment }
+    ensures fits { result ≤ at + FRAGMENT_MAX }
+    ensures size { length page.new ≡ length page.old }
+{
+    match fragment {
+        Some((offset, total)) => write_part(page, at, offset, total),
+        None => at,
+    }
+}
+
+/// Writes a source and a creation timestamp.
+///
+/// It takes at most 23 bytes, an endpoint ID and two numbers.
+#[tactic(auto, unfolding(crate::specs::Identity::origin_text))]
+#[inline(always)]
+fn write_origin(page: &mut [u8], at: usize, source: &EidView<'_>, time: u64, sequence: u64) -> usize
+    requires short { IsShort (viewed_eid source.now) }
+    requires room { at + EID_MAX + 63 ≤ length page.old }
+    ensures text { take result page.new
+        ≡ take at page.old ++ origin_text (viewed_eid source.now) time sequence }
+    ensures fits { result ≤ at + EID_MAX + 63 }
+    ensures size { length page.new ≡ length page.old }
+{
+    let at = write_bytes(page, at, *b"source=");
+    let at = write_eid(page, at, source);
+    let at = write_number(page, at, *b" time=", time);
+    write_number(page, at, *b" sequence=", sequence)
+}
+
+/// Writes the text of a bundle.
+#[tactic(auto, unfolding(crate::specs::Identity::identity_text))]
+#[inline(always)]
+pub(crate) fn write_identity(page: &mut [u8], at: usize, info: &BundleView<'_>) -> usize
+    requires short { HasShortNames (viewed_info info.now) }
+    requires room { at + IDENTITY_MAX ≤ length page.old }
+    ensures text { take result page.new
+        ≡ take at page.old ++ identity_text (viewed_info info.now) }
+    ensures fits { result ≤ at + IDENTITY_MAX }
+    ensures size { length page.new ≡ length page.old }
+{
+    let at = write_origin(page, at, &info.source, info.time, info.sequence);
+    let at = write_bytes(page, at, *b" destination=");
+    let at = write_eid(page, at, &info.destination);
+    let at = write_number(page, at, *b" payload=", info.payload);
+    write_fragment(page, at, info.fragment)
+}
 
 /// Appends an endpoint ID.
 ///
 /// It takes at most 4 bytes and an escaped name, or 6 bytes and three numbers.
-#[tactic(auto, using(crate::proofs::Escapes::length_of_escaped), unfolding(crate::specs::Eid::eid_text))]
 pub fn put_eid(line: &mut Line, eid: &EidView<'_>)
     requires short { IsShort (viewed_eid eid.now) }
     requires room { array_vec_len line.old + 4100 ≤ LINE_MAX }
     ensures items { line.new.items ≡ line.old.items ++ eid_text (viewed_eid eid.now) }
     ensures len { array_vec_len line.new ≤ array_vec_len line.old + 4100 }
 {
-    match *eid {
-        EidView::DtnNone => put_text(line, "dtn:none"),
-        EidView::Dtn(name) => {
-            put_text(line, "dtn:");
-            put_escaped(line, name);
-        }
-        EidView::Ipn(node, service) => {
-            put_number(line, "ipn:", node);
-            put_number(line, ".", service);
-        }
-        EidView::Ipn3(allocator, node, service) => {
-            put_number(line, "ipn:", allocator);
-            put_number(line, ".", node);
-            put_number(line, ".", service);
-        }
-    }
-}
-
-/// Appends the fragment offset and the total length, or nothing if the bundle is no fragment.
-///
-/// It takes at most 11 bytes and two numbers.
-#[tactic(auto, unfolding(crate::specs::Identity::fragment_text))]
-fn put_fragment(line: &mut Line, fragment: Option<(u64, u64)>)
-    requires { array_vec_len line.old + 51 ≤ LINE_MAX }
-    ensures items { line.new.items ≡ line.old.items ++ fragment_text fragment }
-    ensures len { array_vec_len line.new ≤ array_vec_len line.old + 51 }
-{
-    if let Some((offset, total)) = fragment {
-        put_number(line, " fragment=", offset);
-        put_number(line, "/", total);
-    }
-}
-
-/// Appends a source and a creation timestamp.
-///
-/// It takes at most 23 bytes, an endpoint ID and two numbers.
-#[tactic(auto, unfolding(crate::specs::Identity::origin_text))]
-fn put_origin(line: &mut Line, source: &EidView<'_>, time: u64, sequence: u64)
-    requires short { IsShort (viewed_eid source.now) }
-    requires room { array_vec_len line.old + 4163 ≤ LINE_MAX }
-    ensures items { line.new.items
-        ≡ line.old.items ++ origin_text (viewed_eid source.now) time sequence }
-    ensures len { array_vec_len line.new ≤ array_vec_len line.old + 4163 }
-{
-    put_text(line, "source=");
-    put_eid(line, source);
-    put_number(line, " time=", time);
-    put_number(line, " sequence=", sequence);
-}
-
-/// Appends the text of a bundle.
-///
-/// It takes a source and a creation timestamp, and after them at most 22 bytes, an endpoint ID, a
-/// number and the text of a fragment.
-#[tactic(auto, unfolding(crate::specs::Identity::identity_text))]
-pub(crate) fn put_identity(line: &mut Line, info: &BundleView<'_>)
-    requires short { HasShortNames (viewed_info info.now) }
-    requires room { array_vec_len line.old + 8356 ≤ LINE_MAX }
-    ensures items { line.new.items ≡ line.old.items ++ identity_text (viewed_info info.now) }
-    ensures len { array_vec_len line.new ≤ array_vec_len line.old + 8356 }
-{
-    put_origin(line, &info.source, info.time, info.sequence);
-    put_text(line, " destination=");
-    put_eid(line, &info.destination);
-    put_number(line, " payload=", info.payload);
-    put_fragment(line, info.fragment);
+    let mut page = [0; EID_MAX];
+    let end = write_eid(&mut page, 0, eid);
+    put_bytes(line, &page[..end]);
 }

@@ -1,16 +1,20 @@
 //! The judgement on a transfer's data, and its text in the line of the transfer.
 
-ghost use Rattle.std.specs.Prelude.{IfOk, ◌≡◌, ◌+◌, ◌≤◌, ◌<◌, ◌++◌};
-ghost use Rattle.arrayvec.specs.ArrayVec.{array_vec_len};
+ghost use Rattle.std.specs.Prelude.{IfOk, ◌≡◌, ◌+◌, ◌≤◌, ◌++◌, length, take, codes};
 ghost use Rattle.link_bundle_types.specs.BundleView.{viewed_info, viewed_verdict};
 ghost use Rattle.link_bundle_types.specs.ShortNames.{HasShortNames};
+ghost use Rattle.link_report.specs.BundleFault.{code_text};
+ghost use Rattle.link_report.specs.Text.{number_text};
 ghost use Rattle.link_report.specs.Judgement.{judged, judgement_text, viewed_judgement, IsShortJudgement};
 
 use crate::bundle_fault::code_of;
-use crate::identity::put_identity;
-use crate::put::{LINE_MAX, Line, put_number, put_text};
+use crate::identity::{IDENTITY_MAX, write_identity};
+use crate::page::{write_bytes, write_number, write_text};
 use link_bundle_types::{BundleFault, BundleInfo, BundleView};
 use link_transfer::Announced;
+
+/// The greatest length of a judgement's text in bytes: 5, and the text of a bundle.
+pub(crate) const JUDGEMENT_MAX: usize = 5 + IDENTITY_MAX;
 
 /// The judgement on the data of a transfer.
 #[derive(Debug, PartialEq, Eq, Drop)]
@@ -109,31 +113,44 @@ pub fn judge_view<'a>(
     }
 }
 
-/// Appends a judgement.
+/// Writes the fault of data that are no bundle.
 ///
-/// It takes at most 5 bytes and the text of a bundle.
+/// It takes at most 13 bytes and a number.
+#[cold]
+#[inline(never)]
+fn write_bad(page: &mut [u8], at: usize, fault: BundleFault, offset: u64) -> usize
+    requires { at + JUDGEMENT_MAX ≤ length page.old }
+    ensures text { take result page.new ≡ take at page.old
+        ++ codes "bad=" ++ code_text fault ++ number_text (codes " byte=") offset }
+    ensures fits { result ≤ at + JUDGEMENT_MAX }
+    ensures size { length page.new ≡ length page.old }
+{
+    let at = write_bytes(page, at, *b"bad=");
+    let at = write_text(page, at, code_of(fault));
+    write_number(page, at, *b" byte=", offset)
+}
+
+/// Writes a judgement.
 #[tactic(auto, unfolding(crate::specs::Judgement::judgement_text))]
-pub(crate) fn put_judgement(line: &mut Line, judgement: &JudgementView<'_>)
+#[inline(always)]
+pub(crate) fn write_judgement(page: &mut [u8], at: usize, judgement: &JudgementView<'_>) -> usize
     requires short { IsShortJudgement (viewed_judgement judgement.now) }
-    requires room { array_vec_len line.old + 8361 ≤ LINE_MAX }
-    ensures items { line.new.items
-        ≡ line.old.items ++ judgement_text (viewed_judgement judgement.now) }
-    ensures len { array_vec_len line.new ≤ array_vec_len line.old + 8361 }
+    requires room { at + JUDGEMENT_MAX ≤ length page.old }
+    ensures text { take result page.new
+        ≡ take at page.old ++ judgement_text (viewed_judgement judgement.now) }
+    ensures fits { result ≤ at + JUDGEMENT_MAX }
+    ensures size { length page.new ≡ length page.old }
 {
     match judgement {
-        JudgementView::Abandoned => put_text(line, "abandoned"),
-        JudgementView::BadLengthItem => put_text(line, "bad-length-item"),
+        JudgementView::Abandoned => write_bytes(page, at, *b"abandoned"),
+        JudgementView::BadLengthItem => write_bytes(page, at, *b"bad-length-item"),
         JudgementView::LengthDiffers(announced) => {
-            put_number(line, "length-differs announced=", *announced);
+            write_number(page, at, *b"length-differs announced=", *announced)
         }
-        JudgementView::Bad(fault, offset) => {
-            put_text(line, "bad=");
-            put_text(line, code_of(*fault));
-            put_number(line, " byte=", *offset);
-        }
+        JudgementView::Bad(fault, offset) => write_bad(page, at, *fault, *offset),
         JudgementView::Good(info) => {
-            put_text(line, "good ");
-            put_identity(line, info);
+            let at = write_bytes(page, at, *b"good ");
+            write_identity(page, at, info)
         }
     }
 }

@@ -16,8 +16,9 @@
 //! ```
 //!
 //! [`transfer_view_line`] and [`packed_view_line`] make a line from references. [`transfer_line`]
-//! and [`packed_line`] make the same line from values. [`MessageText`] is the line that
-//! [`message_line`] makes, and is written directly into the output.
+//! and [`packed_line`] make the same line from values. [`MessageText`], [`TransferText`] and
+//! [`PackedText`] are the same lines as texts, which are written directly into the output or the
+//! report.
 #![tactic(auto)]
 
 mod bundle_fault;
@@ -42,6 +43,6 @@ pub use identity::put_eid;
 pub use judgement::{Judgement, JudgementView, judge, judge_view};
 pub use kept_digits::KeptDigits;
 pub use message::{MessageText, contact_line, message_line};
-pub use packed::{PackedEntry, PackedView, packed_line, packed_view_line};
-pub use put::{LINE_MAX, Line, put_decimal, put_escaped, put_hex2, put_hex4, put_text};
-pub use transfer::{TransferEntry, TransferView, transfer_line, transfer_view_line};
+pub use packed::{PackedEntry, PackedText, PackedView, packed_line, packed_view_line};
+pub use put::{LINE_MAX, Line, put_text};
+pub use transfer::{TransferEntry, TransferText, TransferView, transfer_line, transfer_view_line};

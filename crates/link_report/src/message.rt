@@ -5,18 +5,15 @@ ghost use Rattle.std.specs.List.{flat_map};
 ghost use Rattle.arrayvec.specs.ArrayVec.{array_vec_len};
 ghost use Rattle.link_wire.specs.MessageBuffer.{message_of, message_with};
 ghost use Rattle.link_report.specs.Reason.{name_in, refuse_names, term_names, reject_names};
-ghost use Rattle.link_report.specs.Text.{escaped, hex2, number_text};
+ghost use Rattle.link_report.specs.Text.{hex2, number_text};
 ghost use Rattle.link_report.specs.Message.{flags_text, reason_text, item_text, items_text, parameters_text, start_items_text, segment_text, body_text, contact_text, message_text};
 
 use crate::kept_digits::KeptDigits;
-use crate::page::{write_bytes, write_hex2, write_number, write_text};
-use crate::put::{
-    LINE_MAX, Line, put_bytes, put_escaped, put_hex2, put_hex4, put_number, put_text,
-};
+use crate::page::{write_bytes, write_escaped, write_hex2, write_hex4, write_number, write_text};
+use crate::put::{LINE_MAX, Line, put_bytes, put_hex2, put_text};
 use crate::reason::{refuse_name, reject_name, term_name};
 use link_wire::{
     Contact, Fields, Item, MAX_ITEMS, MAX_NODE_ID, Message, MessageBuffer, START, TEXT_MAX, Text,
-    copy_into,
 };
 
 /// The greatest length of a list's text in bytes: 27, plus 34 for each item.
@@ -58,59 +55,69 @@ fn write_reason(page: &mut [u8], at: usize, reason: u8, name: &str) -> usize
     write_text(page, at, name)
 }
 
-/// Appends ` item=`, the flags, the type and the length of an extension item.
+/// Writes ` item=`, the flags, the type and the length of an extension item.
 ///
 /// It takes 14 bytes and a number of at most 20 digits.
 #[tactic(auto, unfolding(crate::specs::Message::item_text))]
-fn put_item(line: &mut Line, item: &Item)
-    requires { array_vec_len line.old + 34 ≤ LINE_MAX }
-    ensures items { line.new.items ≡ line.old.items ++ item_text item.now }
-    ensures len { array_vec_len line.new ≤ array_vec_len line.old + 34 }
+fn write_item(page: &mut [u8], at: usize, item: &Item) -> usize
+    requires { at + 34 ≤ length page.old }
+    ensures text { take result page.new ≡ take at page.old ++ item_text item.now }
+    ensures fits { result ≤ at + 34 }
+    ensures size { length page.new ≡ length page.old }
 {
-    put_text(line, " item=");
-    put_hex2(line, item.flags);
-    put_text(line, ":");
-    put_hex4(line, item.kind);
-    put_number(line, ":", u64::from(item.length));
+    let at = write_bytes(page, at, *b" item=");
+    let at = write_hex2(page, at, item.flags);
+    let at = write_bytes(page, at, *b":");
+    let at = write_hex4(page, at, item.kind);
+    write_number(page, at, *b":", u64::from(item.length))
 }
 
-/// Appends ` items=`, the number of items, and each item.
-///
-/// It takes 7 bytes, a number and the items.
+/// Writes ` items=`, the number of items, and each item.
+#[cold]
+#[inline(never)]
 #[tactic(auto, unfolding(crate::specs::Message::items_text))]
-fn put_items(line: &mut Line, items: &[Item])
-    requires { array_vec_len line.old + 27 + 34 * length items.now ≤ LINE_MAX }
-    ensures items { line.new.items ≡ line.old.items ++ items_text items.now }
-    ensures len { array_vec_len line.new ≤ array_vec_len line.old + 27 + 34 * length items.now }
+fn write_items(page: &mut [u8], at: usize, items: &[Item]) -> usize
+    requires room { at + ITEMS_MAX ≤ length page.old }
+    requires items { length items.now ≤ MAX_ITEMS }
+    ensures text { take result page.new ≡ take at page.old ++ items_text items.now }
+    ensures fits { result ≤ at + ITEMS_MAX }
+    ensures size { length page.new ≡ length page.old }
 {
-    put_number(line, " items=", items.len() as u64);
+    let mut end = write_number(page, at, *b" items=", items.len() as u64);
     for item in items {
-        put_item(line, item);
+        end = write_item(page, end, item);
     }
+    end
 }
 
-/// Appends the parameters of a SESS_INIT.
+/// Writes the parameters of a SESS_INIT.
 ///
 /// It takes 54 bytes, three numbers and the escaped node ID.
 #[tactic(auto, unfolding(crate::specs::Message::parameters_text))]
-fn put_parameters(line: &mut Line, keepalive: u16, segment_mru: u64, transfer_mru: u64, node: &[u8])
-    requires { array_vec_len line.old + 114 + length (escaped node.now) ≤ LINE_MAX }
-    ensures items { line.new.items
-        ≡ line.old.items ++ parameters_text keepalive segment_mru transfer_mru node.now }
-    ensures len { array_vec_len line.new
-        ≤ array_vec_len line.old + 114 + length (escaped node.now) }
+fn write_parameters(
+    page: &mut [u8],
+    at: usize,
+    keepalive: u16,
+    segment_mru: u64,
+    transfer_mru: u64,
+    node: &[u8],
+) -> usize
+    requires { at + 114 + 4 * length node.now ≤ length page.old }
+    ensures text { take result page.new ≡ take at page.old
+        ++ parameters_text keepalive segment_mru transfer_mru node.now }
+    ensures fits { result ≤ at + 114 + 4 * length node.now }
+    ensures size { length page.new ≡ length page.old }
 {
-    put_number(line, " sess-init keepalive=", u64::from(keepalive));
-    put_number(line, " segment-mru=", segment_mru);
-    put_number(line, " transfer-mru=", transfer_mru);
-    put_text(line, " node=");
-    put_escaped(line, node);
+    let at = write_number(page, at, *b" sess-init keepalive=", u64::from(keepalive));
+    let at = write_number(page, at, *b" segment-mru=", segment_mru);
+    let at = write_number(page, at, *b" transfer-mru=", transfer_mru);
+    let at = write_bytes(page, at, *b" node=");
+    write_escaped(page, at, node)
 }
 
 /// Writes the part of a SESS_INIT's line between its offset and its newline.
 #[cold]
 #[inline(never)]
-#[tactic(auto, using(crate::proofs::Escapes::length_of_escaped))]
 fn write_session(
     page: &mut [u8],
     at: usize,
@@ -128,25 +135,8 @@ fn write_session(
     ensures fits { result ≤ at + BODY_MAX }
     ensures size { length page.new ≡ length page.old }
 {
-    let mut line = Line::new();
-    put_parameters(&mut line, keepalive, segment_mru, transfer_mru, node);
-    put_items(&mut line, items);
-    copy_into(page, at, &line)
-}
-
-/// Writes the items of a list that is not empty.
-#[cold]
-#[inline(never)]
-fn write_items(page: &mut [u8], at: usize, items: &[Item]) -> usize
-    requires room { at + ITEMS_MAX ≤ length page.old }
-    requires items { length items.now ≤ MAX_ITEMS }
-    ensures text { take result page.new ≡ take at page.old ++ items_text items.now }
-    ensures fits { result ≤ at + ITEMS_MAX }
-    ensures size { length page.new ≡ length page.old }
-{
-    let mut line = Line::new();
-    put_items(&mut line, items);
-    copy_into(page, at, &line)
+    let at = write_parameters(page, at, keepalive, segment_mru, transfer_mru, node);
+    write_items(page, at, items)
 }
 
 /// Writes the items of a segment with START, and nothing for other segments.

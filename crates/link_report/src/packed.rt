@@ -1,13 +1,16 @@
 //! The lines of packed bundles.
 
-ghost use Rattle.std.specs.Prelude.{◌≡◌, []};
+ghost use Rattle.std.specs.Prelude.{◌≡◌, ◌+◌, ◌≤◌, [], ◌++◌, length, take};
 ghost use Rattle.link_bundle_types.specs.BundleView.{viewed_info};
 ghost use Rattle.link_bundle_types.specs.ShortNames.{HasShortNames};
+ghost use Rattle.link_report.specs.ShortNames.{HasShortNames-prop};
 ghost use Rattle.link_report.specs.Packed.{packed_text, viewed_packed};
 
-use crate::identity::put_identity;
-use crate::put::{Line, put_number, put_text};
+use crate::identity::write_identity;
+use crate::page::{write_bytes, write_number};
+use crate::put::{Line, put_whole};
 use link_bundle_types::{BundleInfo, BundleView};
+use link_wire::{TEXT_MAX, Text};
 
 /// The values in the line of a packed bundle.
 #[derive(Debug, PartialEq, Eq, Drop)]
@@ -35,21 +38,54 @@ pub struct PackedView<'a> {
     pub info: BundleView<'a>,
 }
 
-/// Writes the line of a packed bundle into an empty line, from references.
+/// The line of a packed bundle, as a text.
+#[derive(Drop)]
+pub struct PackedText<'a> {
+    pub entry: PackedView<'a>,
+    ghost short: { HasShortNames (viewed_info entry.info) } by { HasShortNames-prop (viewed_info entry.info) },
+}
+
+/// Writes the line of a packed bundle.
 ///
 /// The names in the bundle's source and destination have at most 1,024 bytes each.
 #[tactic(auto, unfolding(crate::specs::Packed::packed_text))]
+#[inline(never)]
+fn write_packed(page: &mut [u8], at: usize, entry: &PackedView<'_>) -> usize
+    requires short { HasShortNames (viewed_info entry.now.info) }
+    requires room { at + TEXT_MAX ≤ length page.old }
+    ensures text { take result page.new
+        ≡ take at page.old ++ packed_text (viewed_packed entry.now) }
+    ensures fits { result ≤ at + TEXT_MAX }
+    ensures size { length page.new ≡ length page.old }
+{
+    let at = write_number(page, at, *b"bundle ", entry.number);
+    let at = write_number(page, at, *b" segments=", entry.segments);
+    let at = write_number(page, at, *b" length=", entry.length);
+    let at = write_bytes(page, at, *b" ");
+    let at = write_identity(page, at, &entry.info);
+    write_bytes(page, at, *b"\n")
+}
+
+impl<'a> Text for PackedText<'a> {
+    ghost use Rattle.link_report.specs.Packed.{packed_text, viewed_packed};
+
+    ghost text = { λ line. packed_text (viewed_packed line.entry) };
+
+    #[inline(always)]
+    fn put(&self, page: &mut [u8], at: usize) -> usize {
+        write_packed(page, at, &self.entry)
+    }
+}
+
+/// Writes the line of a packed bundle into an empty line, from references.
+///
+/// The names in the bundle's source and destination have at most 1,024 bytes each.
 pub fn packed_view_line(line: &mut Line, entry: &PackedView<'_>)
     requires empty { line.old.items ≡ [] }
     requires short { HasShortNames (viewed_info entry.now.info) }
     ensures { line.new.items ≡ packed_text (viewed_packed entry.now) }
 {
-    put_number(line, "bundle ", entry.number);
-    put_number(line, " segments=", entry.segments);
-    put_number(line, " length=", entry.length);
-    put_text(line, " ");
-    put_identity(line, &entry.info);
-    put_text(line, "\n");
+    put_whole(line, &PackedText { entry: *entry });
 }
 
 /// Writes the line of a packed bundle into an empty line.

@@ -2,10 +2,10 @@
 //!
 //! Each call returns the index after its text.
 
-ghost use Rattle.std.specs.Prelude.{◌≡◌, ◌+◌, ◌/◌, ◌%◌, ◌<◌, ◌≤◌, [], ◌∷◌, ◌++◌, length, take, decimal};
-ghost use Rattle.link_report.specs.Text.{hex2, number_text, two_digits};
+ghost use Rattle.std.specs.Prelude.{◌≡◌, ◌+◌, ◌*◌, ◌/◌, ◌%◌, ◌<◌, ◌≤◌, [], ◌∷◌, ◌++◌, length, take, decimal};
+ghost use Rattle.std.specs.List.{flat_map};
+ghost use Rattle.link_report.specs.Text.{hex2, hex4, escaped, escaped_byte, is_plain, number_text, two_digits};
 
-use itoa::write_digits;
 use link_wire::copy_into;
 
 /// The two digits of each number below 100.
@@ -81,7 +81,7 @@ fn write_few_digits(page: &mut [u8], at: usize, number: u64) -> usize
     requires few { number < 1000 }
     requires room { at + 3 ≤ length page.old }
     ensures text { take result page.new ≡ take at page.old ++ decimal number }
-    ensures fits { result ≤ at + 20 }
+    ensures end { result ≡ at + length (decimal number) }
     ensures size { length page.new ≡ length page.old }
 {
     match number {
@@ -108,29 +108,32 @@ pub(crate) fn write_four_digits(page: &mut [u8], at: usize, number: u32) -> usiz
     write_pair(page, at, number % 100)
 }
 
-/// Writes a number of more than three digits.
-///
-/// There has to be room for 20 digits.
-#[tactic(auto, using(crate::proofs::Lengths::length_of_decimal, crate::proofs::Digits::four_digits))]
+/// Writes a number of more than three digits, four of them at a time.
+#[tactic(auto, using(crate::proofs::Digits::four_digits))]
 #[inline(never)]
 fn write_many_digits(page: &mut [u8], at: usize, number: u64) -> usize
     requires many { 1000 ≤ number }
-    requires room { at + 20 ≤ length page.old }
+    requires room { at + length (decimal number) ≤ length page.old }
     ensures text { take result page.new ≡ take at page.old ++ decimal number }
-    ensures fits { result ≤ at + 20 }
+    ensures end { result ≡ at + length (decimal number) }
     ensures size { length page.new ≡ length page.old }
 {
     if number < 10_000 {
         return write_four_digits(page, at, number as u32);
     }
-    let mut digits = [0; 20];
-    let start = write_digits(number, &mut digits, 20);
-    copy_into(page, at, &digits[start..])
+    let last = (number % 10_000) as u32;
+    if number < 10_000_000 {
+        let at = write_few_digits(page, at, number / 10_000);
+        return write_four_digits(page, at, last);
+    }
+    let at = write_many_digits(page, at, number / 10_000);
+    write_four_digits(page, at, last)
 }
 
 /// Writes `number` in decimal, without leading zeros.
 ///
 /// There has to be room for 20 digits.
+#[tactic(auto, using(crate::proofs::Lengths::length_of_decimal))]
 #[inline(always)]
 pub(crate) fn write_decimal(page: &mut [u8], at: usize, number: u64) -> usize
     requires { at + 20 ≤ length page.old }
@@ -166,6 +169,63 @@ pub(crate) fn write_hex2(page: &mut [u8], at: usize, byte: u8) -> usize
     let [high, low] = hex_digits(byte);
     let at = write_byte(page, at, high);
     write_byte(page, at, low)
+}
+
+/// Writes `number` as four lower-case hexadecimal digits.
+#[tactic(auto, unfolding(crate::specs::Text::hex4))]
+#[inline(always)]
+pub(crate) fn write_hex4(page: &mut [u8], at: usize, number: u16) -> usize
+    requires { at + 4 ≤ length page.old }
+    ensures text { take result page.new ≡ take at page.old ++ hex4 number }
+    ensures end { result ≡ at + 4 }
+    ensures size { length page.new ≡ length page.old }
+{
+    let at = write_hex2(page, at, (number >> 8) as u8);
+    write_hex2(page, at, (number & 0xff) as u8)
+}
+
+/// Whether a byte stays as it is in an escaped text: 21 to 7e, except the backslash.
+#[tactic(auto, unfolding(crate::specs::Text::is_plain))]
+#[inline(always)]
+fn is_plain(byte: u8) -> bool
+    ensures { result ≡ is_plain byte }
+{
+    byte.is_ascii_graphic() && byte != b'\\'
+}
+
+/// Writes a byte as it is if it is plain, or else as `\x` and its two hexadecimal digits.
+#[tactic(auto, unfolding(crate::specs::Text::escaped_byte))]
+#[inline(always)]
+fn write_escaped_byte(page: &mut [u8], at: usize, byte: u8) -> usize
+    requires { at + 4 ≤ length page.old }
+    ensures text { take result page.new ≡ take at page.old ++ escaped_byte byte }
+    ensures fits { result ≤ at + 4 }
+    ensures size { length page.new ≡ length page.old }
+{
+    if is_plain(byte) {
+        return write_byte(page, at, byte);
+    }
+    let at = write_bytes(page, at, *b"\\x");
+    write_hex2(page, at, byte)
+}
+
+/// Writes `bytes`, with each byte that is not plain as an escape.
+///
+/// It takes at most 4 bytes for each of them.
+#[cold]
+#[inline(never)]
+#[tactic(auto, unfolding(crate::specs::Text::escaped))]
+pub(crate) fn write_escaped(page: &mut [u8], at: usize, bytes: &[u8]) -> usize
+    requires { at + 4 * length bytes.now ≤ length page.old }
+    ensures text { take result page.new ≡ take at page.old ++ escaped bytes.now }
+    ensures fits { result ≤ at + 4 * length bytes.now }
+    ensures size { length page.new ≡ length page.old }
+{
+    let mut end = at;
+    for byte in bytes {
+        end = write_escaped_byte(page, end, *byte);
+    }
+    end
 }
 
 /// Writes `label` and `number` in decimal.

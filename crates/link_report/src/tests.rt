@@ -1,9 +1,7 @@
 //! The lines of messages and faults, and the pieces of text that they are made of.
 
-use crate::{
-    Fault, KeptDigits, Line, MessageText, contact_line, fault_line, message_line, put_decimal,
-    put_escaped, put_hex2, put_hex4, put_text,
-};
+use crate::page::{write_bytes, write_decimal, write_escaped, write_hex2, write_hex4, write_text};
+use crate::{Fault, KeptDigits, Line, MessageText, contact_line, fault_line, message_line};
 use link_transfer::OrderFault;
 use link_wire::{
     Contact, Fields, Item, Items, Message, MessageBuffer, NodeId, SegmentHead, TEXT_MAX, Text,
@@ -47,18 +45,44 @@ fn session(node: &[u8], list: &[Item]) -> Result<Message, Fail> {
 }
 
 #[test]
-#[tactic(auto, using(crate::proofs::Lengths::length_of_decimal, crate::proofs::Escapes::length_of_escaped))]
 fn pieces_of_text(rt: HostRuntime) {
-    let mut line = Line::new();
-    put_text(&mut line, "~ ");
-    put_decimal(&mut line, 0);
-    put_text(&mut line, " ");
-    put_decimal(&mut line, u64::MAX);
-    put_hex2(&mut line, 0x0a);
-    put_hex4(&mut line, 0x0fe9);
-    put_escaped(&mut line, b"!~ \\\x7f\x00a");
+    let mut page = [0; 96];
+    let at = write_text(&mut page, 0, "~ ");
+    let at = write_decimal(&mut page, at, 0);
+    let at = write_bytes(&mut page, at, *b" ");
+    let at = write_decimal(&mut page, at, u64::MAX);
+    let at = write_hex2(&mut page, at, 0x0a);
+    let at = write_hex4(&mut page, at, 0x0fe9);
+    let end = write_escaped(&mut page, at, b"!~ \\\x7f\x00a");
     let want = "~ 0 184467440737095516150a0fe9!~\\x20\\x5c\\x7f\\x00a";
-    assert_eq!(rt; line.as_slice(), want.as_bytes());
+    assert_eq!(rt; &page[..end], want.as_bytes());
+}
+
+/// The least and the greatest number of each length, and a number with zeros in its middle.
+#[test]
+fn numbers_of_each_length(rt: HostRuntime) -> Result<(), Fail> {
+    let rows = [
+        (9, "9"),
+        (10, "10"),
+        (99, "99"),
+        (100, "100"),
+        (999, "999"),
+        (1000, "1000"),
+        (9999, "9999"),
+        (10_000, "10000"),
+        (100_009, "100009"),
+        (9_999_999, "9999999"),
+        (10_000_000, "10000000"),
+        (100_000_000, "100000000"),
+        (1_000_000_000_001, "1000000000001"),
+        (9_999_999_999_999_999_999, "9999999999999999999"),
+    ];
+    for (number, want) in rows {
+        let mut page = [0; 20];
+        let end = write_decimal(&mut page, 0, number);
+        assert_eq!(rt; &page[..end], want.as_bytes(), "{want}");
+    }
+    Ok(())
 }
 
 #[test]

@@ -1,12 +1,14 @@
 //! The lines of transfers.
 
-ghost use Rattle.std.specs.Prelude.{◌≡◌, ◌+◌, ◌≤◌, [], ◌++◌};
-ghost use Rattle.arrayvec.specs.ArrayVec.{array_vec_len};
+ghost use Rattle.std.specs.Prelude.{◌≡◌, ◌+◌, ◌≤◌, [], ◌++◌, length, take};
 ghost use Rattle.link_report.specs.Judgement.{viewed_judgement, IsShortJudgement};
+ghost use Rattle.link_report.specs.ShortNames.{IsShortJudgement-prop};
 ghost use Rattle.link_report.specs.Transfer.{extent_text, transfer_text, viewed_transfer};
 
-use crate::judgement::{Judgement, JudgementView, put_judgement};
-use crate::put::{Line, put_number, put_text};
+use crate::judgement::{Judgement, JudgementView, write_judgement};
+use crate::page::{write_bytes, write_number};
+use crate::put::{Line, put_whole};
+use link_wire::{TEXT_MAX, Text};
 
 /// The values in the line of a transfer.
 #[derive(Debug, PartialEq, Eq, Drop)]
@@ -38,34 +40,69 @@ pub struct TransferView<'a> {
     pub judgement: JudgementView<'a>,
 }
 
-/// Appends a transfer's ID, and the position of its bytes.
+/// The line of a transfer, as a text.
+#[derive(Drop)]
+pub struct TransferText<'a> {
+    pub entry: TransferView<'a>,
+    ghost short: { IsShortJudgement (viewed_judgement entry.judgement) } by { IsShortJudgement-prop (viewed_judgement entry.judgement) },
+}
+
+/// Writes a transfer's ID, and the position of its bytes.
 ///
 /// It takes at most 33 bytes and four numbers.
 #[tactic(auto, unfolding(crate::specs::Transfer::extent_text))]
-fn put_extent(line: &mut Line, id: u64, start: u64, written: u64, size: u64)
-    requires { line.old.items ≡ [] }
-    ensures items { line.new.items ≡ line.old.items ++ extent_text id start written size }
-    ensures len { array_vec_len line.new ≤ 113 }
+#[inline(always)]
+fn write_extent(page: &mut [u8], at: usize, id: u64, start: u64, written: u64, size: u64) -> usize
+    requires { at + 113 ≤ length page.old }
+    ensures text { take result page.new ≡ take at page.old ++ extent_text id start written size }
+    ensures fits { result ≤ at + 113 }
+    ensures size { length page.new ≡ length page.old }
 {
-    put_number(line, "transfer ", id);
-    put_number(line, " start=", start);
-    put_number(line, " written=", written);
-    put_number(line, " length=", size);
+    let at = write_number(page, at, *b"transfer ", id);
+    let at = write_number(page, at, *b" start=", start);
+    let at = write_number(page, at, *b" written=", written);
+    write_number(page, at, *b" length=", size)
+}
+
+/// Writes the line of a transfer.
+///
+/// The names in the source and destination of a good bundle have at most 1,024 bytes each.
+#[tactic(auto, unfolding(crate::specs::Transfer::transfer_text))]
+#[inline(never)]
+fn write_transfer(page: &mut [u8], at: usize, entry: &TransferView<'_>) -> usize
+    requires short { IsShortJudgement (viewed_judgement entry.now.judgement) }
+    requires room { at + TEXT_MAX ≤ length page.old }
+    ensures text { take result page.new
+        ≡ take at page.old ++ transfer_text (viewed_transfer entry.now) }
+    ensures fits { result ≤ at + TEXT_MAX }
+    ensures size { length page.new ≡ length page.old }
+{
+    let at = write_extent(page, at, entry.id, entry.start, entry.written, entry.length);
+    let at = write_bytes(page, at, *b" ");
+    let at = write_judgement(page, at, &entry.judgement);
+    write_bytes(page, at, *b"\n")
+}
+
+impl<'a> Text for TransferText<'a> {
+    ghost use Rattle.link_report.specs.Transfer.{transfer_text, viewed_transfer};
+
+    ghost text = { λ line. transfer_text (viewed_transfer line.entry) };
+
+    #[inline(always)]
+    fn put(&self, page: &mut [u8], at: usize) -> usize {
+        write_transfer(page, at, &self.entry)
+    }
 }
 
 /// Writes the line of a transfer into an empty line, from references.
 ///
 /// The names in the source and destination of a good bundle have at most 1,024 bytes each.
-#[tactic(auto, unfolding(crate::specs::Transfer::transfer_text))]
 pub fn transfer_view_line(line: &mut Line, entry: &TransferView<'_>)
     requires empty { line.old.items ≡ [] }
     requires short { IsShortJudgement (viewed_judgement entry.now.judgement) }
     ensures { line.new.items ≡ transfer_text (viewed_transfer entry.now) }
 {
-    put_extent(line, entry.id, entry.start, entry.written, entry.length);
-    put_text(line, " ");
-    put_judgement(line, &entry.judgement);
-    put_text(line, "\n");
+    put_whole(line, &TransferText { entry: *entry });
 }
 
 /// Writes the line of a transfer into an empty line.

@@ -100,6 +100,17 @@ impl<W: OutDevice, E: OutDevice> Writers<W, E> {
         write_whole(&mut self.report, &self.line)
     }
 
+    /// Writes a text to the report, in which it is made if the device has room for it.
+    #[inline(always)]
+    pub fn report_text<T: Text>(&mut self, text: &T) -> Result<(), IoFault>
+        ensures gives { GivesTexts W.state E.state self.old self.new
+            (on_report (T.text text.now)) result }
+        ensures output { self.new.output ≡ self.old.output }
+        ensures line { next_line self.new ≡ next_line self.old }
+    {
+        self.report.write_text(text, &mut self.page)
+    }
+
     /// Hands on what was written and is still held back, first by the output and then by the
     /// report.
     pub fn settle(&mut self) -> Result<(), IoFault>

@@ -1,5 +1,5 @@
 -- What a step of `unpack` writes after it has read.
-use Rattle.std.proofs.Common.{◌≡◌, ◌⊎◌, List, [], ℕ, Option, Result, Ok, Err, refl, ap, ◌∙◌}
+use Rattle.std.proofs.Common.{◌≡◌, ◌⊎◌, List, [], ℕ, Option, Result, Ok, Err, ap, ◌∙◌}
 use Rattle.std.proofs.KnownBytes.{Appends-trans}
 use Rattle.link_wire.specs.Device.{Output}
 use Rattle.link_wire.specs.declared.IoFault.{IoFault}
@@ -25,19 +25,6 @@ module _ {W E : Type 0} (out_look : W → Output) (report_look : E → Output)
       → WritesSome out_look report_look old new answer
   some_last texts status (Ok ended) writes = (texts, writes.0)
   some_last texts status (Err fault) part = part.kind
-
--- writers with the same devices have written the same, whatever their line is
-pub some_after : {W E A : Type 0} (out_look : W → Output) (report_look : E → Output)
-    (old mid new : Writers W E) (output : mid.output ≡ old.output) (report : mid.report ≡ old.report)
-    (result : Result A IoFault) → WritesSome out_look report_look mid new result
-    → WritesSome out_look report_look old new result
-some_after out_look report_look old mid new output report (Ok value) wrote = (wrote.0, record {
-  output = rw (← output) wrote.1.output;
-  report = rw (← report) wrote.1.report;
-  output_sound = rw (← output) wrote.1.output_sound;
-  report_sound = rw (← report) wrote.1.report_sound;
-})
-some_after out_look report_look old mid new output report (Err fault) kind = kind
 
 -- some texts were written, and then more
 pub then_some : {W E B : Type 0} (out_look : W → Output) (report_look : E → Output)

@@ -10,7 +10,7 @@ use crate::wanted::Wanted;
 use link_bundle::BundleScan;
 use link_bundle_types::State;
 use link_cbor::Piecewise;
-use link_report::{JudgementView, Line, TransferView, judge_view, transfer_view_line};
+use link_report::{JudgementView, TransferText, TransferView, judge_view};
 use link_transfer::Announced;
 
 /// The most bytes that an input can have.
@@ -70,7 +70,8 @@ fn scan_piece(scan: &mut BundleScan, piece: &[u8])
 }
 
 /// Whether a bundle was judged good.
-fn is_bundle(judgement: &JudgementView<'_>) -> bool
+#[inline(always)]
+pub fn is_bundle(judgement: &JudgementView<'_>) -> bool
     ensures { result ≡ is_good (viewed_judgement judgement.now) }
 {
     matches!(judgement, JudgementView::Good(_))
@@ -78,7 +79,8 @@ fn is_bundle(judgement: &JudgementView<'_>) -> bool
 
 impl TransferScan {
     ghost use Rattle.std.specs.Prelude.{◌≡◌, ◌+◌, ◌^◌, ◌≤◌, ◌<◌, [], ◌++◌, not, length, List, ℕ};
-    ghost use Rattle.link_report.specs.Transfer.{transfer_text};
+    ghost use Rattle.link_report.specs.Judgement.{viewed_judgement};
+    ghost use Rattle.link_report.specs.Transfer.{transfer_text, viewed_transfer};
     ghost use Rattle.link_transfer.specs.Announced.{announced_of};
     ghost use Rattle.link_wire.specs.declared.message.SegmentHead.{SegmentHead};
     ghost use Rattle.link_unpack.specs.Pieces.{HasJudged};
@@ -186,27 +188,26 @@ impl TransferScan {
         }
     }
 
-    /// Writes the transfer's line into an empty line, and returns whether the transfer is good. A
-    /// transfer that was not abandoned is closed.
-    pub fn put_line(&self, line: &mut Line, abandoned: bool) -> bool
-        requires { line.old.items ≡ [] }
+    /// The line of the transfer. A transfer that was not abandoned is closed.
+    #[inline(always)]
+    pub fn line(&self, abandoned: bool) -> TransferText<'_>
         ensures text { (transfer : Transfer) (earlier : List Transfer) → Follows self.now transfer
             earlier → abandoned ≡ not transfer.closed
-            → line.new.items ≡ transfer_text (entry_of self.now.wanted transfer (length (parts_of
-            self.now.wanted earlier))) }
+            → transfer_text (viewed_transfer result.entry) ≡ transfer_text (entry_of self.now.wanted
+            transfer (length (parts_of self.now.wanted earlier))) }
         ensures good { (transfer : Transfer) (earlier : List Transfer) → Follows self.now transfer
             earlier → abandoned ≡ not transfer.closed
-            → result ≡ is_good (judgement_of transfer) }
+            → is_good (viewed_judgement result.entry.judgement) ≡ is_good (judgement_of transfer) }
     {
         let judgement = judge_view(abandoned, self.announced, self.size, self.scan.view());
-        let entry = TransferView {
-            id: self.id,
-            start: self.start,
-            written: self.written,
-            length: self.size,
-            judgement,
-        };
-        transfer_view_line(line, &entry);
-        is_bundle(&judgement)
+        TransferText {
+            entry: TransferView {
+                id: self.id,
+                start: self.start,
+                written: self.written,
+                length: self.size,
+                judgement,
+            },
+        }
     }
 }

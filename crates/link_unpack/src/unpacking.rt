@@ -17,7 +17,7 @@ ghost use Rattle.link_unpack.specs.Unpacking.{unpacking_of, unpack_tool, parts_o
 ghost use Rattle.link_unpack.specs.TransferScan.{Follows, begun};
 ghost use Rattle.link_unpack.specs.UnpackRun.{may_go_on, may_follow, next_of, IsUnpacking, Begins, Unpacks, IsBeginning, IsJoining, IsOpen, last_lines, GivesNext, StandsAfter, GivesFinish};
 
-use crate::transfer::TransferScan;
+use crate::transfer::{TransferScan, is_bundle};
 use crate::wanted::Wanted;
 use link_report::Fault;
 use link_run::{Input, Progress, Run, RunEnd, Stages, Status, ToolRun, Writers};
@@ -331,6 +331,7 @@ fn go_on<R: InDevice, W: OutDevice, E: OutDevice>(
 }
 
 /// Writes the line of the latest transfer, which was abandoned or is closed.
+#[inline(never)]
 fn report<W: OutDevice, E: OutDevice>(
     writers: &mut Writers<W, E>,
     unpacker: &mut Unpacker,
@@ -347,10 +348,11 @@ fn report<W: OutDevice, E: OutDevice>(
     ensures latest { unpacker.new.latest ≡ unpacker.old.latest }
     ensures joiner { unpacker.new.joiner ≡ unpacker.old.joiner }
 {
-    writers.clear_line();
-    let good = unpacker.latest.put_line(&mut writers.line, abandoned);
+    let line = unpacker.latest.line(abandoned);
+    let good = is_bundle(&line.entry.judgement);
+    let written = writers.report_text(&line);
     unpacker.good = good && unpacker.good;
-    writers.report_line()
+    written
 }
 
 /// Reports the latest transfer if it is abandoned.

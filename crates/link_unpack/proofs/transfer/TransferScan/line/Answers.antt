@@ -1,16 +1,14 @@
-use Rattle.std.proofs.Common.{ap, ◌∙◌}
+use Rattle.std.proofs.Common.{ap}
 use Rattle.link_unpack.specs.Unpacking.{is_good}
 use Rattle.link_unpack.proofs.Transfers.{judgement_is, line_is}
-use Rattle.link_unpack.proofs.transfer.TransferScan.put_line.Goals as goal
+use Rattle.link_unpack.proofs.transfer.TransferScan.line.Goals as goal
 
 pub returns-clause-text : goal.returns-clause-text
 returns-clause-text c = λ transfer earlier follows over.
-    c.transfer_view_line.ensures
-    ∙ line_is c.args.self.now transfer earlier follows c.args.abandoned over _ c.view.ensures.seen
+    line_is c.args.self.now transfer earlier follows c.args.abandoned over _ c.view.ensures.seen
     c.judge_view-judgement.result c.judge_view-judgement.ensures.judged
 
 pub returns-clause-good : goal.returns-clause-good
 returns-clause-good c = λ transfer earlier follows over.
-    c.is_bundle.ensures
-    ∙ ap is_good (judgement_is c.args.self.now transfer earlier follows c.args.abandoned over _ c.view.ensures.seen
+    ap is_good (judgement_is c.args.self.now transfer earlier follows c.args.abandoned over _ c.view.ensures.seen
     c.judge_view-judgement.result c.judge_view-judgement.ensures.judged)
