@@ -53,15 +53,17 @@ GivesItem of bytes left offset (Err fault) =
     (item_head_at left (drop offset bytes) >>= λ (head, rest). total_at of head.kind head.length rest)
     ≡ Err fault
 
--- the items end before the offset, or there is a fault
-pub record EndsBefore (bytes : List ℕ) (part : Part (ArrayVec Item)) (next : ℕ) : Type 0 where
+-- the items end before the offset `end`, and nothing else is read
+pub record EndsBefore (bytes : List ℕ) (end : ℕ) (part : Part (ArrayVec Item)) (next : ℕ) : Type 0 where
   pub items : ArrayVec Item
   pub is : part ≡ Ok (items, drop next bytes)
   pub within : next ≤ length bytes
+  pub ends : next ≡ end
 
-abbrev pub GivesEnd : List ℕ → Part (ArrayVec Item) → Result ℕ WireFault → Type 0
-GivesEnd bytes part (Ok next) = EndsBefore bytes part next
-GivesEnd bytes part (Err fault) = part ≡ Err fault
+-- the items end before the offset `end`, or there is a fault
+abbrev pub GivesEnd : List ℕ → (end : ℕ) → Part (ArrayVec Item) → Result ℕ WireFault → Type 0
+GivesEnd bytes end part (Ok next) = EndsBefore bytes end part next
+GivesEnd bytes end part (Err fault) = part ≡ Err fault
 
 -- the items of a list whose bytes after its length begin at the span
 pub record ListAt (of : ListOf) (bytes : List ℕ) (span : Span) (items : ArrayVec Item)
@@ -75,6 +77,7 @@ pub record GivesSpan (of : ListOf) (bytes : List ℕ) (part : Part (ArrayVec Ite
   pub is : part ≡ Ok (items, drop next bytes)
   pub list : ListAt of bytes span items next
   pub within : next ≤ length bytes
+  pub ends : span.offset + span.length ≡ next
 
 abbrev pub GivesList : ListOf → List ℕ → Part (ArrayVec Item) → Result (Span × ℕ) WireFault → Type 0
 GivesList of bytes part (Ok (span, next)) = GivesSpan of bytes part span next
@@ -93,6 +96,23 @@ HasList (fields.SessInit interval segment_mru transfer_mru) bytes span items =
 HasList (fields.Segment flags id size) bytes span items = SegmentList flags bytes span items
 HasList others bytes span items = Unit {0}
 
+-- the list is after the node ID and its own length, and ends where the message ends
+pub record SessionPlaces (node items : Span) (end : ℕ) : Type 0 where
+  pub node_ends : node.offset + node.length + 4 ≡ items.offset
+  pub items_end : items.offset + items.length ≡ end
+
+-- the list ends before the length of the data, where the head ends
+pub record SegmentPlaces (flags : ℕ) (items : Span) (end : ℕ) : Type 0 where
+  pub with_start : is_start flags ≡ true → items.offset + items.length + 8 ≡ end
+  pub without_start : is_start flags ≡ false → items ≡ record { offset = 0; length = 0 }
+
+-- the node ID and the items lie within the message
+abbrev pub HasPlaces : Fields → (node items : Span) → (end : ℕ) → Type 0
+HasPlaces (fields.SessInit interval segment_mru transfer_mru) node items end =
+    SessionPlaces node items end
+HasPlaces (fields.Segment flags id size) node items end = SegmentPlaces flags items end
+HasPlaces others node items end = Unit {0}
+
 -- The part is the message whose numbers, node ID and items the value has: the node ID and the items
 -- by where they lie. The bytes after it begin at its end.
 pub record LiesAt (bytes : List ℕ) (part : Part Message) (place : MessageAt) : Type 0 where
@@ -102,6 +122,7 @@ pub record LiesAt (bytes : List ℕ) (part : Part Message) (place : MessageAt) :
     drop place.end bytes,
   )
   pub list : HasList place.fields bytes place.items items
+  pub places : HasPlaces place.fields place.node place.items place.end
   pub within : place.end ≤ length bytes
 
 -- the part is the message that lies there, or the fault

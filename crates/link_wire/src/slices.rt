@@ -76,6 +76,7 @@ fn bytes_at(bytes: &[u8], at: usize, size: usize) -> Result<(&[u8], usize), Wire
 fn number8_at(bytes: &[u8], at: usize) -> Result<(u8, usize), WireFault>
     requires { at ≤ length bytes.now }
     ensures read { number_at 1 (drop at bytes.now) ≡ read_part bytes.now result }
+    ensures next { IfOk result (λ read. read.1 ≡ at + 1) }
     ensures within { IfOk result (λ read. read.1 ≤ length bytes.now) }
 {
     match bytes_at(bytes, at, 1) {
@@ -88,6 +89,7 @@ fn number8_at(bytes: &[u8], at: usize) -> Result<(u8, usize), WireFault>
 fn number16_at(bytes: &[u8], at: usize) -> Result<(u16, usize), WireFault>
     requires { at ≤ length bytes.now }
     ensures read { number_at 2 (drop at bytes.now) ≡ read_part bytes.now result }
+    ensures next { IfOk result (λ read. read.1 ≡ at + 2) }
     ensures within { IfOk result (λ read. read.1 ≤ length bytes.now) }
 {
     match bytes_at(bytes, at, 2) {
@@ -100,6 +102,7 @@ fn number16_at(bytes: &[u8], at: usize) -> Result<(u16, usize), WireFault>
 fn number32_at(bytes: &[u8], at: usize) -> Result<(u32, usize), WireFault>
     requires { at ≤ length bytes.now }
     ensures read { number_at 4 (drop at bytes.now) ≡ read_part bytes.now result }
+    ensures next { IfOk result (λ read. read.1 ≡ at + 4) }
     ensures within { IfOk result (λ read. read.1 ≤ length bytes.now) }
 {
     match bytes_at(bytes, at, 4) {
@@ -158,6 +161,7 @@ fn plain_at(fields: Fields, end: usize) -> MessageAt
 fn node_at(bytes: &[u8], at: usize) -> Result<(Span, usize), WireFault>
     requires { at ≤ length bytes.now }
     ensures read { node_at (drop at bytes.now) ≡ read_node bytes.now result }
+    ensures ends { IfOk result (λ read. read.0.offset + read.0.length ≡ read.1) }
     ensures within { IfOk result (λ read. read.1 ≤ length bytes.now) }
 {
     let (length, at) = number16_at(bytes, at)?;
@@ -180,6 +184,7 @@ fn item_head_at(bytes: &[u8], at: usize, left: u32) -> Result<(Item, usize), Wir
     requires { at ≤ length bytes.now }
     ensures read { item_head_at left (drop at bytes.now) ≡ read_head bytes.now result }
     ensures fits { IfOk result (λ read. 5 + read.0.length ≤ left) }
+    ensures next { IfOk result (λ read. read.1 ≡ at + 5) }
     ensures within { IfOk result (λ read. read.1 ≤ length bytes.now) }
 {
     if left < ITEM_HEAD {
@@ -249,7 +254,7 @@ pub fn item_in(bytes: &[u8], offset: usize, left: u32, of: ListOf) -> Result<Ite
 /// Reads the items of a list of `size` bytes, and returns the offset after them.
 fn items_of(bytes: &[u8], start: usize, of: ListOf, size: u32) -> Result<usize, WireFault>
     requires { start ≤ length bytes.now }
-    ensures { GivesEnd bytes.now (items_of of size (drop start bytes.now)) result }
+    ensures { GivesEnd bytes.now (start + size) (items_of of size (drop start bytes.now)) result }
 {
     let mut at = start;
     let mut left = size;
@@ -272,6 +277,7 @@ fn items_of(bytes: &[u8], start: usize, of: ListOf, size: u32) -> Result<usize, 
 fn list_at(bytes: &[u8], at: usize, of: ListOf) -> Result<(Span, usize), WireFault>
     requires { at ≤ length bytes.now }
     ensures read { GivesList of bytes.now (list_at of (drop at bytes.now)) result }
+    ensures begins { IfOk result (λ read. read.0.offset ≡ at + 4) }
     ensures within { IfOk result (λ read. read.1 ≤ length bytes.now) }
 {
     let (length, offset) = number32_at(bytes, at)?;

@@ -1,7 +1,7 @@
 -- A run over devices in memory: what it has written, and how it ended.
-use Rattle.std.proofs.Common.{◌≡◌, ◌≤◌, ◌⊎◌, ℕ, min, List, [], ◌++◌, length, take, drop, Option, Some, None, Result, Ok, Err, refl, sym, ap, ◌∙◌, subst, inl, inr, ⊎_elim, append-nil, append_assoc, arith}
+use Rattle.std.proofs.Common.{◌≡◌, ◌<◌, ◌≤◌, ◌⊎◌, ℕ, ◌+◌, min, List, [], ◌++◌, length, take, drop, Option, Some, None, Result, Ok, Err, refl, sym, ap, ◌∙◌, subst, inl, inr, ⊎_elim, append-nil, append_assoc, arith}
 use Rattle.std.proofs.Math.Nat.{min-le_right}
-use Rattle.std.proofs.lemmas.List.{take-append-drop, take_min, take_all}
+use Rattle.std.proofs.lemmas.List.{take-append-drop, take_min, take_all, drop_min, length-append}
 use Rattle.link_laws.specs.Prefix.{IsFrontOf, IsPrefixed}
 use Rattle.link_list.specs.Listing.{list_tool}
 use Rattle.link_pack.specs.Packing.{pack_tool}
@@ -16,9 +16,9 @@ use Rattle.link_unpack.specs.Unpacking.{unpack_tool}
 use Rattle.link_unpack.specs.declared.wanted.Wanted.{Wanted}
 use Rattle.link_wire.specs.declared.IoFault.{IoFault}
 use Rattle.link_wire.specs.declared.IoFault.TheVariants.{Read, InputTooLong, Write, Memory}
-use Rattle.tcpclkit_c.specs.Slice.{HoldsFront}
+use Rattle.tcpclkit_c.specs.Slice.{HoldsFront, KeepsRest}
 use Rattle.tcpclkit_c.specs.declared.tool.Run.{Run}
-use Rattle.tcpclkit_c.specs.Tool.{tool_of, HasRun, GivesTexts}
+use Rattle.tcpclkit_c.specs.Tool.{tool_of, HasRun, TextsGiven}
 
 -- ---- prefixes
 
@@ -52,9 +52,24 @@ copied_whole slice text whole held fits same =
 pub within : (slice text : List ℕ) → min (length text) (length slice) ≤ length slice
 within slice text = min-le_right (length text) (length slice)
 
+-- what was after the text, and is
+copied_rest : (old new text : List ℕ) → length old ≡ length new → KeepsRest old new text
+    → drop (min (length text) (length new)) new ≡ drop (min (length text) (length new)) old
+copied_rest old new text same kept =
+    drop_min (length text) new ∙ kept ∙ sym (drop_min (length text) old)
+    ∙ ap (λ (n : ℕ). drop (min (length text) n) old) same
+
+-- a text that is longer than its slice is a prefix of a text that is
+longer : (slice text whole : List ℕ) → IsFrontOf text whole → length slice < length text
+    → length slice < length whole
+longer slice text whole front long =
+    let size : length whole ≡ length text + length front.0 =
+    ap length front.1 ∙ length-append text front.0 in
+    omega (arith, size)
+
 -- ---- what is given of a run
 
-min-eq_right : (a b : ℕ) → b ≤ a → min a b ≡ b
+min-eq_right : (a b : ℕ) → b < a → min a b ≡ b
 min-eq_right a b below = omega arith
 
 -- the run has ended with this status, and the slices have room for its texts
@@ -66,22 +81,26 @@ pub record IsWhole (answer : Result Status IoFault) (output_text report_text out
   pub output_fits : length output_text ≤ length output
   pub report_fits : length report_text ≤ length report
 
-pub gives : (tool : Tool) (bytes output_text report_text output report : List ℕ)
+pub gives : (tool : Tool) (bytes output_text report_text old_output old_report output report : List ℕ)
     (answer : Result Status IoFault) (run : Run) (status : ℕ)
     → HasRun tool bytes output_text report_text answer
     → HoldsFront output output_text → HoldsFront report report_text
+    → length old_output ≡ length output → length old_report ≡ length report
+    → KeepsRest old_output output output_text → KeepsRest old_report report report_text
     → run.output_length ≡ min (length output_text) (length output)
     → run.report_length ≡ min (length report_text) (length report)
     → (status ≡ 0 → IsWhole answer output_text report_text output report run.exit_status)
-    → (status ≡ 5 → (length output ≤ length output_text) ⊎ (length report ≤ length report_text))
+    → (status ≡ 5 → (length output < length output_text) ⊎ (length report < length report_text))
     → (status ≡ 0) ⊎ ((status ≡ 5) ⊎ (status ≡ 8))
-    → GivesTexts (tool.whole bytes) output report run status
-gives tool bytes output_text report_text output report answer run status has held_output held_report output_is report_is whole full known =
+    → TextsGiven (tool.whole bytes) old_output old_report output report run status
+gives tool bytes output_text report_text old_output old_report output report answer run status has held_output held_report output_size report_size output_kept report_kept output_is report_is whole full known =
     record {
       output_front = rw output_is (copied_front output output_text _ held_output has.output);
       report_front = rw report_is (copied_front report report_text _ held_report has.report);
       output_within = rw output_is (within output output_text);
       report_within = rw report_is (within report report_text);
+      output_rest = rw output_is (copied_rest old_output output output_text output_size output_kept);
+      report_rest = rw report_is (copied_rest old_report report report_text report_size report_kept);
       output_whole = λ zero.
           let w = whole zero in
           rw output_is (copied_whole output output_text _ held_output w.output_fits (has.ended w.status w.is).0);
@@ -90,8 +109,12 @@ gives tool bytes output_text report_text output report answer run status has hel
           rw report_is (copied_whole report report_text _ held_report w.report_fits (has.ended w.status w.is).1);
       exit = λ zero. let w = whole zero in w.exit_is ∙ (has.ended w.status w.is).2;
       full = λ five. ⊎_elim
-          (λ (long : length output ≤ length output_text). inl (output_is ∙ min-eq_right (length output_text) (length output) long))
-          (λ (long : length report ≤ length report_text). inr (report_is ∙ min-eq_right (length report_text) (length report) long))
+          (λ (long : length output < length output_text). inl (output_is ∙ min-eq_right (length output_text) (length output) long))
+          (λ (long : length report < length report_text). inr (report_is ∙ min-eq_right (length report_text) (length report) long))
+          (full five);
+      too_small = λ five. ⊎_elim
+          (λ (long : length output < length output_text). inl (longer output output_text _ has.output long))
+          (λ (long : length report < length report_text). inr (longer report report_text _ has.report long))
           (full five);
       known = known;
     }

@@ -1,5 +1,5 @@
 -- A run of a whole tool over a slice, into two slices.
-use Rattle.std.specs.Prelude.{◌≡◌, ℕ, ◌≤◌, ◌⊎◌, Bool, ◌&&◌, ◌==◌, nat_le, List, length, take, Option, Some, None, Result, Ok, if◌then◌else◌}
+use Rattle.std.specs.Prelude.{◌≡◌, ℕ, ◌<◌, ◌≤◌, ◌⊎◌, Bool, ◌&&◌, ◌==◌, nat_le, List, length, take, drop, Option, Some, None, Result, Ok, if◌then◌else◌}
 use Rattle.link_laws.specs.Prefix.{IsFrontOf}
 use Rattle.link_list.specs.Listing.{list_tool}
 use Rattle.link_pack.specs.Packing.{pack_tool}
@@ -35,20 +35,35 @@ pub record HasRun (tool : Tool) (bytes output_text report_text : List ℕ)
       × (report_text ≡ (tool.whole bytes).texts.report)
       × (status.0 ≡ (tool.whole bytes).status)
 
--- The slices have prefixes of the texts. With TCPCLKIT_OK these are the whole texts, and the exit
--- status is that of the run. With TCPCLKIT_TOO_SMALL a slice is full. Otherwise the status is
+-- the slices for the two texts, before or after a call
+pub record Slices : Type 0 where
+  pub output : List ℕ
+  pub report : List ℕ
+
+-- The slices have prefixes of the texts, and the bytes after these are as they were. With
+-- TCPCLKIT_OK these are the whole texts, and the exit status is that of the run. With
+-- TCPCLKIT_TOO_SMALL a slice is full and shorter than its text. Otherwise the status is
 -- TCPCLKIT_MEMORY.
-pub record GivesTexts (whole : Outcome) (output report : List ℕ) (run : Run)
+pub record TextsGiven (whole : Outcome) (old_output old_report output report : List ℕ) (run : Run)
     (status : ℕ) : Type 0 where
   pub output_front : IsFrontOf (take run.output_length output) whole.texts.output
   pub report_front : IsFrontOf (take run.report_length report) whole.texts.report
   pub output_within : run.output_length ≤ length output
   pub report_within : run.report_length ≤ length report
+  pub output_rest : drop run.output_length output ≡ drop run.output_length old_output
+  pub report_rest : drop run.report_length report ≡ drop run.report_length old_report
   pub output_whole : status ≡ 0 → take run.output_length output ≡ whole.texts.output
   pub report_whole : status ≡ 0 → take run.report_length report ≡ whole.texts.report
   pub exit : status ≡ 0 → run.exit_status ≡ whole.status
   pub full : status ≡ 5 → (run.output_length ≡ length output) ⊎ (run.report_length ≡ length report)
+  pub too_small : status ≡ 5
+      → (length output < length whole.texts.output) ⊎ (length report < length whole.texts.report)
   pub known : (status ≡ 0) ⊎ ((status ≡ 5) ⊎ (status ≡ 8))
+
+-- what a run has given in its slices
+abbrev pub GivesTexts : Outcome → (old new : Slices) → Run → ℕ → Type 0
+GivesTexts whole old new run status =
+    TextsGiven whole old.output old.report new.output new.report run status
 
 -- which data is wanted
 abbrev pub wanted_of : UnpackOptions → Wanted
@@ -77,8 +92,8 @@ pub record HasOptions (options : packing.PackOptions) (numbers : PackOptions)
   pub send_term : options.send_term ≡ (numbers.send_term == 1)
 
 -- the bundles were packed with these options
-pub record GivesPacked (numbers : PackOptions) (node bytes output report : List ℕ) (run : Run)
+pub record GivesPacked (numbers : PackOptions) (node bytes : List ℕ) (old new : Slices) (run : Run)
     (status : ℕ) : Type 0 where
   pub options : packing.PackOptions
   pub are : HasOptions options numbers node
-  pub texts : GivesTexts (whole_of (tool.Pack options) bytes) output report run status
+  pub texts : GivesTexts (whole_of (tool.Pack options) bytes) old new run status

@@ -70,7 +70,9 @@ fn give_texts(
 ) -> u32
     ensures { (tool : Tool) (bytes : List ℕ)
         → HasRun tool bytes output_text.now report_text.now ended
-        → GivesTexts (tool.whole bytes) output.new report.new answer.new result }
+        → GivesTexts (tool.whole bytes) (record { output = output.old; report = report.old })
+        (record { output = output.new; report = report.new })
+        answer.new result }
 {
     let output_fits = copy_front(output, output_text);
     let report_fits = copy_front(report, report_text);
@@ -85,16 +87,19 @@ fn give_texts(
     if refused {
         return MEMORY;
     }
-    if output_text.len() >= output.len() {
+    if output_text.len() > output.len() {
         return TOO_SMALL;
     }
-    if report_text.len() >= report.len() {
+    if report_text.len() > report.len() {
         return TOO_SMALL;
     }
     MEMORY
 }
 
 /// Runs the tool over the bytes, and gives its texts.
+///
+/// Each text has room for one byte more than its slice. So a text that does not fit is longer than
+/// its slice, and a run whose texts fit just does not fail.
 fn run_job(
     job: Job,
     alloc: Global,
@@ -104,15 +109,17 @@ fn run_job(
     answer: &mut Run,
 ) -> u32
     requires { IsReady job }
-    ensures { GivesTexts (whole_of (options_of job) bytes.now) output.new report.new answer.new
-        result }
+    ensures { GivesTexts (whole_of (options_of job) bytes.now)
+        (record { output = output.old; report = report.old })
+        (record { output = output.new; report = report.new })
+        answer.new result }
 {
     sofar_is_prefix();
     let end = run_tool(
         job,
         SliceReader::new(bytes),
-        KeptText::new(alloc, output.len()),
-        KeptText::new(alloc, report.len()),
+        KeptText::new(alloc, output.len() + 1),
+        KeptText::new(alloc, report.len() + 1),
     );
     let refused = end.output.refused()
         || end.report.refused()
@@ -137,7 +144,10 @@ pub extern "C" fn tcpclkit_raw_list(
     report: &mut [u8],
     answer: &mut Run,
 ) -> u32
-    ensures { GivesTexts (whole_of tool.List bytes.now) output.new report.new answer.new result }
+    ensures { GivesTexts (whole_of tool.List bytes.now)
+        (record { output = output.old; report = report.old })
+        (record { output = output.new; report = report.new })
+        answer.new result }
 {
     run_job(
         Job::new(alloc, Options::List),
@@ -178,7 +188,10 @@ pub extern "C" fn tcpclkit_raw_unpack(
     ensures payload { 1 < options.now.payload → (result ≡ 6) × (answer.new ≡ answer.old) }
     ensures run { options.now.only_one ≤ 1 → options.now.payload ≤ 1
         → GivesTexts (whole_of (tool.Unpack (wanted_of options.now)) bytes.now)
-        output.new report.new answer.new result }
+        (record { output = output.old; report = report.old })
+        (record { output = output.new; report = report.new })
+        answer.new result }
+    ensures unwritten { result ≡ 6 → (output.new ≡ output.old) × (report.new ≡ report.old) }
 {
     if options.only_one > 1 || options.payload > 1 {
         return RANGE;
@@ -238,7 +251,11 @@ pub extern "C" fn tcpclkit_raw_pack(
     ensures range { are_in_range options.now (length node.now) ≡ false
         → (result ≡ 6) × (answer.new ≡ answer.old) }
     ensures run { are_in_range options.now (length node.now) ≡ true
-        → GivesPacked options.now node.now bytes.now output.new report.new answer.new result }
+        → GivesPacked options.now node.now bytes.now
+        (record { output = output.old; report = report.old })
+        (record { output = output.new; report = report.new })
+        answer.new result }
+    ensures unwritten { result ≡ 6 → (output.new ≡ output.old) × (report.new ≡ report.old) }
 {
     if !are_in_range(options, node.len()) {
         return RANGE;

@@ -1,4 +1,4 @@
-use Rattle.std.proofs.Common.{◌≡◌, ℕ, suc, ◌-◌, ◌+◌, [], ◌∷◌, ◌++◌, drop, arith, sym, ap, ◌∙◌}
+use Rattle.std.proofs.Common.{◌≡◌, ℕ, refl, suc, ◌-◌, ◌+◌, [], ◌∷◌, ◌++◌, drop, arith, sym, ap, ◌∙◌}
 use Rattle.std.proofs.lemmas.Result.{err_from_is_err_and}
 use Rattle.link_wire.specs.InSlice.{head_of}
 use Rattle.link_wire.specs.Message.{items_at}
@@ -6,7 +6,8 @@ use Rattle.link_wire.proofs.ItemReads.{with_items, with_items-append, with_items
 use Rattle.link_wire.proofs.slices.items_of.Goals as goal
 
 pub loop-left-init : goal.loop-left-init
-loop-left-init c = record { before = []; reads = with_items-none _; within = c.requires }
+loop-left-init c =
+    record { before = []; reads = with_items-none _; within = c.requires; ends = refl }
 
 pub returns-in_err-item : goal.returns-in_err-item
 returns-in_err-item c =
@@ -43,6 +44,7 @@ loop-left-preserved c =
           ∙ ap (λ (size : ℕ). with_items (kept.before ++ item ∷ [])
           (items_at c.args.of (room - 1) (c.loop-left.left - (5 + size)) rest)) (sym c.from.ensures);
       within = c.in_ok-next.ensures.within;
+      ends = omega (arith, kept.ends, c.in_ok-next.ensures.next, c.in_ok-item.ensures.next, c.in_ok-item.ensures.fits, c.from.ensures);
     }
 
 pub returns : goal.returns
@@ -53,4 +55,5 @@ returns c =
       items = record { items = kept.before };
       is = list_ended _ _ _ _ _ kept.reads _ (items_none _ _ _ _ none);
       within = kept.within;
+      ends = omega (arith, kept.ends, none);
     }

@@ -1,4 +1,4 @@
-use Rattle.std.proofs.Common.{◌≡◌, ◌≤◌, List, length, drop}
+use Rattle.std.proofs.Common.{◌≡◌, ◌≤◌, ◌+◌, List, length, drop}
 use Rattle.link_wire.specs.Message.{items_at}
 use Rattle.link_wire.proofs.ItemReads.{with_items}
 use Rattle.link_wire.specs.declared.message.Item.{Item}
@@ -12,6 +12,7 @@ invariant-loop-left l = record {
   reads : items_at l.of MAX_ITEMS l.size (drop l.start l.bytes)
       ≡ with_items before (items_at l.of l.room l.left (drop l.at l.bytes));
   within : l.at ≤ length l.bytes;
+  ends : l.at + l.left ≡ l.start + l.size;
 }
 
 abbrev pub decreases-loop-left : goal.decreases-loop-left

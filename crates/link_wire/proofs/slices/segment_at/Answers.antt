@@ -15,5 +15,9 @@ returns-then-flags-ne-START c =
         with_start = λ start. absurd (false≢true (sym later ∙ start));
         without_start = λ _. (refl, refl);
       };
+      places = record {
+        with_start = λ start. absurd (false≢true (sym later ∙ start));
+        without_start = λ _. refl;
+      };
       within = c.in_ok-length.ensures.within;
     })
