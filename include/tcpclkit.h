@@ -505,7 +505,8 @@ struct tcpclkit_pack_options {
  *
  * Proved: after TCPCLKIT_OK the texts and the exit status are those of `list_tool` of the bytes.
  * After each other status the slices have prefixes of these texts, and after TCPCLKIT_TOO_SMALL one
- * of the slices is full. When memory is refused is tested, and not proved.
+ * of the slices is shorter than its text. The bytes of the slices after the texts stay as they were.
+ * When memory is refused is tested, and not proved.
  */
 static inline uint32_t tcpclkit_list(const uint8_t *bytes, size_t length,
                                      uint8_t *output, size_t output_room,
