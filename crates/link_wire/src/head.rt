@@ -171,6 +171,7 @@ fn sess_init<R: InDevice>(source: &mut Source<R>, message: &mut MessageBuffer) -
 }
 
 /// Reads a message after its type byte `kind`, without the data of a segment.
+#[tactic(auto, unfolding(crate::specs::Message::fields_at))]
 #[inline]
 pub fn fields<R: InDevice>(
     source: &mut Source<R>,

@@ -73,6 +73,7 @@ fn bytes_at(bytes: &[u8], at: usize, size: usize) -> Result<(&[u8], usize), Wire
 }
 
 /// Reads a number of one byte.
+#[tactic(auto, unfolding(crate::specs::Part::number_at), using(crate::proofs::SliceReads::as_byte))]
 fn number8_at(bytes: &[u8], at: usize) -> Result<(u8, usize), WireFault>
     requires { at ≤ length bytes.now }
     ensures read { number_at 1 (drop at bytes.now) ≡ read_part bytes.now result }
@@ -85,6 +86,7 @@ fn number8_at(bytes: &[u8], at: usize) -> Result<(u8, usize), WireFault>
 }
 
 /// Reads a number of two bytes.
+#[tactic(auto, unfolding(crate::specs::Part::number_at))]
 fn number16_at(bytes: &[u8], at: usize) -> Result<(u16, usize), WireFault>
     requires { at ≤ length bytes.now }
     ensures read { number_at 2 (drop at bytes.now) ≡ read_part bytes.now result }
@@ -97,6 +99,7 @@ fn number16_at(bytes: &[u8], at: usize) -> Result<(u16, usize), WireFault>
 }
 
 /// Reads a number of four bytes.
+#[tactic(auto, unfolding(crate::specs::Part::number_at))]
 fn number32_at(bytes: &[u8], at: usize) -> Result<(u32, usize), WireFault>
     requires { at ≤ length bytes.now }
     ensures read { number_at 4 (drop at bytes.now) ≡ read_part bytes.now result }
@@ -109,6 +112,7 @@ fn number32_at(bytes: &[u8], at: usize) -> Result<(u32, usize), WireFault>
 }
 
 /// Reads a number of eight bytes.
+#[tactic(auto, unfolding(crate::specs::Part::number_at))]
 fn number64_at(bytes: &[u8], at: usize) -> Result<(u64, usize), WireFault>
     requires { at ≤ length bytes.now }
     ensures read { number_at 8 (drop at bytes.now) ≡ read_part bytes.now result }

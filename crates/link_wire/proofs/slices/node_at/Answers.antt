@@ -1,4 +1,4 @@
-use Rattle.std.proofs.Common.{◌≡◌, ◌≤◌, ℕ, List, take, drop, Ok, ap, sym, ◌∙◌, arith}
+use Rattle.std.proofs.Common.{ℕ, List, take, drop, Ok, ap, sym, ◌∙◌, arith}
 use Rattle.std.proofs.lemmas.Result.{err_from_is_err_and}
 use Rattle.link_wire.proofs.SliceReads.{node_gone, node_there}
 use Rattle.link_wire.proofs.slices.node_at.Goals as goal
