@@ -55,6 +55,7 @@ const NOWHERE: Span = Span {
 };
 
 /// Reads that many bytes.
+#[tactic(auto, unfolding(crate::specs::Part::bytes_at))]
 fn bytes_at(bytes: &[u8], at: usize, size: usize) -> Result<(&[u8], usize), WireFault>
     requires { at ≤ length bytes.now }
     ensures read { IfOk result (λ read. bytes_at size (drop at bytes.now)
@@ -158,7 +159,7 @@ fn plain_at(fields: Fields, end: usize) -> MessageAt
 }
 
 /// Reads a node ID: its length, and then its bytes (RFC 9174 section 4.6).
-#[tactic(auto, unfolding(crate::specs::Message::node_at))]
+#[tactic(auto, unfolding(crate::specs::Message::node_at, crate::specs::Message::node_bytes_at))]
 fn node_at(bytes: &[u8], at: usize) -> Result<(Span, usize), WireFault>
     requires { at ≤ length bytes.now }
     ensures read { node_at (drop at bytes.now) ≡ read_node bytes.now result }

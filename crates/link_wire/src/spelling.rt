@@ -214,7 +214,7 @@ pub fn put_segment_head(
 /// Appends a SESS_TERM of three bytes (RFC 9174 section 6.1).
 ///
 /// The buffer has room for it.
-#[tactic(auto, unfolding(crate::specs::Spelling::sess_term_bytes))]
+#[tactic(auto, unfolding(crate::specs::Spelling::sess_term_bytes), using(crate::proofs::Spellings::sess_term_spelled))]
 pub fn put_sess_term(buffer: &mut HeadBuf, flags: u8, reason: u8)
     requires { array_vec_len buffer.old + 3 ≤ HEAD_MAX }
     ensures items { buffer.new.items ≡ buffer.old.items ++ sess_term_bytes flags reason }
