@@ -62,6 +62,7 @@ fn node_bytes<R: InDevice>(
 }
 
 /// Reads the extension list of a segment into `items`; without START there is no list.
+#[tactic(auto, unfolding(crate::specs::Message::segment_items_at))]
 #[inline]
 fn segment_items<R: InDevice>(
     source: &mut Source<R>,
