@@ -11,8 +11,7 @@ use Rattle.byteorder.specs.Endian.{big_number, big_from}
 use Rattle.byteorder.specs.Numbers.{big_from-cons, big_from-lt}
 use Rattle.link_io.specs.Bytes.{IsByte, AreBytes}
 use Rattle.link_wire.specs.Part.{Part, ◌>>=◌, bytes_at, number_at}
-use Rattle.link_wire.proofs.FieldReads.{bytes_at-short, bytes_at-enough, same_part}
-use Rattle.link_wire.proofs.Shrinks.{both_read}
+use Rattle.link_wire.proofs.FieldReads.{bytes_gone, same_part, both_read}
 use Rattle.link_wire.specs.Spelled.{Spelling, be, U8, U16, U32, U64, These, FollowedBy, ContactSpelled, NodeSpelled, ItemHeadSpelled, ValueSpelled, total_of, ItemSpelled, ItemsSpelled, ListSpelled, SegmentItemsSpelled, HeadSpelled}
 use Rattle.link_wire.proofs.Sound.{both, last, ItemsFilling, has_total_size, length_item_head}
 use Rattle.link_wire.specs.declared.message.ListOf.{ListOf}
@@ -120,20 +119,16 @@ ManyBytes n content bytes = AreBytes content × (bytes ≡ content) × (length c
 
 pub found_bytes : (n : ℕ) → Found (bytes_at n) (ManyBytes n)
 found_bytes n = record {
-  by = λ bytes value rest are is. ⊎_elim
-      (λ short. let never = sym (bytes_at-short n bytes short) ∙ is in absurd (cc))
-      (λ enough.
-      let same = same_part (sym (bytes_at-enough n bytes enough) ∙ is) in
-      let whole : bytes ≡ take n bytes ++ drop n bytes = sym (take-append-drop n bytes) in
-      let are_first : AreBytes (take n bytes) = All-take IsByte n bytes are in
+  by = λ bytes value rest are is.
+      let gone = bytes_gone n bytes value rest is in
+      let size = ap length (sym gone.2) ∙ length-take-le n bytes gone.1 in
       record {
         before = take n bytes;
         after = drop n bytes;
-        is_first = (subst AreBytes same.0 are_first, same.0, ap length (sym same.0) ∙ length-take-le n bytes enough);
-        is_second = same.1;
-        parts = whole;
-      })
-      (cases_lt (length bytes) n);
+        is_first = (subst AreBytes gone.2 (All-take IsByte n bytes are), gone.2, size);
+        is_second = gone.3;
+        parts = sym (take-append-drop n bytes);
+      };
 }
 
 pub found_number : (k : ℕ) → Found (number_at k) (λ n bytes. (n < 256 ^ k) × (bytes ≡ be k n))
@@ -193,24 +188,17 @@ found_item_head left =
     found_pure (record { flags = flags; kind = kind; length = size })
     (both first _ one (both second _ two (last (U16 size) third three)), omega (arith, ltb-false left 5 room, ltb-false (left - 5) size fits)))))))
 
-found_skipped : (n : ℕ)
-    → Found (skipped_at n) (λ nothing bytes. AreBytes bytes × (length bytes ≡ n))
-unfolding skipped_at
-found_skipped n =
+-- `n` bytes that this value is made of
+abbrev MadeOf : {A : Type 0} → ℕ → (List ℕ → A) → A → Spelling
+MadeOf n make value bytes = AreBytes bytes × (length bytes ≡ n) × (value ≡ make bytes)
+
+found_made : {A : Type 0} (n : ℕ) (make : List ℕ → A)
+    → Found (λ bytes. bytes_at n bytes >>= λ v. Ok (make v.0, v.1)) (MadeOf n make)
+found_made n make =
     found_then _ _ (found_bytes n) (λ content before is.
     let same : before ++ [] ≡ content = append-nil before ∙ is.1 in
-    found_pure tt (subst AreBytes (sym same) is.0, ap length same ∙ is.2))
-
--- `n` bytes that this number is read from
-abbrev NumberOf : ℕ → ℕ → Spelling
-NumberOf n number bytes = AreBytes bytes × (length bytes ≡ n) × (number ≡ big_number n bytes)
-
-found_number_of : (n : ℕ) → Found (number_at n) (NumberOf n)
-unfolding number_at
-found_number_of n =
-    found_then _ _ (found_bytes n) (λ content before is.
-    let same : before ++ [] ≡ content = append-nil before ∙ is.1 in
-    found_pure (big_number n content) (subst AreBytes (sym same) is.0, ap length same ∙ is.2, ap (big_number n) (sym same)))
+    found_pure (make content)
+    (subst AreBytes (sym same) is.0, ap length same ∙ is.2, ap make (sym same)))
 
 module _ (of : ListOf) (kind size : ℕ) where
   known_by : (test : Bool) (value : List ℕ) → gives_total of kind size ≡ test
@@ -218,13 +206,13 @@ module _ (of : ListOf) (kind size : ℕ) where
   known_by test value known = ap (λ test. if test then Some (big_number 8 value) else None) (sym known)
 
   found_value : Found (total_at of kind size) (ValueSpelled of kind size)
-  unfolding total_at
+  unfolding total_at number_at skipped_at
   found_value =
       found_if _ _ (gives_total of kind size)
-      (λ known. found_then _ _ (found_number_of 8) (λ n before is.
+      (λ known. found_then _ _ (found_made 8 (big_number 8)) (λ n before is.
       found_pure (Some n) (last (ValueSpelled of kind size (Some n)) before
       (is.0, is.1 ∙ sym (has_total_size of kind size known), ap Some is.2 ∙ known_by true before known))))
-      (λ known. found_then _ _ (found_skipped size) (λ nothing before is.
+      (λ known. found_then _ _ (found_made size (λ skipped. tt)) (λ nothing before is.
       found_pure None (last (ValueSpelled of kind size None) before (is.0, is.1, known_by false before known))))
 
 -- the items of `left` bytes of a list, at most `room` of them
@@ -294,77 +282,61 @@ found_segment_items flags =
 
 -- the fields of a message after its type byte, which is all of `before`
 module _ (before : List ℕ) where
-  found_segment : U8 1 before
-      → Found segment_at (λ message after. HeadSpelled message (before ++ after))
-  unfolding segment_at
-  found_segment kind =
+  -- the type byte is this number
+  is_kind : (kind n : ℕ) → eqb kind n ≡ true → U8 kind before → U8 n before
+  is_kind kind n known is =
+      let P : ℕ → Type 0 = λ k. U8 k before in subst P (eqb-true kind n known) is
+
+  found_fields : (kind : ℕ) → U8 kind before
+      → Found (fields_at kind) (λ message after. HeadSpelled message (before ++ after))
+  unfolding fields_at segment_at ack_at refuse_at sess_term_at msg_reject_at sess_init_at
+  found_fields kind is =
+      found_if _ _ (eqb kind 1) (λ known.
       found_then _ _ found_u8 (λ flags first one.
       found_then _ _ found_u64 (λ id second two.
       found_then _ _ (found_segment_items flags) (λ items third three.
       found_then _ _ found_u64 (λ size fourth four.
       found_pure (Segment (record { flags = flags; id = id; items = items; length = size }))
-      (both before _ kind (both first _ one (both second _ two (both third _ three (last (U64 size) fourth four)))))))))
-
-  found_ack : U8 2 before → Found ack_at (λ message after. HeadSpelled message (before ++ after))
-  unfolding ack_at
-  found_ack kind =
+      (both before _ (is_kind kind 1 known is) (both first _ one (both second _ two
+      (both third _ three (last (U64 size) fourth four)))))))))) (λ _.
+      found_if _ _ (eqb kind 2) (λ known.
       found_then _ _ found_u8 (λ flags first one.
       found_then _ _ found_u64 (λ id second two.
       found_then _ _ found_u64 (λ size third three.
-      found_pure (Ack flags id size) (both before _ kind (both first _ one (both second _ two (last (U64 size) third three)))))))
-
-  found_refuse : U8 3 before
-      → Found refuse_at (λ message after. HeadSpelled message (before ++ after))
-  unfolding refuse_at
-  found_refuse kind =
+      found_pure (Ack flags id size)
+      (both before _ (is_kind kind 2 known is) (both first _ one (both second _ two
+      (last (U64 size) third three)))))))) (λ _.
+      found_if _ _ (eqb kind 3) (λ known.
       found_then _ _ found_u8 (λ reason first one.
       found_then _ _ found_u64 (λ id second two.
-      found_pure (Refuse reason id) (both before _ kind (both first _ one (last (U64 id) second two)))))
-
-  found_sess_term : U8 5 before
-      → Found sess_term_at (λ message after. HeadSpelled message (before ++ after))
-  unfolding sess_term_at
-  found_sess_term kind =
+      found_pure (Refuse reason id)
+      (both before _ (is_kind kind 3 known is)
+      (both first _ one (last (U64 id) second two)))))) (λ _.
+      found_if _ _ (eqb kind 4) (λ known.
+      found_pure Keepalive (last (U8 4) before (is_kind kind 4 known is))) (λ _.
+      found_if _ _ (eqb kind 5) (λ known.
       found_then _ _ found_u8 (λ flags first one.
       found_then _ _ found_u8 (λ reason second two.
-      found_pure (SessTerm flags reason) (both before _ kind (both first _ one (last (U8 reason) second two)))))
-
-  found_msg_reject : U8 6 before
-      → Found msg_reject_at (λ message after. HeadSpelled message (before ++ after))
-  unfolding msg_reject_at
-  found_msg_reject kind =
+      found_pure (SessTerm flags reason)
+      (both before _ (is_kind kind 5 known is)
+      (both first _ one (last (U8 reason) second two)))))) (λ _.
+      found_if _ _ (eqb kind 6) (λ known.
       found_then _ _ found_u8 (λ reason first one.
       found_then _ _ found_u8 (λ header second two.
-      found_pure (MsgReject reason header) (both before _ kind (both first _ one (last (U8 header) second two)))))
-
-  found_sess_init : U8 7 before
-      → Found sess_init_at (λ message after. HeadSpelled message (before ++ after))
-  unfolding sess_init_at
-  found_sess_init kind =
+      found_pure (MsgReject reason header)
+      (both before _ (is_kind kind 6 known is)
+      (both first _ one (last (U8 header) second two)))))) (λ _.
+      found_if _ _ (eqb kind 7) (λ known.
       found_then _ _ found_u16 (λ keepalive first one.
       found_then _ _ found_u64 (λ segment_mru second two.
       found_then _ _ found_u64 (λ transfer_mru third three.
       found_then _ _ found_node (λ node fourth four.
       found_then _ _ (found_list Session) (λ items fifth five.
       found_pure (SessInit keepalive segment_mru transfer_mru node items)
-      (both before _ kind (both first _ one (both second _ two (both third _ three (both fourth _ four (last (ListSpelled Session items) fifth five)))))))))))
-
-  -- the type byte is this number
-  is_kind : (kind n : ℕ) → eqb kind n ≡ true → U8 kind before → U8 n before
-  is_kind kind n known is = let same : kind ≡ n = eqb-true kind n known in let P : ℕ → Type 0 = λ k. U8 k before in subst P same is
-
-  found_fields : (kind : ℕ) → U8 kind before
-      → Found (fields_at kind) (λ message after. HeadSpelled message (before ++ after))
-  unfolding fields_at
-  found_fields kind is =
-      found_if _ _ (eqb kind 1) (λ known. found_segment (is_kind kind 1 known is)) (λ _.
-      found_if _ _ (eqb kind 2) (λ known. found_ack (is_kind kind 2 known is)) (λ _.
-      found_if _ _ (eqb kind 3) (λ known. found_refuse (is_kind kind 3 known is)) (λ _.
-      found_if _ _ (eqb kind 4) (λ known. found_pure Keepalive (last (U8 4) before (is_kind kind 4 known is))) (λ _.
-      found_if _ _ (eqb kind 5) (λ known. found_sess_term (is_kind kind 5 known is)) (λ _.
-      found_if _ _ (eqb kind 6) (λ known. found_msg_reject (is_kind kind 6 known is)) (λ _.
-      found_if _ _ (eqb kind 7) (λ known. found_sess_init (is_kind kind 7 known is)) (λ _.
-      found_err (UnknownType kind))))))))
+      (both before _ (is_kind kind 7 known is) (both first _ one (both second _ two
+      (both third _ three
+      (both fourth _ four (last (ListSpelled Session items) fifth five))))))))))))
+      (λ _. found_err (UnknownType kind))))))))
 
 -- the head of a message that was read is spelled in a prefix of the bytes
 pub found_message : Found message_at HeadSpelled

@@ -1,10 +1,8 @@
 -- A stream begins with the six bytes of its contact header.
-use Rattle.std.proofs.Common.{◌≡◌, ℕ, ◌+◌, Bool, true, false, List, [], ◌++◌, length, Some, None, Ok, Err, if◌then◌else◌, eqb, slice_index, arith, refl, ap, sym, ◌∙◌, length-append, length-drop, ⊎_elim}
-use Rattle.std.proofs.lemmas.Bool.{cases_lt}
+use Rattle.std.proofs.Common.{◌≡◌, ℕ, ◌+◌, Bool, true, false, List, [], ◌++◌, length, Some, None, Ok, Err, if◌then◌else◌, eqb, slice_index, arith, refl, ap, length-append}
 use Rattle.byteorder.specs.Endian.{big_number}
 use Rattle.link_wire.specs.Part.{bytes_at}
-use Rattle.link_wire.proofs.FieldReads.{bytes_at-short, bytes_at-enough, same_part}
-use Rattle.link_wire.proofs.Shrinks.{both_read}
+use Rattle.link_wire.proofs.FieldReads.{bytes_gone, both_read}
 use Rattle.link_wire.specs.Message.{contact_at}
 use Rattle.link_wire.specs.Stream.{Fault, stream_at, reading_of, reading_by}
 use Rattle.link_wire.specs.declared.fault.WireFault.{WireFault}
@@ -24,14 +22,10 @@ unfolding contact_at
 contact_size bytes contact rest is =
     let read = both_read (bytes_at 6 bytes) _ (contact, rest) is in
     let header = read.0 in
-    ⊎_elim
-    (λ short. let none = sym (bytes_at-short 6 bytes short) ∙ read.1 in absurd (cc))
-    (λ enough.
-    let found = sym (bytes_at-enough 6 bytes enough) ∙ read.1 in
+    let gone = (bytes_gone 6 bytes header.0 header.1 read.1).0 in
     let pair = passed (eqb (big_number 4 header.0) 0x64746e21) (eqb (slice_index header.0 4) 4) _ (contact, rest) _ _ read.2 in
     let later : header.1 ≡ rest = ap (λ (p : Contact × List ℕ). p.1) pair in
-    omega (arith, ap length later, ap length (same_part found).1, length-drop 6 bytes))
-    (cases_lt (length bytes) 6)
+    omega (arith, ap length later, gone)
 
 module _ (taken : List ℕ) (contact : Contact)
     (is : (more : List ℕ) → contact_at (taken ++ more) ≡ Ok (contact, more)) where

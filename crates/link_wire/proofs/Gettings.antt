@@ -188,6 +188,27 @@ module _ {R A : Type 0} {look : R → Input} where
         let P : Bool → Type 0 = λ b. Gets look (λ bytes. if b then part bytes else other bytes) old new outcome in
         subst P (sym is) h
 
+-- ---- a function that reads part after part, from a live source
+
+module _ {R A B : Type 0} {look : R → Input} {part : List ℕ → Part A}
+    (next : A × List ℕ → Part B) {old new : Source R} where
+  pub step : {mid : Source R} {value : A} {outcome : Result B Halt}
+      → (IsLive look old → Gets look part old mid (Ok value))
+      → (IsLive look mid → Gets look (λ bytes. next (value, bytes)) mid new outcome)
+      → IsLive look old → Gets look (λ bytes. part bytes >>= next) old new outcome
+  step got more live = let here = got live in after next here (more (is_live here))
+
+  pub stop_in : {stop : Halt} → (IsLive look old → Gets look part old new (Err stop))
+      → IsLive look old → Gets look (λ bytes. part bytes >>= next) old new (Err stop)
+  stop_in met live = exit next (met live)
+
+module _ {R A : Type 0} {look : R → Input} {part : List ℕ → Part A} {old new : Source R}
+    {stop : Halt} where
+  pub leave : (value : A) (outcome : Result (Unit {0}) Halt) → IsErrAnd outcome (λ e. e ≡ stop)
+      → (IsLive look old → Gets look part old new (Err stop))
+      → IsLive look old → Gets look part old new (with_value value outcome)
+  leave value outcome is met live = leaving value outcome is (met live)
+
 module _ {R : Type 0} {look : R → Input} {old new : Source R} where
   -- a number is read from the bytes of its field
   pub number_read : (n : ℕ) (field : List ℕ) → Gets look (bytes_at n) old new (Ok field)

@@ -1,6 +1,5 @@
 -- Heads that are whole in the bytes that are here, so that no field is missing.
 use Rattle.std.proofs.Common.{◌≡◌, ℕ, ◌+◌, ◌-◌, ◌<◌, ◌≤◌, ◌⊎◌, Bool, true, false, List, [], length, take, drop, slice_index, slice_range, Option, Some, None, IfSome, is_some, Ok, Err, nat_lt, if◌then◌else◌, arith, refl, ap, sym, ◌∙◌, subst, length-drop, take-append-drop, take_all, ⊎_elim}
-use Rattle.std.proofs.lemmas.Bool.{ne_eqb}
 use Rattle.std.proofs.lemmas.List.{drop-drop}
 use Rattle.arrayvec.specs.ArrayVec.{ArrayVec}
 use Rattle.byteorder.specs.Endian.{big_number}
@@ -9,12 +8,11 @@ use Rattle.link_wire.specs.Here.{IsHere}
 use Rattle.link_wire.specs.Limits.{longest_node, longest_list}
 use Rattle.link_wire.specs.Message.{contact_at, list_at, items_of, node_at, node_bytes_at, segment_items_at, segment_at, sess_init_at, fields_at, message_at}
 use Rattle.link_wire.specs.Part.{Part, ◌>>=◌, number_at}
-use Rattle.link_wire.proofs.FieldReads.{bytes_at-enough, same_part}
+use Rattle.link_wire.proofs.FieldReads.{bytes_at-enough, same_part, both_read, fields_at-unknown}
 use Rattle.link_wire.proofs.Plains.{byte_of}
-use Rattle.link_wire.proofs.Shrinks.{both_read}
 use Rattle.link_wire.proofs.Within.{Within, both_cut, within_contact, within_items_of}
 use Rattle.link_wire.specs.declared.fault.WireFault.{WireFault}
-use Rattle.link_wire.specs.declared.fault.WireFault.TheVariants.{Truncated, UnknownType, NodeIdTooLong, ListTooLong}
+use Rattle.link_wire.specs.declared.fault.WireFault.TheVariants.{Truncated, NodeIdTooLong, ListTooLong}
 use Rattle.link_wire.specs.Plain.{IsHead}
 use Rattle.link_wire.specs.declared.message.Fields.{Fields}
 use Rattle.link_wire.specs.declared.message.ListOf.{ListOf}
@@ -37,7 +35,7 @@ here_within : {A : Type 0} (most after : ℕ) (part : List ℕ → Part A) (byte
     → Within most part → most + after ≤ length bytes → IsHere after (part bytes)
 here_within most after part bytes within enough = record {
   whole = λ is. let short = within.cut bytes is in absurd (omega arith);
-  follow = λ value rest is. let fewer = within.read bytes value rest is in omega arith;
+  follow = λ value rest is. let fewer = (within.read bytes value rest is).0 in omega arith;
 }
 
 module _ {A B : Type 0} where
@@ -182,15 +180,11 @@ plain_here window (Some (fields, size)) is some =
     subst P (take-append-drop size window) (subst Q (sym whole) (here_pure 0 _ _ (omega arith)))
 
 -- a type byte that no message has is a fault, whatever follows it
-unknown : (kind : ℕ) (rest : List ℕ) → (kind ≡ 0) ⊎ (7 < kind)
-    → fields_at kind rest ≡ Err (UnknownType kind)
-unfolding fields_at
-unknown kind rest other =
-    let is_not : (n : ℕ) → 0 < n → n ≤ 7 → kind ≡ n → ⊥ = λ n some most e. ⊎_elim (λ none. omega (arith, none, e)) (λ more. omega (arith, more, e)) other in
-    rw (ne_eqb kind 1 (is_not 1 (omega arith) (omega arith)), ne_eqb kind 2 (is_not 2 (omega arith) (omega arith)), ne_eqb kind 3 (is_not 3 (omega arith) (omega arith)), ne_eqb kind 4 (is_not 4 (omega arith) (omega arith)), ne_eqb kind 5 (is_not 5 (omega arith) (omega arith)), ne_eqb kind 6 (is_not 6 (omega arith) (omega arith)), ne_eqb kind 7 (is_not 7 (omega arith) (omega arith))) refl
-
 pub unknown_here : (bytes : List ℕ) → 0 < length bytes
     → (slice_index bytes 0 ≡ 0) ⊎ (7 < slice_index bytes 0) → IsHere 0 (message_at bytes)
 unknown_here bytes some other =
     let Q : Part Message → Type 0 = λ read. IsHere 0 read in
-    here_message bytes (slice_index bytes 0) some refl (subst Q (sym (unknown (slice_index bytes 0) (drop 1 bytes) other)) (here_err 0 _ (λ e. cc)))
+    let kind = slice_index bytes 0 in
+    let fault = fields_at-unknown kind (drop 1 bytes) (λ n known e. ⊎_elim
+    (λ none. omega (arith, none, known.0, e)) (λ more. omega (arith, more, known.1, e)) other) in
+    here_message bytes kind some refl (subst Q (sym fault) (here_err 0 _ (λ e. cc)))

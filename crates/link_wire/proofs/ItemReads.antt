@@ -1,8 +1,7 @@
 -- The items of a list, one after another, as the definition reads them.
-use Rattle.std.proofs.Common.{◌≡◌, ℕ, zero, suc, ◌+◌, ◌-◌, ◌<◌, List, [], ◌∷◌, ◌++◌, Option, Result, Ok, Err, eqb, false, arith, ap, sym, ◌∙◌, refl, append-nil, append_assoc}
-use Rattle.std.proofs.lemmas.Bool.{ne_eqb}
+use Rattle.std.proofs.Common.{◌≡◌, ℕ, zero, suc, ◌+◌, ◌-◌, ◌<◌, List, [], ◌∷◌, ◌++◌, Option, Ok, Err, arith, ap, sym, refl, append-nil, append_assoc}
 use Rattle.link_wire.specs.Part.{Part}
-use Rattle.arrayvec.specs.ArrayVec.{ArrayVec}
+use Rattle.link_wire.proofs.Items.{item_of, some_left}
 use Rattle.link_wire.specs.Message.{item_head_at, total_at, items_at, items_of}
 use Rattle.link_wire.specs.declared.fault.WireFault.{WireFault}
 use Rattle.link_wire.specs.declared.fault.WireFault.TheVariants.{TooManyItems}
@@ -23,13 +22,6 @@ with_items-append xs ys (Err fault) = refl
 pub with_items-none : (part : Part (List Item)) → part ≡ with_items [] part
 with_items-none (Ok (items, rest)) = refl
 with_items-none (Err fault) = refl
-
-abbrev pub item_of : ItemHead → Option ℕ → Item
-item_of head total =
-    record { flags = head.flags; kind = head.kind; length = head.length; total = total }
-
-some_left : (left : ℕ) → 0 < left → eqb left 0 ≡ false
-some_left left some = ne_eqb left 0 (λ none. omega arith)
 
 module _ (of : ListOf) where
   -- no bytes of the list are left

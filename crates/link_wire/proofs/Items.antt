@@ -27,7 +27,7 @@ with_before-append xs ys (Err stop) = refl
 abbrev pub item_of : ItemHead → Option ℕ → Item
 item_of head total = record { flags = head.flags; kind = head.kind; length = head.length; total = total }
 
-some_left : (left : ℕ) → 0 < left → eqb left 0 ≡ false
+pub some_left : (left : ℕ) → 0 < left → eqb left 0 ≡ false
 some_left left some = ne_eqb left 0 (λ none. omega arith)
 
 module _ {R : Type 0} {look : R → Input} (of : ListOf) where

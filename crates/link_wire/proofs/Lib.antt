@@ -5,14 +5,13 @@ mod Appends
 mod Skips
 mod Items
 pub mod Shrinks
-mod Within
+pub mod Within
 mod Heres
 pub mod Steady
 pub mod Contacts
 pub mod Streams
 mod Rests
 mod Sessions
-pub mod Wholes
 mod Sound
 mod Complete
 mod OneReading

@@ -16,7 +16,6 @@ use Rattle.link_wire.specs.Limits.{longest_node, longest_list, most_items}
 use Rattle.link_wire.specs.Message.{contact_at, skipped_at, total_at, item_head_at, items_at, items_of, list_at, node_bytes_at, node_at, segment_items_at, segment_at, ack_at, refuse_at, sess_term_at, msg_reject_at, sess_init_at, fields_at, message_at, gives_total, data_length}
 use Rattle.link_wire.specs.declared.message.Contact.{Contact}
 use Rattle.link_wire.specs.declared.message.Item.{Item}
-use Rattle.link_wire.specs.declared.message.SegmentHead.{SegmentHead}
 use Rattle.link_wire.specs.declared.message.Message.{Message}
 use Rattle.link_wire.specs.declared.message.Message.TheVariants.{SessInit, Segment, Ack, Refuse, Keepalive, SessTerm, MsgReject}
 
@@ -148,33 +147,25 @@ only_item_head left flags kind size fits =
     (only_last _ _ (only_u16 size) (λ more.
     let within : nat_lt (left - 5) size ≡ false = le-ltb (left - 5) size (omega arith) in rw within refl))))
 
-pub only_skipped : (value : List ℕ) (n : ℕ) → length value ≡ n
-    → Only (skipped_at n) tt (λ bytes. bytes ≡ value)
-unfolding skipped_at
-only_skipped value n size = only_last _ _ (only_bytes value n size) (λ rest. refl)
-
 pub has_total_size : (of : ListOf) (kind size : ℕ) → gives_total of kind size ≡ true → size ≡ 8
 has_total_size Session kind size is = absurd (cc)
 has_total_size Transfer kind size is = grind (arith, nat_tests)
 
--- the number in a field, whatever number it is
-pub only_field_of : (value : List ℕ) (n : ℕ) → length value ≡ n
-    → Only (number_at n) (big_number n value) (λ bytes. bytes ≡ value)
-unfolding number_at
-only_field_of value n size = only_last _ _ (only_bytes value n size) (λ more. refl)
-
 module _ (of : ListOf) (kind size : ℕ) (total : Option ℕ) where
   value_by : (test : Bool) → gives_total of kind size ≡ test
       → Only (total_at of kind size) total (ValueSpelled of kind size total)
-  unfolding total_at
+  unfolding total_at number_at skipped_at
   value_by true known = only_such (λ value is.
       let number : total ≡ Some (big_number 8 value) = is.2 ∙ ap (λ test. if test then Some (big_number 8 value) else None) known in
       only_if _ _ (gives_total of kind size) known
-      (only_last _ _ (only_field_of value 8 (is.1 ∙ has_total_size of kind size known)) (λ rest. ap (λ t. Ok (t, rest)) (sym number))))
+      (only_last _ _
+      (only_last _ _ (only_bytes value 8 (is.1 ∙ has_total_size of kind size known)) (λ rest. refl))
+      (λ rest. ap (λ t. Ok (t, rest)) (sym number))))
   value_by false known = only_such (λ value is.
       let number : total ≡ None = is.2 ∙ ap (λ test. if test then Some (big_number 8 value) else None) known in
       only_else _ _ (gives_total of kind size) known
-      (only_last _ _ (only_skipped value size is.1) (λ rest. ap (λ t. Ok (t, rest)) (sym number))))
+      (only_last _ _ (only_last _ _ (only_bytes value size is.1) (λ rest. refl))
+      (λ rest. ap (λ t. Ok (t, rest)) (sym number))))
 
   pub only_value : Only (total_at of kind size) total (ValueSpelled of kind size total)
   only_value = value_by (gives_total of kind size) refl
@@ -243,58 +234,36 @@ only_segment_items flags items false known = only_else _ _ (is_start flags) know
       let none : items ≡ record { items = [] } = array_vec_of items [] is.0 in rw (is.1, none) refl;
 })
 
-only_segment : (head : SegmentHead)
-    → Only segment_at (Segment head)
-    (U8 head.flags ⨾ U64 head.id ⨾ SegmentItemsSpelled (is_start head.flags)
-    head.items ⨾ U64 head.length)
-unfolding segment_at
-only_segment head =
-    only_then _ _ (only_u8 head.flags)
+-- the head of a message is read as that message, whatever follows it
+pub only_message : (message : Message) → Only message_at message (HeadSpelled message)
+unfolding message_at fields_at segment_at ack_at refuse_at sess_term_at msg_reject_at sess_init_at
+only_message (Segment head) =
+    only_then _ _ (only_u8 1)
+    (only_then _ _ (only_u8 head.flags)
     (only_then _ _ (only_u64 head.id)
     (only_then _ _ (only_segment_items head.flags head.items (is_start head.flags) refl)
-    (only_last _ _ (only_u64 head.length) (λ more. refl))))
-
-only_ack : (flags id size : ℕ) → Only ack_at (Ack flags id size) (U8 flags ⨾ U64 id ⨾ U64 size)
-unfolding ack_at
-only_ack flags id size = only_then _ _ (only_u8 flags) (only_then _ _ (only_u64 id) (only_last _ _ (only_u64 size) (λ more. refl)))
-
-only_refuse : (reason id : ℕ) → Only refuse_at (Refuse reason id) (U8 reason ⨾ U64 id)
-unfolding refuse_at
-only_refuse reason id = only_then _ _ (only_u8 reason) (only_last _ _ (only_u64 id) (λ more. refl))
-
-only_sess_term : (flags reason : ℕ)
-    → Only sess_term_at (SessTerm flags reason) (U8 flags ⨾ U8 reason)
-unfolding sess_term_at
-only_sess_term flags reason = only_then _ _ (only_u8 flags) (only_last _ _ (only_u8 reason) (λ more. refl))
-
-only_msg_reject : (reason header : ℕ)
-    → Only msg_reject_at (MsgReject reason header) (U8 reason ⨾ U8 header)
-unfolding msg_reject_at
-only_msg_reject reason header = only_then _ _ (only_u8 reason) (only_last _ _ (only_u8 header) (λ more. refl))
-
-only_sess_init : (keepalive segment_mru transfer_mru : ℕ)
-    (node : ArrayVec ℕ) (items : ArrayVec Item)
-    → Only sess_init_at (SessInit keepalive segment_mru transfer_mru node items)
-    (U16 keepalive ⨾ U64 segment_mru ⨾ U64 transfer_mru ⨾ NodeSpelled node ⨾
-    ListSpelled Session items)
-unfolding sess_init_at
-only_sess_init keepalive segment_mru transfer_mru node items =
-    only_then _ _ (only_u16 keepalive)
+    (only_last _ _ (only_u64 head.length) (λ more. refl)))))
+only_message (Ack flags id size) =
+    only_then _ _ (only_u8 2)
+    (only_then _ _ (only_u8 flags)
+    (only_then _ _ (only_u64 id) (only_last _ _ (only_u64 size) (λ more. refl))))
+only_message (Refuse reason id) =
+    only_then _ _ (only_u8 3)
+    (only_then _ _ (only_u8 reason) (only_last _ _ (only_u64 id) (λ more. refl)))
+only_message Keepalive = only_last _ _ (only_u8 4) (λ more. refl)
+only_message (SessTerm flags reason) =
+    only_then _ _ (only_u8 5)
+    (only_then _ _ (only_u8 flags) (only_last _ _ (only_u8 reason) (λ more. refl)))
+only_message (MsgReject reason header) =
+    only_then _ _ (only_u8 6)
+    (only_then _ _ (only_u8 reason) (only_last _ _ (only_u8 header) (λ more. refl)))
+only_message (SessInit keepalive segment_mru transfer_mru node items) =
+    only_then _ _ (only_u8 7)
+    (only_then _ _ (only_u16 keepalive)
     (only_then _ _ (only_u64 segment_mru)
     (only_then _ _ (only_u64 transfer_mru)
     (only_then _ _ (only_node node)
-    (only_last _ _ (only_list Session items) (λ more. refl)))))
-
--- the head of a message is read as that message, whatever follows it
-pub only_message : (message : Message) → Only message_at message (HeadSpelled message)
-unfolding message_at fields_at
-only_message (Segment head) = only_then _ _ (only_u8 1) (only_segment head)
-only_message (Ack flags id size) = only_then _ _ (only_u8 2) (only_ack flags id size)
-only_message (Refuse reason id) = only_then _ _ (only_u8 3) (only_refuse reason id)
-only_message Keepalive = only_last _ _ (only_u8 4) (λ more. refl)
-only_message (SessTerm flags reason) = only_then _ _ (only_u8 5) (only_sess_term flags reason)
-only_message (MsgReject reason header) = only_then _ _ (only_u8 6) (only_msg_reject reason header)
-only_message (SessInit keepalive segment_mru transfer_mru node items) = only_then _ _ (only_u8 7) (only_sess_init keepalive segment_mru transfer_mru node items)
+    (only_last _ _ (only_list Session items) (λ more. refl))))))
 
 -- a message and its data, before any other bytes
 pub only_spelled : (message : Message) (content bytes : List ℕ) → Spelled message content bytes

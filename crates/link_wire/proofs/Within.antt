@@ -1,27 +1,34 @@
 -- How many bytes decide a part at most. A part that was read has no more bytes, and if that many
--- are there, no field is missing.
-use Rattle.std.proofs.Common.{◌≡◌, ℕ, zero, suc, ◌+◌, ◌-◌, ◌<◌, ◌≤◌, ◌⊎◌, inl, inr, Bool, true, false, eqb, List, [], ◌++◌, length, drop, take, slice_index, Result, Ok, Err, nat_lt, if◌then◌else◌, arith, refl, ap, sym, ◌∙◌, length-drop, length-take, append-nil, ⊎_elim}
+-- are there, no field is missing. More bytes after those do not change what was read.
+use Rattle.std.proofs.Common.{◌≡◌, ℕ, zero, suc, ◌+◌, ◌-◌, ◌<◌, ◌≤◌, ◌⊎◌, inl, inr, Bool, true, false, eqb, List, [], ◌++◌, length, drop, take, slice_index, Result, Ok, Err, nat_lt, if◌then◌else◌, arith, refl, ap, sym, ◌∙◌, length-append, length-take, append-nil, ⊎_elim}
 use Rattle.std.proofs.lemmas.Bool.{cases_lt, ltb-false}
+use Rattle.std.proofs.lemmas.List.{take-append-le, drop-append-le}
 use Rattle.byteorder.specs.Endian.{big_number}
 use Rattle.link_wire.specs.Codes.{is_start}
 use Rattle.link_wire.specs.Getting.{Needs, IsPart}
 use Rattle.link_wire.specs.Limits.{longest_node, longest_list, most_items, longest_head}
 use Rattle.link_wire.specs.Part.{Part, ◌>>=◌, bytes_at, number_at}
 use Rattle.link_wire.specs.Message.{contact_at, skipped_at, gives_total, total_at, item_head_at, items_at, items_of, list_at, node_bytes_at, node_at, segment_items_at, segment_at, ack_at, refuse_at, sess_term_at, msg_reject_at, sess_init_at, fields_at, message_at}
-use Rattle.link_wire.proofs.FieldReads.{bytes_at-short, bytes_at-enough, same_part}
-use Rattle.link_wire.proofs.Shrinks.{both_read}
+use Rattle.link_wire.proofs.FieldReads.{bytes_at-short, bytes_at-enough, bytes_gone, both_read, same_part}
 use Rattle.link_wire.proofs.Sound.{has_total_size}
 use Rattle.link_wire.specs.declared.fault.WireFault.{WireFault}
-use Rattle.link_wire.specs.declared.fault.WireFault.TheVariants.{Truncated, BadMagic, BadVersion, ItemsOverrun}
+use Rattle.link_wire.specs.declared.fault.WireFault.TheVariants.{Truncated, ItemsOverrun}
 use Rattle.link_wire.specs.declared.list.ItemHead.{ItemHead}
-use Rattle.link_wire.specs.declared.message.Contact.{Contact}
 use Rattle.link_wire.specs.declared.message.ListOf.{ListOf}
 use Rattle.link_wire.specs.declared.message.ListOf.TheVariants.{Session, Transfer}
 
+-- the reading does not change when more bytes follow, unless a field is missing
+pub record Steady {A : Type 0} (part : List ℕ → Part A) : Type 0 where
+  pub read : (bytes more : List ℕ) (value : A) (rest : List ℕ) → part bytes ≡ Ok (value, rest)
+      → part (bytes ++ more) ≡ Ok (value, rest ++ more)
+  pub faulty : (bytes more : List ℕ) (fault : WireFault) → (fault ≡ Truncated → ⊥)
+      → part bytes ≡ Err fault → part (bytes ++ more) ≡ Err fault
+
 pub record Within {A : Type 0} (most : ℕ) (part : List ℕ → Part A) : Type 0 where
   pub read : (bytes : List ℕ) (value : A) (rest : List ℕ) → part bytes ≡ Ok (value, rest)
-      → length bytes ≤ length rest + most
+      → (length bytes ≤ length rest + most) × (length rest ≤ length bytes)
   pub cut : (bytes : List ℕ) → part bytes ≡ Err Truncated → length bytes < most
+  pub steady : Steady part
 
 -- a fault of two steps is one of the first step, or one of the second
 pub both_cut : {A B : Type 0} (read : Result A WireFault) (next : A → Result B WireFault)
@@ -30,107 +37,157 @@ pub both_cut : {A B : Type 0} (read : Result A WireFault) (next : A → Result B
 both_cut (Ok first) next fault is = inr (first, refl, is)
 both_cut {A} (Err other) next fault is = inl (let same : other ≡ fault = cc in ap (λ f. let r : Result A WireFault = Err f in r) same)
 
-within_pure : {A : Type 0} (value : A) → Within 0 (λ bytes. Ok (value, bytes))
-within_pure value = record {
-  read = λ bytes other rest is. let same : bytes ≡ rest = (same_part is).1 in omega (arith, ap length same);
-  cut = λ bytes is. absurd (cc);
-}
+module _ {A : Type 0} {most : ℕ} where
+  within_pure : (value : A) → Within most (λ bytes. Ok (value, bytes))
+  within_pure value = record {
+    read = λ bytes other rest is.
+        let same : bytes ≡ rest = (same_part is).1 in
+        (omega (arith, ap length same), omega (arith, ap length same));
+    cut = λ bytes is. absurd (cc);
+    steady = record {
+      read = λ bytes more other rest is.
+          let same = same_part is in
+          let P : A → List ℕ → Part A = λ v xs. Ok (v, xs ++ more) in
+          ap (λ xs. P value xs) same.1 ∙ ap (λ v. P v rest) same.0;
+      faulty = λ bytes more fault lasting is. absurd (cc);
+    };
+  }
 
-within_err : {A : Type 0} (fault : WireFault) → (fault ≡ Truncated → ⊥)
-    → Within 0 (λ bytes. let part : Part A = Err fault in part)
-within_err fault other = record { read = λ bytes value rest is. absurd (cc); cut = λ bytes is. absurd (other (cc)) }
+  within_err : (fault : WireFault) → (fault ≡ Truncated → ⊥)
+      → Within most (λ bytes. let part : Part A = Err fault in part)
+  within_err fault other = record {
+    read = λ bytes value rest is. absurd (cc);
+    cut = λ bytes is. absurd (other (cc));
+    steady = record {
+      read = λ bytes more value rest is. absurd (cc);
+      faulty = λ bytes more other lasting is. is;
+    };
+  }
 
-loosely : {A : Type 0} (less most : ℕ) (part : List ℕ → Part A) → less ≤ most
-    → Within less part → Within most part
-loosely less most part fewer within = record {
-  read = λ bytes value rest is. let h = within.read bytes value rest is in omega arith;
-  cut = λ bytes is. let h = within.cut bytes is in omega arith;
-}
+  loosely : (less : ℕ) (part : List ℕ → Part A) → less ≤ most → Within less part → Within most part
+  loosely less part fewer within = record {
+    read = λ bytes value rest is.
+        let h = within.read bytes value rest is in (omega (arith, fewer, h.0), h.1);
+    cut = λ bytes is. let h = within.cut bytes is in omega arith;
+    steady = within.steady;
+  }
 
-module _ {A B : Type 0} where
-  within_such : (first second : ℕ) (part : List ℕ → Part A) (next : A × List ℕ → Part B)
-      → Within first part
-      → ((value : A) (bytes rest : List ℕ) → part bytes ≡ Ok (value, rest)
-      → Within second (λ bytes. next (value, bytes)))
-      → Within (first + second) (λ bytes. part bytes >>= next)
-  within_such first second part next one two = record {
+  within_if : (test : Bool) (part other : List ℕ → Part A)
+      → (test ≡ true → Within most part) → (test ≡ false → Within most other)
+      → Within most (λ bytes. if test then part bytes else other bytes)
+  within_if true part other p q = p refl
+  within_if false part other p q = q refl
+
+module _ {A B : Type 0} {most : ℕ} (first : ℕ) (part : List ℕ → Part A)
+    (next : A × List ℕ → Part B) (fits : first ≤ most) (one : Within first part) where
+  within_such : ((value : A) (bytes rest : List ℕ) → part bytes ≡ Ok (value, rest)
+      → Within (most - first) (λ bytes. next (value, bytes)))
+      → Within most (λ bytes. part bytes >>= next)
+  within_such two = record {
     read = λ bytes value rest is.
         let both = both_read (part bytes) next (value, rest) is in
         let before = one.read bytes both.0.0 both.0.1 both.1 in
         let after = (two both.0.0 bytes both.0.1 both.1).read both.0.1 value rest both.2 in
-        omega arith;
+        (omega (arith, fits, before.0, after.0), omega (arith, before.1, after.1));
     cut = λ bytes is.
         ⊎_elim
-        (λ early. let h = one.cut bytes early in omega arith)
+        (λ early. let h = one.cut bytes early in omega (arith, fits, h))
         (λ late.
-        let before = one.read bytes late.0.0 late.0.1 late.1 in
+        let before = (one.read bytes late.0.0 late.0.1 late.1).0 in
         let after = (two late.0.0 bytes late.0.1 late.1).cut late.0.1 late.2 in
-        omega arith)
+        omega (arith, fits, before, after))
         (both_cut (part bytes) next Truncated is);
+    steady = record {
+      read = λ bytes more value rest is.
+          let both = both_read (part bytes) next (value, rest) is in
+          ap (λ read. read >>= next) (one.steady.read bytes more both.0.0 both.0.1 both.1)
+          ∙ (two both.0.0 bytes both.0.1 both.1).steady.read both.0.1 more value rest both.2;
+      faulty = λ bytes more fault lasting is.
+          ⊎_elim
+          (λ early. ap (λ read. read >>= next) (one.steady.faulty bytes more fault lasting early))
+          (λ late. ap (λ read. read >>= next) (one.steady.read bytes more late.0.0 late.0.1 late.1)
+          ∙ (two late.0.0 bytes late.0.1 late.1).steady.faulty late.0.1 more fault lasting late.2)
+          (both_cut (part bytes) next fault is);
+    };
   }
 
-  within_then : (first second : ℕ) (part : List ℕ → Part A) (next : A × List ℕ → Part B)
-      → Within first part → ((value : A) → Within second (λ bytes. next (value, bytes)))
-      → Within (first + second) (λ bytes. part bytes >>= next)
-  within_then first second part next one two = within_such first second part next one (λ value bytes rest is. two value)
-
-module _ {A : Type 0} where
-  within_if : (most : ℕ) (test : Bool) (part other : List ℕ → Part A)
-      → (test ≡ true → Within most part) → (test ≡ false → Within most other)
-      → Within most (λ bytes. if test then part bytes else other bytes)
-  within_if most true part other p q = p refl
-  within_if most false part other p q = q refl
+  within_then : ((value : A) → Within (most - first) (λ bytes. next (value, bytes)))
+      → Within most (λ bytes. part bytes >>= next)
+  within_then two = within_such (λ value bytes rest is. two value)
 
 within_bytes : (n : ℕ) → Within n (bytes_at n)
 within_bytes n = record {
-  read = λ bytes value rest is. ⊎_elim
-      (λ short. let never = sym (bytes_at-short n bytes short) ∙ is in absurd (cc))
-      (λ enough. let found = sym (bytes_at-enough n bytes enough) ∙ is in let same : drop n bytes ≡ rest = (same_part found).1 in omega (arith, ap length same, length-drop n bytes))
-      (cases_lt (length bytes) n);
+  read = λ bytes value rest is.
+      let gone = (bytes_gone n bytes value rest is).0 in (omega (arith, gone), omega (arith, gone));
   cut = λ bytes is. ⊎_elim
       (λ short. short)
       (λ enough. let never = sym (bytes_at-enough n bytes enough) ∙ is in absurd (cc))
       (cases_lt (length bytes) n);
+  steady = record {
+    read = λ bytes more value rest is.
+        let gone = bytes_gone n bytes value rest is in
+        let P : List ℕ → List ℕ → Part (List ℕ) = λ xs ys. Ok (xs, ys) in
+        bytes_at-enough n (bytes ++ more) (omega (arith, gone.1, length-append bytes more))
+        ∙ ap (λ xs. P xs (drop n (bytes ++ more))) (take-append-le n bytes more gone.1 ∙ gone.2)
+        ∙ ap (λ ys. P value ys)
+        (drop-append-le n bytes more gone.1 ∙ ap (λ ys. ys ++ more) gone.3);
+    faulty = λ bytes more fault lasting is. ⊎_elim
+        (λ short.
+        let cut = sym (bytes_at-short n bytes short) ∙ is in
+        let same : Truncated ≡ fault = cc in
+        absurd (lasting (sym same)))
+        (λ enough. let never = sym (bytes_at-enough n bytes enough) ∙ is in absurd (cc))
+        (cases_lt (length bytes) n);
+  };
 }
 
 within_number : (n : ℕ) → Within n (number_at n)
 unfolding number_at
-within_number n = loosely (n + 0) n _ (omega arith) (within_then n 0 _ _ (within_bytes n) (λ field. within_pure _))
+within_number n = within_then n _ _ (omega arith) (within_bytes n) (λ field. within_pure _)
+
+pub number_gone : (n : ℕ) (bytes : List ℕ) (value : ℕ) (rest : List ℕ)
+    → number_at n bytes ≡ Ok (value, rest) → length bytes ≡ length rest + n
+unfolding number_at
+number_gone n bytes value rest is =
+    let read = both_read (bytes_at n bytes) _ (value, rest) is in
+    let gone = (bytes_gone n bytes read.0.0 read.0.1 read.1).0 in
+    omega (arith, gone, ap length (same_part read.2).1)
+
+-- a number of `k` bytes, and then what depends on it
+module _ {B : Type 0} {most : ℕ} (k : ℕ) (next : ℕ × List ℕ → Part B) (fits : k ≤ most) where
+  within_field : ((n : ℕ) → Within (most - k) (λ bytes. next (n, bytes)))
+      → Within most (λ bytes. number_at k bytes >>= next)
+  within_field two = within_then k _ next fits (within_number k) two
 
 within_skipped : (n : ℕ) → Within n (skipped_at n)
 unfolding skipped_at
-within_skipped n = loosely (n + 0) n _ (omega arith) (within_then n 0 _ _ (within_bytes n) (λ skipped. within_pure _))
+within_skipped n = within_then n _ _ (omega arith) (within_bytes n) (λ skipped. within_pure _)
 
 pub within_contact : Within 6 contact_at
 unfolding contact_at
 within_contact =
-    within_then 6 0 _ _ (within_bytes 6) (λ header.
-    let contact : Contact = record { flags = slice_index header 5 } in
-    let passed : List ℕ → Part Contact = λ bytes. Ok (contact, bytes) in
-    let other_version : List ℕ → Part Contact = λ bytes. Err (BadVersion (slice_index header 4)) in
-    let other_magic : List ℕ → Part Contact = λ bytes. Err BadMagic in
-    let judged : List ℕ → Part Contact = λ bytes. if eqb (slice_index header 4) 4 then passed bytes else other_version bytes in
-    within_if 0 (eqb (big_number 4 header) 0x64746e21) judged other_magic
-    (λ is. within_if 0 (eqb (slice_index header 4) 4) passed other_version (λ is. within_pure contact) (λ is. within_err (BadVersion (slice_index header 4)) (λ e. cc)))
-    (λ is. within_err BadMagic (λ e. cc)))
+    within_then 6 _ _ (omega arith) (within_bytes 6) (λ header.
+    within_if (eqb (big_number 4 header) 0x64746e21) _ _
+    (λ is. within_if (eqb (slice_index header 4) 4) _ _ (λ is. within_pure _)
+    (λ is. within_err _ (λ e. cc)))
+    (λ is. within_err _ (λ e. cc)))
 
 within_total : (of : ListOf) (kind size : ℕ) → Within size (total_at of kind size)
 unfolding total_at
 within_total of kind size =
-    within_if size (gives_total of kind size) _ _
+    within_if (gives_total of kind size) _ _
     (λ is. let eight : size ≡ 8 = has_total_size of kind size is in
-    loosely (8 + 0) size _ (omega arith) (within_then 8 0 _ _ (within_number 8) (λ total. within_pure _)))
-    (λ is. loosely (size + 0) size _ (omega arith) (within_then size 0 _ _ (within_skipped size) (λ value. within_pure _)))
+    within_field 8 _ (omega arith) (λ total. within_pure _))
+    (λ is. within_then size _ _ (omega arith) (within_skipped size) (λ value. within_pure _))
 
 within_item_head : (left : ℕ) → 5 ≤ left → Within 5 (item_head_at left)
 unfolding item_head_at
 within_item_head left enough =
-    within_if 5 (nat_lt left 5) _ _ (λ is. loosely 0 5 _ (omega arith) (within_err _ (λ e. cc)))
-    (λ is. loosely (1 + (2 + (2 + 0))) 5 _ (omega arith)
-    (within_then 1 (2 + (2 + 0)) _ _ (within_number 1) (λ flags.
-    within_then 2 (2 + 0) _ _ (within_number 2) (λ kind.
-    within_then 2 0 _ _ (within_number 2) (λ size.
-    within_if 0 (nat_lt (left - 5) size) _ _ (λ is. within_err _ (λ e. cc)) (λ is. within_pure _))))))
+    within_if (nat_lt left 5) _ _ (λ is. within_err _ (λ e. cc)) (λ is.
+    within_field 1 _ (omega arith) (λ flags.
+    within_field 2 _ (omega arith) (λ kind.
+    within_field 2 _ (omega arith) (λ size.
+    within_if (nat_lt (left - 5) size) _ _ (λ is. within_err _ (λ e. cc)) (λ is. within_pure _)))))
 
 -- a value was read, so a test on the way to it was passed
 taken_else : {A : Type 0} (test : Bool) (read : Result A WireFault) (value : A) (fault : WireFault)
@@ -155,7 +212,8 @@ item_fits left bytes head rest is =
 within_no_head : (left : ℕ) → left < 5 → Within 0 (item_head_at left)
 unfolding item_head_at
 within_no_head left short =
-    within_if 0 (nat_lt left 5) _ _ (λ is. within_err _ (λ e. cc)) (λ is. absurd (omega (arith, ltb-false left 5 is)))
+    within_if (nat_lt left 5) _ _ (λ is. within_err _ (λ e. cc))
+    (λ is. absurd (omega (arith, short, ltb-false left 5 is)))
 
 -- the head of an item, and then what depends on it within the list
 module _ {B : Type 0} (left : ℕ) (next : ItemHead × List ℕ → Part B) where
@@ -164,120 +222,91 @@ module _ {B : Type 0} (left : ℕ) (next : ItemHead × List ℕ → Part B) wher
       → Within left (λ bytes. item_head_at left bytes >>= next)
   within_headed two =
       ⊎_elim
-      (λ short. loosely (0 + left) left _ (omega arith) (within_such 0 left _ next (within_no_head left short) (λ head bytes rest is. absurd (omega (arith, item_fits left bytes head rest is)))))
-      (λ enough. loosely (5 + (left - 5)) left _ (omega arith)
-      (within_such 5 (left - 5) _ next (within_item_head left enough) (λ head bytes rest is. two head (item_fits left bytes head rest is))))
+      (λ short. within_such 0 _ next (omega arith) (within_no_head left short)
+      (λ head bytes rest is. absurd (omega (arith, short, item_fits left bytes head rest is))))
+      (λ enough. within_such 5 _ next enough (within_item_head left enough)
+      (λ head bytes rest is. two head (item_fits left bytes head rest is)))
       (cases_lt left 5)
 
 within_items : (of : ListOf) (room left : ℕ) → Within left (items_at of room left)
 unfolding items_at
 within_items of zero left =
-    within_if left (eqb left 0) _ _ (λ is. loosely 0 left _ (omega arith) (within_pure _))
-    (λ is. within_headed left _ (λ head fits. loosely 0 (left - 5) _ (omega arith) (within_err _ (λ e. cc))))
+    within_if (eqb left 0) _ _ (λ is. within_pure _)
+    (λ is. within_headed left _ (λ head fits. within_err _ (λ e. cc)))
 within_items of (suc room) left =
-    within_if left (eqb left 0) _ _ (λ is. loosely 0 left _ (omega arith) (within_pure _))
+    within_if (eqb left 0) _ _ (λ is. within_pure _)
     (λ is. within_headed left _ (λ head fits.
-    let rest = left - (5 + head.length) in
-    loosely (head.length + (rest + 0)) (left - 5) _ (omega arith)
-    (within_then head.length (rest + 0) _ _ (within_total of head.kind head.length) (λ total.
-    within_then rest 0 _ _ (within_items of room rest) (λ others. within_pure _)))))
+    within_then head.length _ _ (omega arith) (within_total of head.kind head.length) (λ total.
+    within_then (left - (5 + head.length)) _ _ (omega arith) (within_items of room _) (λ others.
+    within_pure _))))
 
 pub within_items_of : (of : ListOf) (size : ℕ) → Within size (items_of of size)
 unfolding items_of
-within_items_of of size = loosely (size + 0) size _ (omega arith) (within_then size 0 _ _ (within_items of most_items size) (λ items. within_pure _))
+within_items_of of size =
+    within_then size _ _ (omega arith) (within_items of most_items size) (λ items. within_pure _)
 
 within_list : (of : ListOf) → Within 65540 (list_at of)
 unfolding list_at
 within_list of =
-    loosely (4 + 65536) 65540 _ (omega arith)
-    (within_then 4 65536 _ _ (within_number 4) (λ size.
-    within_if 65536 (nat_lt longest_list size) _ _ (λ long. loosely 0 65536 _ (omega arith) (within_err _ (λ e. cc)))
-    (λ short. loosely size 65536 _ (omega (arith, ltb-false longest_list size short)) (within_items_of of size))))
-
-within_node_bytes : (size : ℕ) → Within size (node_bytes_at size)
-unfolding node_bytes_at
-within_node_bytes size = loosely (size + 0) size _ (omega arith) (within_then size 0 _ _ (within_bytes size) (λ node. within_pure _))
+    within_field 4 _ (omega arith) (λ size.
+    within_if (nat_lt longest_list size) _ _ (λ long. within_err _ (λ e. cc))
+    (λ short. let fits = ltb-false longest_list size short in
+    loosely size _ (omega (arith, fits)) (within_items_of of size)))
 
 within_node : Within 1026 node_at
-unfolding node_at
+unfolding node_at node_bytes_at
 within_node =
-    loosely (2 + 1024) 1026 _ (omega arith)
-    (within_then 2 1024 _ _ (within_number 2) (λ size.
-    within_if 1024 (nat_lt longest_node size) _ _ (λ long. loosely 0 1024 _ (omega arith) (within_err _ (λ e. cc)))
-    (λ short. loosely size 1024 _ (omega (arith, ltb-false longest_node size short)) (within_node_bytes size))))
+    within_field 2 _ (omega arith) (λ size.
+    within_if (nat_lt longest_node size) _ _ (λ long. within_err _ (λ e. cc))
+    (λ short. let fits = ltb-false longest_node size short in
+    within_then size _ _ (omega (arith, fits)) (within_bytes size) (λ node. within_pure _)))
 
 within_segment_items : (flags : ℕ) → Within 65540 (segment_items_at flags)
 unfolding segment_items_at
-within_segment_items flags = within_if 65540 (is_start flags) _ _ (λ is. within_list Transfer) (λ is. loosely 0 65540 _ (omega arith) (within_pure _))
+within_segment_items flags =
+    within_if (is_start flags) _ _ (λ is. within_list Transfer) (λ is. within_pure _)
 
-within_segment : Within 66584 segment_at
-unfolding segment_at
-within_segment =
-    loosely (1 + (8 + (65540 + (8 + 0)))) 66584 _ (omega arith)
-    (within_then 1 (8 + (65540 + (8 + 0))) _ _ (within_number 1) (λ flags.
-    within_then 8 (65540 + (8 + 0)) _ _ (within_number 8) (λ id.
-    within_then 65540 (8 + 0) _ _ (within_segment_items flags) (λ items.
-    within_then 8 0 _ _ (within_number 8) (λ size. within_pure _)))))
-
-within_ack : Within 66584 ack_at
-unfolding ack_at
-within_ack =
-    loosely (1 + (8 + (8 + 0))) 66584 _ (omega arith)
-    (within_then 1 (8 + (8 + 0)) _ _ (within_number 1) (λ flags.
-    within_then 8 (8 + 0) _ _ (within_number 8) (λ id.
-    within_then 8 0 _ _ (within_number 8) (λ size. within_pure _))))
-
-within_refuse : Within 66584 refuse_at
-unfolding refuse_at
-within_refuse =
-    loosely (1 + (8 + 0)) 66584 _ (omega arith)
-    (within_then 1 (8 + 0) _ _ (within_number 1) (λ reason.
-    within_then 8 0 _ _ (within_number 8) (λ id. within_pure _)))
-
-within_sess_term : Within 66584 sess_term_at
-unfolding sess_term_at
-within_sess_term =
-    loosely (1 + (1 + 0)) 66584 _ (omega arith)
-    (within_then 1 (1 + 0) _ _ (within_number 1) (λ flags.
-    within_then 1 0 _ _ (within_number 1) (λ reason. within_pure _)))
-
-within_msg_reject : Within 66584 msg_reject_at
-unfolding msg_reject_at
-within_msg_reject =
-    loosely (1 + (1 + 0)) 66584 _ (omega arith)
-    (within_then 1 (1 + 0) _ _ (within_number 1) (λ reason.
-    within_then 1 0 _ _ (within_number 1) (λ header. within_pure _)))
-
-within_sess_init : Within 66584 sess_init_at
-unfolding sess_init_at
-within_sess_init =
-    loosely (2 + (8 + (8 + (1026 + (65540 + 0))))) 66584 _ (omega arith)
-    (within_then 2 (8 + (8 + (1026 + (65540 + 0)))) _ _ (within_number 2) (λ interval.
-    within_then 8 (8 + (1026 + (65540 + 0))) _ _ (within_number 8) (λ segment_mru.
-    within_then 8 (1026 + (65540 + 0)) _ _ (within_number 8) (λ transfer_mru.
-    within_then 1026 (65540 + 0) _ _ within_node (λ node.
-    within_then 65540 0 _ _ (within_list Session) (λ items. within_pure _))))))
-
-within_fields : (kind : ℕ) → Within 66584 (fields_at kind)
-unfolding fields_at
+pub within_fields : (kind : ℕ) → Within 66584 (fields_at kind)
+unfolding fields_at segment_at ack_at refuse_at sess_term_at msg_reject_at sess_init_at
 within_fields kind =
-    within_if _ (eqb kind 1) _ _ (λ is. within_segment) (λ is.
-    within_if _ (eqb kind 2) _ _ (λ is. within_ack) (λ is.
-    within_if _ (eqb kind 3) _ _ (λ is. within_refuse) (λ is.
-    within_if _ (eqb kind 4) _ _ (λ is. loosely 0 66584 _ (omega arith) (within_pure _)) (λ is.
-    within_if _ (eqb kind 5) _ _ (λ is. within_sess_term) (λ is.
-    within_if _ (eqb kind 6) _ _ (λ is. within_msg_reject) (λ is.
-    within_if _ (eqb kind 7) _ _ (λ is. within_sess_init) (λ is. loosely 0 66584 _ (omega arith) (within_err _ (λ e. cc)))))))))
+    within_if (eqb kind 1) _ _ (λ is.
+    within_field 1 _ (omega arith) (λ flags.
+    within_field 8 _ (omega arith) (λ id.
+    within_then 65540 _ _ (omega arith) (within_segment_items flags) (λ items.
+    within_field 8 _ (omega arith) (λ size. within_pure _))))) (λ is.
+    within_if (eqb kind 2) _ _ (λ is.
+    within_field 1 _ (omega arith) (λ flags.
+    within_field 8 _ (omega arith) (λ id.
+    within_field 8 _ (omega arith) (λ size. within_pure _)))) (λ is.
+    within_if (eqb kind 3) _ _ (λ is.
+    within_field 1 _ (omega arith) (λ reason.
+    within_field 8 _ (omega arith) (λ id. within_pure _))) (λ is.
+    within_if (eqb kind 4) _ _ (λ is. within_pure _) (λ is.
+    within_if (eqb kind 5) _ _ (λ is.
+    within_field 1 _ (omega arith) (λ flags.
+    within_field 1 _ (omega arith) (λ reason. within_pure _))) (λ is.
+    within_if (eqb kind 6) _ _ (λ is.
+    within_field 1 _ (omega arith) (λ reason.
+    within_field 1 _ (omega arith) (λ header. within_pure _))) (λ is.
+    within_if (eqb kind 7) _ _ (λ is.
+    within_field 2 _ (omega arith) (λ interval.
+    within_field 8 _ (omega arith) (λ segment_mru.
+    within_field 8 _ (omega arith) (λ transfer_mru.
+    within_then 1026 _ _ (omega arith) within_node (λ node.
+    within_then 65540 _ _ (omega arith) (within_list Session) (λ items. within_pure _))))))
+    (λ is. within_err _ (λ e. cc))))))))
 
 pub within_message : Within longest_head message_at
 unfolding message_at
-within_message = within_then 1 66584 _ _ (within_number 1) (λ kind. within_fields kind)
+within_message = within_field 1 _ (omega arith) (λ kind. within_fields kind)
 
 -- the bytes of a part, and those that show a fault, are at most `most`; cut bytes are fewer
 module _ {A : Type 0} {most : ℕ} {part : List ℕ → Part A}
     (within : Within most part) (bytes : List ℕ) where
   pub part_size : (value : A) → IsPart part bytes value → length bytes ≤ most
-  part_size value is = omega (arith, within.read (bytes ++ []) value [] (is.is_part []), ap length (append-nil bytes))
+  part_size value is =
+      let few = (within.read (bytes ++ []) value [] (is.is_part [])).0 in
+      omega (arith, few, ap length (append-nil bytes))
 
   pub needed_size : Needs part bytes → length bytes ≤ most
   needed_size needs =

@@ -62,6 +62,7 @@ fn node_bytes<R: InDevice>(
 }
 
 /// Reads the extension list of a segment into `items`; without START there is no list.
+#[tactic(auto, unfolding(crate::specs::Message::segment_items_at))]
 #[inline]
 fn segment_items<R: InDevice>(
     source: &mut Source<R>,
@@ -171,6 +172,7 @@ fn sess_init<R: InDevice>(source: &mut Source<R>, message: &mut MessageBuffer) -
 }
 
 /// Reads a message after its type byte `kind`, without the data of a segment.
+#[tactic(auto, unfolding(crate::specs::Message::fields_at))]
 #[inline]
 pub fn fields<R: InDevice>(
     source: &mut Source<R>,

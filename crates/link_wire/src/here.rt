@@ -41,6 +41,7 @@ fn has_list(bytes: &[u8], after: usize) -> bool
 /// Whether the head of a segment is whole in these bytes, with its items if it has some.
 ///
 /// The last 8 bytes of the head are the length of the data.
+#[tactic(auto, using(crate::proofs::Heres::later_here, crate::proofs::Heres::first_here))]
 fn has_segment(bytes: &[u8]) -> bool
     requires some { 0 < length bytes.now }
     requires kind { slice_index bytes.now 0 ≡ XFER_SEGMENT }

@@ -37,6 +37,7 @@ fn segment(window: &[u8]) -> Option<(Fields, usize)>
 }
 
 /// XFER_ACK: type, flags, ID and length.
+#[tactic(auto, using(crate::proofs::Plains::ack_head))]
 #[inline(always)]
 fn ack(window: &[u8]) -> Option<(Fields, usize)>
     requires some { 0 < length window.now }
@@ -53,6 +54,7 @@ fn ack(window: &[u8]) -> Option<(Fields, usize)>
 }
 
 /// XFER_REFUSE: type, reason and ID.
+#[tactic(auto, using(crate::proofs::Plains::refuse_head))]
 #[inline(always)]
 fn refuse(window: &[u8]) -> Option<(Fields, usize)>
     requires some { 0 < length window.now }
@@ -68,6 +70,7 @@ fn refuse(window: &[u8]) -> Option<(Fields, usize)>
 }
 
 /// SESS_TERM: type, flags and reason.
+#[tactic(auto, using(crate::proofs::Plains::sess_term_head))]
 #[inline(always)]
 fn sess_term(window: &[u8]) -> Option<(Fields, usize)>
     requires some { 0 < length window.now }
@@ -83,6 +86,7 @@ fn sess_term(window: &[u8]) -> Option<(Fields, usize)>
 }
 
 /// MSG_REJECT: type, reason, and the rejected type byte.
+#[tactic(auto, using(crate::proofs::Plains::msg_reject_head))]
 #[inline(always)]
 fn msg_reject(window: &[u8]) -> Option<(Fields, usize)>
     requires some { 0 < length window.now }
@@ -101,6 +105,7 @@ fn msg_reject(window: &[u8]) -> Option<(Fields, usize)>
 ///
 /// It is `None` unless the head is whole in the window, has no node ID and no item, and shows no
 /// fault.
+#[tactic(auto, using(crate::proofs::Plains::keepalive_head))]
 #[inline(always)]
 pub fn plain(window: &[u8]) -> Option<(Fields, usize)>
     ensures { IfSome result (λ head. IsHead window.now head.0 head.1) }

@@ -55,6 +55,7 @@ const NOWHERE: Span = Span {
 };
 
 /// Reads that many bytes.
+#[tactic(auto, unfolding(crate::specs::Part::bytes_at))]
 fn bytes_at(bytes: &[u8], at: usize, size: usize) -> Result<(&[u8], usize), WireFault>
     requires { at ≤ length bytes.now }
     ensures read { IfOk result (λ read. bytes_at size (drop at bytes.now)
@@ -73,6 +74,7 @@ fn bytes_at(bytes: &[u8], at: usize, size: usize) -> Result<(&[u8], usize), Wire
 }
 
 /// Reads a number of one byte.
+#[tactic(auto, unfolding(crate::specs::Part::number_at), using(crate::proofs::SliceReads::as_byte))]
 fn number8_at(bytes: &[u8], at: usize) -> Result<(u8, usize), WireFault>
     requires { at ≤ length bytes.now }
     ensures read { number_at 1 (drop at bytes.now) ≡ read_part bytes.now result }
@@ -86,6 +88,7 @@ fn number8_at(bytes: &[u8], at: usize) -> Result<(u8, usize), WireFault>
 }
 
 /// Reads a number of two bytes.
+#[tactic(auto, unfolding(crate::specs::Part::number_at))]
 fn number16_at(bytes: &[u8], at: usize) -> Result<(u16, usize), WireFault>
     requires { at ≤ length bytes.now }
     ensures read { number_at 2 (drop at bytes.now) ≡ read_part bytes.now result }
@@ -99,6 +102,7 @@ fn number16_at(bytes: &[u8], at: usize) -> Result<(u16, usize), WireFault>
 }
 
 /// Reads a number of four bytes.
+#[tactic(auto, unfolding(crate::specs::Part::number_at))]
 fn number32_at(bytes: &[u8], at: usize) -> Result<(u32, usize), WireFault>
     requires { at ≤ length bytes.now }
     ensures read { number_at 4 (drop at bytes.now) ≡ read_part bytes.now result }
@@ -112,6 +116,7 @@ fn number32_at(bytes: &[u8], at: usize) -> Result<(u32, usize), WireFault>
 }
 
 /// Reads a number of eight bytes.
+#[tactic(auto, unfolding(crate::specs::Part::number_at))]
 fn number64_at(bytes: &[u8], at: usize) -> Result<(u64, usize), WireFault>
     requires { at ≤ length bytes.now }
     ensures read { number_at 8 (drop at bytes.now) ≡ read_part bytes.now result }
@@ -157,7 +162,7 @@ fn plain_at(fields: Fields, end: usize) -> MessageAt
 }
 
 /// Reads a node ID: its length, and then its bytes (RFC 9174 section 4.6).
-#[tactic(auto, unfolding(crate::specs::Message::node_at))]
+#[tactic(auto, unfolding(crate::specs::Message::node_at, crate::specs::Message::node_bytes_at))]
 fn node_at(bytes: &[u8], at: usize) -> Result<(Span, usize), WireFault>
     requires { at ≤ length bytes.now }
     ensures read { node_at (drop at bytes.now) ≡ read_node bytes.now result }

@@ -1,11 +1,5 @@
-use Rattle.std.proofs.lemmas.Result.{err_from_is_err_and}
-use Rattle.link_wire.proofs.Gettings.{number_read, number_exit}
+use Rattle.link_wire.proofs.Gettings.{number_read}
 use Rattle.link_wire.proofs.parts.number16.Goals as goal
-
-pub returns-in_err-field : goal.returns-in_err-field
-returns-in_err-field g c = λ live.
-    let p = err_from_is_err_and c.from_residual.result c.from_residual.ensures.1 in
-    rw (p.1, p.2) (number_exit 2 (c.in_err-field.ensures live))
 
 pub returns : goal.returns
 returns g c = λ live. rw c.read_u16.ensures (number_read 2 _ (c.in_ok-field.ensures live))

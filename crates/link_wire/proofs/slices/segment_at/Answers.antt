@@ -1,4 +1,4 @@
-use Rattle.std.proofs.Common.{◌≡◌, [], false, eqb, refl, sym, ◌∙◌}
+use Rattle.std.proofs.Common.{◌≡◌, [], false, refl, sym, ◌∙◌}
 use Rattle.std.proofs.lemmas.Bool.{ne_eqb, false≢true}
 use Rattle.link_wire.specs.Codes.{is_start}
 use Rattle.link_wire.specs.Message.{segment_at, segment_items_at}
