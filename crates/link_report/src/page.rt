@@ -121,12 +121,17 @@ fn write_many_digits(page: &mut [u8], at: usize, number: u64) -> usize
     if number < 10_000 {
         return write_four_digits(page, at, number as u32);
     }
+    let front = number / 10_000;
     let last = (number % 10_000) as u32;
-    if number < 10_000_000 {
-        let at = write_few_digits(page, at, number / 10_000);
+    if front < 1000 {
+        let at = write_few_digits(page, at, front);
         return write_four_digits(page, at, last);
     }
-    let at = write_many_digits(page, at, number / 10_000);
+    if front < 10_000 {
+        let at = write_four_digits(page, at, front as u32);
+        return write_four_digits(page, at, last);
+    }
+    let at = write_many_digits(page, at, front);
     write_four_digits(page, at, last)
 }
 
