@@ -167,6 +167,6 @@ reading_by-stands bytes are (Ok (contact, rest)) is =
     }
 
 -- the reading that is defined is a reading of the bytes
-pub some_reading : (bytes : List ℕ) → AreBytes bytes → IsReading bytes (reading_of bytes)
+pub a_reading : (bytes : List ℕ) → AreBytes bytes → IsReading bytes (reading_of bytes)
 unfolding reading_of
-some_reading bytes are = reading_by-stands bytes are (contact_at bytes) refl
+a_reading bytes are = reading_by-stands bytes are (contact_at bytes) refl

@@ -20,7 +20,7 @@ pub fn one_reading(a: &[u8], x: &[u8], m: &Message, d: &[u8], n: &Message, e: &[
 {}
 
 /// Every list of bytes has exactly one reading.
-#[tactic(auto, using(crate::proofs::OneReading::some_reading, crate::proofs::OneReading::only_reading))]
+#[tactic(auto, using(crate::proofs::OneReading::a_reading, crate::proofs::OneReading::only_reading))]
 pub fn exactly_one_reading()
     ensures some { (bytes : List ℕ) → AreBytes bytes → IsReading bytes (reading_of bytes) }
     ensures only { (bytes : List ℕ) (reading : Reading) → IsReading bytes reading

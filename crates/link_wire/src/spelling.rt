@@ -68,7 +68,7 @@ fn put_u64(buffer: &mut HeadBuf, number: u64)
 /// Appends a contact header of six bytes (RFC 9174 section 4.2).
 ///
 /// The buffer has room for it.
-#[tactic(auto, unfolding(crate::specs::Spelling::contact_bytes), using(crate::proofs::Spellings::contact_spelled))]
+#[tactic(auto, unfolding(crate::specs::Spelling::contact_bytes))]
 pub fn put_contact(buffer: &mut HeadBuf, flags: u8)
     requires { array_vec_len buffer.old + 6 ≤ HEAD_MAX }
     ensures items { buffer.new.items ≡ buffer.old.items ++ contact_bytes flags }
@@ -214,7 +214,7 @@ pub fn put_segment_head(
 /// Appends a SESS_TERM of three bytes (RFC 9174 section 6.1).
 ///
 /// The buffer has room for it.
-#[tactic(auto, unfolding(crate::specs::Spelling::sess_term_bytes), using(crate::proofs::Spellings::sess_term_spelled))]
+#[tactic(auto, unfolding(crate::specs::Spelling::sess_term_bytes))]
 pub fn put_sess_term(buffer: &mut HeadBuf, flags: u8, reason: u8)
     requires { array_vec_len buffer.old + 3 ≤ HEAD_MAX }
     ensures items { buffer.new.items ≡ buffer.old.items ++ sess_term_bytes flags reason }
