@@ -1,6 +1,6 @@
 //! Pieces of text, each appended to a line.
 
-ghost use Rattle.std.specs.Prelude.{◌≡◌, ◌+◌, ◌≤◌, [], ◌++◌, length, decimal};
+ghost use Rattle.std.specs.Prelude.{◌≡◌, ◌+◌, ◌≤◌, [], ◌++◌, length};
 ghost use Rattle.arrayvec.specs.ArrayVec.{array_vec_len};
 ghost use Rattle.link_report.specs.Text.{hex2, number_text};
 
@@ -36,26 +36,6 @@ pub fn put_text(line: &mut Line, text: &str)
     put_bytes(line, text.as_bytes());
 }
 
-/// Appends `number` in decimal, without leading zeros.
-///
-/// Copying a constant number of bytes needs no call.
-#[tactic(auto, using(crate::proofs::Lengths::length_of_decimal))]
-#[inline(always)]
-pub(crate) fn put_decimal(line: &mut Line, number: u64)
-    requires { array_vec_len line.old + length (decimal number) ≤ LINE_MAX }
-    ensures items { line.new.items ≡ line.old.items ++ decimal number }
-    ensures len { array_vec_len line.new ≡ array_vec_len line.old + length (decimal number) }
-{
-    let mut digits = [0; 20];
-    let end = write_decimal(&mut digits, 0, number);
-    match end {
-        1 => put_bytes(line, &digits[..1]),
-        2 => put_bytes(line, &digits[..2]),
-        3 => put_bytes(line, &digits[..3]),
-        _ => put_bytes(line, &digits[..end]),
-    }
-}
-
 /// Appends `byte` as two lower-case hexadecimal digits.
 #[inline(always)]
 pub(crate) fn put_hex2(line: &mut Line, byte: u8)
@@ -67,15 +47,16 @@ pub(crate) fn put_hex2(line: &mut Line, byte: u8)
 }
 
 /// Appends `label` and `number` in decimal.
-#[tactic(auto, using(crate::proofs::Lengths::length_of_decimal), unfolding(crate::specs::Text::number_text))]
-#[inline(always)]
+#[tactic(auto, unfolding(crate::specs::Text::number_text))]
 pub(crate) fn put_number(line: &mut Line, label: &str, number: u64)
     requires { array_vec_len line.old + length label.now + 20 ≤ LINE_MAX }
     ensures items { line.new.items ≡ line.old.items ++ number_text label.now number }
     ensures len { array_vec_len line.new ≤ array_vec_len line.old + length label.now + 20 }
 {
     put_text(line, label);
-    put_decimal(line, number);
+    let mut digits = [0; 20];
+    let end = write_decimal(&mut digits, 0, number);
+    put_bytes(line, &digits[..end]);
 }
 
 /// Writes a text into an empty line.
