@@ -57,21 +57,22 @@ module _ {R W E : Type 0} (look : Looks R W E)
       → IsWaiting now (is_some (open_of (messages_of (heads_of (reading_of history))))) u.latest
       transfers (reading_of history).end
       → StandsAt look start u.latest.wanted now s w u history
-  stands now s w u history transfers are session in_order joiner written sound sum total good waits =
-      (record {
-        written = written_as look written refl (sym (texts_in_order u.latest.wanted history in_order ∙ ap (texts_of u.latest.wanted) are));
-        sound = sound;
-        unshown = unshown_in_order u.latest.wanted history in_order (standing_unshown s.offset s.left _ session.left);
-      },
-      record {
-        session = session;
-        in_order = in_order;
-        joiner = joiner;
-        sum = rw are sum;
-        total = total;
-        good = rw are good;
-        waits = rw are waits;
-      })
+  stands now s w u history transfers are session in_order joiner written sound sum total good waits = (
+    record {
+      written = written_as look written refl (sym (texts_in_order u.latest.wanted history in_order ∙ ap (texts_of u.latest.wanted) are));
+      sound = sound;
+      unshown = unshown_in_order u.latest.wanted history in_order (standing_unshown s.offset s.left _ session.left);
+    },
+    record {
+      session = session;
+      in_order = in_order;
+      joiner = joiner;
+      sum = rw are sum;
+      total = total;
+      good = rw are good;
+      waits = rw are waits;
+    },
+  )
 
   module _ (last : Bool) (s : Session R) (w : Writers W E) (u : Unpacker) (history : List ℕ)
       (at : IsJoining look start last s w u history) where

@@ -64,9 +64,10 @@ pub same_texts : (wanted : Wanted) (reading : Reading) → AreInOrder (heads_of 
     → cut_heads reading.end ≡ [] → SameTexts (by_reading wanted) reading
 same_texts wanted reading in_order none = λ other same uncut.
     let heads : heads_of other ≡ heads_of reading =
-    ap (λ es. es ++ cut_heads other.end) same.entries ∙ ap (λ hs. reading.entries ++ hs) (uncut_heads other.end uncut ∙ sym none) in
-    (ap (λ (hs : List Entry). (unpacking_by wanted other.end (ordered hs)).texts) heads,
-    ap (λ (o : Ordered). (unpacking_by wanted other.end o).stop) (ap ordered heads ∙ in_order))
+    ap (λ es. es ++ cut_heads other.end) same.entries ∙ ap (λ hs. reading.entries ++ hs) (uncut_heads other.end uncut ∙ sym none) in (
+      ap (λ (hs : List Entry). (unpacking_by wanted other.end (ordered hs)).texts) heads,
+      ap (λ (o : Ordered). (unpacking_by wanted other.end o).stop) (ap ordered heads ∙ in_order),
+    )
 
 module _ {R W E : Type 0} {look : Looks R W E} {start : Devices R W E} (old new : Session R)
     (before after : Writers W E) (u : Unpacker) {history : List ℕ}

@@ -32,12 +32,15 @@ pub then_some : {W E B : Type 0} (out_look : W → Output) (report_look : E → 
     → Writes out_look report_look old mid texts
     → WritesSome out_look report_look mid new result
     → WritesSome out_look report_look old new result
-then_some out_look report_look old mid new texts (Ok value) had more = (texts then more.0, record {
-  output = Appends-trans (out_look old.output).written (out_look mid.output).written (out_look new.output).written texts.output more.0.output had.output more.1.output;
-  report = Appends-trans (report_look old.report).written (report_look mid.report).written (report_look new.report).written texts.report more.0.report had.report more.1.report;
-  output_sound = more.1.output_sound ∙ had.output_sound;
-  report_sound = more.1.report_sound ∙ had.report_sound;
-})
+then_some out_look report_look old mid new texts (Ok value) had more = (
+  texts then more.0,
+  record {
+    output = Appends-trans (out_look old.output).written (out_look mid.output).written (out_look new.output).written texts.output more.0.output had.output more.1.output;
+    report = Appends-trans (report_look old.report).written (report_look mid.report).written (report_look new.report).written texts.report more.0.report had.report more.1.report;
+    output_sound = more.1.output_sound ∙ had.output_sound;
+    report_sound = more.1.report_sound ∙ had.report_sound;
+  },
+)
 then_some out_look report_look old mid new texts (Err fault) had kind = kind
 
 -- texts that a step writes after its read were not held back during the read

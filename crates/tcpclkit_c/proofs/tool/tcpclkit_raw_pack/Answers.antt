@@ -9,8 +9,8 @@ returns-clause-run c = λ fits. record {
   are = c.packing_of-packing.ensures;
   texts = subst (λ (options : Options).
       GivesTexts (whole_of options c.args.bytes.now)
-          (record { output = c.args.output.now; report = c.args.report.now })
-          (record { output = c.run_job.new.output; report = c.run_job.new.report })
-          c.run_job.new.answer c.run_job.result)
+      (record { output = c.args.output.now; report = c.args.report.now })
+      (record { output = c.run_job.new.output; report = c.run_job.new.report })
+      c.run_job.new.answer c.run_job.result)
       c.new.ensures.options c.run_job.ensures;
 }
