@@ -1,6 +1,8 @@
 #!/usr/bin/env python3
 """Makes the files that run.sh measures: `python3 make.py FOLDER`.
 
+instructions.py makes the same files with fewer bytes.
+
 For list, some 128 MiB each:
 long.tcpcl: one transfer in segments of 64 KiB.
 bundles.tcpcl: transfers of one bundle of 200 bytes, an acknowledgement and a KEEPALIVE after each.
@@ -111,14 +113,14 @@ def refuse(reason, number):
 
 
 def repeated(block, size):
-    """The block, as often as it fits in `size` bytes."""
-    return block * (size // len(block))
+    """The block, as often as it fits in `size` bytes, and at least once."""
+    return block * max(1, size // len(block))
 
 
-def one_transfer(pieces):
+def one_transfer(pieces, size):
     """A transfer with an empty segment at each end, and these pieces between, again and again."""
     middle = b"".join(segment(0, 0, piece) for piece in pieces)
-    return segment(START, 0, b"") + repeated(middle, LIST_SIZE) + segment(END, 0, b"")
+    return segment(START, 0, b"") + repeated(middle, size) + segment(END, 0, b"")
 
 
 DATA = bytes(range(256)) * 256
@@ -133,27 +135,27 @@ def bundles():
     yield "small", [bundle(DATA[:length], primary=CRC32) for length in range(60, 260, 10)]
 
 
-def recordings():
+def recordings(list_size, bundles_size):
     """Yields the name of each recording, and the messages after its SESS_INIT."""
     data = DATA
-    yield "long.tcpcl", one_transfer([data])
-    yield "bundles.tcpcl", repeated(segment(START | END, 7, BUNDLE) + ack(START | END, 7, len(BUNDLE)) + KEEPALIVE, LIST_SIZE)
-    yield "short.tcpcl", one_transfer([data[:length] for length in range(1, 17)])
-    yield "answers.tcpcl", repeated(ack(0, 1, 4096) + refuse(1, 1) + KEEPALIVE, LIST_SIZE)
+    yield "long.tcpcl", one_transfer([data], list_size)
+    yield "bundles.tcpcl", repeated(segment(START | END, 7, BUNDLE) + ack(START | END, 7, len(BUNDLE)) + KEEPALIVE, list_size)
+    yield "short.tcpcl", one_transfer([data[:length] for length in range(1, 17)], list_size)
+    yield "answers.tcpcl", repeated(ack(0, 1, 4096) + refuse(1, 1) + KEEPALIVE, list_size)
     kinds = dict(bundles())
     for name in ("plain", "crc16", "crc32"):
-        yield name + ".tcpcl", repeated(transfer(7, kinds[name][0], [65536]), BUNDLES_SIZE)
-    yield "small.tcpcl", repeated(b"".join(segment(START | END, 7, it) + ack(START | END, 7, len(it)) for it in kinds["small"]), BUNDLES_SIZE)
-    yield "crumbs.tcpcl", repeated(transfer(7, kinds["plain"][0], range(1, 17)), BUNDLES_SIZE)
+        yield name + ".tcpcl", repeated(transfer(7, kinds[name][0], [65536]), bundles_size)
+    yield "small.tcpcl", repeated(b"".join(segment(START | END, 7, it) + ack(START | END, 7, len(it)) for it in kinds["small"]), bundles_size)
+    yield "crumbs.tcpcl", repeated(transfer(7, kinds["plain"][0], range(1, 17)), bundles_size)
 
 
-def main():
-    folder = Path(sys.argv[1])
-    for name, messages in recordings():
+def write(folder, list_size=LIST_SIZE, bundles_size=BUNDLES_SIZE):
+    """Writes the files into the folder: those for list of some `list_size` bytes, and the others."""
+    for name, messages in recordings(list_size, bundles_size):
         (folder / name).write_bytes(CONTACT + SESS_INIT + messages)
     for name, kind in bundles():
-        (folder / f"{name}.bundles").write_bytes(repeated(b"".join(kind), BUNDLES_SIZE))
+        (folder / f"{name}.bundles").write_bytes(repeated(b"".join(kind), bundles_size))
 
 
 if __name__ == "__main__":
-    main()
+    write(Path(sys.argv[1]))

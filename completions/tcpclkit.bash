@@ -12,7 +12,7 @@ _tcpclkit() {
   fi
   case ${COMP_WORDS[1]} in
     list) ;;
-    unpack) values='--transfer' flags+=' --payload' ;;
+    unpack) values='--transfer' flags+=' --payload --keep-going' ;;
     pack)
       values='--node --keepalive --segment-mru --transfer-mru --peer-segment --peer-transfer --announce'
       flags+=' --end'

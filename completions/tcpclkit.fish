@@ -24,6 +24,7 @@ complete -c tcpclkit -n 'not __tcpclkit_begins' -F
 
 complete -c tcpclkit -n '__tcpclkit_takes unpack transfer VALUE' -x -l transfer -d 'The ID of the transfers whose data is written'
 complete -c tcpclkit -n '__tcpclkit_takes unpack payload' -l payload -d 'Write the payload of each bundle alone'
+complete -c tcpclkit -n '__tcpclkit_takes unpack keep-going' -l keep-going -d 'Go on after a fault of the order of messages'
 
 complete -c tcpclkit -n '__tcpclkit_takes pack node VALUE' -x -l node -d "The sender's node ID"
 complete -c tcpclkit -n '__tcpclkit_takes pack keepalive VALUE' -x -l keepalive -d 'The keepalive interval in seconds'

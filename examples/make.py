@@ -125,6 +125,36 @@ TRANSFERS = b"".join(
     ]
 )
 
+# Each fault of the order of messages, and three good bundles. The first segment of transfer 0 comes before SESS_INIT. Then
+# transfer 0 begins anew, as a whole, while it is open. A second SESS_INIT follows. Between the segments of transfer 1 is
+# the rest of the first transfer 0, which is open no more. Transfer 2 begins after SESS_TERM.
+ORDER_FAULTS = b"".join(
+    [
+        CONTACT,
+        xfer_segment(START, 0, BUNDLE[:10]),
+        sess_init(),
+        xfer_segment(START | END, 0, BUNDLE),
+        sess_init(),
+        xfer_segment(START, 1, BUNDLE[:17]),
+        xfer_segment(END, 0, BUNDLE[10:]),
+        xfer_segment(END, 1, BUNDLE[17:]),
+        sess_term(0x00, 0x00),
+        xfer_segment(START, 2, BUNDLE[:17]),
+        xfer_segment(END, 2, BUNDLE[17:]),
+    ]
+)
+
+# 30 good transfers of a sender that goes on after its SESS_TERM: 13 come before it, and 17 after it.
+LATE_TRANSFERS = b"".join(
+    [
+        CONTACT,
+        sess_init(),
+        *[xfer_segment(START | END, number, BUNDLE) for number in range(13)],
+        sess_term(0x00, 0x00),
+        *[xfer_segment(START | END, number, BUNDLE) for number in range(13, 30)],
+    ]
+)
+
 # Two bundles, one after another: the second has a check.
 CHECKED = DAMAGED.replace(b"iello", b"hello")
 TWO_BUNDLES = BUNDLE + CHECKED
@@ -173,6 +203,8 @@ FILES = {
     "prelude-and-transfer.tcpcl": PRELUDE_AND_TRANSFER,
     "every-message.tcpcl": EVERY_MESSAGE,
     "transfers.tcpcl": TRANSFERS,
+    "order-faults.tcpcl": ORDER_FAULTS,
+    "late-transfers.tcpcl": LATE_TRANSFERS,
     "two.bundles": TWO_BUNDLES,
     "session.pcap": pcap(SESSION),
     "session-a.tcpcl": stream(SESSION, "a"),

@@ -457,7 +457,8 @@ struct texts {
 
 static uint32_t call_tool(const uint8_t *bytes, size_t length, const uint64_t *numbers,
                           struct texts *it) {
-  struct tcpclkit_unpack_options unpack = {numbers[1] % 3, numbers[2] % 5, numbers[3] % 3};
+  struct tcpclkit_unpack_options unpack = {numbers[1] % 3, numbers[2] % 5, numbers[3] % 3,
+                                           numbers[4] % 3};
   struct tcpclkit_pack_options pack = {
       numbers[1] % 65537, numbers[2],           numbers[3],    numbers[4] % 4096,
       numbers[5],         numbers[1] % 1048577, numbers[2] % 3};

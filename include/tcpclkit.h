@@ -55,7 +55,7 @@ extern "C" {
  * The version of this interface. It is another number as soon as a name, a number, a field or a
  * parameter of this header changes its meaning.
  */
-#define TCPCLKIT_ABI 1u
+#define TCPCLKIT_ABI 2u
 
 /* The TCPCLKIT_ABI of the header that the library was built with. */
 uint32_t tcpclkit_abi(void);
@@ -474,11 +474,12 @@ struct tcpclkit_run {
   uint64_t report_length;  /* how many bytes were written of what goes to standard error */
 };
 
-/* Which data `unpack` writes. All 0 is the default of the program. */
+/* Which data `unpack` writes, and where it ends. All 0 is the default of the program. */
 struct tcpclkit_unpack_options {
-  uint64_t only_one; /* 1: the transfers with the ID `transfer` alone */
+  uint64_t only_one;   /* 1: the transfers with the ID `transfer` alone */
   uint64_t transfer;
-  uint64_t payload;  /* 1: of each transfer only the payload of its bundle */
+  uint64_t payload;    /* 1: of each transfer only the payload of its bundle */
+  uint64_t keep_going; /* 1: a fault of the order has its line, and does not end the run */
 };
 
 /* What the stream of `pack` says. docs/MANUAL.md has each option and its default. */
@@ -517,8 +518,8 @@ static inline uint32_t tcpclkit_list(const uint8_t *bytes, size_t length,
  * `tcpclkit unpack`: the data of a recording's transfers, and a line for each of them as the
  * report.
  *
- * The statuses are those of tcpclkit_list; TCPCLKIT_RANGE if `only_one` or `payload` is above 1. An
- * output as long as the recording is always large enough.
+ * The statuses are those of tcpclkit_list; TCPCLKIT_RANGE if `only_one`, `payload` or
+ * `keep_going` is above 1. An output as long as the recording is always large enough.
  *
  * Proved: as for tcpclkit_list, of `unpack_tool` of the options and the bytes.
  */

@@ -512,7 +512,7 @@ static void lists(void) {
 }
 
 static void unpacks(void) {
-  struct tcpclkit_unpack_options options = {0, 0, 0};
+  struct tcpclkit_unpack_options options = {0, 0, 0, 0};
   struct tcpclkit_run run;
   uint8_t output[sizeof recording], report[200];
   CHECK(tcpclkit_unpack(recording, sizeof recording, &options, output, sizeof output, report,
@@ -532,6 +532,28 @@ static void unpacks(void) {
   options.only_one = 2;
   CHECK(tcpclkit_unpack(recording, sizeof recording, &options, output, sizeof output, report,
                         sizeof report, &run) == TCPCLKIT_RANGE);
+}
+
+#define EARLY_LINE "tcpclkit: byte 6: segment before session initiation\n"
+
+/* A segment without a SESS_INIT before it. */
+static void goes_on(void) {
+  struct tcpclkit_unpack_options options = {0, 0, 0, 0};
+  struct tcpclkit_run run;
+  uint8_t early[6 + 56], output[sizeof early], report[200];
+  memcpy(early, recording, 6);
+  memcpy(early + 6, recording + 38, 56);
+  CHECK(tcpclkit_unpack(early, sizeof early, &options, output, sizeof output, report,
+                        sizeof report, &run) == TCPCLKIT_OK);
+  CHECK(run.exit_status == 3 && run.output_length == 0);
+  CHECK(run.report_length == strlen(EARLY_LINE) && begins(report, EARLY_LINE));
+  options.keep_going = 1;
+  CHECK(tcpclkit_unpack(early, sizeof early, &options, output, sizeof output, report,
+                        sizeof report, &run) == TCPCLKIT_OK);
+  CHECK(run.exit_status == 1 && run.output_length == BUNDLE_LENGTH);
+  CHECK(memcmp(output, bundle, BUNDLE_LENGTH) == 0);
+  CHECK(run.report_length == strlen(EARLY_LINE TRANSFER_LINE));
+  CHECK(begins(report, EARLY_LINE TRANSFER_LINE));
 }
 
 static uint32_t pack(const struct tcpclkit_pack_options *options, size_t node_length,
@@ -612,7 +634,7 @@ struct lent {
 /* Runs a tool: 0 is list, 1 is unpack, 2 is pack. The input of pack is the bundle. */
 static uint32_t run_tool(int tool, struct lent *it, size_t output_room, size_t report_room) {
   const struct tcpclkit_pack_options usual = {60, 65536, 1048576, 65536, 1048576, 0, 0};
-  const struct tcpclkit_unpack_options all = {0, 0, 0};
+  const struct tcpclkit_unpack_options all = {0, 0, 0, 0};
   memset(it, MARK, sizeof *it);
   if (tool == 0)
     return tcpclkit_list(recording, sizeof recording, it->output, output_room, it->report,
@@ -715,7 +737,8 @@ static void unwritten_texts(void) {
 }
 
 static void unwritten_runs(void) {
-  const struct tcpclkit_unpack_options all = {0, 0, 0}, one = {2, 0, 0}, payload = {0, 0, 2};
+  const struct tcpclkit_unpack_options all = {0, 0, 0, 0}, one = {2, 0, 0, 0};
+  const struct tcpclkit_unpack_options payload = {0, 0, 2, 0}, going_on = {0, 0, 0, 2};
   const struct tcpclkit_pack_options pack = {60, 65536, 1048576, 0, 1048576, 0, 0};
   const uint8_t *node = (const uint8_t *)"ipn:1.0";
   const size_t size = sizeof recording;
@@ -724,6 +747,8 @@ static void unwritten_runs(void) {
   memset(&it, MARK, sizeof it);
   LEAVES(tcpclkit_unpack(recording, size, &one, to, 9, report, 9, &it.run), TCPCLKIT_RANGE, it);
   LEAVES(tcpclkit_unpack(recording, size, &payload, to, 9, report, 9, &it.run), TCPCLKIT_RANGE,
+         it);
+  LEAVES(tcpclkit_unpack(recording, size, &going_on, to, 9, report, 9, &it.run), TCPCLKIT_RANGE,
          it);
   LEAVES(tcpclkit_unpack(recording, size, NULL, to, 9, report, 9, &it.run), TCPCLKIT_NULL, it);
   LEAVES(tcpclkit_unpack(NULL, 1, &all, to, 9, report, 9, &it.run), TCPCLKIT_NULL, it);
@@ -850,6 +875,7 @@ int main(void) {
   longest_texts();
   lists();
   unpacks();
+  goes_on();
   packs();
   rests();
   rooms(0);

@@ -11,7 +11,7 @@ Each function calls functions of the C library `libtcpclkit`, which are proved t
 definitions say; `tcpclkit.h` says what is proved of each of them. This module itself is tested and
 not proved. It needs python 3.8 or later and nothing but its standard library.
 
-The shared object `libtcpclkit.so.1` is the one that the environment variable TCPCLKIT_LIBRARY names
+The shared object `libtcpclkit.so.2` is the one that the environment variable TCPCLKIT_LIBRARY names
 if it is set, or else the one of the folder in which this module was installed, or else the one that
 the system's loader finds. Bytes that are read may be any object with a contiguous buffer, such as
 bytes, a bytearray, or a memoryview of a mapped file.
@@ -24,7 +24,7 @@ from ctypes import POINTER, byref, c_size_t, c_uint32, c_uint64, c_void_p
 from enum import IntEnum
 from typing import NamedTuple, Optional, Tuple, Union
 
-ABI = 1
+ABI = 2
 OK, END, TRUNCATED, DATA_TRUNCATED, FAULT, TOO_SMALL, RANGE, NULL, MEMORY = range(9)
 
 CONTACT_LENGTH = 6
@@ -109,7 +109,7 @@ _Item = _struct(
 _Order = _struct("_Order", "initiated terminated is_open transfer")
 _Turn = _struct("_Turn", "fault turn last abandons abandoned")
 _Run = _struct("_Run", "exit_status output_length report_length")
-_UnpackOptions = _struct("_UnpackOptions", "only_one transfer payload")
+_UnpackOptions = _struct("_UnpackOptions", "only_one transfer payload keep_going")
 _PackOptions = _struct(
     "_PackOptions",
     "keepalive segment_mru transfer_mru peer_segment peer_transfer announce send_term",
@@ -576,13 +576,14 @@ def list_messages(content):
     return _run("list", content)
 
 
-def unpack(content, transfer=None, payload=False):
+def unpack(content, transfer=None, payload=False, keep_going=False):
     """`tcpclkit unpack`: the data of a recording's transfers, and a line for each as the report.
 
     With `transfer`, only the transfers with this ID are written. With `payload`, only the payloads
-    of their bundles are.
+    of their bundles are. With `keep_going`, a fault of the order does not end the run.
     """
-    options = _UnpackOptions(transfer is not None, _number(transfer or 0), bool(payload))
+    only_one, number = transfer is not None, _number(transfer or 0)
+    options = _UnpackOptions(only_one, number, bool(payload), bool(keep_going))
     return _run("unpack", content, byref(options))
 
 

@@ -358,7 +358,8 @@ static int walk(const struct job *job) {
 /* Calls a tool once, with the room that the texts have. */
 static uint32_t call_tool(const struct job *job, struct tcpclkit_run *run) {
   const uint64_t *numbers = job->numbers;
-  struct tcpclkit_unpack_options unpack = {numbers[0], numbers[1], numbers[2]};
+  struct tcpclkit_unpack_options unpack = {numbers[0], numbers[1], numbers[2],
+                                           numbers[3]};
   struct tcpclkit_pack_options pack = {numbers[0], numbers[1], numbers[2], numbers[3],
                                        numbers[4], numbers[5], numbers[6]};
   size_t node = (size_t)numbers[7];

@@ -171,7 +171,9 @@ def tool(name, numbers, content):
     if name == "list":
         run = tcpclkit.list_messages(content)
     elif name == "unpack":
-        run = tcpclkit.unpack(content, numbers[1] if numbers[0] else None, numbers[2] == 1)
+        only_one, transfer, payload, keep_going = numbers
+        wanted = transfer if only_one else None
+        run = tcpclkit.unpack(content, wanted, payload == 1, keep_going == 1)
     else:
         length = numbers[-1]
         run = tcpclkit.pack(content[length:], content[:length], *numbers[:-2], numbers[-2] == 1)

@@ -273,10 +273,13 @@ fn walk(bytes: &[u8]) -> Answer {
 fn tool(numbers: &[u64], bytes: &[u8]) -> Result<Run, ToolError> {
     match *numbers {
         [] => list(bytes),
-        [only_one, transfer, payload] => {
-            let transfer = (only_one == 1).then_some(transfer);
-            let payload = payload == 1;
-            unpack(bytes, &UnpackOptions { transfer, payload })
+        [only_one, transfer, payload, keep_going] => {
+            let options = UnpackOptions {
+                transfer: (only_one == 1).then_some(transfer),
+                payload: payload == 1,
+                keep_going: keep_going == 1,
+            };
+            unpack(bytes, &options)
         }
         [keepalive, segment_mru, transfer_mru, peer_segment, peer_transfer, announce, term, node] =>
         {

@@ -203,6 +203,14 @@ class Tools(unittest.TestCase):
         self.assertEqual((unpacked.output, unpacked.exit_status), (bundles, 0))
         self.assertEqual(tcpclkit.unpack(packed.output, 0, payload=True).output, b"hello")
 
+    def test_going_on(self):
+        late = example("late-transfers.tcpcl")
+        run = tcpclkit.unpack(late)
+        self.assertEqual((len(run.output), run.exit_status), (13 * 34, 3))
+        run = tcpclkit.unpack(late, keep_going=True)
+        self.assertEqual((len(run.output), run.exit_status), (30 * 34, 1))
+        self.assertEqual((run.report.count(b"\n"), run.report.count(b"tcpclkit: ")), (47, 17))
+
     def test_ranges(self):
         for options in [
             {"peer_segment": 0}, {"keepalive": 65536}, {"announce": 2**20 + 1},

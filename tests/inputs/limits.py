@@ -3,10 +3,11 @@
 Other groups have every byte in each place where a byte is shown or judged alone.
 """
 
+import itertools
 import struct
 
 from .lengths import CHECKED
-from .prefixes import LISTS, PACKS, UNPACKS
+from .prefixes import GOES_ON, LISTS, PACKS, UNPACKS, prefixes
 from .spelling import (
     CONTACT, END, START, array, canonical, carried, item, laid, primary, segment, sess_init, spelled, total, unsigned,
 )
@@ -149,7 +150,41 @@ def order():
         yield CONTACT + first, UNPACKS
         for second in messages:
             for last in (b"", messages[3], messages[5], messages[7]):
-                yield CONTACT + messages[0] + first + second + last, UNPACKS[:3]
+                yield CONTACT + messages[0] + first + second + last, UNPACKS[:3] + GOES_ON[:1]
+
+
+def going_on():
+    """Every three messages whose order is judged, from a contact header on.
+
+    After them comes nothing, a message, a segment that is cut, or a byte that begins no message.
+    """
+    whole, _ = spelled([primary((2, 1), (1, 1), None), canonical(1, 1, b"x")])
+    messages = [laid(it)[0] for it in [
+        sess_init(), [b"\x05\x00\x00"], segment(START, 0, whole[:9]), segment(START | END, 0, whole), segment(START, 1, whole[:9]),
+        segment(0, 0, b""), segment(END, 0, whole[9:]), segment(END, 1, whole[9:]),
+    ]]
+    lasts = [b"", *messages[3:8:2], messages[6], messages[3][:-1], messages[7][:-1], b"\x16"]
+    for first in itertools.product(messages, repeat=3):
+        for last in lasts:
+            yield CONTACT + b"".join(first) + last, GOES_ON[:2]
+
+
+def worked_rows():
+    """The streams of the worked cases, each with every prefix of it.
+
+    tests/cases/keep-going-* have what the program has to write for them.
+    """
+    whole, _ = spelled([primary((2, 1), (1, 1), None), canonical(1, 1, b"hello")])
+    begins, rest = segment(START, 0, whole[:10]), segment(END, 0, whole[10:])
+    streams = [laid([CONTACT, *it])[0] for it in [
+        [*begins, *segment(START | END, 0, whole)],
+        [*sess_init(), *begins, *segment(START | END, 0, b"")],
+        [*sess_init(), *begins, *segment(END, 1, b"ab"), *rest],
+        [*sess_init(), *begins, *segment(END, 1, b"abcde")],
+    ]]
+    for content in streams:
+        for it in prefixes(content):
+            yield it, UNPACKS + GOES_ON
 
 
 def refused_and_cut():
@@ -165,9 +200,9 @@ def refused_and_cut():
         (begun + opened, rest), (begun + late, start), (begun + opened + late, start), (begun + start, rest),
     ]:
         for length in range(len(it) + 1):
-            yield before + it[:length], UNPACKS[::2]
+            yield before + it[:length], UNPACKS[::2] + GOES_ON[:1]
         for at in range(len(it)):
-            yield before + it[:at] + b"\xff" * 4 + it[at + 4:], UNPACKS[::2]
+            yield before + it[:at] + b"\xff" * 4 + it[at + 4:], UNPACKS[::2] + GOES_ON[:1]
 
 
 def every_byte():
@@ -220,5 +255,5 @@ def cut_chunks():
 def groups():
     """The groups of this file."""
     for make in (item_counts, length_items, longest_lines, block_counts, block_numbers, block_shapes, damaged, order,
-                 refused_and_cut, every_byte, long_bundles, cut_chunks):
+                 going_on, worked_rows, refused_and_cut, every_byte, long_bundles, cut_chunks):
         yield f"limits: {make.__name__.replace('_', ' ')}", make

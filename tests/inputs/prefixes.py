@@ -9,8 +9,13 @@ EXAMPLES = f"{os.path.dirname(os.path.realpath(__file__))}/../../examples"
 
 RECORDING = ".tcpcl"
 
+# The bytes of an example whose prefixes go through all tools, at most.
+LONG = 1000
+
 LISTS = [("list", {})]
 UNPACKS = [("unpack", it) for it in [{}, {"transfer": 0}, {"payload": True}, {"transfer": 0, "payload": True}]]
+# `unpack` that goes on after a fault of the order.
+GOES_ON = [("unpack", {"keep_going": True, **it}) for it in [{}, {"transfer": 0}, {"payload": True}]]
 PACKS = [("pack", it) for it in [
     {"node": "ipn:1.0"},
     {"node": "", "peer_segment": 1, "peer_transfer": 36, "end": True},
@@ -25,11 +30,15 @@ def prefixes(content):
 
 
 def of_file(name):
-    """The prefixes of an example, through all tools, with all options of those that are for it."""
-    runs = LISTS + UNPACKS + PACKS[:1] if name.endswith(RECORDING) else LISTS + UNPACKS[:1] + PACKS
+    """The prefixes of an example, through all tools, with all options of those that are for it.
+
+    Those of a long recording go through `unpack` alone, with and without its going on.
+    """
+    runs = LISTS + UNPACKS + GOES_ON + PACKS[:1] if name.endswith(RECORDING) else LISTS + UNPACKS[:1] + PACKS
     with open(f"{EXAMPLES}/{name}", "rb") as it:
-        for prefix in prefixes(it.read()):
-            yield prefix, runs
+        content = it.read()
+    for prefix in prefixes(content):
+        yield prefix, runs if len(content) <= LONG else UNPACKS[:1] + GOES_ON[:1]
 
 
 def bundles():

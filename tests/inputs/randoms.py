@@ -129,6 +129,22 @@ def stream(rng):
     return damage(rng, content) if rng.random() < 0.3 else content
 
 
+def disordered(rng):
+    """A stream of a few transfers with messages that are moved, repeated and left out."""
+    messages = [sess_init()]
+    for _ in range(rng.randint(1, 4)):
+        messages += transfer(rng, rng.randint(0, 2))
+    messages.insert(rng.randint(0, len(messages)), [b"\x05\x00\x03"])
+    for _ in range(rng.choice((1, 2, 3, 8))):
+        it = messages[rng.randrange(len(messages))]
+        if rng.random() < 0.6:
+            messages.remove(it)
+        if rng.random() < 0.8 or not messages:
+            messages.insert(rng.randint(0, len(messages)), it)
+    content = laid([CONTACT, *[piece for message in messages for piece in message]])[0]
+    return content[:rng.randint(0, len(content))] if rng.random() < 0.3 else content
+
+
 def pack_options(rng, length):
     """Options of `pack` around the length of an input."""
     options = {"node": rng.choice(("", "ipn:1.0", "dtn://größe/\\"))}
@@ -149,6 +165,12 @@ def run_of_stream(rng):
     return stream(rng), [("list", {}), ("unpack", {}), ("unpack", options)]
 
 
+def run_of_order(rng):
+    """A random stream out of order, through `unpack` that stops and that goes on."""
+    options = rng.choice([{"payload": True}, {"transfer": rng.randint(0, 2)}, {"transfer": rng.randint(0, 2), "payload": True}])
+    return disordered(rng), [("unpack", {}), ("unpack", {"keep_going": True}), ("unpack", {"keep_going": True, **options})]
+
+
 def run_of_bundles(rng):
     """Random bundles, packed with random options."""
     content = bundles(rng)
@@ -163,5 +185,5 @@ def group(seed, runs, make):
 
 def groups(seed, runs):
     """The groups of this file, with about `runs` runs in all."""
-    yield f"random {seed}: streams", lambda: group(seed, runs // 2, run_of_stream)
-    yield f"random {seed}: bundles", lambda: group(seed, runs // 2, run_of_bundles)
+    for name, make in [("streams", run_of_stream), ("order", run_of_order), ("bundles", run_of_bundles)]:
+        yield f"random {seed}: {name}", lambda make=make: group(seed, runs // 3, make)

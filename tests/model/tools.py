@@ -4,6 +4,7 @@ Options have the names and defaults of docs/MANUAL.md, with `_` for `-`.
 """
 
 import struct
+from typing import NamedTuple, Optional
 
 from . import bundle, texts, wire
 
@@ -20,13 +21,34 @@ def listing(stream):
     return texts.lines(header + shown), texts.lines(texts.wire_fault(read.fault)), 3 if read.fault else 0
 
 
+class Head(NamedTuple):
+    """A message in its turn: its number and offset, why it is refused, and whether it is stray.
+
+    The reason is None if the message is not refused. A cut segment has a head too.
+    """
+    number: int
+    at: int
+    it: object
+    why: Optional[str]
+    is_stray: bool
+
+
+def open_transfer(before):
+    """The ID of the transfer that is open after some messages, or None. None of them is stray."""
+    segments = [it for it in before if isinstance(it, wire.Segment)]
+    return segments[-1].id if segments and not segments[-1].flags & wire.END else None
+
+
+def is_stray(before, it):
+    """Whether a message is a segment without START whose transfer is not open."""
+    return isinstance(it, wire.Segment) and not it.flags & wire.START and it.id != open_transfer(before)
+
+
 def refusal(before, it):
-    """The reason why a message is refused after those before it, or None.
+    """The reason why a message is refused after those before it that are not stray, or None.
 
     It is the first reason of "Transfers" that holds.
     """
-    segments = [each for each in before if isinstance(each, wire.Segment)]
-    last_open = segments[-1].id if segments and not segments[-1].flags & wire.END else None
     has_begun = any(isinstance(each, wire.SessInit) for each in before)
     if isinstance(it, wire.SessInit):
         return "second session initiation" if has_begun else None
@@ -34,34 +56,42 @@ def refusal(before, it):
         return None
     if not has_begun:
         return "segment before session initiation"
+    if is_stray(before, it):
+        return "no such open transfer"
     if not it.flags & wire.START:
-        return None if it.id == last_open else "no such open transfer"
-    if it.id == last_open:
+        return None
+    if it.id == open_transfer(before):
         return "start repeats the open transfer"
     return "start after session termination" if any(isinstance(each, wire.SessTerm) for each in before) else None
 
 
-def accepted(read):
-    """The messages before the first that is refused, and the fault that ends the stream.
+def heads_of(read, keep_going):
+    """The heads that a run goes through, and the fault that ends it, or None.
 
-    The fault is None if there is none.
+    Unless it is to keep going, the first head that is refused ends it.
     """
-    messages = [it for _, it in read.messages]
-    for index, (at, it) in enumerate(read.messages):
-        why = refusal(messages[:index], it)
-        if why:
-            return messages[:index], (at, why)
-    return messages, read.fault
+    heads, before = [], []
+    for number, (at, it) in enumerate(read.messages):
+        head = Head(number, at, it, refusal(before, it), is_stray(before, it))
+        if head.why and not keep_going:
+            return heads, (at, head.why)
+        heads.append(head)
+        before += [] if head.is_stray else [it]
+    return heads, read.fault
 
 
-def transfers_of(messages):
-    """The segments of each transfer: one with START, and those after it up to the next START."""
+def transfers_of(heads):
+    """The heads of each transfer: one with START, and those after it up to the next START.
+
+    Stray segments are part of none.
+    """
     transfers = []
-    for it in messages:
-        if isinstance(it, wire.Segment) and it.flags & wire.START:
-            transfers.append([it])
-        elif isinstance(it, wire.Segment):
-            transfers[-1].append(it)
+    for head in heads:
+        if head.is_stray or not isinstance(head.it, wire.Segment):
+            continue
+        if head.it.flags & wire.START:
+            transfers.append([])
+        transfers[-1].append(head)
     return transfers
 
 
@@ -102,22 +132,41 @@ def part_of(data, judged, payload):
     return data[start:start + length]
 
 
-def unpacking(stream, transfer=None, payload=False):
-    """`unpack`: "Unpacking"."""
-    messages, fault = accepted(wire.reading(stream))
-    transfers, output, report, is_good = transfers_of(messages), b"", [], True
-    for index, segments in enumerate(transfers):
+# The lines of one head, in their order.
+REFUSED, ABANDONED, CLOSED = range(3)
+
+
+def over_at(transfer, following, count, fault):
+    """When the line of a transfer is due: the number of a head, and which of its lines it is.
+
+    After the last of `count` heads, a clean end abandons the open transfer. The result is None if
+    a fault leaves it open. `following` is the transfer after it, or None.
+    """
+    if is_closed([head.it for head in transfer]):
+        return transfer[-1].number, CLOSED
+    if following:
+        return following[0].number, ABANDONED
+    return None if fault else (count, ABANDONED)
+
+
+def unpacking(stream, transfer=None, payload=False, keep_going=False):
+    """`unpack`: "Unpacking" and "Going on after a fault of the order"."""
+    heads, fault = heads_of(wire.reading(stream), keep_going)
+    transfers, output, is_good = transfers_of(heads), b"", not any(head.why for head in heads)
+    due = [((head.number, REFUSED), *texts.wire_fault((head.at, head.why))) for head in heads if head.why]
+    for each, following in zip(transfers, [*transfers[1:], None]):
+        segments = [head.it for head in each]
         data = b"".join(it.data for it in segments)
         judged, number = bundle.whole(data), segments[0].id
         part = part_of(data, judged, payload) if transfer in (None, number) else b""
-        is_over = is_closed(segments) or index + 1 < len(transfers) or fault is None
-        if is_over:
+        when = over_at(each, following, len(heads), fault)
+        if when:
             judgement = judgement_of(segments, data, judged)
             is_good = is_good and judgement.startswith("good ")
-            report.append(f"transfer {number} start={len(output)} written={len(part)} length={len(data)} {judgement}")
+            due.append((when, f"transfer {number} start={len(output)} written={len(part)} length={len(data)} {judgement}"))
         output += part
-    status = 3 if fault else 0 if is_good else 1
-    return output, texts.lines(report + texts.wire_fault(fault)), status
+    report = [line for _, line in sorted(due)] + texts.wire_fault(fault)
+    return output, texts.lines(report), 3 if fault else 0 if is_good else 1
 
 
 def session_head(node, keepalive, segment_mru, transfer_mru):

@@ -6,7 +6,7 @@
 #![allow(dead_code)] // The header is here whole.
 
 /// The version of the interface that these declarations are of.
-pub const ABI: u32 = 1;
+pub const ABI: u32 = 2;
 
 pub const OK: u32 = 0;
 pub const END: u32 = 1;
@@ -68,7 +68,7 @@ structs! {
     Order { initiated: u64, terminated: u64, is_open: u64, transfer: u64 }
     Turn { fault: u64, turn: u64, last: u64, abandons: u64, abandoned: u64 }
     Run { exit_status: u64, output_length: u64, report_length: u64 }
-    UnpackOptions { only_one: u64, transfer: u64, payload: u64 }
+    UnpackOptions { only_one: u64, transfer: u64, payload: u64, keep_going: u64 }
     PackOptions {
         keepalive: u64, segment_mru: u64, transfer_mru: u64, peer_segment: u64, peer_transfer: u64,
         announce: u64, send_term: u64,

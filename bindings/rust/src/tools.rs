@@ -14,13 +14,15 @@ pub struct Run {
     pub exit_status: u8,
 }
 
-/// Which data `unpack` writes. The default is all of it.
+/// Which data `unpack` writes, and where it ends. The default is all data, up to the first fault.
 #[derive(Clone, Copy, Debug, Default, PartialEq, Eq)]
 pub struct UnpackOptions {
     /// Only the transfers with this ID.
     pub transfer: Option<u64>,
     /// Of each transfer only the payload of its bundle.
     pub payload: bool,
+    /// Whether the run goes on after a fault of the order of messages.
+    pub keep_going: bool,
 }
 
 /// What the stream of `pack` says. `docs/MANUAL.md` has each option.
@@ -150,6 +152,7 @@ pub fn unpack(bytes: &[u8], options: &UnpackOptions) -> Result<Run, ToolError> {
         only_one: options.transfer.is_some().into(),
         transfer: options.transfer.unwrap_or_default(),
         payload: options.payload.into(),
+        keep_going: options.keep_going.into(),
     };
     run(bytes.len() + 4096, |output, report, run| {
         // SAFETY: the slices and the structs are valid, and do not overlap.

@@ -52,8 +52,25 @@ fn unpack_gives_back_what_pack_was_given() {
     let options = UnpackOptions {
         transfer: Some(0),
         payload: true,
+        ..UnpackOptions::default()
     };
     assert_eq!(unpack(&packed.output, &options).unwrap().output, b"hello");
+}
+
+#[test]
+fn unpack_goes_on_after_a_fault_of_the_order() {
+    let late = example("late-transfers.tcpcl");
+    let run = unpack(&late, &UnpackOptions::default()).unwrap();
+    assert_eq!((run.output.len(), run.exit_status), (13 * 34, 3));
+    let options = UnpackOptions {
+        keep_going: true,
+        ..UnpackOptions::default()
+    };
+    let run = unpack(&late, &options).unwrap();
+    assert_eq!((run.output.len(), run.exit_status), (30 * 34, 1));
+    let text = String::from_utf8(run.report).unwrap();
+    let faults = text.lines().filter(|line| line.starts_with("tcpclkit: "));
+    assert_eq!((text.lines().count(), faults.count()), (47, 17));
 }
 
 #[test]

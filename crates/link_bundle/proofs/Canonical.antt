@@ -7,7 +7,7 @@ use Rattle.link_cbor.specs.declared.head.Head.{Head}
 use Rattle.link_bundle.specs.declared.draft.Draft.{Draft}
 use Rattle.link_bundle_types.specs.declared.fault.BundleFault.{BundleFault}
 use Rattle.link_bundle_types.specs.declared.fault.BundleFault.TheVariants.{TooManyBlocks}
-use Rattle.link_bundle_rows.specs.Rows.{block, block_too_many}
+use Rattle.link_bundle_heads.specs.Rows.{block, block_too_many}
 use Rattle.link_bundle.specs.Reading.{stopped, head_at}
 use Rattle.link_bundle.specs.Primary.{Primary}
 use Rattle.link_bundle.specs.Bundle.{blocks_at}
@@ -30,12 +30,17 @@ pub blocks_at-full : (left : ℕ) (numbers : List ℕ) (primary : Primary) (byte
     → blocks_at left numbers primary bytes place ≡ Err (stopped TooManyBlocks place)
 unfolding blocks_at block_too_many
 blocks_at-full left numbers primary bytes place next head count none outcome judged =
-    rw (none, row_at-refused block_too_many bytes place next head TooManyBlocks outcome (rw judged refl)) refl
+    rw (
+      none,
+      row_at-refused block_too_many bytes place next head TooManyBlocks outcome
+          (rw judged refl),
+    ) refl
 
 pub blocks_at-open : (draft : Draft) (bytes : List ℕ) (place next : ℕ) (head : Head) (count : ℕ)
     → length draft.numbers < 64 → head_at bytes place ≡ Ok (head, next) → block head ≡ Ok count
     → blocks_at (64 - length draft.numbers) draft.numbers (primary_of draft) bytes place
-    ≡ type_left (63 - length draft.numbers) (length draft.numbers + 1) (record draft { count = count }) place bytes next
+    ≡ type_left (63 - length draft.numbers) (length draft.numbers + 1)
+    (record draft { count = count }) place bytes next
 unfolding blocks_at type_left number_left block_flags_left block_check_left data_left
 blocks_at-open draft bytes place next head count room outcome judged =
     let more : 64 - length draft.numbers ≡ suc (63 - length draft.numbers) = omega arith in

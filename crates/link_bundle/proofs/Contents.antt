@@ -18,22 +18,24 @@ use Rattle.link_bundle.specs.declared.stage.CheckType.{CheckType}
 use Rattle.link_bundle.specs.declared.stage.CheckType.TheVariants.{Is}
 use Rattle.link_bundle.specs.CheckKinds.{kind_of}
 use Rattle.link_bundle.specs.Covers.{Covers}
+use Rattle.link_bundle.specs.Moves.{TakesRun, Enters}
 use Rattle.link_bundle.specs.Fits.{KeepsCheck}
-use Rattle.link_bundle_rows.specs.Rows.{◌>>=◌}
+use Rattle.link_bundle_heads.specs.Rows.{◌>>=◌}
 use Rattle.link_bundle.specs.Reading.{Stop, stopped, Reading, bytes_at}
 use Rattle.link_bundle.specs.CheckField.{field_at}
 use Rattle.link_bundle.specs.Canonical.{content_at}
-use Rattle.link_bundle.specs.Bundle.{Bundle, ends, judged}
-use Rattle.link_bundle.specs.Left.{span_of, bundle_of, ends_of, with_known_payload, after_field, zeroed_check, stored_left, stage_left, BlockEnds, FieldsEnd, NameGoesOn}
+use Rattle.link_bundle.specs.Bundle.{Bundle, if_alone, judged}
+use Rattle.link_bundle.specs.Left.{span_of, bundle_of, read_alone, with_known_payload, after_field, zeroed_check, stored_left, stage_left, BlockEnds, FieldsEnd, NameGoesOn}
 use Rattle.link_bundle.specs.Scan.{HasCome, IsInside, IsInStored}
 use Rattle.link_bundle.proofs.Fields.{stored_left-step, stored_left-last}
-use Rattle.link_bundle.proofs.Heads.{no_content, ends_of-stopped}
+use Rattle.link_bundle.proofs.Heads.{no_content, read_alone-stopped}
 use Rattle.link_bundle.proofs.Runs.{with_run, bytes_at-run, run_within}
-use Rattle.link_bundle.proofs.Steps.{Enters, entered, regrown, all_grown, one_byte, next_run}
+use Rattle.link_bundle.proofs.Steps.{entered, regrown, all_grown, byte_grown, count_more, failed, next_run}
 
 -- the bundle, by the check field of its current block
 abbrev by_field : Draft → List ℕ → Reading Bool → Result Bundle Stop
-by_field draft bytes field = ends_of bytes (with_known_payload draft.payload (after_field draft bytes field))
+by_field draft bytes field =
+    read_alone bytes (with_known_payload draft.payload (after_field draft bytes field))
 
 -- the result of a check field whose head is at `field` and whose content ends before `place`
 abbrev check_result : Bool → ℕ → ℕ → Reading Bool
@@ -57,8 +59,10 @@ content_at-run : (left : ℕ) (check : Option CheckKind) (start : ℕ)
     ≡ content_at (left - length run) check start bytes (place + length run)
 unfolding content_at skipped
 content_at-run left check start bytes more run place here fits =
-    ap (λ (reading : Reading (List ℕ)). skipped check start bytes reading) (bytes_at-run left bytes more run place here fits)
-    ∙ skipped-with_run check start bytes run (bytes_at (left - length run) bytes (place + length run))
+    ap (λ (reading : Reading (List ℕ)). skipped check start bytes reading)
+    (bytes_at-run left bytes more run place here fits)
+    ∙ skipped-with_run check start bytes run
+    (bytes_at (left - length run) bytes (place + length run))
 
 content_at-ends : (left : ℕ) (check : Option CheckKind) (start : ℕ)
     (bytes more run : List ℕ) (place : ℕ)
@@ -68,14 +72,8 @@ content_at-ends left check start bytes more run place here some all =
     let none : left - length run ≡ 0 = omega arith in
     content_at-run left check start bytes more run place here (omega arith)
     ∙ ap (λ (rest : ℕ). content_at rest check start bytes (place + length run)) none
-    ∙ no_content check start bytes (place + length run) (run_within bytes more run place here (omega arith))
-
--- a scan and its checks take bytes of a name or of data
-pub record TakesRun (check : CheckType) (old new : Cursor) (run : List ℕ) : Type 0 where
-  pub all_bytes : AreBytes run
-  pub count : new.count ≡ old.count + length run
-  pub checks : (covered : List ℕ) → Covers check old.checks covered
-      → Covers check new.checks (covered ++ run)
+    ∙ no_content check start bytes (place + length run)
+    (run_within bytes more run place here (omega arith))
 
 -- the checks and the block after more bytes of a name or of data
 inside_grown : (draft : Draft) (old new : Cursor) (start : ℕ) (seen run : List ℕ)
@@ -83,7 +81,8 @@ inside_grown : (draft : Draft) (old new : Cursor) (start : ℕ) (seen run : List
     → IsInside new draft.check start (seen ++ run)
 inside_grown draft old new start seen run at takes = record {
   in_block = omega (arith, length-append seen run, at.in_block);
-  checks = rw (drop-append-le start seen run at.in_block) (takes.checks (drop start seen) at.checks);
+  checks = rw (drop-append-le start seen run at.in_block)
+      (takes.checks (drop start seen) at.checks);
 }
 
 count_grown : (check : CheckType) (old new : Cursor) (seen run : List ℕ) → old.count ≡ length seen
@@ -95,67 +94,88 @@ count_grown check old new seen run counted takes =
 -- incomplete data
 pub grown_content : (left rest : ℕ) (old new : Cursor) (draft : Draft) (seen run : List ℕ)
     → HasCome (Content left) old draft seen → length run ≤ left → rest ≡ left - length run
-    → TakesRun draft.check old new run
+    → AreBytes run → TakesRun draft.check old new run
     → HasCome (Content rest) new draft (seen ++ run)
 unfolding stage_left
-grown_content left rest old new draft seen run come fits is_rest takes = record {
-  all_bytes = all_grown seen run come.all_bytes takes.all_bytes;
+grown_content left rest old new draft seen run come fits is_rest are takes = record {
+  all_bytes = all_grown seen run come.all_bytes are;
   count = count_grown draft.check old new seen run come.count takes;
   start = come.start;
   reads = λ more.
       let bytes = (seen ++ run) ++ more in
-      regrown (λ (all : List ℕ). stage_left (Content left) draft come.start old.place all (length seen)) seen run come.reads more
+      regrown (λ (all : List ℕ). stage_left (Content left) draft come.start old.place all
+      (length seen)) seen run come.reads more
       ∙ ap (λ (field : Reading Bool). by_field draft bytes field)
-      (content_at-run left (kind_of draft.check) come.start bytes more run (length seen) (next_run seen more run) fits
-      ∙ ap (λ (rest : ℕ). content_at rest (kind_of draft.check) come.start bytes (length seen + length run)) (sym is_rest)
-      ∙ ap (λ (place : ℕ). content_at rest (kind_of draft.check) come.start bytes place) (sym (length-append seen run)));
+      (content_at-run left (kind_of draft.check) come.start bytes more run (length seen)
+      (next_run seen more run) fits
+      ∙ ap (λ (rest : ℕ). content_at rest (kind_of draft.check) come.start bytes
+      (length seen + length run)) (sym is_rest)
+      ∙ ap (λ (place : ℕ). content_at rest (kind_of draft.check) come.start bytes place)
+      (sym (length-append seen run)));
   stands = inside_grown draft old new come.start seen run come.stands takes;
 }
+
+-- a stage that is entered after the last bytes of a name or of data
+ran_out : (old grown_cursor new : Cursor) (draft after : Draft) (stage : Stage) (start : ℕ)
+    (seen run : List ℕ)
+    → AreBytes seen → old.count ≡ length seen → IsInside old draft.check start seen
+    → AreBytes run → TakesRun draft.check old grown_cursor run
+    → KeepsCheck draft.check stage after.check → Enters stage grown_cursor new
+    → ((more : List ℕ) → judged ((seen ++ run) ++ more)
+    ≡ stage_left stage after start (length (seen ++ run)) ((seen ++ run) ++ more)
+    (length (seen ++ run)))
+    → HasCome stage new after (seen ++ run)
+ran_out old grown_cursor new draft after stage start seen run all counted at are takes keeps
+    enters reads =
+    let inside = inside_grown draft old grown_cursor start seen run at takes in
+    entered stage grown_cursor new draft.check after start (seen ++ run)
+    (all_grown seen run all are)
+    (count_grown draft.check old grown_cursor seen run counted takes) inside.in_block inside.checks
+    keeps enters reads
 
 -- the last bytes of data
 pub ended_content : (left : ℕ) (old grown_cursor new : Cursor) (draft after : Draft)
     (stage : Stage) (seen run : List ℕ)
     → HasCome (Content left) old draft seen → 0 < left → left ≡ length run
-    → TakesRun draft.check old grown_cursor run
+    → AreBytes run → TakesRun draft.check old grown_cursor run
     → FieldsEnd draft stage after → KeepsCheck draft.check stage after.check
     → Enters stage grown_cursor new
     → HasCome stage new after (seen ++ run)
 unfolding stage_left
-ended_content left old grown_cursor new draft after stage seen run come some all takes ends keeps enters =
-    let inside = inside_grown draft old grown_cursor come.start seen run come.stands takes in
-    entered stage grown_cursor new draft.check after come.start (seen ++ run) (all_grown seen run come.all_bytes takes.all_bytes)
-    (count_grown draft.check old grown_cursor seen run come.count takes) inside.in_block inside.checks keeps enters
+ended_content left old grown_cursor new draft after stage seen run come some all are takes ends
+    keeps enters =
+    ran_out old grown_cursor new draft after stage come.start seen run come.all_bytes come.count
+    come.stands are takes keeps enters
     (λ more.
     let bytes = (seen ++ run) ++ more in
-    regrown (λ (all : List ℕ). stage_left (Content left) draft come.start old.place all (length seen)) seen run come.reads more
+    regrown (λ (all : List ℕ). stage_left (Content left) draft come.start old.place all
+    (length seen)) seen run come.reads more
     ∙ ap (λ (field : Reading Bool). by_field draft bytes field)
-    (content_at-ends left (kind_of draft.check) come.start bytes more run (length seen) (next_run seen more run) some all
-    ∙ ap (λ (place : ℕ). field_at (kind_of draft.check) come.start bytes place) (sym (length-append seen run)))
+    (content_at-ends left (kind_of draft.check) come.start bytes more run (length seen)
+    (next_run seen more run) some all
+    ∙ ap (λ (place : ℕ). field_at (kind_of draft.check) come.start bytes place)
+    (sym (length-append seen run)))
     ∙ ends bytes come.start (length (seen ++ run)))
 
 -- bytes of a name
 pub grown_name : (role : Role) (left : ℕ) (old grown_cursor new : Cursor) (draft after : Draft)
     (stage : Stage) (seen run : List ℕ)
-    → HasCome (Name role left) old draft seen → TakesRun draft.check old grown_cursor run
+    → HasCome (Name role left) old draft seen → AreBytes run
+    → TakesRun draft.check old grown_cursor run
     → NameGoesOn role left run draft stage after → KeepsCheck draft.check stage after.check
     → Enters stage grown_cursor new
     → HasCome stage new after (seen ++ run)
-grown_name role left old grown_cursor new draft after stage seen run come takes goes keeps enters =
-    let inside = inside_grown draft old grown_cursor come.start seen run come.stands takes in
-    entered stage grown_cursor new draft.check after come.start (seen ++ run) (all_grown seen run come.all_bytes takes.all_bytes)
-    (count_grown draft.check old grown_cursor seen run come.count takes) inside.in_block inside.checks keeps enters
+grown_name role left old grown_cursor new draft after stage seen run come are takes goes keeps
+    enters =
+    ran_out old grown_cursor new draft after stage come.start seen run come.all_bytes come.count
+    come.stands are takes keeps enters
     (λ more.
     let bytes = (seen ++ run) ++ more in
-    regrown (λ (all : List ℕ). stage_left (Name role left) draft come.start old.place all (length seen)) seen run come.reads more
+    regrown (λ (all : List ℕ). stage_left (Name role left) draft come.start old.place all
+    (length seen)) seen run come.reads more
     ∙ goes bytes more come.start old.place (length seen) (next_run seen more run)
-    ∙ ap (λ (place : ℕ). stage_left stage after come.start place bytes place) (sym (length-append seen run)))
-
--- the checks cover a byte of a check field's content as zero
-pub record TakesZero (check : CheckType) (old new : Cursor) : Type 0 where
-  pub count : new.count ≡ old.count + 1
-  pub place : new.place ≡ old.place
-  pub checks : (covered : List ℕ) → Covers check old.checks covered
-      → Covers check new.checks (covered ++ 0 ∷ [])
+    ∙ ap (λ (place : ℕ). stage_left stage after come.start place bytes place)
+    (sym (length-append seen run)))
 
 -- the part of a block that was seen does not change
 slice_kept : (seen more : List ℕ) (start place : ℕ) → start ≤ length seen → place ≤ length seen
@@ -165,18 +185,24 @@ slice_kept seen more start place within bound =
     ∙ take-append-le (place - start) (drop start seen) more (omega (arith, length-drop start seen))
 
 stored_grown : (check : CheckType) (old new : Cursor) (start : ℕ) (seen : List ℕ) (byte : ℕ)
-    → IsInStored old check start seen → TakesZero check old new
+    → IsInStored old check start seen → TakesRun check old new (0 ∷ [])
     → IsInStored new check start (seen ++ byte ∷ [])
 stored_grown check old new start seen byte at takes =
     let front = slice_range seen start old.place in
     let count = length seen - old.place in
-    let longer : length (seen ++ byte ∷ []) - old.place ≡ count + 1 = omega (arith, length-append seen (byte ∷ []), at.in_bytes) in
+    let longer : length (seen ++ byte ∷ []) - old.place ≡ count + 1 =
+    omega (arith, length-append seen (byte ∷ []), at.in_bytes) in
     record {
       in_block = omega (arith, length-append seen (byte ∷ []), at.in_block);
       in_bytes = omega (arith, length-append seen (byte ∷ []), at.in_bytes, takes.place);
-      checks = rw (takes.place, slice_kept seen (byte ∷ []) start old.place at.in_block at.in_bytes, longer)
+      checks = rw (
+        takes.place,
+        slice_kept seen (byte ∷ []) start old.place at.in_block at.in_bytes,
+        longer,
+      )
           (subst (λ (covered : List ℕ). Covers check new.checks covered)
-          (append_assoc front (replicate count 0) (0 ∷ []) ∙ ap (λ (zeros : List ℕ). front ++ zeros) (replicate_more count 0))
+          (append_assoc front (replicate count 0) (0 ∷ [])
+          ∙ ap (λ (zeros : List ℕ). front ++ zeros) (replicate_more count 0))
           (takes.checks (front ++ replicate count 0) at.checks));
     }
 
@@ -184,22 +210,26 @@ stored_grown check old new start seen byte at takes =
 pub grown_stored : (field left stored : ℕ) (kind : CheckKind) (old new : Cursor) (draft : Draft)
     (seen : List ℕ) (byte : ℕ)
     → HasCome (Stored field left stored kind) old draft seen → byte < 256 → 0 < left
-    → TakesZero draft.check old new
+    → TakesRun draft.check old new (0 ∷ [])
     → HasCome (Stored field (left - 1) (stored * 256 + byte) kind) new draft (seen ++ byte ∷ [])
 unfolding stage_left
 grown_stored field left stored kind old new draft seen byte come small some takes =
     let longer = length-append seen (byte ∷ []) in
-    let zeros : length (seen ++ byte ∷ []) + (left - 1) - old.place ≡ length seen + left - old.place = omega (arith, longer, some) in
+    let zeros : length (seen ++ byte ∷ []) + (left - 1) - old.place
+    ≡ length seen + left - old.place = omega (arith, longer, some) in
     record {
-      all_bytes = all_grown seen (byte ∷ []) come.all_bytes (one_byte byte small);
-      count = takes.count ∙ ap (λ (count : ℕ). count + 1) come.count ∙ sym longer;
+      all_bytes = byte_grown seen byte come.all_bytes small;
+      count = count_more old.count new.count seen byte takes.count come.count;
       start = come.start;
       reads = λ more.
           let bytes = (seen ++ byte ∷ []) ++ more in
-          let check = zeroed_check kind come.start old.place (length seen + left - old.place) bytes in
-          regrown (λ (all : List ℕ). stage_left (Stored field left stored kind) draft come.start old.place all (length seen)) seen (byte ∷ []) come.reads more
+          let check =
+          zeroed_check kind come.start old.place (length seen + left - old.place) bytes in
+          regrown (λ (all : List ℕ). stage_left (Stored field left stored kind) draft come.start
+          old.place all (length seen)) seen (byte ∷ []) come.reads more
           ∙ ap (λ (reading : Reading Bool). by_field draft bytes reading)
-          (stored_left-step left stored check field bytes more byte (length seen) (next_run seen more (byte ∷ [])) some
+          (stored_left-step left stored check field bytes more byte (length seen)
+          (next_run seen more (byte ∷ [])) some
           ∙ rw (takes.place, zeros, longer) refl);
       stands = stored_grown draft.check old new come.start seen byte come.stands takes;
     }
@@ -219,28 +249,34 @@ unfolding zeroed_check
 checked kind check cursor expected start seen more at checks =
     let covered = slice_range seen start cursor.place ++ replicate (length seen - cursor.place) 0 in
     rw (slice_kept seen more start cursor.place at.in_block at.in_bytes)
-    (sym (checks.outcome covered (subst (λ (check : CheckType). Covers check cursor.checks covered) checks.is at.checks)))
+    (sym (checks.outcome covered (subst (λ (check : CheckType). Covers check cursor.checks covered)
+    checks.is at.checks)))
 
 -- the reading after the last byte of a check field's content
 last_stored : (field left stored expected : ℕ) (kind : CheckKind) (old new : Cursor) (draft : Draft)
     (seen more : List ℕ) (byte : ℕ)
     → (come : HasCome (Stored field left stored kind) old draft seen) → left ≡ 1
-    → TakesZero draft.check old new → Checks kind draft.check new expected
+    → TakesRun draft.check old new (0 ∷ []) → Checks kind draft.check new expected
     → judged ((seen ++ byte ∷ []) ++ more)
-    ≡ by_field draft ((seen ++ byte ∷ []) ++ more) (check_result (stored * 256 + byte == expected) (length (seen ++ byte ∷ [])) field)
+    ≡ by_field draft ((seen ++ byte ∷ []) ++ more)
+    (check_result (stored * 256 + byte == expected) (length (seen ++ byte ∷ [])) field)
 unfolding stage_left
 last_stored field left stored expected kind old new draft seen more byte come one takes checks =
     let bytes = (seen ++ byte ∷ []) ++ more in
     let longer = length-append seen (byte ∷ []) in
-    let zeros : length seen + left - old.place ≡ length (seen ++ byte ∷ []) - new.place = omega (arith, longer, one, takes.place) in
-    let check : zeroed_check kind come.start old.place (length seen + left - old.place) bytes ≡ expected =
+    let zeros : length seen + left - old.place ≡ length (seen ++ byte ∷ []) - new.place =
+    omega (arith, longer, one, takes.place) in
+    let check : zeroed_check kind come.start old.place (length seen + left - old.place) bytes
+    ≡ expected =
     rw (zeros, sym takes.place)
     (checked kind draft.check new expected come.start (seen ++ byte ∷ []) more
     (stored_grown draft.check old new come.start seen byte come.stands takes) checks) in
-    regrown (λ (all : List ℕ). stage_left (Stored field left stored kind) draft come.start old.place all (length seen)) seen (byte ∷ []) come.reads more
+    regrown (λ (all : List ℕ). stage_left (Stored field left stored kind) draft come.start old.place
+    all (length seen)) seen (byte ∷ []) come.reads more
     ∙ ap (λ (reading : Reading Bool). by_field draft bytes reading)
     (ap (λ (check : ℕ). stored_left left stored check field bytes (length seen)) check
-    ∙ stored_left-last left stored expected field bytes more byte (length seen) (next_run seen more (byte ∷ [])) one
+    ∙ stored_left-last left stored expected field bytes more byte (length seen)
+    (next_run seen more (byte ∷ [])) one
     ∙ ap (λ (place : ℕ). check_result (stored * 256 + byte == expected) place field) (sym longer))
 
 -- the check is equal, and no more of the block is checked
@@ -248,18 +284,22 @@ pub equal_stored : (field left stored expected : ℕ) (kind : CheckKind)
     (old grown_cursor new : Cursor) (draft after : Draft) (stage : Stage) (seen : List ℕ) (byte : ℕ)
     → HasCome (Stored field left stored kind) old draft seen → byte < 256 → left ≡ 1
     → (stored * 256 + byte == expected) ≡ true
-    → TakesZero draft.check old grown_cursor → Checks kind draft.check grown_cursor expected
+    → TakesRun draft.check old grown_cursor (0 ∷ []) → Checks kind draft.check grown_cursor expected
     → BlockEnds (record draft { check = Is None }) stage after
     → KeepsCheck (Is None) stage after.check → Enters stage grown_cursor new
     → HasCome stage new after (seen ++ byte ∷ [])
-equal_stored field left stored expected kind old grown_cursor new draft after stage seen byte come small one same takes checks ends keeps enters =
-    let longer = length-append seen (byte ∷ []) in
-    entered stage grown_cursor new (Is None) after 0 (seen ++ byte ∷ []) (all_grown seen (byte ∷ []) come.all_bytes (one_byte byte small))
-    (takes.count ∙ ap (λ (count : ℕ). count + 1) come.count ∙ sym longer) (omega arith) tt keeps enters
+equal_stored field left stored expected kind old grown_cursor new draft after stage seen byte come
+    small one same takes checks ends keeps enters =
+    entered stage grown_cursor new (Is None) after 0 (seen ++ byte ∷ [])
+    (byte_grown seen byte come.all_bytes small)
+    (count_more old.count grown_cursor.count seen byte takes.count come.count)
+    (omega arith) tt keeps enters
     (λ more.
     let bytes = (seen ++ byte ∷ []) ++ more in
-    last_stored field left stored expected kind old grown_cursor draft seen more byte come one takes checks
-    ∙ ap (λ (is : Bool). by_field draft bytes (check_result is (length (seen ++ byte ∷ [])) field)) same
+    last_stored field left stored expected kind old grown_cursor draft seen more byte come one takes
+    checks
+    ∙ ap (λ (is : Bool). by_field draft bytes (check_result is (length (seen ++ byte ∷ [])) field))
+    same
     ∙ ends bytes 0 (length (seen ++ byte ∷ [])))
 
 -- the check differs
@@ -267,31 +307,29 @@ pub other_stored : (field left stored expected : ℕ) (kind : CheckKind) (old ne
     (draft : Draft) (seen : List ℕ) (byte : ℕ)
     → HasCome (Stored field left stored kind) old draft seen → byte < 256 → left ≡ 1
     → (stored * 256 + byte == expected) ≡ false
-    → TakesZero draft.check old new → Checks kind draft.check new expected
+    → TakesRun draft.check old new (0 ∷ []) → Checks kind draft.check new expected
     → HasCome (Failed CheckDiffers field) new draft (seen ++ byte ∷ [])
-unfolding stage_left
-other_stored field left stored expected kind old new draft seen byte come small one differs takes checks =
-    let longer = length-append seen (byte ∷ []) in
-    record {
-      all_bytes = all_grown seen (byte ∷ []) come.all_bytes (one_byte byte small);
-      count = takes.count ∙ ap (λ (count : ℕ). count + 1) come.count ∙ sym longer;
-      start = come.start;
-      reads = λ more.
-          let bytes = (seen ++ byte ∷ []) ++ more in
-          last_stored field left stored expected kind old new draft seen more byte come one takes checks
-          ∙ ap (λ (is : Bool). by_field draft bytes (check_result is (length (seen ++ byte ∷ [])) field)) differs
-          ∙ ends_of-stopped draft.payload bytes (stopped CheckDiffers field);
-      stands = tt;
-    }
+other_stored field left stored expected kind old new draft seen byte come small one differs takes
+    checks =
+    failed CheckDiffers field new draft (seen ++ byte ∷ [])
+    (byte_grown seen byte come.all_bytes small)
+    (count_more old.count new.count seen byte takes.count come.count)
+    (λ more.
+    let bytes = (seen ++ byte ∷ []) ++ more in
+    last_stored field left stored expected kind old new draft seen more byte come one takes checks
+    ∙ ap (λ (is : Bool). by_field draft bytes (check_result is (length (seen ++ byte ∷ [])) field))
+    differs
+    ∙ read_alone-stopped draft.payload bytes (stopped CheckDiffers field))
 
 -- bytes after the bundle
-ends-trailing : (payload : Option (ℕ × ℕ)) (info : BundleInfo) (place : ℕ) (bytes : List ℕ)
+alone-trailing : (payload : Option (ℕ × ℕ)) (info : BundleInfo) (place : ℕ) (bytes : List ℕ)
     → is_some payload ≡ true → place < length bytes
-    → ends bytes (record { info = info; length = place; payload = span_of payload })
+    → if_alone bytes (record { info = info; length = place; payload = span_of payload })
     ≡ with_known_payload payload (Err (stopped Trailing place))
-ends-trailing None info place bytes outcome short = cc
-ends-trailing (Some payload) info place bytes outcome short =
-    let other : (place == length bytes) ≡ false = ne_eqb place (length bytes) (λ same. omega arith) in rw other refl
+alone-trailing None info place bytes outcome short = cc
+alone-trailing (Some payload) info place bytes outcome short =
+    let other : (place == length bytes)
+    ≡ false = ne_eqb place (length bytes) (λ same. omega arith) in rw other refl
 
 pub trailing : (old new : Cursor) (draft : Draft) (seen : List ℕ) (byte : ℕ)
     → HasCome Ended old draft seen → byte < 256 → is_some draft.payload ≡ true
@@ -299,15 +337,17 @@ pub trailing : (old new : Cursor) (draft : Draft) (seen : List ℕ) (byte : ℕ)
     → HasCome (Failed Trailing old.place) new draft (seen ++ byte ∷ [])
 unfolding stage_left
 trailing old new draft seen byte come small outcome counts =
-    let longer = length-append seen (byte ∷ []) in
-    record {
-      all_bytes = all_grown seen (byte ∷ []) come.all_bytes (one_byte byte small);
-      count = counts ∙ ap (λ (count : ℕ). count + 1) come.count ∙ sym longer;
-      start = come.start;
-      reads = λ more.
-          let bytes = (seen ++ byte ∷ []) ++ more in
-          regrown (λ (all : List ℕ). stage_left Ended draft come.start old.place all (length seen)) seen (byte ∷ []) come.reads more
-          ∙ ends-trailing draft.payload (bundle_of draft old.place).info old.place bytes outcome
-          (omega (arith, length-append (seen ++ byte ∷ []) more, longer, come.stands));
-      stands = tt;
-    }
+    failed Trailing old.place new draft (seen ++ byte ∷ [])
+    (byte_grown seen byte come.all_bytes small)
+    (count_more old.count new.count seen byte counts come.count)
+    (λ more.
+    let bytes = (seen ++ byte ∷ []) ++ more in
+    regrown (λ (all : List ℕ). stage_left Ended draft come.start old.place all (length seen)) seen
+    (byte ∷ []) come.reads more
+    ∙ alone-trailing draft.payload (bundle_of draft old.place).info old.place bytes outcome
+    (omega (
+      arith,
+      length-append (seen ++ byte ∷ []) more,
+      length-append seen (byte ∷ []),
+      come.stands,
+    )))

@@ -5,7 +5,7 @@ use Rattle.std.proofs.lemmas.List.{drop-drop, drop_all, length-take, length-take
 use Rattle.std.proofs.Math.Seq.{take-add, take-length}
 use Rattle.link_cbor.specs.declared.head.Head.{Head as HeadItem}
 use Rattle.link_cbor.specs.Head.{HeadFront, Cut as CutHead, IllFormed, Whole, head_front}
-use Rattle.link_cbor.proofs.HeadLaws.{whole_stays, ill_formed_stays}
+use Rattle.link_cbor.proofs.HeadLaws.{whole_stays, ill_formed_stays, whole-within}
 use Rattle.link_cbor.specs.Pieces.{taken}
 use Rattle.link_cbor.specs.PieceLaws.{taken-cons, taken-nil, taken-idle}
 use Rattle.link_bundle.specs.declared.cursor.Cursor.{Cursor}
@@ -17,10 +17,9 @@ use Rattle.link_bundle.specs.declared.stage.Stage.TheVariants.{Head, Name, Conte
 use Rattle.link_bundle.specs.Reading.{Stop, stopped}
 use Rattle.link_bundle.specs.Canonical.{content_at}
 use Rattle.link_bundle.specs.Bundle.{Bundle, judged, verdict_by, verdict, state_of, is_going, bundle_goes}
-use Rattle.link_bundle.specs.Left.{block_start, ends_of, with_known_payload, name_left, stage_left}
+use Rattle.link_bundle.specs.Left.{block_start, read_alone, with_known_payload, name_left, stage_left}
 use Rattle.link_bundle.specs.Scan.{HasCome}
-use Rattle.link_bundle.proofs.Heads.{ends_of-stopped}
-use Rattle.link_bundle.proofs.Lengths.{whole-within}
+use Rattle.link_bundle.proofs.Heads.{read_alone-stopped}
 use Rattle.link_bundle.proofs.Runs.{bytes_at-cut}
 use Rattle.link_bundle.proofs.Steps.{after_seen}
 use Rattle.link_bundle.proofs.Stops.{field_left-stopped}
@@ -32,17 +31,21 @@ runs-wanted : (seen run : List ℕ) (byte : ℕ)
     → bundle_goes (seen ++ take count (byte ∷ run)) ≡ true)
     → (count : ℕ) → count < length run → bundle_goes ((seen ++ byte ∷ []) ++ take count run) ≡ true
 runs-wanted seen run byte wanted count below =
-    ap bundle_goes (append_assoc seen (byte ∷ []) (take count run)) ∙ wanted (suc count) (omega arith)
+    ap bundle_goes (append_assoc seen (byte ∷ []) (take count run))
+    ∙ wanted (suc count) (omega arith)
 
 taken-run : (seen run rest : List ℕ)
     → ((count : ℕ) → count < length run → bundle_goes (seen ++ take count run) ≡ true)
     → taken bundle_goes seen (run ++ rest) ≡ run ++ taken bundle_goes (seen ++ run) rest
-taken-run seen [] rest wanted = ap (λ (seen : List ℕ). taken bundle_goes seen rest) (sym (append-nil seen))
+taken-run seen [] rest wanted =
+    ap (λ (seen : List ℕ). taken bundle_goes seen rest) (sym (append-nil seen))
 taken-run seen (byte ∷ run) rest wanted =
-    taken-cons bundle_goes seen byte (run ++ rest) (ap bundle_goes (sym (append-nil seen)) ∙ wanted 0 (omega arith))
+    taken-cons bundle_goes seen byte (run ++ rest)
+    (ap bundle_goes (sym (append-nil seen)) ∙ wanted 0 (omega arith))
     ∙ ap (λ (rest : List ℕ). byte ∷ rest)
     (taken-run (seen ++ byte ∷ []) run rest (runs-wanted seen run byte wanted)
-    ∙ ap (λ (seen : List ℕ). run ++ taken bundle_goes seen rest) (append_assoc seen (byte ∷ []) run))
+    ∙ ap (λ (seen : List ℕ). run ++ taken bundle_goes seen rest)
+    (append_assoc seen (byte ∷ []) run))
 
 -- the bytes taken are the first `count` bytes of the piece and those taken of the rest
 pub record TakenSoFar (seen bytes : List ℕ) (count : ℕ) : Type 0 where
@@ -55,18 +58,22 @@ pub record TakenInAll (seen bytes : List ℕ) (count : ℕ) : Type 0 where
   pub size : count ≡ length (taken bundle_goes seen bytes)
 
 pub none_taken : (seen bytes : List ℕ) → TakenSoFar seen bytes 0
-none_taken seen bytes = record { splits = ap (λ (seen : List ℕ). taken bundle_goes seen bytes) (sym (append-nil seen)) }
+none_taken seen bytes =
+    record { splits = ap (λ (seen : List ℕ). taken bundle_goes seen bytes) (sym (append-nil seen)) }
 
 -- the bytes from an offset on, as the code takes them
 pub the_rest : (bytes : List ℕ) (count : ℕ)
     → take (length bytes - count) (drop count bytes) ≡ drop count bytes
-the_rest bytes count = ap (λ (size : ℕ). take size (drop count bytes)) (sym (length-drop count bytes)) ∙ take-length (drop count bytes)
+the_rest bytes count =
+    ap (λ (size : ℕ). take size (drop count bytes)) (sym (length-drop count bytes))
+    ∙ take-length (drop count bytes)
 
 -- a history and the first bytes of a piece, with one more run
 pub joined_run : (seen bytes : List ℕ) (count more : ℕ)
     → (seen ++ take count bytes) ++ take more (drop count bytes) ≡ seen ++ take (count + more) bytes
 joined_run seen bytes count more =
-    append_assoc seen (take count bytes) (take more (drop count bytes)) ∙ ap (λ (run : List ℕ). seen ++ run) (sym (take-add count more bytes))
+    append_assoc seen (take count bytes) (take more (drop count bytes))
+    ∙ ap (λ (run : List ℕ). seen ++ run) (sym (take-add count more bytes))
 
 pub taken_more : (seen bytes : List ℕ) (count more : ℕ) → more ≤ length (drop count bytes)
     → ((size : ℕ) → size < more
@@ -78,14 +85,20 @@ taken_more seen bytes count more within wanted before = record {
       let run = take more rest in
       let now = seen ++ take count bytes in
       before.splits
-      ∙ ap (λ (bytes' : List ℕ). take count bytes ++ taken bundle_goes now bytes') (sym (take-append-drop more rest))
+      ∙ ap (λ (bytes' : List ℕ). take count bytes ++ taken bundle_goes now bytes')
+      (sym (take-append-drop more rest))
       ∙ ap (λ (front : List ℕ). take count bytes ++ front)
-      (taken-run now run (drop more rest) (λ size below. ap (λ (front : List ℕ). bundle_goes (now ++ front))
-      (take-take size more rest (omega (arith, length-take-le more rest within))) ∙ wanted size (omega (arith, length-take-le more rest within))))
+      (taken-run now run (drop more rest)
+      (λ size below. ap (λ (front : List ℕ). bundle_goes (now ++ front))
+      (take-take size more rest (omega (arith, length-take-le more rest within)))
+      ∙ wanted size (omega (arith, length-take-le more rest within))))
       ∙ sym (append_assoc (take count bytes) run (taken bundle_goes (now ++ run) (drop more rest)))
-      ∙ ap (λ (front : List ℕ). front ++ taken bundle_goes (now ++ run) (drop more rest)) (sym (take-add count more bytes))
-      ∙ ap (λ (seen : List ℕ). take (count + more) bytes ++ taken bundle_goes seen (drop more rest)) (joined_run seen bytes count more)
-      ∙ ap (λ (rest : List ℕ). take (count + more) bytes ++ taken bundle_goes (seen ++ take (count + more) bytes) rest) (drop-drop more count bytes);
+      ∙ ap (λ (front : List ℕ). front ++ taken bundle_goes (now ++ run) (drop more rest))
+      (sym (take-add count more bytes))
+      ∙ ap (λ (seen : List ℕ). take (count + more) bytes ++ taken bundle_goes seen (drop more rest))
+      (joined_run seen bytes count more)
+      ∙ ap (λ (rest : List ℕ). take (count + more) bytes
+      ++ taken bundle_goes (seen ++ take (count + more) bytes) rest) (drop-drop more count bytes);
 }
 
 in_all : (seen bytes : List ℕ) (count : ℕ) → count ≤ length bytes
@@ -102,7 +115,8 @@ pub taken_stop : (seen bytes : List ℕ) (count : ℕ) → count ≤ length byte
 taken_stop seen bytes count within idle before =
     in_all seen bytes count within
     (before.splits
-    ∙ ap (λ (rest : List ℕ). take count bytes ++ rest) (taken-idle bundle_goes (seen ++ take count bytes) (drop count bytes) idle)
+    ∙ ap (λ (rest : List ℕ). take count bytes ++ rest)
+    (taken-idle bundle_goes (seen ++ take count bytes) (drop count bytes) idle)
     ∙ append-nil (take count bytes))
 
 -- the bytes taken, if all were consumed
@@ -111,8 +125,10 @@ pub taken_all : (seen bytes : List ℕ) (count : ℕ) → count ≡ length bytes
 taken_all seen bytes count all before =
     in_all seen bytes count (omega arith)
     (before.splits
-    ∙ ap (λ (rest : List ℕ). take count bytes ++ taken bundle_goes (seen ++ take count bytes) rest) (drop_all count bytes (omega arith))
-    ∙ ap (λ (rest : List ℕ). take count bytes ++ rest) (taken-nil bundle_goes (seen ++ take count bytes))
+    ∙ ap (λ (rest : List ℕ). take count bytes ++ taken bundle_goes (seen ++ take count bytes) rest)
+    (drop_all count bytes (omega arith))
+    ∙ ap (λ (rest : List ℕ). take count bytes ++ rest)
+    (taken-nil bundle_goes (seen ++ take count bytes))
     ∙ append-nil (take count bytes))
 
 -- more bytes are needed if the bytes end inside a bundle
@@ -136,7 +152,7 @@ goes_in_content left cursor draft seen run come inside =
     goes-cut draft.payload (seen ++ run) (length (seen ++ run))
     (come.reads run
     ∙ rw (bytes_at-cut left (seen ++ run) (length seen) (omega (arith, length-append seen run)))
-    (ends_of-stopped draft.payload (seen ++ run) (stopped Cut (length (seen ++ run)))))
+    (read_alone-stopped draft.payload (seen ++ run) (stopped Cut (length (seen ++ run)))))
 
 pub goes_in_name : (role : Role) (left : ℕ) (cursor : Cursor) (draft : Draft) (seen run : List ℕ)
     → HasCome (Name role left) cursor draft seen
@@ -146,7 +162,7 @@ goes_in_name role left cursor draft seen run come inside =
     goes-cut draft.payload (seen ++ run) (length (seen ++ run))
     (come.reads run
     ∙ rw (bytes_at-cut left (seen ++ run) (length seen) (omega (arith, length-append seen run)))
-    (ends_of-stopped draft.payload (seen ++ run) (stopped Cut (length (seen ++ run)))))
+    (read_alone-stopped draft.payload (seen ++ run) (stopped Cut (length (seen ++ run)))))
 
 -- a head is cut before its last byte
 cut_by : (run : List ℕ) (head : HeadItem) (count : ℕ) (front : HeadFront)
@@ -155,10 +171,12 @@ cut_by : (run : List ℕ) (head : HeadItem) (count : ℕ) (front : HeadFront)
 cut_by run head count CutHead whole before is = refl
 cut_by run head count IllFormed whole before is =
     absurd (let other : Whole head (length run) ≡ IllFormed =
-    sym whole ∙ ap head_front (sym (take-append-drop count run)) ∙ ill_formed_stays (take count run) (drop count run) is in cc)
+    sym whole ∙ ap head_front (sym (take-append-drop count run))
+    ∙ ill_formed_stays (take count run) (drop count run) is in cc)
 cut_by run head count (Whole other size) whole before is =
     let same : Whole head (length run) ≡ Whole other size =
-    sym whole ∙ ap head_front (sym (take-append-drop count run)) ∙ whole_stays (take count run) (drop count run) other size is in
+    sym whole ∙ ap head_front (sym (take-append-drop count run))
+    ∙ whole_stays (take count run) (drop count run) other size is in
     let sizes : length run ≡ size = cc in
     absurd (omega (arith, whole-within (take count run) other size is, length-take count run))
 
@@ -171,10 +189,13 @@ unfolding stage_left
 goes_in_head which cursor draft seen run head count come begins whole before =
     let bytes = seen ++ take count run in
     let cut : head_front (drop cursor.place bytes) ≡ CutHead =
-    ap head_front (after_seen cursor.place seen (take count run) (begins ∙ come.count)) ∙ cut_by run head count (head_front (take count run)) whole before refl in
+    ap head_front (after_seen cursor.place seen (take count run) (begins ∙ come.count))
+    ∙ cut_by run head count (head_front (take count run)) whole before refl in
     goes-cut draft.payload bytes (length bytes)
     (come.reads (take count run)
-    ∙ ap (λ (reading : Result Bundle Stop). ends_of bytes (with_known_payload draft.payload reading))
-    (field_left-stopped which draft (block_start which come.start cursor.place) bytes cursor.place (stopped Cut (length bytes))
+    ∙ ap (λ (reading : Result Bundle Stop). read_alone bytes
+    (with_known_payload draft.payload reading))
+    (field_left-stopped which draft (block_start which come.start cursor.place) bytes cursor.place
+    (stopped Cut (length bytes))
     (head_at-cut bytes cursor.place cut))
-    ∙ ends_of-stopped draft.payload bytes (stopped Cut (length bytes)))
+    ∙ read_alone-stopped draft.payload bytes (stopped Cut (length bytes)))

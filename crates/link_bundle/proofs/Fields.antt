@@ -11,7 +11,7 @@ use Rattle.link_bundle_types.specs.declared.fault.BundleFault.TheVariants.{Check
 use Rattle.link_bundle.specs.declared.stage.CheckType.{CheckType}
 use Rattle.link_bundle.specs.declared.stage.CheckType.TheVariants.{Unread, Is}
 use Rattle.link_bundle.specs.CheckKinds.{kind_of, is_kind}
-use Rattle.link_bundle_rows.specs.Rows.{◌>>=◌, check_width, check_field}
+use Rattle.link_bundle_heads.specs.Rows.{◌>>=◌, check_width, check_field}
 use Rattle.link_bundle.specs.Reading.{stopped, Reading, head_at, bytes_at}
 use Rattle.link_bundle.specs.CheckField.{number_from, check_of, field_at}
 use Rattle.link_bundle.specs.Left.{zeroed_check, stored_left}
@@ -39,12 +39,17 @@ pub field_at-accepted : (kind : CheckKind) (bytes : List ℕ) (start place next 
 unfolding field_at stored_left check_of zeroed_check
 field_at-accepted kind bytes start place next width head count outcome judged is_width =
     let all : next + width - next ≡ check_width kind = omega (arith, is_width) in
-    rw (row_at-accepted (check_field kind) bytes place next head count outcome judged, all, is_width) refl
+    rw (
+      row_at-accepted (check_field kind) bytes place next head count outcome judged,
+      all,
+      is_width,
+    ) refl
 
 -- the comparison of a content with its check, after some of its bytes
 compared : ℕ → ℕ → ℕ → Reading (List ℕ) → Reading Bool
 compared stored expected field reading =
-    reading >>= λ (rest, next). if number_from stored rest == expected then Ok (true, next) else Err (stopped CheckDiffers field)
+    reading >>= λ (rest, next). if number_from stored rest == expected then Ok (true, next) else Err
+    (stopped CheckDiffers field)
 
 compared-with_run : (stored expected field byte : ℕ) (reading : Reading (List ℕ))
     → compared stored expected field (with_run (byte ∷ []) reading)
@@ -59,14 +64,16 @@ pub stored_left-step : (left stored expected field : ℕ) (bytes more : List ℕ
     ≡ stored_left (left - 1) (stored * 256 + byte) expected field bytes (place + 1)
 unfolding stored_left compared
 stored_left-step left stored expected field bytes more byte place here some =
-    ap (λ (reading : Reading (List ℕ)). compared stored expected field reading) (bytes_at-step left bytes more byte place here some)
+    ap (λ (reading : Reading (List ℕ)). compared stored expected field reading)
+    (bytes_at-step left bytes more byte place here some)
     ∙ compared-with_run stored expected field byte (bytes_at (left - 1) bytes (place + 1))
 
 -- the last byte of a content
 pub stored_left-last : (left stored expected field : ℕ) (bytes more : List ℕ) (byte place : ℕ)
     → drop place bytes ≡ byte ∷ more → left ≡ 1
     → stored_left left stored expected field bytes place
-    ≡ (if stored * 256 + byte == expected then Ok (true, place + 1) else Err (stopped CheckDiffers field))
+    ≡ (if stored * 256 + byte == expected then Ok (true, place + 1) else Err
+    (stopped CheckDiffers field))
 unfolding stored_left
 stored_left-last left stored expected field bytes more byte place here one =
     rw (one, bytes_at-last bytes more byte place here) refl
@@ -82,11 +89,16 @@ pub record HasRoom (left stored byte : ℕ) : Type 0 where
 has_room_at : (left stored byte : ℕ) → IsTrue (room left stored) → byte < 256
     → HasRoom left stored byte
 has_room_at zero stored byte fits small = absurd (grind (arith, nat_tests))
-has_room_at (suc zero) stored byte fits small = record { wants = omega arith; scaled = omega (arith, ltb-true stored (256 ^ 3) fits) }
-has_room_at (suc (suc zero)) stored byte fits small = record { wants = omega arith; scaled = omega (arith, ltb-true stored (256 ^ 2) fits) }
-has_room_at (suc (suc (suc zero))) stored byte fits small = record { wants = omega arith; scaled = omega (arith, ltb-true stored (256 ^ 1) fits) }
-has_room_at (suc (suc (suc (suc zero)))) stored byte fits small = record { wants = omega arith; scaled = omega (arith, ltb-true stored (256 ^ 0) fits) }
-has_room_at (suc (suc (suc (suc (suc left))))) stored byte fits small = absurd (grind (arith, nat_tests))
+has_room_at (suc zero) stored byte fits small =
+    record { wants = omega arith; scaled = omega (arith, ltb-true stored (256 ^ 3) fits) }
+has_room_at (suc (suc zero)) stored byte fits small =
+    record { wants = omega arith; scaled = omega (arith, ltb-true stored (256 ^ 2) fits) }
+has_room_at (suc (suc (suc zero))) stored byte fits small =
+    record { wants = omega arith; scaled = omega (arith, ltb-true stored (256 ^ 1) fits) }
+has_room_at (suc (suc (suc (suc zero)))) stored byte fits small =
+    record { wants = omega arith; scaled = omega (arith, ltb-true stored (256 ^ 0) fits) }
+has_room_at (suc (suc (suc (suc (suc left))))) stored byte fits small =
+    absurd (grind (arith, nat_tests))
 
 pub after_and : (a b : Bool) → IsTrue (a && b) → IsTrue b
 after_and true b both = both
@@ -102,4 +114,5 @@ some_left left fits both = ltb-true 0 left (before_and (nat_lt 0 left) fits both
 
 pub has_room : (settled : Bool) (left stored byte : ℕ) → IsTrue (settled && room left stored)
     → byte < 256 → HasRoom left stored byte
-has_room settled left stored byte fits small = has_room_at left stored byte (after_and settled (room left stored) fits) small
+has_room settled left stored byte fits small =
+    has_room_at left stored byte (after_and settled (room left stored) fits) small

@@ -7,13 +7,13 @@ use Rattle.link_bundle.proofs.Runs.{bytes_at-none}
 use Rattle.link_cbor.specs.declared.check.CheckKind.{CheckKind}
 use Rattle.link_cbor.specs.declared.head.Head.{Head}
 use Rattle.link_bundle_types.specs.declared.fault.BundleFault.{BundleFault}
-use Rattle.link_bundle_rows.specs.Rows.{◌>>=◌, closing}
+use Rattle.link_bundle_heads.specs.Rows.{◌>>=◌, closing}
 use Rattle.link_bundle.specs.Reading.{Stop, stopped, head_at, row_at}
 use Rattle.link_bundle.specs.CheckField.{field_at}
 use Rattle.link_bundle.specs.Primary.{Primary}
 use Rattle.link_bundle.specs.Canonical.{content_at}
 use Rattle.link_bundle.specs.Bundle.{info_of, payload_at, blocks_at}
-use Rattle.link_bundle.specs.Left.{ends_of, with_known_payload, block_end, span_of}
+use Rattle.link_bundle.specs.Left.{read_alone, with_known_payload, block_end, span_of}
 
 pub row_at-accepted : {A : Type 0} (row : Head → Result A BundleFault) (bytes : List ℕ)
     (place next : ℕ) (head : Head) (value : A)
@@ -34,7 +34,12 @@ pub ruleset heads = (row_at-accepted, row_at-refused)
 pub closes : (payload : Option (ℕ × ℕ)) (numbers : List ℕ) (primary : Primary) (bytes : List ℕ)
     (place : ℕ) → is_some payload ≡ true
     → block_end payload numbers primary bytes place
-    ≡ (row_at closing bytes place >>= λ x. Ok (record { info = info_of primary (length numbers) (span_of payload).1; length = x.1; payload = span_of payload }))
+    ≡ (row_at closing bytes place >>= λ x. Ok
+    (record {
+      info = info_of primary (length numbers) (span_of payload).1;
+      length = x.1;
+      payload = span_of payload;
+    }))
 closes None numbers primary bytes place outcome = cc
 closes (Some payload) numbers primary bytes place outcome = refl
 
@@ -51,8 +56,10 @@ pub data_read : (payload new : Option (ℕ × ℕ)) (is_payload : Bool) (numbers
     → is_none payload ≡ true → new ≡ then_some is_payload (next, size)
     → with_known_payload payload (if is_payload
     then payload_at primary (length numbers) size check start bytes next
-    else (content_at size check start bytes next >>= λ x. blocks_at (64 - length numbers) numbers primary bytes x.1))
-    ≡ with_known_payload new (content_at size check start bytes next >>= λ x. block_end new numbers primary bytes x.1)
+    else (content_at size check start bytes next >>= λ x. blocks_at
+    (64 - length numbers) numbers primary bytes x.1))
+    ≡ with_known_payload new (content_at size check start bytes next >>= λ x. block_end new numbers
+    primary bytes x.1)
 unfolding payload_at
 data_read None new true numbers primary check size start next bytes outcome is = rw is refl
 data_read None new false numbers primary check size start next bytes outcome is = rw is refl
@@ -65,7 +72,8 @@ unfolding content_at
 no_content check start bytes place within = rw (bytes_at-none bytes place within) refl
 
 -- a stop does not change, and neither does the payload that is known
-pub ends_of-stopped : (payload : Option (ℕ × ℕ)) (bytes : List ℕ) (stop : Stop)
-    → ends_of bytes (with_known_payload payload (Err stop)) ≡ with_known_payload payload (Err stop)
-ends_of-stopped None bytes stop = refl
-ends_of-stopped (Some payload) bytes stop = refl
+pub read_alone-stopped : (payload : Option (ℕ × ℕ)) (bytes : List ℕ) (stop : Stop)
+    → read_alone bytes (with_known_payload payload (Err stop))
+    ≡ with_known_payload payload (Err stop)
+read_alone-stopped None bytes stop = refl
+read_alone-stopped (Some payload) bytes stop = refl

@@ -1,4 +1,4 @@
--- The payload of a bundle that is read from some bytes, and from those bytes with more after them.
+-- A bundle that is read from some bytes, and from those bytes with more after them.
 
 use Rattle.std.proofs.Common.{◌≡◌, ℕ, zero, suc, ◌+◌, ◌<◌, ◌≤◌, Bool, true, false, List, [], ◌∷◌, ◌++◌, length, Option, None, Some, Result, Ok, Err, refl, sym, ap, ◌∙◌, ⊎_elim, arith, ltb}
 use Rattle.std.specs.Prelude.{◌==◌, if◌then◌else◌}
@@ -7,61 +7,86 @@ use Rattle.link_cbor.specs.declared.check.CheckKind.{CheckKind}
 use Rattle.link_cbor.specs.declared.head.Head.{Head}
 use Rattle.link_bundle_types.specs.declared.fault.BundleFault.{BundleFault}
 use Rattle.link_bundle_types.specs.declared.fault.BundleFault.TheVariants.{Cut}
-use Rattle.link_bundle_rows.specs.Rows.{◌>>=◌, unsigned, byte_string, block, block_too_many, block_number, block_check_type, closing}
+use Rattle.link_bundle_types.specs.declared.info.BundleInfo.{BundleInfo}
+use Rattle.link_bundle_heads.specs.Rows.{◌>>=◌, unsigned, byte_string, block, block_too_many, block_number, block_check_type, closing}
 use Rattle.link_bundle.specs.Reading.{Stop, Reading, stopped, cut_short, row_at, bytes_at}
 use Rattle.link_bundle.specs.CheckField.{field_at}
 use Rattle.link_bundle.specs.Primary.{Primary, primary_at}
 use Rattle.link_bundle.specs.Canonical.{content_at}
-use Rattle.link_bundle.specs.Bundle.{Bundle, with_payload, payload_at, blocks_at, opening_at, bundle_at, payload_of}
-use Rattle.link_bundle.proofs.Steady.{EndsCut, Stays, cuts, same, stays-then, IsCut, Reads, short, whole, stays_of, row_at-reads, field_at-reads, content_at-reads, primary_at-reads, opening_at-reads}
+use Rattle.link_bundle.specs.Bundle.{Bundle, with_payload, info_of, payload_at, blocks_at, opening_at, bundle_at, payload_of}
+use Rattle.link_bundle.proofs.Steady.{Onward, Past, Within, EndsCut, IsCut, Reads, short, whole, onward_of, reads-then, row_at-reads, field_at-reads, content_at-reads, primary_at-reads, opening_at-reads}
 
--- the payload, if it is known, begins at this offset or after it
-abbrev pub PayloadFrom : ℕ → Result Bundle Stop → Type 0
-PayloadFrom place reading = (payload : ℕ × ℕ) → payload_of reading ≡ Some payload → place ≤ payload.0
+-- ---- the offsets of the payload and of the bundle's end
 
--- all bytes of the payload, if it is known, are there
-abbrev pub PayloadWithin : List ℕ → Result Bundle Stop → Type 0
-PayloadWithin bytes reading = (payload : ℕ × ℕ) → payload_of reading ≡ Some payload → payload.0 + payload.1 ≤ length bytes
+-- the payload begins at this offset or after it
+abbrev pub PayloadFrom : ℕ → Option (ℕ × ℕ) → Type 0
+PayloadFrom place None = Unit {0}
+PayloadFrom place (Some payload) = place ≤ payload.0
 
--- A bundle that is read from an offset on, of some bytes and of those bytes with more after them.
--- The bytes end before the payload is known, or they end inside the bundle after that, or they do
--- not end inside it.
-pub data Keeps : List ℕ → ℕ → Result Bundle Stop → Result Bundle Stop → Type 0 where
-  before : {bytes : List ℕ} {place : ℕ} {now later : Result Bundle Stop}
-      → IsCut bytes now → PayloadFrom place later → PayloadFrom (length bytes) later
-      → Keeps bytes place now later
-  inside : {bytes : List ℕ} {place : ℕ} {now later : Result Bundle Stop}
-      → EndsCut now → payload_of later ≡ payload_of now → PayloadFrom place now
-      → Keeps bytes place now later
-  after : {bytes : List ℕ} {place : ℕ} {now later : Result Bundle Stop}
-      → later ≡ now → PayloadFrom place now → PayloadWithin bytes now → Keeps bytes place now later
+-- all bytes of the payload are there
+abbrev pub PayloadWithin : List ℕ → Option (ℕ × ℕ) → Type 0
+PayloadWithin bytes None = Unit {0}
+PayloadWithin bytes (Some payload) = payload.0 + payload.1 ≤ length bytes
 
-pub stop_without_payload : (stop : Stop) (payload : ℕ × ℕ) → stop.payload ≡ None
-    → stop.payload ≡ Some payload → ⊥
-stop_without_payload stop payload plain outcome = let no : Some payload ≡ None = sym outcome ∙ plain in cc
+-- the bundle ends at this offset or after it
+abbrev pub EndFrom : ℕ → Result Bundle Stop → Type 0
+EndFrom place (Ok bundle) = place ≤ bundle.length
+EndFrom place (Err stop) = Unit {0}
 
-nowhere : (place : ℕ) (stop : Stop) → stop.payload ≡ None → PayloadFrom place (Err stop)
-nowhere place stop plain = λ payload outcome. absurd (stop_without_payload stop payload plain outcome)
+-- the bundle ends within the bytes
+abbrev pub EndWithin : List ℕ → Result Bundle Stop → Type 0
+EndWithin bytes (Ok bundle) = bundle.length ≤ length bytes
+EndWithin bytes (Err stop) = Unit {0}
+
+pub record BundleFrom (place : ℕ) (reading : Result Bundle Stop) : Type 0 where
+  pub payload : PayloadFrom place (payload_of reading)
+  pub end : EndFrom place reading
+
+pub record BundleWithin (bytes : List ℕ) (reading : Result Bundle Stop) : Type 0 where
+  pub payload : PayloadWithin bytes (payload_of reading)
+  pub end : EndWithin bytes reading
+
+-- ---- two readings
+
+-- Where the first bytes end: before the payload is known, inside the bundle after that, or not
+-- inside it.
+pub data Ends : List ℕ → Result Bundle Stop → Result Bundle Stop → Type 0 where
+  before : {bytes : List ℕ} {now later : Result Bundle Stop}
+      → IsCut bytes now → BundleFrom (suc (length bytes)) later → Ends bytes now later
+  inside : {bytes : List ℕ} {now later : Result Bundle Stop}
+      → EndsCut now → payload_of later ≡ payload_of now → EndFrom (suc (length bytes)) later
+      → Ends bytes now later
+  after : {bytes : List ℕ} {now later : Result Bundle Stop}
+      → later ≡ now → BundleWithin bytes now → Ends bytes now later
+
+-- a bundle that is read from an offset on, of some bytes and of those bytes with more after them
+record Keeps (bytes : List ℕ) (place : ℕ) (now later : Result Bundle Stop) : Type 0 where
+  from : BundleFrom place later
+  ends : Ends bytes now later
+
+payload-sooner : (place start : ℕ) (payload : Option (ℕ × ℕ)) → place ≤ start
+    → PayloadFrom start payload
+    → PayloadFrom place payload
+payload-sooner place start None lower from = tt
+payload-sooner place start (Some payload) lower from = omega arith
+
+end-sooner : (place start : ℕ) (reading : Result Bundle Stop) → place ≤ start
+    → EndFrom start reading
+    → EndFrom place reading
+end-sooner place start (Ok bundle) lower from = omega arith
+end-sooner place start (Err stop) lower from = tt
 
 sooner : (place start : ℕ) (reading : Result Bundle Stop) → place ≤ start
-    → PayloadFrom start reading
-    → PayloadFrom place reading
-sooner place start reading lower from = λ payload outcome. let on = from payload outcome in omega arith
+    → BundleFrom start reading
+    → BundleFrom place reading
+sooner place start reading lower from = record {
+  payload = payload-sooner place start (payload_of reading) lower from.payload;
+  end = end-sooner place start reading lower from.end;
+}
 
-payload_later : (bytes : List ℕ) (place : ℕ) (now later : Result Bundle Stop)
-    → Keeps bytes place now later
-    → PayloadFrom place later
-payload_later bytes place now later (before cut from past) = from
-payload_later bytes place now later (inside cut is from) = λ payload outcome. from payload (sym is ∙ outcome)
-payload_later bytes place now later (after is from within) = λ payload outcome. from payload (ap payload_of (sym is) ∙ outcome)
-
-keeps-sooner : (bytes : List ℕ) (place start : ℕ) (now later : Result Bundle Stop) → place ≤ start
-    → Keeps bytes start now later → Keeps bytes place now later
-keeps-sooner bytes place start now later lower (before cut from past) =
-    before cut (sooner place start later lower from) past
-keeps-sooner bytes place start now later lower (inside cut is from) = inside cut is (sooner place start now lower from)
-keeps-sooner bytes place start now later lower (after is from within) =
-    after is (sooner place start now lower from) within
+-- a stop at which no payload is known
+nowhere : (place : ℕ) (stop : Stop) → stop.payload ≡ None → BundleFrom place (Err stop)
+nowhere place stop plain = record { payload = rw plain tt; end = tt }
 
 keeps-then : {A : Type 0} (bytes : List ℕ) (place : ℕ) (now later : Reading A)
     (next next_later : A × ℕ → Result Bundle Stop) → Reads bytes place now later
@@ -69,15 +94,26 @@ keeps-then : {A : Type 0} (bytes : List ℕ) (place : ℕ) (now later : Reading 
     → Keeps bytes place (now >>= next) (later >>= next_later)
 keeps-then bytes place (Ok value) later next next_later (short cut onward past) each = absurd cut
 keeps-then bytes place (Err stop) (Err other) next next_later (short cut onward past) each =
-    before cut (nowhere place other onward) (nowhere (length bytes) other onward)
+    record {
+      from = nowhere place other onward;
+      ends = before cut (nowhere (suc (length bytes)) other onward);
+    }
 keeps-then bytes place (Err stop) (Ok (value, end)) next next_later (short cut onward past) each =
     let rest = next_later (value, end) in
-    let from = payload_later bytes end (next (value, end)) rest (each (value, end)) in
-    before cut (sooner place end rest onward from) (sooner (length bytes) end rest (omega arith) from)
-keeps-then bytes place (Ok (value, end)) later next next_later (whole is onward) each =
-    rw is (keeps-sooner bytes place end (next (value, end)) (next_later (value, end)) onward (each (value, end)))
-keeps-then bytes place (Err stop) later next next_later (whole is onward) each =
-    after (rw is refl) (nowhere place stop onward) (λ payload outcome. absurd (stop_without_payload stop payload onward outcome))
+    let from = (each (value, end)).from in
+    record {
+      from = sooner place end rest onward from;
+      ends = before cut (sooner (suc (length bytes)) end rest (omega arith) from);
+    }
+keeps-then bytes place (Ok (value, end)) later next next_later (whole is onward within) each =
+    let rest = each (value, end) in
+    rw is (record {
+      from = sooner place end (next_later (value, end)) onward rest.from;
+      ends = rest.ends;
+    })
+keeps-then bytes place (Err stop) later next next_later (whole is onward within) each =
+    let within_now : BundleWithin bytes (Err stop) = record { payload = rw onward tt; end = tt } in
+    rw is (record { from = nowhere place stop onward; ends = after refl within_now })
 
 row-keeps : {A : Type 0} (row : Head → Result A BundleFault) (bytes more : List ℕ) (place : ℕ)
     (next next_later : A × ℕ → Result Bundle Stop)
@@ -85,7 +121,8 @@ row-keeps : {A : Type 0} (row : Head → Result A BundleFault) (bytes more : Lis
     → Keeps bytes place (row_at row bytes place >>= next)
     (row_at row (bytes ++ more) place >>= next_later)
 row-keeps row bytes more place next next_later each =
-    keeps-then bytes place (row_at row bytes place) (row_at row (bytes ++ more) place) next next_later
+    keeps-then bytes place (row_at row bytes place)
+    (row_at row (bytes ++ more) place) next next_later
     (row_at-reads row bytes more place) each
 
 keeps-if : (test : Bool) (bytes : List ℕ) (place : ℕ)
@@ -99,94 +136,153 @@ keeps-cut : (bytes more : List ℕ) (place : ℕ)
     → Keeps bytes place (cut_short bytes) (cut_short (bytes ++ more))
 keeps-cut bytes more place =
     let stop = stopped Cut (length (bytes ++ more)) in
-    before refl (nowhere place stop refl) (nowhere (length bytes) stop refl)
+    record {
+      from = nowhere place stop refl;
+      ends = before refl
+          (nowhere (suc (length bytes)) stop refl);
+    }
 
 -- ---- the payload block
 
-payload_of-then : (payload : ℕ × ℕ) (field : Reading Bool) (next : Bool × ℕ → Result Bundle Stop)
-    → ((value : Bool × ℕ) → payload_of (with_payload payload (next value)) ≡ Some payload)
-    → payload_of (with_payload payload (field >>= next)) ≡ Some payload
-payload_of-then payload (Ok value) next each = each value
-payload_of-then payload (Err stop) next each = refl
+-- the data of the payload block, its check field, and the break after the block
+rest_at : ℕ → Option CheckKind → ℕ → List ℕ → ℕ → Reading Bool
+rest_at size check start bytes place =
+    content_at size check start bytes place >>= λ (_, end). row_at closing bytes end
 
-payload_of-payload_at : (primary : Primary) (blocks size : ℕ) (check : Option CheckKind)
-    (start : ℕ) (bytes : List ℕ)
-    (place : ℕ)
-    → payload_of (payload_at primary blocks size check start bytes place) ≡ Some (place, size)
-unfolding payload_at
-payload_of-payload_at primary blocks size check start bytes place =
-    payload_of-then (place, size) (content_at size check start bytes place) _
-    (λ (_, end). payload_of-then (place, size) (row_at closing bytes end) _ (λ last. refl))
-
-stays-with_payload : {A : Type 0} (payload : ℕ × ℕ) (now later : Result A Stop) → Stays now later
-    → Stays (with_payload payload now) (with_payload payload later)
-stays-with_payload payload (Ok value) later (cuts cut) = absurd cut
-stays-with_payload payload (Err stop) later (cuts cut) = cuts cut
-stays-with_payload payload now later (same is) = same (rw is refl)
-
-payload_at-stays : (primary : Primary) (blocks size : ℕ) (check : Option CheckKind)
-    (start : ℕ) (bytes more : List ℕ)
-    (place : ℕ)
-    → Stays (payload_at primary blocks size check start bytes place)
-    (payload_at primary blocks size check start (bytes ++ more) place)
-unfolding payload_at
-payload_at-stays primary blocks size check start bytes more place =
-    stays-with_payload (place, size) _ _
-    (stays-then (content_at size check start bytes place) (content_at size check start (bytes ++ more) place) _ _
-    (stays_of bytes place _ _ (content_at-reads size check start bytes more place))
-    (λ (_, end). stays-then (row_at closing bytes end) (row_at closing (bytes ++ more) end) _ _
-    (stays_of bytes end _ _ (row_at-reads closing bytes more end))
-    (λ last. same refl)))
+rest_at-reads : (size : ℕ) (check : Option CheckKind) (start : ℕ) (bytes more : List ℕ) (place : ℕ)
+    → Reads bytes place (rest_at size check start bytes place)
+    (rest_at size check start (bytes ++ more) place)
+unfolding rest_at
+rest_at-reads size check start bytes more place =
+    reads-then bytes place (content_at size check start bytes place)
+    (content_at size check start (bytes ++ more) place) _ _
+    (content_at-reads size check start bytes more place)
+    (λ (_, end). row_at-reads closing bytes more end)
 
 -- bytes that end before the end of the payload end inside the bundle
-payload_at-cut : (primary : Primary) (blocks size : ℕ) (check : Option CheckKind)
-    (start : ℕ) (bytes : List ℕ)
-    (place : ℕ)
-    → length bytes < place + size → EndsCut (payload_at primary blocks size check start bytes place)
-unfolding payload_at content_at bytes_at
-payload_at-cut primary blocks size check start bytes place missing =
-    let short_now : ltb (length bytes) (place + size) ≡ true = lt-ltb (length bytes) (place + size) missing in
+rest_at-cut : (size : ℕ) (check : Option CheckKind) (start : ℕ) (bytes : List ℕ) (place : ℕ)
+    → length bytes < place + size → IsCut bytes (rest_at size check start bytes place)
+unfolding rest_at content_at bytes_at
+rest_at-cut size check start bytes place missing =
+    let short_now : ltb (length bytes) (place + size) ≡ true =
+    lt-ltb (length bytes) (place + size) missing in
     rw short_now refl
 
-known_once : {one other : ℕ × ℕ} → Some one ≡ Some other → other ≡ one
-known_once is = cc
+-- the bundle that ends after this part, or the stop in it, with the payload
+abbrev closed : BundleInfo → ℕ × ℕ → Reading Bool → Result Bundle Stop
+closed info payload (Ok (last, end)) = Ok (record { info = info; length = end; payload = payload })
+closed info payload (Err stop) = Err (record stop { payload = Some payload })
 
-known-from : (place size : ℕ) (reading : Result Bundle Stop)
-    → payload_of reading ≡ Some (place, size)
-    → PayloadFrom place reading
-known-from place size reading is = λ payload outcome.
-    let here : payload ≡ (place, size) = known_once (sym is ∙ outcome) in
-    rw here (omega arith)
+closed-last : (info : BundleInfo) (payload : ℕ × ℕ) (reading : Reading Bool)
+    → with_payload payload (reading >>= λ (_, end). Ok
+    (record { info = info; length = end; payload = payload }))
+    ≡ closed info payload reading
+closed-last info payload (Ok (last, end)) = refl
+closed-last info payload (Err stop) = refl
 
-known-within : (bytes : List ℕ) (place size : ℕ) (reading : Result Bundle Stop)
-    → payload_of reading ≡ Some (place, size)
-    → place + size ≤ length bytes → PayloadWithin bytes reading
-known-within bytes place size reading is there = λ payload outcome.
-    let here : payload ≡ (place, size) = known_once (sym is ∙ outcome) in
-    rw here there
+closed-then : (info : BundleInfo) (payload : ℕ × ℕ) (reading : Reading Bool)
+    (next : Bool × ℕ → Reading Bool)
+    → with_payload payload (reading >>= λ value. next value
+    >>= λ (_, end). Ok (record { info = info; length = end; payload = payload }))
+    ≡ closed info payload (reading >>= next)
+closed-then info payload (Ok value) next = closed-last info payload (next value)
+closed-then info payload (Err stop) next = refl
 
-keeps-known : (bytes : List ℕ) (place : ℕ) (now later : Result Bundle Stop) → Stays now later
-    → payload_of later ≡ payload_of now
-    → PayloadFrom place now → PayloadWithin bytes now → Keeps bytes place now later
-keeps-known bytes place now later (cuts cut) is from within = inside cut is from
-keeps-known bytes place now later (same equal) is from within = after equal from within
+payload_at-closed : (primary : Primary) (blocks size : ℕ) (check : Option CheckKind) (start : ℕ)
+    (bytes : List ℕ) (place : ℕ)
+    → payload_at primary blocks size check start bytes place
+    ≡ closed (info_of primary blocks size) (place, size) (rest_at size check start bytes place)
+unfolding payload_at rest_at
+payload_at-closed primary blocks size check start bytes place =
+    closed-then (info_of primary blocks size) (place, size)
+    (content_at size check start bytes place)
+    (λ (_, end). row_at closing bytes end)
 
-payload_at-keeps : (primary : Primary) (blocks size : ℕ) (check : Option CheckKind)
-    (start : ℕ) (bytes more : List ℕ)
-    (place : ℕ)
+closed-payload : (info : BundleInfo) (payload : ℕ × ℕ) (reading : Reading Bool)
+    → payload_of (closed info payload reading) ≡ Some payload
+closed-payload info payload (Ok (last, end)) = refl
+closed-payload info payload (Err stop) = refl
+
+closed-end : (info : BundleInfo) (payload : ℕ × ℕ) (place : ℕ) (reading : Reading Bool)
+    → Onward place reading
+    → EndFrom place (closed info payload reading)
+closed-end info payload place (Ok (last, end)) onward = onward
+closed-end info payload place (Err stop) onward = tt
+
+closed-past : (info : BundleInfo) (payload : ℕ × ℕ) (limit : ℕ) (reading : Reading Bool)
+    → Past limit reading
+    → EndFrom (suc limit) (closed info payload reading)
+closed-past info payload limit (Ok (last, end)) past = omega arith
+closed-past info payload limit (Err stop) past = tt
+
+closed-within : (info : BundleInfo) (payload : ℕ × ℕ) (bytes : List ℕ) (place : ℕ)
+    (reading : Reading Bool) → place ≤ length bytes → Within bytes place reading
+    → EndWithin bytes (closed info payload reading)
+closed-within info payload bytes place (Ok (last, end)) here within = within here
+closed-within info payload bytes place (Err stop) here within = tt
+
+closed-cut : (info : BundleInfo) (payload : ℕ × ℕ) (bytes : List ℕ) (reading : Reading Bool)
+    → IsCut bytes reading
+    → EndsCut (closed info payload reading)
+closed-cut info payload bytes (Ok value) cut = absurd cut
+closed-cut info payload bytes (Err stop) cut = ap (λ (stop : Stop). stop.fault) cut
+
+past-cut : (bytes : List ℕ) (limit : ℕ) (reading : Reading Bool) → IsCut bytes reading
+    → Past limit reading
+past-cut bytes limit (Ok value) cut = absurd cut
+past-cut bytes limit (Err stop) cut = tt
+
+closed-inside : (info : BundleInfo) (payload : ℕ × ℕ) (bytes : List ℕ) (now later : Reading Bool)
+    → IsCut bytes now → Past (length bytes) later
+    → Ends bytes (closed info payload now) (closed info payload later)
+closed-inside info payload bytes now later cut past =
+    inside (closed-cut info payload bytes now cut)
+    (closed-payload info payload later ∙ sym (closed-payload info payload now))
+    (closed-past info payload (length bytes) later past)
+
+closed-ends : (info : BundleInfo) (bytes : List ℕ) (place size : ℕ) (now later : Reading Bool)
+    → Reads bytes place now later → (length bytes < place + size → IsCut bytes now)
+    → Ends bytes (closed info (place, size) now) (closed info (place, size) later)
+closed-ends info bytes place size now later (short cut onward past) lacks =
+    closed-inside info (place, size) bytes now later cut past
+closed-ends info bytes place size now later (whole is onward within) lacks =
+    rw is
+    (⊎_elim
+    (λ missing. closed-inside info (place, size) bytes now now (lacks missing)
+    (past-cut bytes (length bytes) now (lacks missing)))
+    (λ there.
+    let all : BundleWithin bytes (closed info (place, size) now) =
+    record {
+      payload = rw (closed-payload info (place, size) now) there;
+      end = closed-within info (place, size) bytes place now (omega arith) within;
+    } in
+    after refl all)
+    (cases_lt (length bytes) (place + size)))
+
+closed-keeps : (info : BundleInfo) (bytes : List ℕ) (place size : ℕ) (now later : Reading Bool)
+    → Reads bytes place now later → (length bytes < place + size → IsCut bytes now)
+    → Keeps bytes place (closed info (place, size) now) (closed info (place, size) later)
+closed-keeps info bytes place size now later reads lacks = record {
+  from = record {
+    payload = rw (closed-payload info (place, size) later) (omega arith);
+    end = closed-end info (place, size) place later (onward_of bytes place now later reads);
+  };
+  ends = closed-ends info bytes place size now later reads lacks;
+}
+
+payload_at-keeps : (primary : Primary) (blocks size : ℕ) (check : Option CheckKind) (start : ℕ)
+    (bytes more : List ℕ) (place : ℕ)
     → Keeps bytes place (payload_at primary blocks size check start bytes place)
     (payload_at primary blocks size check start (bytes ++ more) place)
 payload_at-keeps primary blocks size check start bytes more place =
-    let now = payload_at primary blocks size check start bytes place in
-    let later = payload_at primary blocks size check start (bytes ++ more) place in
-    let is = payload_of-payload_at primary blocks size check start bytes place in
-    let same_payload = payload_of-payload_at primary blocks size check start (bytes ++ more) place ∙ sym is in
-    let from = known-from place size now is in
-    ⊎_elim
-    (λ missing. inside (payload_at-cut primary blocks size check start bytes place missing) same_payload from)
-    (λ there. keeps-known bytes place now later (payload_at-stays primary blocks size check start bytes more place)
-    same_payload from (known-within bytes place size now is there))
-    (cases_lt (length bytes) (place + size))
+    rw (
+      payload_at-closed primary blocks size check start bytes place,
+      payload_at-closed primary blocks size check start (bytes ++ more) place,
+    )
+    (closed-keeps (info_of primary blocks size) bytes place size
+    (rest_at size check start bytes place)
+    (rest_at size check start (bytes ++ more) place)
+    (rest_at-reads size check start bytes more place) (rest_at-cut size check start bytes place))
 
 -- ---- the blocks before it
 
@@ -207,7 +303,8 @@ blocks_at-keeps (suc left) numbers primary bytes more start =
     (λ (size, place). keeps-if (type == 1) bytes place
     (payload_at primary (length numbers + 1) size check start bytes place)
     (payload_at primary (length numbers + 1) size check start (bytes ++ more) place)
-    (content_at size check start bytes place >>= λ x. blocks_at left (numbers ++ number ∷ []) primary bytes x.1)
+    (content_at size check start bytes place >>= λ x. blocks_at left
+    (numbers ++ number ∷ []) primary bytes x.1)
     (content_at size check start (bytes ++ more) place >>= λ x.
     blocks_at left (numbers ++ number ∷ []) primary (bytes ++ more) x.1)
     (payload_at-keeps primary (length numbers + 1) size check start bytes more place)
@@ -216,24 +313,67 @@ blocks_at-keeps (suc left) numbers primary bytes more start =
     (content_at-reads size check start bytes more place)
     (λ (_, place). blocks_at-keeps left (numbers ++ number ∷ []) primary bytes more place))))))))
 
-pub bundle_at-keeps : (bytes more : List ℕ)
+bundle_at-keeps : (bytes more : List ℕ)
     → Keeps bytes 0 (bundle_at bytes) (bundle_at (bytes ++ more))
 unfolding bundle_at
 bundle_at-keeps bytes more =
-    keeps-then bytes 0 (opening_at bytes) (opening_at (bytes ++ more)) _ _ (opening_at-reads bytes more)
-    (λ (_, start). keeps-then bytes start (primary_at bytes start) (primary_at (bytes ++ more) start) _ _
+    keeps-then bytes 0 (opening_at bytes) (opening_at (bytes ++ more)) _ _
+    (opening_at-reads bytes more)
+    (λ (_, start). keeps-then bytes start (primary_at bytes start)
+    (primary_at (bytes ++ more) start) _ _
     (primary_at-reads bytes more start)
     (λ ((primary, check), place). keeps-then bytes place (field_at check start bytes place)
     (field_at check start (bytes ++ more) place) _ _
     (field_at-reads check start bytes more place)
     (λ (_, place). blocks_at-keeps 64 [] primary bytes more place)))
 
-stays_kept : (bytes : List ℕ) (now later : Result Bundle Stop)
-    → Keeps bytes 0 now later → Stays now later
-stays_kept bytes (Ok bundle) later (before cut from past) = absurd cut
-stays_kept bytes (Err stop) later (before cut from past) = cuts (ap (λ (stop : Stop). stop.fault) cut)
-stays_kept bytes now later (inside cut is from) = cuts cut
-stays_kept bytes now later (after is from within) = same is
+-- ---- what follows of a whole bundle
+
+pub bundle_at-ends : (bytes more : List ℕ)
+    → Ends bytes (bundle_at bytes) (bundle_at (bytes ++ more))
+bundle_at-ends bytes more = (bundle_at-keeps bytes more).ends
+
+-- either the first bytes end inside the bundle, or it is the same
+pub data Stays : Result Bundle Stop → Result Bundle Stop → Type 0 where
+  cuts : {now later : Result Bundle Stop} → EndsCut now → Stays now later
+  same : {now later : Result Bundle Stop} → later ≡ now → Stays now later
+
+stays_of : (bytes : List ℕ) (now later : Result Bundle Stop) → Ends bytes now later
+    → Stays now later
+stays_of bytes (Ok bundle) later (before cut from) = absurd cut
+stays_of bytes (Err stop) later (before cut from) = cuts (ap (λ (stop : Stop). stop.fault) cut)
+stays_of bytes now later (inside cut is past) = cuts cut
+stays_of bytes now later (after is within) = same is
 
 pub bundle_at-stays : (bytes more : List ℕ) → Stays (bundle_at bytes) (bundle_at (bytes ++ more))
-bundle_at-stays bytes more = stays_kept bytes (bundle_at bytes) (bundle_at (bytes ++ more)) (bundle_at-keeps bytes more)
+bundle_at-stays bytes more =
+    stays_of bytes (bundle_at bytes) (bundle_at (bytes ++ more)) (bundle_at-ends bytes more)
+
+within_of : (bytes : List ℕ) (now later : Result Bundle Stop) → Ends bytes now later
+    → EndWithin bytes now
+within_of bytes (Err stop) later ends = tt
+within_of bytes (Ok bundle) later (before cut from) = absurd cut
+within_of bytes (Ok bundle) later (inside cut is past) = absurd cut
+within_of bytes (Ok bundle) later (after is within) = within.end
+
+-- a bundle ends within the bytes
+pub bundle_at-within : (bytes : List ℕ) → EndWithin bytes (bundle_at bytes)
+bundle_at-within bytes =
+    within_of bytes (bundle_at bytes) (bundle_at (bytes ++ [])) (bundle_at-ends bytes [])
+
+alone_of : (bytes : List ℕ) (now later : Result Bundle Stop) (bundle : Bundle)
+    → Ends bytes now later
+    → later ≡ Ok bundle → bundle.length ≤ length bytes → now ≡ Ok bundle
+alone_of bytes now later bundle (before cut from) is here =
+    absurd (let past : EndFrom (suc (length bytes)) (Ok bundle) = rw is at from.end in omega arith)
+alone_of bytes now later bundle (inside cut kept from) is here =
+    absurd (let past : EndFrom (suc (length bytes)) (Ok bundle) = rw is at from in omega arith)
+alone_of bytes now later bundle (after kept within) is here = sym kept ∙ is
+
+-- a bundle that ends within the bytes is read from them alone
+pub bundle_at-alone : (bytes more : List ℕ) (bundle : Bundle)
+    → bundle_at (bytes ++ more) ≡ Ok bundle → bundle.length ≤ length bytes
+    → bundle_at bytes ≡ Ok bundle
+bundle_at-alone bytes more bundle is here =
+    alone_of bytes (bundle_at bytes) (bundle_at (bytes ++ more)) bundle
+    (bundle_at-ends bytes more) is here

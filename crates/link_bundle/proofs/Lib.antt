@@ -8,7 +8,6 @@ pub mod Steps
 pub mod Contents
 pub mod Opening
 pub mod Verdicts
-pub mod HeadEnds
 pub mod Steady
 pub mod Keeping
 pub mod Lengths

@@ -8,16 +8,17 @@ use Rattle.link_bundle.specs.declared.stage.Role.{Role}
 use Rattle.link_bundle.specs.declared.stage.Role.TheVariants.{Destination, Source, ReportTo}
 use Rattle.link_bundle.specs.declared.stage.Stage.TheVariants.{Name}
 use Rattle.link_bundle.specs.Bundle.{Bundle}
-use Rattle.link_bundle_rows.specs.Rows.{◌>>=◌}
+use Rattle.link_bundle_heads.specs.Rows.{◌>>=◌}
 use Rattle.link_bundle.specs.Reading.{Reading, Stop, bytes_at}
-use Rattle.link_bundle.specs.Left.{with_eid, after_eid, after_primary, ends_of, with_known_payload, kept_name, name_left, field_left, stage_left, source_left, report_to_left, timestamp_left, time_left, sequence_left, lifetime_left}
+use Rattle.link_bundle.specs.Left.{with_eid, after_eid, after_primary, read_alone, with_known_payload, kept_name, name_left, field_left, stage_left, source_left, report_to_left, timestamp_left, time_left, sequence_left, lifetime_left}
 use Rattle.link_bundle.specs.Stages.{stage_after}
 use Rattle.link_bundle.proofs.Runs.{with_run, bytes_at-none, bytes_at-run, run_within}
 
 -- the reading of the whole bundle, by the reading of an endpoint ID
 abbrev pub by_eid : Role → Draft → ℕ → List ℕ → Reading Eid → Result Bundle Stop
 by_eid role draft start bytes reading =
-    ends_of bytes (with_known_payload draft.payload (after_primary draft start bytes (after_eid role draft bytes reading)))
+    read_alone bytes (with_known_payload draft.payload
+    (after_primary draft start bytes (after_eid role draft bytes reading)))
 
 -- the numbers of an ipn endpoint ID that were read so far make no difference after it
 pub by_eid-numbered : (role : Role) (draft : Draft) (allocator : Option ℕ) (node start : ℕ)
@@ -44,12 +45,14 @@ eid_ends ReportTo old new eid bytes start next is = rw is refl
 
 -- a name that begins with these bytes and ends with those that a reading returns
 abbrev name_then : List ℕ → Reading (List ℕ) → Reading Eid
-name_then name reading = reading >>= λ (rest, place). Ok (Dtn (record { items = name ++ rest }), place)
+name_then name reading =
+    reading >>= λ (rest, place). Ok (Dtn (record { items = name ++ rest }), place)
 
 name_then-with_run : (name run : List ℕ) (reading : Reading (List ℕ))
     → name_then name (with_run run reading) ≡ name_then (name ++ run) reading
 name_then-with_run name run (Ok (rest, place)) =
-    ap (λ (items : List ℕ). Ok (Dtn (record { items = items }), place)) (sym (append_assoc name run rest))
+    ap (λ (items : List ℕ). Ok (Dtn (record { items = items }), place))
+    (sym (append_assoc name run rest))
 name_then-with_run name run (Err stop) = refl
 
 name_left-run : (name run : List ℕ) (left : ℕ) (bytes more : List ℕ) (place : ℕ)
@@ -58,7 +61,8 @@ name_left-run : (name run : List ℕ) (left : ℕ) (bytes more : List ℕ) (plac
     ≡ name_left (name ++ run) (left - length run) bytes (place + length run)
 unfolding name_left
 name_left-run name run left bytes more place here fits =
-    ap (λ (reading : Reading (List ℕ)). name_then name reading) (bytes_at-run left bytes more run place here fits)
+    ap (λ (reading : Reading (List ℕ)). name_then name reading)
+    (bytes_at-run left bytes more run place here fits)
     ∙ name_then-with_run name run (bytes_at (left - length run) bytes (place + length run))
 
 -- the bytes so far of a name are in its field, and those of the report-to endpoint are not kept
@@ -83,7 +87,8 @@ pub name_goes_on : (role : Role) (old new : Draft) (name : List ℕ) (left : ℕ
 unfolding stage_left name_left
 name_goes_on role old new name left bytes start field place is =
     in_place role old name start bytes (bytes_at left bytes place)
-    ∙ ap (λ (draft : Draft). by_eid role draft start bytes (name_then (kept_name role draft) (bytes_at left bytes place))) (sym is)
+    ∙ ap (λ (draft : Draft). by_eid role draft start bytes
+    (name_then (kept_name role draft) (bytes_at left bytes place))) (sym is)
 
 -- a complete name
 pub name_ends : (role : Role) (old new : Draft) (name bytes : List ℕ)
@@ -93,8 +98,10 @@ pub name_ends : (role : Role) (old new : Draft) (name bytes : List ℕ)
     ≡ stage_left (stage_after role) new start next bytes next
 unfolding name_left
 name_ends role old new name bytes start next within is =
-    ap (λ (reading : Reading (List ℕ)). by_eid role old start bytes (name_then name reading)) (bytes_at-none bytes next within)
-    ∙ ap (λ (items : List ℕ). by_eid role old start bytes (Ok (Dtn (record { items = items }), next))) (append-nil name)
+    ap (λ (reading : Reading (List ℕ)). by_eid role old start bytes (name_then name reading))
+    (bytes_at-none bytes next within)
+    ∙ ap (λ (items : List ℕ). by_eid role old start bytes
+    (Ok (Dtn (record { items = items }), next))) (append-nil name)
     ∙ eid_ends role old new (Dtn (record { items = name })) bytes start next is
 
 -- an incomplete name, after more of its bytes
@@ -106,9 +113,12 @@ pub name_run_goes_on : (role : Role) (old new : Draft) (run : List ℕ) (left re
     ≡ stage_left (Name role rest) new start (place + length run) bytes (place + length run)
 unfolding stage_left
 name_run_goes_on role old new run left rest bytes more start field place here fits is_rest is =
-    ap (λ (reading : Reading Eid). by_eid role old start bytes reading) (name_left-run (kept_name role old) run left bytes more place here fits)
-    ∙ ap (λ (rest : ℕ). by_eid role old start bytes (name_left (kept_name role old ++ run) rest bytes (place + length run))) (sym is_rest)
-    ∙ name_goes_on role old new (kept_name role old ++ run) rest bytes start (place + length run) (place + length run) is
+    ap (λ (reading : Reading Eid). by_eid role old start bytes reading)
+    (name_left-run (kept_name role old) run left bytes more place here fits)
+    ∙ ap (λ (rest : ℕ). by_eid role old start bytes
+    (name_left (kept_name role old ++ run) rest bytes (place + length run))) (sym is_rest)
+    ∙ name_goes_on role old new (kept_name role old ++ run) rest bytes start (place + length run)
+    (place + length run) is
 
 pub name_run_ends : (role : Role) (old new : Draft) (run : List ℕ) (left : ℕ)
     (bytes more : List ℕ) (start field place : ℕ)
@@ -119,6 +129,9 @@ pub name_run_ends : (role : Role) (old new : Draft) (run : List ℕ) (left : ℕ
 unfolding stage_left
 name_run_ends role old new run left bytes more start field place here some all is =
     let none : left - length run ≡ 0 = omega arith in
-    ap (λ (reading : Reading Eid). by_eid role old start bytes reading) (name_left-run (kept_name role old) run left bytes more place here (omega arith))
-    ∙ ap (λ (rest : ℕ). by_eid role old start bytes (name_left (kept_name role old ++ run) rest bytes (place + length run))) none
-    ∙ name_ends role old new (kept_name role old ++ run) bytes start (place + length run) (run_within bytes more run place here (omega arith)) is
+    ap (λ (reading : Reading Eid). by_eid role old start bytes reading)
+    (name_left-run (kept_name role old) run left bytes more place here (omega arith))
+    ∙ ap (λ (rest : ℕ). by_eid role old start bytes
+    (name_left (kept_name role old ++ run) rest bytes (place + length run))) none
+    ∙ name_ends role old new (kept_name role old ++ run) bytes start (place + length run)
+    (run_within bytes more run place here (omega arith)) is

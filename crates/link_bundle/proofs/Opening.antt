@@ -1,6 +1,6 @@
 -- The first byte of a bundle.
 
-use Rattle.std.proofs.Common.{◌≡◌, ◌≢◌, ℕ, ◌+◌, ◌<◌, ◌&&◌, List, [], ◌∷◌, ◌++◌, length, Option, None, Some, Err, refl, sym, ap, subst, ◌∙◌, length-append, arith}
+use Rattle.std.proofs.Common.{◌≡◌, ◌≢◌, ℕ, ◌+◌, ◌<◌, ◌&&◌, List, [], ◌∷◌, ◌++◌, length, Option, None, Some, Err, refl, sym, ap, subst, ◌∙◌, arith}
 use Rattle.std.specs.Prelude.{IsTrue, is_none, ◌==◌}
 use Rattle.std.proofs.lemmas.Bool.{ne_eqb, false≢true}
 use Rattle.std.proofs.lemmas.Bool.Decides.{nat_tests}
@@ -13,13 +13,14 @@ use Rattle.link_bundle.specs.declared.stage.PrimaryField.TheVariants as primary
 use Rattle.link_bundle.specs.declared.stage.Stage.TheVariants.{Start, Head, Failed}
 use Rattle.link_bundle.specs.CheckKinds.{is_unread}
 use Rattle.link_bundle.specs.Fits.{stage_fits}
+use Rattle.link_bundle.specs.Moves.{Enters}
 use Rattle.link_bundle.specs.Reading.{stopped}
 use Rattle.link_bundle.specs.Primary.{primary_at}
 use Rattle.link_bundle.specs.Bundle.{opening_at, bundle_at, judged}
 use Rattle.link_bundle.specs.Left.{field_left, stage_left, with_known_payload, primary_block_left, version_left, flags_left, check_type_left, destination_left, source_left, report_to_left, timestamp_left, time_left, sequence_left, lifetime_left}
 use Rattle.link_bundle.specs.Scan.{HasCome}
 use Rattle.link_bundle.proofs.Fields.{before_and, after_and}
-use Rattle.link_bundle.proofs.Steps.{Enters, entered, all_grown, one_byte}
+use Rattle.link_bundle.proofs.Steps.{entered, byte_grown, count_more, failed}
 
 -- a draft without a payload and without block numbers
 pub record IsBlank (draft : Draft) : Type 0 where
@@ -36,16 +37,21 @@ empty_of (number ∷ numbers) outcome = absurd (grind (arith, nat_tests))
 
 pub blank : (draft : Draft) → IsTrue (stage_fits Start draft) → IsBlank draft
 blank draft fits = record {
-  payload = none_of draft.payload (before_and (is_none draft.payload) (is_unread draft.check && (length draft.numbers == 0)) fits);
+  payload =
+      none_of draft.payload (before_and (is_none draft.payload)
+      (is_unread draft.check && (length draft.numbers == 0)) fits);
   numbers = empty_of draft.numbers
       (after_and (is_unread draft.check) (length draft.numbers == 0)
-      (after_and (is_none draft.payload) (is_unread draft.check && (length draft.numbers == 0)) fits));
+      (after_and (is_none draft.payload) (is_unread draft.check && (length draft.numbers == 0))
+      fits));
 }
 
 open_reads : (draft : Draft) (more : List ℕ) (start : ℕ) → IsBlank draft
     → judged (0x9f ∷ more)
     ≡ stage_left (Head (field.Primary primary.Block)) draft start 1 (0x9f ∷ more) 1
-unfolding judged bundle_at opening_at stage_left field_left primary_at primary_block_left version_left flags_left check_type_left destination_left source_left report_to_left timestamp_left time_left sequence_left lifetime_left
+unfolding judged bundle_at opening_at stage_left field_left primary_at primary_block_left
+    version_left flags_left check_type_left destination_left source_left report_to_left
+    timestamp_left time_left sequence_left lifetime_left
 open_reads draft more start blank = rw (blank.payload, blank.numbers) refl
 
 other_reads : (draft : Draft) (byte : ℕ) (more : List ℕ) → IsBlank draft → byte ≢ 0x9f
@@ -60,24 +66,26 @@ pub opened : (old grown_cursor new : Cursor) (draft : Draft) (seen : List ℕ) (
     → HasCome (Head (field.Primary primary.Block)) new draft (seen ++ byte ∷ [])
 opened old grown_cursor new draft seen byte come fits is counts same enters =
     let now = seen ++ byte ∷ [] in
-    let longer = length-append seen (byte ∷ []) in
-    let first : now ≡ 0x9f ∷ [] = ap (λ (seen : List ℕ). seen ++ byte ∷ []) come.stands.nothing ∙ ap (λ (byte : ℕ). byte ∷ []) is in
+    let first : now ≡ 0x9f ∷ [] =
+    ap (λ (seen : List ℕ). seen ++ byte ∷ []) come.stands.nothing
+    ∙ ap (λ (byte : ℕ). byte ∷ []) is in
     entered (Head (field.Primary primary.Block)) grown_cursor new draft.check draft (length now) now
-    (all_grown seen (byte ∷ []) come.all_bytes (one_byte byte (omega arith))) (counts ∙ ap (λ (count : ℕ). count + 1) come.count ∙ sym longer) (omega arith)
-    (rw (same, drop-length now) come.stands.checks) (refl, λ _ _ checks covered covers. covers) enters
+    (byte_grown seen byte come.all_bytes (omega arith))
+    (count_more old.count grown_cursor.count seen byte counts come.count)
+    (omega arith)
+    (rw (same, drop-length now) come.stands.checks)
+    (refl, λ _ _ checks covered covers. covers) enters
     (λ more. subst (λ (now : List ℕ). judged (now ++ more)
-    ≡ stage_left (Head (field.Primary primary.Block)) draft (length now) (length now) (now ++ more) (length now)) (sym first)
+    ≡ stage_left (Head (field.Primary primary.Block)) draft (length now) (length now) (now ++ more)
+    (length now)) (sym first)
     (open_reads draft more 1 (blank draft fits)))
 
 pub not_opened : (old new : Cursor) (draft : Draft) (seen : List ℕ) (byte : ℕ)
     → HasCome Start old draft seen → byte < 256 → IsTrue (stage_fits Start draft) → byte ≢ 0x9f
     → new.count ≡ old.count + 1
     → HasCome (Failed NotABundle 0) new draft (seen ++ byte ∷ [])
-unfolding stage_left
-not_opened old new draft seen byte come small fits other counts = record {
-  all_bytes = all_grown seen (byte ∷ []) come.all_bytes (one_byte byte small);
-  count = counts ∙ ap (λ (count : ℕ). count + 1) come.count ∙ sym (length-append seen (byte ∷ []));
-  start = 0;
-  reads = λ more. ap (λ (seen : List ℕ). judged ((seen ++ byte ∷ []) ++ more)) come.stands.nothing ∙ other_reads draft byte more (blank draft fits) other;
-  stands = tt;
-}
+not_opened old new draft seen byte come small fits other counts =
+    failed NotABundle 0 new draft (seen ++ byte ∷ []) (byte_grown seen byte come.all_bytes small)
+    (count_more old.count new.count seen byte counts come.count)
+    (λ more. ap (λ (seen : List ℕ). judged ((seen ++ byte ∷ []) ++ more)) come.stands.nothing
+    ∙ other_reads draft byte more (blank draft fits) other)

@@ -1,21 +1,21 @@
 -- Laws of the bytes of the payload.
 
-use Rattle.std.proofs.Common.{◌≡◌, ℕ, ◌+◌, ◌≤◌, Bool, true, false, List, [], ◌++◌, length, take, drop, Option, None, Some, Result, Ok, Err, refl, sym, ap, ◌∙◌, length-drop, arith}
+use Rattle.std.proofs.Common.{◌≡◌, ℕ, suc, ◌≤◌, Bool, true, false, List, [], ◌++◌, length, take, drop, Option, None, Some, Result, Ok, Err, refl, sym, ap, ◌∙◌, length-drop, arith}
 use Rattle.std.specs.Prelude.{◌==◌, if◌then◌else◌}
 use Rattle.std.proofs.lemmas.Bool.{false≢true}
 use Rattle.std.proofs.lemmas.List.{drop-append-le, take-append-le}
 use Rattle.std.proofs.Math.ListN.{drop_of_length-le}
 use Rattle.std.proofs.Math.Seq.{take-nil}
 use Rattle.link_bundle.specs.Laws.{PayloadLasts, PayloadPlaced, PayloadEnds}
-use Rattle.link_bundle_rows.specs.Rows.{◌>>=◌}
+use Rattle.link_bundle_heads.specs.Rows.{◌>>=◌}
 use Rattle.link_bundle.specs.Reading.{Stop}
-use Rattle.link_bundle.specs.Bundle.{Bundle, bundle_at, ends, judged, verdict_by, verdict, payload_of, bytes_of, payload_in, state_of, is_going, bundle_goes}
+use Rattle.link_bundle.specs.Bundle.{Bundle, bundle_at, if_alone, judged, verdict_by, verdict, payload_of, bytes_of, payload_in, state_of, is_going, bundle_goes}
 use Rattle.link_bundle.proofs.Steady.{EndsCut}
-use Rattle.link_bundle.proofs.Keeping.{Keeps, before, inside, after, stop_without_payload, bundle_at-keeps}
+use Rattle.link_bundle.proofs.Keeping.{PayloadFrom, PayloadWithin, Ends, before, inside, after, bundle_at-ends}
 
 -- the reading of all of the bytes; bytes after a bundle do not change its payload
 whole_of : List ℕ → Result Bundle Stop → Result Bundle Stop
-whole_of bytes reading = reading >>= λ bundle. ends bytes bundle
+whole_of bytes reading = reading >>= λ bundle. if_alone bytes bundle
 
 payload_of-chosen : (test : Bool) (bundle : Bundle) (stop : Stop)
     → stop.payload ≡ Some bundle.payload
@@ -36,18 +36,20 @@ payload_of-judged bytes = payload_of-whole bytes (bundle_at bytes)
 -- ---- a known payload lasts
 
 payload_of-lasts : (bytes : List ℕ) (now later : Result Bundle Stop) (payload : ℕ × ℕ)
-    → Keeps bytes 0 now later
+    → Ends bytes now later
     → payload_of now ≡ Some payload → payload_of later ≡ Some payload
-payload_of-lasts bytes (Ok bundle) later payload (before cut from past) is = absurd cut
-payload_of-lasts bytes (Err stop) later payload (before cut from past) is =
-    absurd (stop_without_payload stop payload (ap (λ (stop : Stop). stop.payload) cut) is)
-payload_of-lasts bytes now later payload (inside cut kept from) is = kept ∙ is
-payload_of-lasts bytes now later payload (after kept from within) is = ap payload_of kept ∙ is
+payload_of-lasts bytes (Ok bundle) later payload (before cut from) is = absurd cut
+payload_of-lasts bytes (Err stop) later payload (before cut from) is =
+    absurd (let none : None ≡ Some payload = ap (λ (stop : Stop). stop.payload) (sym cut) ∙ is in
+    cc)
+payload_of-lasts bytes now later payload (inside cut kept past) is = kept ∙ is
+payload_of-lasts bytes now later payload (after kept within) is = ap payload_of kept ∙ is
 
 pub PayloadLasts-holds : PayloadLasts
 PayloadLasts-holds bytes more payload is =
     payload_of-judged (bytes ++ more)
-    ∙ payload_of-lasts bytes (bundle_at bytes) (bundle_at (bytes ++ more)) payload (bundle_at-keeps bytes more)
+    ∙ payload_of-lasts bytes (bundle_at bytes) (bundle_at (bytes ++ more)) payload
+    (bundle_at-ends bytes more)
     (sym (payload_of-judged bytes) ∙ is)
 
 -- ---- a known payload determines which of its bytes are there
@@ -58,31 +60,33 @@ nothing_from bytes place size follows =
     sym (ap (λ (rest : List ℕ). take size rest) (drop_of_length-le bytes follows) ∙ take-nil size)
 
 payload_of-places : (bytes : List ℕ) (now later : Result Bundle Stop) (place size : ℕ)
-    → Keeps bytes 0 now later
+    → Ends bytes now later
     → payload_of later ≡ Some (place, size)
     → bytes_of (payload_of now) bytes ≡ take size (drop place bytes)
-payload_of-places bytes (Ok bundle) later place size (before cut from past) is = absurd cut
-payload_of-places bytes (Err stop) later place size (before cut from past) is =
+payload_of-places bytes (Ok bundle) later place size (before cut from) is = absurd cut
+payload_of-places bytes (Err stop) later place size (before cut from) is =
     let plain : stop.payload ≡ None = ap (λ (stop : Stop). stop.payload) cut in
-    rw plain (nothing_from bytes place size (past (place, size) is))
-payload_of-places bytes now later place size (inside cut kept from) is = rw (sym kept ∙ is) refl
-payload_of-places bytes now later place size (after kept from within) is = rw (ap payload_of (sym kept) ∙ is) refl
+    let past : PayloadFrom (suc (length bytes)) (Some (place, size)) = rw is at from.payload in
+    rw plain (nothing_from bytes place size (omega arith))
+payload_of-places bytes now later place size (inside cut kept past) is = rw (sym kept ∙ is) refl
+payload_of-places bytes now later place size (after kept within) is =
+    rw (ap payload_of (sym kept) ∙ is) refl
 
 pub PayloadPlaced-holds : PayloadPlaced
 unfolding payload_in
 PayloadPlaced-holds bytes more place size is =
     ap (λ (known : Option (ℕ × ℕ)). bytes_of known bytes) (payload_of-judged bytes)
-    ∙ payload_of-places bytes (bundle_at bytes) (bundle_at (bytes ++ more)) place size (bundle_at-keeps bytes more)
+    ∙ payload_of-places bytes (bundle_at bytes) (bundle_at (bytes ++ more)) place size
+    (bundle_at-ends bytes more)
     (sym (payload_of-judged (bytes ++ more)) ∙ is)
 
 -- ---- no more bytes of it come once the bytes do not end inside the bundle
 
 all_there : (known : Option (ℕ × ℕ)) (bytes more : List ℕ)
-    → ((payload : ℕ × ℕ) → known ≡ Some payload → payload.0 + payload.1 ≤ length bytes)
+    → PayloadWithin bytes known
     → bytes_of known (bytes ++ more) ≡ bytes_of known bytes
 all_there None bytes more within = refl
 all_there (Some (place, size)) bytes more within =
-    let all : place + size ≤ length bytes = within (place, size) refl in
     let here : place ≤ length bytes = omega arith in
     let fits : size ≤ length (drop place bytes) = omega (arith, length-drop place bytes) in
     rw (drop-append-le place bytes more here, take-append-le size (drop place bytes) more fits) refl
@@ -102,19 +106,23 @@ unfolding verdict judged goes whole_of
 cut_goes-on bytes cut = cut_goes bytes (bundle_at bytes) cut
 
 payload_of-ends : (bytes more : List ℕ) (now later : Result Bundle Stop)
-    → Keeps bytes 0 now later → goes bytes now ≡ false
+    → Ends bytes now later → goes bytes now ≡ false
     → bytes_of (payload_of later) (bytes ++ more) ≡ bytes_of (payload_of now) bytes
-payload_of-ends bytes more (Ok bundle) later (before cut from past) stops = absurd cut
-payload_of-ends bytes more (Err stop) later (before cut from past) stops =
-    absurd (false≢true (sym stops ∙ cut_goes bytes (Err stop) (ap (λ (stop : Stop). stop.fault) cut)))
-payload_of-ends bytes more now later (inside cut kept from) stops = absurd (false≢true (sym stops ∙ cut_goes bytes now cut))
-payload_of-ends bytes more now later (after kept from within) stops =
+payload_of-ends bytes more (Ok bundle) later (before cut from) stops = absurd cut
+payload_of-ends bytes more (Err stop) later (before cut from) stops =
+    absurd (false≢true (sym stops
+    ∙ cut_goes bytes (Err stop) (ap (λ (stop : Stop). stop.fault) cut)))
+payload_of-ends bytes more now later (inside cut kept past) stops =
+    absurd (false≢true (sym stops ∙ cut_goes bytes now cut))
+payload_of-ends bytes more now later (after kept within) stops =
     ap (λ (reading : Result Bundle Stop). bytes_of (payload_of reading) (bytes ++ more)) kept
-    ∙ all_there (payload_of now) bytes more within
+    ∙ all_there (payload_of now) bytes more within.payload
 
 pub PayloadEnds-holds : PayloadEnds
 unfolding payload_in verdict judged goes whole_of
 PayloadEnds-holds bytes more stops =
-    ap (λ (known : Option (ℕ × ℕ)). bytes_of known (bytes ++ more)) (payload_of-judged (bytes ++ more))
-    ∙ payload_of-ends bytes more (bundle_at bytes) (bundle_at (bytes ++ more)) (bundle_at-keeps bytes more) stops
+    ap (λ (known : Option (ℕ × ℕ)). bytes_of known (bytes ++ more))
+    (payload_of-judged (bytes ++ more))
+    ∙ payload_of-ends bytes more (bundle_at bytes) (bundle_at (bytes ++ more))
+    (bundle_at-ends bytes more) stops
     ∙ ap (λ (known : Option (ℕ × ℕ)). bytes_of known bytes) (sym (payload_of-judged bytes))

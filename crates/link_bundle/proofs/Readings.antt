@@ -4,7 +4,7 @@ use Rattle.std.proofs.Common.{◌≡◌, ℕ, ◌+◌, ◌<◌, ◌≤◌, true,
 use Rattle.std.proofs.lemmas.Bool.{le-ltb}
 use Rattle.std.specs.Prelude.{◌==◌}
 use Rattle.link_cbor.specs.declared.check.CheckKind.{CheckKind}
-use Rattle.link_bundle_rows.specs.Rows.{check_width, check_field, closing}
+use Rattle.link_bundle_heads.specs.Rows.{check_width, check_field, closing}
 use Rattle.link_bundle.specs.Reading.{row_at, bytes_at}
 use Rattle.link_bundle.specs.declared.whole.Heads.{Heads}
 use Rattle.link_bundle.specs.Primary.{Primary}
@@ -26,7 +26,8 @@ pub field_at-equal : (kind : CheckKind) (start content next count : ℕ) (bytes 
     → (number_from 0 stored == check_of kind start content bytes) ≡ true
     → field_at (Some kind) start bytes place ≡ Ok (true, next)
 unfolding field_at
-field_at-equal kind start content next count bytes place stored head there equal = rw (head, there, equal) refl
+field_at-equal kind start content next count bytes place stored head there equal =
+    rw (head, there, equal) refl
 
 -- the rest after the heads of the payload block, and after those of another block
 pub payload_read : (heads : Heads) (left : ℕ) (numbers : List ℕ) (primary : Primary)
@@ -37,7 +38,8 @@ pub payload_read : (heads : Heads) (left : ℕ) (numbers : List ℕ) (primary : 
     → after_heads heads left numbers primary start bytes place
     ≡ Ok (bundle_by primary (length numbers + 1) (place, heads.size) end)
 unfolding payload_at
-payload_read heads left numbers primary start place next end bytes is content closes = rw (is, content, closes) refl
+payload_read heads left numbers primary start place next end bytes is content closes =
+    rw (is, content, closes) refl
 
 pub next_read : (heads : Heads) (left : ℕ) (numbers : List ℕ) (primary : Primary)
     (start place next : ℕ) (bytes : List ℕ)

@@ -5,14 +5,15 @@ use Rattle.std.specs.Prelude.{if◌then◌else◌}
 use Rattle.std.proofs.lemmas.Bool.{le-ltb, lt-ltb}
 use Rattle.std.proofs.lemmas.List.{drop-drop}
 use Rattle.std.proofs.Math.Seq.{drop-append_seam, take-append-add}
-use Rattle.link_bundle_rows.specs.Rows.{◌>>=◌}
+use Rattle.link_bundle_heads.specs.Rows.{◌>>=◌}
 use Rattle.link_bundle.specs.Reading.{Reading, cut_short, bytes_at}
 
 pub bytes_at-none : (bytes : List ℕ) (place : ℕ) → place ≤ length bytes
     → bytes_at 0 bytes place ≡ Ok ([], place)
 unfolding bytes_at
 bytes_at-none bytes place within =
-    let enough : ltb (length bytes) (place + 0) ≡ false = le-ltb (length bytes) (place + 0) (omega arith) in
+    let enough : ltb (length bytes) (place + 0) ≡ false =
+    le-ltb (length bytes) (place + 0) (omega arith) in
     rw enough (rw add-zero refl)
 
 -- more bytes are needed if the bytes end before
@@ -24,7 +25,8 @@ bytes_at-cut left bytes place ends = rw (lt-ltb (length bytes) (place + left) en
 pub drop-run : (bytes more run : List ℕ) (place : ℕ) → drop place bytes ≡ run ++ more
     → drop (place + length run) bytes ≡ more
 drop-run bytes more run place here =
-    sym (drop-drop (length run) place bytes) ∙ ap (λ (rest : List ℕ). drop (length run) rest) here ∙ drop-append_seam run more
+    sym (drop-drop (length run) place bytes) ∙ ap (λ (rest : List ℕ). drop (length run) rest) here
+    ∙ drop-append_seam run more
 
 -- a run lies within the bytes
 pub run_within : (bytes more run : List ℕ) (place : ℕ) → drop place bytes ≡ run ++ more
@@ -55,18 +57,22 @@ bytes_at-run left bytes more run place here fits =
     ∙ ap (λ (count : ℕ). take count (run ++ more)) all
     ∙ take-append-add run more (left - length run) in
     rw (end, split, drop-run bytes more run place here)
-    (with_run-chosen (ltb (length bytes) (place + length run + (left - length run))) (place + length run + (left - length run)) bytes run (take (left - length run) more))
+    (with_run-chosen (ltb (length bytes) (place + length run + (left - length run)))
+    (place + length run + (left - length run)) bytes run (take (left - length run) more))
 
 -- a run of one byte
 pub bytes_at-step : (left : ℕ) (bytes more : List ℕ) (byte place : ℕ)
     → drop place bytes ≡ byte ∷ more → 0 < left
     → bytes_at left bytes place ≡ with_run (byte ∷ []) (bytes_at (left - 1) bytes (place + 1))
-bytes_at-step left bytes more byte place here some = bytes_at-run left bytes more (byte ∷ []) place here (omega arith)
+bytes_at-step left bytes more byte place here some =
+    bytes_at-run left bytes more (byte ∷ []) place here (omega arith)
 
 -- the last byte
 pub bytes_at-last : (bytes more : List ℕ) (byte place : ℕ) → drop place bytes ≡ byte ∷ more
     → bytes_at 1 bytes place ≡ Ok (byte ∷ [], place + 1)
 bytes_at-last bytes more byte place here =
-    let within : place + 1 ≤ length bytes = omega (arith, length-drop place bytes, ap length here) in
+    let within : place + 1 ≤ length bytes =
+    omega (arith, length-drop place bytes, ap length here) in
     bytes_at-step 1 bytes more byte place here (omega arith)
-    ∙ ap (λ (reading : Reading (List ℕ)). with_run (byte ∷ []) reading) (bytes_at-none bytes (place + 1) within)
+    ∙ ap (λ (reading : Reading (List ℕ)). with_run (byte ∷ []) reading)
+    (bytes_at-none bytes (place + 1) within)

@@ -2,7 +2,7 @@
 
 use Rattle.std.proofs.Common.{◌≡◌, ℕ, ◌+◌, ◌<◌, ◌≤◌, Bool, true, false, List, [], ◌∷◌, ◌++◌, length, take, drop, None, Some, Result, Ok, Err, refl, sym, ap, subst, ◌∙◌, append_assoc, append-nil, length-append, length-drop, ◌⊎◌, inl, inr, ⊎_elim, arith}
 use Rattle.std.proofs.lemmas.Bool.{false≢true}
-use Rattle.std.specs.Prelude.{slice_range}
+use Rattle.std.specs.Prelude.{IsTrue, slice_range}
 use Rattle.std.specs.Bool.{MatchBool}
 use Rattle.std.proofs.lemmas.List.{drop-append-le}
 use Rattle.std.proofs.Math.Nat.{sub_self}
@@ -28,21 +28,40 @@ use Rattle.link_bundle.specs.declared.stage.Stage.TheVariants.{Start, Head, Name
 use Rattle.link_cbor.specs.declared.check.CheckKind.TheVariants.{Crc16, Crc32}
 use Rattle.link_bundle.specs.CheckKinds.{is_unread}
 use Rattle.link_bundle.specs.Covers.{Covers}
-use Rattle.link_bundle.specs.Fits.{is_block, KeepsCheck}
+use Rattle.link_bundle.specs.Fits.{is_block, scan_fits, KeepsCheck}
+use Rattle.link_bundle.specs.Moves.{TakesRun, Enters}
 use Rattle.link_bundle.specs.Bundle.{Bundle, judged}
 use Rattle.link_bundle.specs.Reading.{Stop, stopped, head_at}
-use Rattle.link_bundle.specs.Left.{block_start, field_left, ends_of, with_known_payload, stage_left, goes_on, AsReadFrom}
-use Rattle.link_bundle.proofs.Heads.{ends_of-stopped}
+use Rattle.link_bundle.specs.Left.{block_start, field_left, read_alone, with_known_payload, stage_left, goes_on, AsReadFrom}
+use Rattle.link_bundle.proofs.Heads.{read_alone-stopped}
 use Rattle.link_bundle.proofs.Stops.{field_left-stopped}
-use Rattle.link_bundle.specs.Scan.{HasCome, HeadCame, Stands, IsInHead, IsInside, IsInStored}
+use Rattle.link_bundle.specs.declared.scan.BundleScan.{BundleScan}
+use Rattle.link_bundle.specs.Scan.{HasCome, HasScanned, HeadCame, Stands, IsInHead, IsInside, IsInStored}
+
+-- ---- a scan whose stage is known
+
+pub at_stage : (scan : BundleScan) (stage : Stage) (seen : List ℕ) → scan.stage ≡ stage
+    → HasScanned scan seen → HasCome stage scan.cursor scan.draft seen
+at_stage scan stage seen is come =
+    subst (λ (stage : Stage). HasCome stage scan.cursor scan.draft seen) is come
+
+pub fits_at : (scan : BundleScan) (stage : Stage) → scan.stage ≡ stage
+    → IsTrue (scan_fits stage scan.cursor scan.draft)
+fits_at scan stage is =
+    subst (λ (stage : Stage). IsTrue (scan_fits stage scan.cursor scan.draft)) is scan.fits
+
+-- ---- more bytes
 
 -- the bytes seen, a run of more bytes, and those that follow
 pub next_run : (seen more run : List ℕ) → drop (length seen) ((seen ++ run) ++ more) ≡ run ++ more
-next_run seen more run = ap (λ (bytes : List ℕ). drop (length seen) bytes) (append_assoc seen run more) ∙ drop-append_seam seen (run ++ more)
+next_run seen more run =
+    ap (λ (bytes : List ℕ). drop (length seen) bytes) (append_assoc seen run more)
+    ∙ drop-append_seam seen (run ++ more)
 
 up_to_the_end : (seen : List ℕ) (start : ℕ) → slice_range seen start (length seen) ≡ drop start seen
 up_to_the_end seen start =
-    ap (λ (count : ℕ). take count (drop start seen)) (sym (length-drop start seen)) ∙ take-length (drop start seen)
+    ap (λ (count : ℕ). take count (drop start seen)) (sym (length-drop start seen))
+    ∙ take-length (drop start seen)
 
 -- the checks that are needed
 narrowed : (check : CheckType) (checks : BlockChecks) (covered : List ℕ)
@@ -59,13 +78,6 @@ kept : (old new : CheckType) (checks : BlockChecks) (covered : List ℕ)
 kept Unread new checks covered keeps covers = narrowed new checks covered covers
 kept (Is kind) new checks covered keeps covers = keeps refl checks covered covers
 
--- the effect of `enter` on a cursor
-pub record Enters (stage : Stage) (old new : Cursor) : Type 0 where
-  pub count : new.count ≡ old.count
-  pub place : new.place ≡ old.count
-  pub head : HasScannedHead new.head []
-  pub checks : MatchBool (is_block stage) (Covers Unread new.checks []) (new.checks ≡ old.checks)
-
 -- at the end of the bytes, no byte of the next part was seen
 nothing_yet : (place : ℕ) (seen : List ℕ) → place ≡ length seen → drop place seen ≡ []
 nothing_yet place seen here = ap (λ (place : ℕ). drop place seen) here ∙ drop-length seen
@@ -79,7 +91,8 @@ unfolding head_front
 begun which cursor check start seen here head in_block checks = record {
   at = record {
     in_bytes = omega arith;
-    head = subst (λ (bytes : List ℕ). HasScannedHead cursor.head bytes) (sym (nothing_yet cursor.place seen here)) head;
+    head = subst (λ (bytes : List ℕ). HasScannedHead cursor.head bytes)
+        (sym (nothing_yet cursor.place seen here)) head;
     in_block = in_block;
     checks = checks;
   };
@@ -119,15 +132,21 @@ stands_head which old new check after start seen counted within covers keeps ent
     let here : new.place ≡ length seen = enters.place ∙ counted in
     ⊎_elim
     (λ (is, at).
-    let fresh : Covers Unread new.checks [] = subst (λ (b : Bool). MatchBool b (Covers Unread new.checks []) (new.checks ≡ old.checks)) is enters.checks in
+    let fresh : Covers Unread new.checks [] =
+    subst (λ (b : Bool). MatchBool b (Covers Unread new.checks []) (new.checks ≡ old.checks)) is
+    enters.checks in
     begun which new after start seen here enters.head (omega (arith, at))
     (subst (λ (bytes : List ℕ). Covers after new.checks bytes)
-    (sym (ap (λ (place : ℕ). drop place seen) at ∙ nothing_yet new.place seen here)) (narrowed after new.checks [] fresh)))
+    (sym (ap (λ (place : ℕ). drop place seen) at ∙ nothing_yet new.place seen here))
+    (narrowed after new.checks [] fresh)))
     (λ (is, at).
-    let same : new.checks ≡ old.checks = subst (λ (b : Bool). MatchBool b (Covers Unread new.checks []) (new.checks ≡ old.checks)) is enters.checks in
+    let same : new.checks ≡ old.checks =
+    subst (λ (b : Bool). MatchBool b (Covers Unread new.checks []) (new.checks ≡ old.checks)) is
+    enters.checks in
     let held = kept check after old.checks (drop start seen) (keeps.1 is) covers in
     begun which new after start seen here enters.head (omega (arith, at))
-    (subst (λ (checks : BlockChecks). Covers after checks (drop (block_start which start new.place) seen)) (sym same)
+    (subst (λ (checks : BlockChecks). Covers after checks
+    (drop (block_start which start new.place) seen)) (sym same)
     (subst (λ (place : ℕ). Covers after old.checks (drop place seen)) (sym at) held)))
     (begins which start new.place)
 
@@ -138,7 +157,8 @@ stands_inside : (old new : Cursor) (check after : CheckType) (start : ℕ) (seen
     → new.checks ≡ old.checks → IsInside new after start seen
 stands_inside old new check after start seen within covers keeps same = record {
   in_block = within;
-  checks = subst (λ (checks : BlockChecks). Covers after checks (drop start seen)) (sym same) (kept check after old.checks (drop start seen) keeps covers);
+  checks = subst (λ (checks : BlockChecks). Covers after checks (drop start seen)) (sym same)
+      (kept check after old.checks (drop start seen) keeps covers);
 }
 
 stands_stored : (old new : Cursor) (check after : CheckType) (start : ℕ) (seen : List ℕ)
@@ -149,7 +169,13 @@ stands_stored : (old new : Cursor) (check after : CheckType) (start : ℕ) (seen
 stands_stored old new check after start seen counted within covers keeps here same = record {
   in_block = within;
   in_bytes = omega (arith, here);
-  checks = rw (here, same, up_to_the_end seen start, sub_self (length seen), append-nil (drop start seen))
+  checks = rw (
+    here,
+    same,
+    up_to_the_end seen start,
+    sub_self (length seen),
+    append-nil (drop start seen),
+  )
       (kept check after old.checks (drop start seen) keeps covers);
 }
 
@@ -157,17 +183,22 @@ stands_entered : (stage : Stage) (old new : Cursor) (check after : CheckType)
     (start : ℕ) (seen : List ℕ)
     → old.count ≡ length seen → start ≤ length seen → Covers check old.checks (drop start seen)
     → KeepsCheck check stage after → Enters stage old new → Stands stage new after start seen
-stands_entered Start old new check after start seen counted within covers keeps enters = absurd (false≢true keeps.0)
+stands_entered Start old new check after start seen counted within covers keeps enters =
+    absurd (false≢true keeps.0)
 stands_entered (Head which) old new check after start seen counted within covers keeps enters =
     stands_head which old new check after start seen counted within covers keeps enters
 stands_entered (Name role left) old new check after start seen counted within covers keeps enters =
     stands_inside old new check after start seen within covers (keeps.1 refl) enters.checks
 stands_entered (Content left) old new check after start seen counted within covers keeps enters =
     stands_inside old new check after start seen within covers (keeps.1 refl) enters.checks
-stands_entered (Stored place left stored kind) old new check after start seen counted within covers keeps enters =
-    stands_stored old new check after start seen counted within covers (keeps.1 refl) (enters.place ∙ counted) enters.checks
-stands_entered Ended old new check after start seen counted within covers keeps enters = enters.place ∙ counted
-stands_entered (Failed fault place) old new check after start seen counted within covers keeps enters = tt
+stands_entered (Stored place left stored kind) old new check after start seen counted within covers
+    keeps enters =
+    stands_stored old new check after start seen counted within covers (keeps.1 refl)
+    (enters.place ∙ counted) enters.checks
+stands_entered Ended old new check after start seen counted within covers keeps enters =
+    enters.place ∙ counted
+stands_entered (Failed fault place) old new check after start seen counted within covers keeps
+    enters = tt
 
 -- a stage that is entered, with the rest from there on
 pub entered : (stage : Stage) (old new : Cursor) (check : CheckType) (draft : Draft)
@@ -183,8 +214,10 @@ entered stage old new check draft start seen all counted within covers keeps ent
   count = enters.count ∙ counted;
   start = start;
   reads = λ more. reads more
-      ∙ ap (λ (place : ℕ). stage_left stage draft start place (seen ++ more) (length seen)) (sym (enters.place ∙ counted));
-  stands = stands_entered stage old new check draft.check start seen counted within covers keeps enters;
+      ∙ ap (λ (place : ℕ). stage_left stage draft start place (seen ++ more) (length seen))
+      (sym (enters.place ∙ counted));
+  stands = stands_entered stage old new check draft.check start seen counted within covers keeps
+      enters;
 }
 
 -- the rest, after a run of more bytes
@@ -192,7 +225,8 @@ pub regrown : (left : List ℕ → Result Bundle Stop) (seen run : List ℕ)
     → ((more : List ℕ) → judged (seen ++ more) ≡ left (seen ++ more))
     → (more : List ℕ) → judged ((seen ++ run) ++ more) ≡ left ((seen ++ run) ++ more)
 regrown left seen run reads more =
-    subst (λ (bytes : List ℕ). judged bytes ≡ left bytes) (sym (append_assoc seen run more)) (reads (run ++ more))
+    subst (λ (bytes : List ℕ). judged bytes ≡ left bytes) (sym (append_assoc seen run more))
+    (reads (run ++ more))
 
 pub all_grown : (seen run : List ℕ) → AreBytes seen → AreBytes run → AreBytes (seen ++ run)
 all_grown seen run all more = All-append (λ (b : ℕ). b < 256) seen run all more
@@ -200,26 +234,52 @@ all_grown seen run all more = All-append (λ (b : ℕ). b < 256) seen run all mo
 pub one_byte : (byte : ℕ) → byte < 256 → AreBytes (byte ∷ [])
 one_byte byte small = All-push (λ (b : ℕ). b < 256) [] byte (All-nil (λ (b : ℕ). b < 256)) small
 
+-- one more byte, and the number of bytes with it
+pub byte_grown : (seen : List ℕ) (byte : ℕ) → AreBytes seen → byte < 256
+    → AreBytes (seen ++ byte ∷ [])
+byte_grown seen byte all small = all_grown seen (byte ∷ []) all (one_byte byte small)
+
+pub count_more : (old new : ℕ) (seen : List ℕ) (byte : ℕ) → new ≡ old + 1 → old ≡ length seen
+    → new ≡ length (seen ++ byte ∷ [])
+count_more old new seen byte grows counted =
+    grows ∙ ap (λ (count : ℕ). count + 1) counted ∙ sym (length-append seen (byte ∷ []))
+
+-- a fault that the bytes seen show
+pub failed : (fault : BundleFault) (place : ℕ) (cursor : Cursor) (draft : Draft) (seen : List ℕ)
+    → AreBytes seen → cursor.count ≡ length seen
+    → ((more : List ℕ) → judged (seen ++ more)
+    ≡ with_known_payload draft.payload (Err (stopped fault place)))
+    → HasCome (Failed fault place) cursor draft seen
+unfolding stage_left
+failed fault place cursor draft seen all counted reads = record {
+  all_bytes = all;
+  count = counted;
+  start = 0;
+  reads = reads;
+  stands = tt;
+}
+
 -- more bytes of a head
 pub grown_head : (which : Field) (old new : Cursor) (draft : Draft) (seen run : List ℕ)
-    → HasCome (Head which) old draft seen → AreBytes run
-    → new.count ≡ old.count + length run → new.place ≡ old.place
-    → ((covered : List ℕ) → Covers draft.check old.checks covered
-    → Covers draft.check new.checks (covered ++ run))
+    → HasCome (Head which) old draft seen → AreBytes run → TakesRun draft.check old new run
     → HeadCame which new draft (seen ++ run)
 unfolding stage_left
-grown_head which old new draft seen run come small counts stays covers =
+grown_head which old new draft seen run come are takes =
     let at = come.stands.at in
+    let begins = block_start which come.start old.place in
     let longer = length-append seen run in
     record {
-      all_bytes = all_grown seen run come.all_bytes small;
-      count = counts ∙ ap (λ (count : ℕ). count + length run) come.count ∙ sym longer;
+      all_bytes = all_grown seen run come.all_bytes are;
+      count = takes.count ∙ ap (λ (count : ℕ). count + length run) come.count ∙ sym longer;
       start = come.start;
-      reads = rw stays (regrown (λ (bytes : List ℕ). stage_left (Head which) draft come.start old.place bytes (length seen)) seen run come.reads);
-      in_bytes = omega (arith, at.in_bytes);
-      in_block = rw stays (omega (arith, at.in_block));
-      checks = rw (stays, drop-append-le (block_start which come.start old.place) seen run at.in_block)
-          (covers (drop (block_start which come.start old.place) seen) at.checks);
+      reads = rw takes.place
+          (regrown (λ (bytes : List ℕ).
+          stage_left (Head which) draft come.start old.place bytes (length seen)) seen run
+          come.reads);
+      in_bytes = omega (arith, at.in_bytes, takes.place);
+      in_block = rw takes.place (omega (arith, at.in_block));
+      checks = rw (takes.place, drop-append-le begins seen run at.in_block)
+          (takes.checks (drop begins seen) at.checks);
     }
 
 -- the bytes seen of a head, with one more
@@ -229,12 +289,14 @@ pub grown_bytes : (which : Field) (old new : Cursor) (draft : Draft) (seen : Lis
     → HasScannedHead new.head (drop new.place (seen ++ byte ∷ []))
 grown_bytes which old new draft seen byte come stays heads =
     let at = come.stands.at in
-    rw (stays, drop-append-le old.place seen (byte ∷ []) at.in_bytes) (heads (drop old.place seen) at.head)
+    rw (stays, drop-append-le old.place seen (byte ∷ []) at.in_bytes)
+    (heads (drop old.place seen) at.head)
 
 -- a run after the bytes seen
 pub after_seen : (place : ℕ) (seen run : List ℕ) → place ≡ length seen
     → drop place (seen ++ run) ≡ run
-after_seen place seen run here = ap (λ (place : ℕ). drop place (seen ++ run)) here ∙ drop-append_seam seen run
+after_seen place seen run here =
+    ap (λ (place : ℕ). drop place (seen ++ run)) here ∙ drop-append_seam seen run
 
 -- the bytes seen of a head stay the same, whatever bytes follow
 front_stays : (place : ℕ) (seen more : List ℕ) → place ≤ length seen
@@ -246,8 +308,14 @@ head_at-whole : (place : ℕ) (seen more : List ℕ) (head : HeadItem) → place
     → head_at (seen ++ more) place ≡ Ok (head, length seen)
 unfolding head_at
 head_at-whole place seen more head within outcome =
-    let next : place + length (drop place seen) ≡ length seen = omega (arith, length-drop place seen) in
-    rw (front_stays place seen more within, whole_stays (drop place seen) more head (length (drop place seen)) outcome, next) refl
+    let next : place + length (drop place seen) ≡ length seen =
+    omega (arith, length-drop place seen) in
+    rw (
+      front_stays place seen more within,
+      whole_stays (drop place seen) more head
+          (length (drop place seen)) outcome,
+      next,
+    ) refl
 
 head_at-bad : (place : ℕ) (seen more : List ℕ) → place ≤ length seen
     → head_front (drop place seen) ≡ IllFormed
@@ -266,7 +334,15 @@ more_head which cursor draft seen come head outcome = record {
   count = come.count;
   start = come.start;
   reads = come.reads;
-  stands = record { at = record { in_bytes = come.in_bytes; head = head; in_block = come.in_block; checks = come.checks }; cut = outcome };
+  stands = record {
+    at = record {
+      in_bytes = come.in_bytes;
+      head = head;
+      in_block = come.in_block;
+      checks = come.checks;
+    };
+    cut = outcome;
+  };
 }
 
 -- an ill-formed head
@@ -275,17 +351,18 @@ pub bad_head : (which : Field) (cursor : Cursor) (draft : Draft) (seen : List �
     → head_front (drop cursor.place seen) ≡ IllFormed
     → HasCome (Failed BadHead cursor.place) cursor draft seen
 unfolding stage_left
-bad_head which cursor draft seen come outcome = record {
-  all_bytes = come.all_bytes;
-  count = come.count;
-  start = come.start;
-  reads = λ more. come.reads more
-      ∙ ap (λ (reading : Result Bundle Stop). ends_of (seen ++ more) (with_known_payload draft.payload reading))
-      (field_left-stopped which draft (block_start which come.start cursor.place) (seen ++ more) cursor.place (stopped BadHead cursor.place)
-      (head_at-bad cursor.place seen more come.in_bytes outcome))
-      ∙ ends_of-stopped draft.payload (seen ++ more) (stopped BadHead cursor.place);
-  stands = tt;
-}
+bad_head which cursor draft seen come outcome =
+    failed BadHead cursor.place cursor draft seen come.all_bytes come.count
+    (λ more.
+    let bytes = seen ++ more in
+    let stop = stopped BadHead cursor.place in
+    come.reads more
+    ∙ ap (λ (reading : Result Bundle Stop). read_alone bytes
+    (with_known_payload draft.payload reading))
+    (field_left-stopped which draft (block_start which come.start cursor.place) bytes cursor.place
+    stop
+    (head_at-bad cursor.place seen more come.in_bytes outcome))
+    ∙ read_alone-stopped draft.payload bytes stop)
 
 -- a whole head that is judged
 judged_head : (which : Field) (cursor : Cursor) (draft new : Draft) (head : HeadItem)
@@ -294,14 +371,20 @@ judged_head : (which : Field) (cursor : Cursor) (draft new : Draft) (head : Head
     → head_front (drop cursor.place seen) ≡ Whole head (length (drop cursor.place seen))
     → AsReadFrom cursor.place cursor.count which draft head result new
     → (more : List ℕ) → judged (seen ++ more)
-    ≡ goes_on result new (block_start which come.start cursor.place) cursor.place (length seen) (seen ++ more)
+    ≡ goes_on result new (block_start which come.start cursor.place) cursor.place (length seen)
+    (seen ++ more)
 unfolding stage_left
 judged_head which cursor draft new head result seen come outcome judges more =
     let whole = head_at-whole cursor.place seen more head come.in_bytes outcome in
     come.reads more
-    ∙ subst (λ (count : ℕ). ends_of (seen ++ more) (with_known_payload draft.payload (field_left which draft (block_start which come.start cursor.place) (seen ++ more) cursor.place))
-    ≡ goes_on result new (block_start which come.start cursor.place) cursor.place count (seen ++ more)) come.count
-    (judges (seen ++ more) come.start (rw come.count whole) (omega (arith, length-append seen more, come.count)))
+    ∙ subst (λ (count : ℕ). read_alone (seen ++ more)
+    (with_known_payload draft.payload
+    (field_left which draft (block_start which come.start cursor.place)
+    (seen ++ more) cursor.place))
+    ≡ goes_on result new (block_start which come.start cursor.place) cursor.place count
+    (seen ++ more)) come.count
+    (judges (seen ++ more) come.start (rw come.count whole)
+    (omega (arith, length-append seen more, come.count)))
 
 pub went_on : (which : Field) (old cursor : Cursor) (draft new : Draft) (head : HeadItem)
     (stage : Stage) (seen : List ℕ)
@@ -311,7 +394,8 @@ pub went_on : (which : Field) (old cursor : Cursor) (draft new : Draft) (head : 
     → KeepsCheck draft.check stage new.check → Enters stage old cursor
     → HasCome stage cursor new seen
 went_on which old cursor draft new head stage seen come outcome judges keeps enters =
-    entered stage old cursor draft.check new (block_start which come.start old.place) seen come.all_bytes come.count
+    entered stage old cursor draft.check new (block_start which come.start old.place) seen
+    come.all_bytes come.count
     come.in_block come.checks keeps enters
     (judged_head which old draft new head (Ok stage) seen come outcome judges)
 
@@ -321,11 +405,6 @@ pub refused : (which : Field) (cursor : Cursor) (draft new : Draft) (head : Head
     → head_front (drop cursor.place seen) ≡ Whole head (length (drop cursor.place seen))
     → AsReadFrom cursor.place cursor.count which draft head (Err fault) new
     → HasCome (Failed fault cursor.place) cursor new seen
-unfolding stage_left
-refused which cursor draft new head fault seen come outcome judges = record {
-  all_bytes = come.all_bytes;
-  count = come.count;
-  start = come.start;
-  reads = judged_head which cursor draft new head (Err fault) seen come outcome judges;
-  stands = tt;
-}
+refused which cursor draft new head fault seen come outcome judges =
+    failed fault cursor.place cursor new seen come.all_bytes come.count
+    (judged_head which cursor draft new head (Err fault) seen come outcome judges)

@@ -9,9 +9,9 @@ use Rattle.link_bundle.specs.declared.stage.Field.TheVariants as field
 use Rattle.link_bundle.specs.declared.stage.PrimaryField.TheVariants as primary
 use Rattle.link_bundle.specs.declared.stage.CanonicalField.TheVariants as canonical
 use Rattle.link_bundle.specs.declared.stage.Part.TheVariants as part
-use Rattle.link_bundle_rows.specs.declared.endpoint.Scheme.TheVariants.{Dtn, Ipn}
+use Rattle.link_bundle_heads.specs.declared.endpoint.Scheme.TheVariants.{Dtn, Ipn}
 use Rattle.std.specs.Prelude.{Result}
-use Rattle.link_bundle_rows.specs.Rows.{unsigned, byte_string, pair, scheme, dtn_part, ipn_part, version, primary_block, primary_check_type, block, block_too_many, block_number, block_check_type, check_field, closing}
+use Rattle.link_bundle_heads.specs.Rows.{unsigned, byte_string, pair, scheme, dtn_part, ipn_part, version, primary_block, primary_check_type, block, block_too_many, block_number, block_check_type, check_field, closing}
 use Rattle.link_bundle.specs.Reading.{Stop, head_at, row_at}
 use Rattle.link_bundle.specs.EndpointId.{eid_at, specific_at}
 use Rattle.link_bundle.specs.CheckField.{field_at}
@@ -29,39 +29,66 @@ blocks_at-stopped : (left : ℕ) (numbers : List ℕ) (primary : Primary) (bytes
     (place : ℕ) (stop : Stop)
     → head_at bytes place ≡ Err stop → blocks_at left numbers primary bytes place ≡ Err stop
 unfolding blocks_at
-blocks_at-stopped zero numbers primary bytes place stop outcome = rw (row_at-stopped block_too_many bytes place stop outcome) refl
-blocks_at-stopped (suc left) numbers primary bytes place stop outcome = rw (row_at-stopped block bytes place stop outcome) refl
+blocks_at-stopped zero numbers primary bytes place stop outcome =
+    rw (row_at-stopped block_too_many bytes place stop outcome) refl
+blocks_at-stopped (suc left) numbers primary bytes place stop outcome =
+    rw (row_at-stopped block bytes place stop outcome) refl
 
 pub field_left-stopped : (which : Field) (draft : Draft) (start : ℕ) (bytes : List ℕ)
     (place : ℕ) (stop : Stop)
     → head_at bytes place ≡ Err stop → field_left which draft start bytes place ≡ Err stop
-unfolding field_left primary_block_left version_left flags_left check_type_left timestamp_left time_left sequence_left lifetime_left offset_left total_left fragment_at eid_at specific_at scheme_left allocator_left node_left service_left type_left number_left block_flags_left block_check_left data_left field_at
-field_left-stopped (field.Primary primary.Block) draft start bytes place stop outcome = rw (row_at-stopped primary_block bytes place stop outcome) refl
-field_left-stopped (field.Primary primary.Version) draft start bytes place stop outcome = rw (row_at-stopped version bytes place stop outcome) refl
-field_left-stopped (field.Primary primary.Flags) draft start bytes place stop outcome = rw (row_at-stopped unsigned bytes place stop outcome) refl
+unfolding field_left primary_block_left version_left flags_left check_type_left timestamp_left
+    time_left sequence_left lifetime_left offset_left total_left fragment_at eid_at specific_at
+    scheme_left allocator_left node_left service_left type_left number_left block_flags_left
+    block_check_left data_left field_at
+field_left-stopped (field.Primary primary.Block) draft start bytes place stop outcome =
+    rw (row_at-stopped primary_block bytes place stop outcome) refl
+field_left-stopped (field.Primary primary.Version) draft start bytes place stop outcome =
+    rw (row_at-stopped version bytes place stop outcome) refl
+field_left-stopped (field.Primary primary.Flags) draft start bytes place stop outcome =
+    rw (row_at-stopped unsigned bytes place stop outcome) refl
 field_left-stopped (field.Primary primary.CheckType) draft start bytes place stop outcome =
     rw (row_at-stopped (primary_check_type draft.count draft.flags) bytes place stop outcome) refl
-field_left-stopped (field.Primary primary.Timestamp) draft start bytes place stop outcome = rw (row_at-stopped pair bytes place stop outcome) refl
-field_left-stopped (field.Primary primary.Time) draft start bytes place stop outcome = rw (row_at-stopped unsigned bytes place stop outcome) refl
-field_left-stopped (field.Primary primary.Sequence) draft start bytes place stop outcome = rw (row_at-stopped unsigned bytes place stop outcome) refl
-field_left-stopped (field.Primary primary.Lifetime) draft start bytes place stop outcome = rw (row_at-stopped unsigned bytes place stop outcome) refl
-field_left-stopped (field.Primary primary.FragmentOffset) draft start bytes place stop outcome = rw (row_at-stopped unsigned bytes place stop outcome) refl
-field_left-stopped (field.Primary primary.TotalLength) draft start bytes place stop outcome = rw (row_at-stopped unsigned bytes place stop outcome) refl
-field_left-stopped (field.Endpoint role part.Whole) draft start bytes place stop outcome = rw (row_at-stopped pair bytes place stop outcome) refl
-field_left-stopped (field.Endpoint role part.Scheme) draft start bytes place stop outcome = rw (row_at-stopped scheme bytes place stop outcome) refl
-field_left-stopped (field.Endpoint role (part.Specific Dtn)) draft start bytes place stop outcome = rw (row_at-stopped dtn_part bytes place stop outcome) refl
-field_left-stopped (field.Endpoint role (part.Specific Ipn)) draft start bytes place stop outcome = rw (row_at-stopped ipn_part bytes place stop outcome) refl
-field_left-stopped (field.Endpoint role part.Allocator) draft start bytes place stop outcome = rw (row_at-stopped unsigned bytes place stop outcome) refl
-field_left-stopped (field.Endpoint role part.Node) draft start bytes place stop outcome = rw (row_at-stopped unsigned bytes place stop outcome) refl
-field_left-stopped (field.Endpoint role part.Service) draft start bytes place stop outcome = rw (row_at-stopped unsigned bytes place stop outcome) refl
+field_left-stopped (field.Primary primary.Timestamp) draft start bytes place stop outcome =
+    rw (row_at-stopped pair bytes place stop outcome) refl
+field_left-stopped (field.Primary primary.Time) draft start bytes place stop outcome =
+    rw (row_at-stopped unsigned bytes place stop outcome) refl
+field_left-stopped (field.Primary primary.Sequence) draft start bytes place stop outcome =
+    rw (row_at-stopped unsigned bytes place stop outcome) refl
+field_left-stopped (field.Primary primary.Lifetime) draft start bytes place stop outcome =
+    rw (row_at-stopped unsigned bytes place stop outcome) refl
+field_left-stopped (field.Primary primary.FragmentOffset) draft start bytes place stop outcome =
+    rw (row_at-stopped unsigned bytes place stop outcome) refl
+field_left-stopped (field.Primary primary.TotalLength) draft start bytes place stop outcome =
+    rw (row_at-stopped unsigned bytes place stop outcome) refl
+field_left-stopped (field.Endpoint role part.Array) draft start bytes place stop outcome =
+    rw (row_at-stopped pair bytes place stop outcome) refl
+field_left-stopped (field.Endpoint role part.Scheme) draft start bytes place stop outcome =
+    rw (row_at-stopped scheme bytes place stop outcome) refl
+field_left-stopped (field.Endpoint role (part.Specific Dtn)) draft start bytes place stop outcome =
+    rw (row_at-stopped dtn_part bytes place stop outcome) refl
+field_left-stopped (field.Endpoint role (part.Specific Ipn)) draft start bytes place stop outcome =
+    rw (row_at-stopped ipn_part bytes place stop outcome) refl
+field_left-stopped (field.Endpoint role part.Allocator) draft start bytes place stop outcome =
+    rw (row_at-stopped unsigned bytes place stop outcome) refl
+field_left-stopped (field.Endpoint role part.Node) draft start bytes place stop outcome =
+    rw (row_at-stopped unsigned bytes place stop outcome) refl
+field_left-stopped (field.Endpoint role part.Service) draft start bytes place stop outcome =
+    rw (row_at-stopped unsigned bytes place stop outcome) refl
 field_left-stopped (field.Canonical canonical.Block) draft start bytes place stop outcome =
-    blocks_at-stopped (64 - length draft.numbers) draft.numbers (primary_of draft) bytes place stop outcome
-field_left-stopped (field.Canonical canonical.Type) draft start bytes place stop outcome = rw (row_at-stopped unsigned bytes place stop outcome) refl
+    blocks_at-stopped (64 - length draft.numbers) draft.numbers
+    (primary_of draft) bytes place stop outcome
+field_left-stopped (field.Canonical canonical.Type) draft start bytes place stop outcome =
+    rw (row_at-stopped unsigned bytes place stop outcome) refl
 field_left-stopped (field.Canonical canonical.Number) draft start bytes place stop outcome =
     rw (row_at-stopped (block_number draft.block_type draft.numbers) bytes place stop outcome) refl
-field_left-stopped (field.Canonical canonical.Flags) draft start bytes place stop outcome = rw (row_at-stopped unsigned bytes place stop outcome) refl
+field_left-stopped (field.Canonical canonical.Flags) draft start bytes place stop outcome =
+    rw (row_at-stopped unsigned bytes place stop outcome) refl
 field_left-stopped (field.Canonical canonical.CheckType) draft start bytes place stop outcome =
     rw (row_at-stopped (block_check_type draft.count) bytes place stop outcome) refl
-field_left-stopped (field.Canonical canonical.Data) draft start bytes place stop outcome = rw (row_at-stopped byte_string bytes place stop outcome) refl
-field_left-stopped (field.Check kind) draft start bytes place stop outcome = rw (row_at-stopped (check_field kind) bytes place stop outcome) refl
-field_left-stopped field.Closing draft start bytes place stop outcome = rw (row_at-stopped closing bytes place stop outcome) refl
+field_left-stopped (field.Canonical canonical.Data) draft start bytes place stop outcome =
+    rw (row_at-stopped byte_string bytes place stop outcome) refl
+field_left-stopped (field.Check kind) draft start bytes place stop outcome =
+    rw (row_at-stopped (check_field kind) bytes place stop outcome) refl
+field_left-stopped field.Closing draft start bytes place stop outcome =
+    rw (row_at-stopped closing bytes place stop outcome) refl

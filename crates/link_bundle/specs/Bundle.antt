@@ -8,16 +8,17 @@ use Rattle.link_bundle_types.specs.declared.fault.State.TheVariants as state
 use Rattle.link_bundle_types.specs.declared.info.BundleInfo.{BundleInfo}
 use Rattle.link_bundle_types.specs.Faults.{lasts}
 use Rattle.link_cbor.specs.declared.check.CheckKind.{CheckKind}
-use Rattle.link_bundle_rows.specs.Rows.{◌>>=◌, unsigned, byte_string, block, block_too_many, block_number, block_check_type, closing}
+use Rattle.link_bundle_heads.specs.Rows.{◌>>=◌, unsigned, byte_string, block, block_too_many, block_number, block_check_type, closing}
 use Rattle.link_bundle.specs.Reading.{Reading, Stop, stopped, cut_short, row_at}
 use Rattle.link_bundle.specs.CheckField.{field_at}
 use Rattle.link_bundle.specs.Primary.{Primary, primary_at}
 use Rattle.link_bundle.specs.Canonical.{content_at}
 
--- a whole bundle: its length, and the offset and the length of its payload
+-- a whole bundle and its length
 pub record Bundle : Type 0 where
   pub info : BundleInfo
   pub length : ℕ
+  -- the offset and the length of the payload; `info` has the length alone
   pub payload : ℕ × ℕ
 
 -- a stop after the head of the payload's data, where the offset and the length of the payload are
@@ -26,8 +27,9 @@ abbrev pub with_payload : {A : Type 0} → ℕ × ℕ → Result A Stop → Resu
 with_payload payload (Ok value) = Ok value
 with_payload payload (Err stop) = Err (record stop { payload = Some payload })
 
+-- the fields of a bundle with that many canonical blocks and a payload of that many bytes
 abbrev pub info_of : Primary → ℕ → ℕ → BundleInfo
-info_of primary blocks payload =
+info_of primary blocks size =
     record {
       flags = primary.flags;
       destination = primary.destination;
@@ -37,7 +39,7 @@ info_of primary blocks payload =
       lifetime = primary.lifetime;
       fragment = primary.fragment;
       blocks = blocks;
-      payload = payload;
+      payload = size;
     }
 
 -- the data of the payload block that begins at `start`, its check field, and the break after the
@@ -81,15 +83,16 @@ bundle_at bytes = do
   blocks_at 64 [] primary bytes place
 
 -- the bundle, if no byte follows it, or else the fault of trailing bytes
-abbrev pub ends : List ℕ → Bundle → Result Bundle Stop
-ends bytes bundle =
+abbrev pub if_alone : List ℕ → Bundle → Result Bundle Stop
+if_alone bytes bundle =
     if bundle.length == length bytes then Ok bundle
     else Err (record { fault = Trailing; place = bundle.length; payload = Some bundle.payload })
 
+-- all of the bytes as a bundle, or the stop at their first fault
 unfoldable pub judged : List ℕ → Result Bundle Stop
 judged bytes = do
   bundle ← bundle_at bytes
-  ends bytes bundle
+  if_alone bytes bundle
 
 abbrev pub verdict_by : Result Bundle Stop → Result BundleInfo (BundleFault × ℕ)
 verdict_by (Ok bundle) = Ok bundle.info

@@ -2,7 +2,7 @@
 
 use Rattle.std.specs.Prelude.{ℕ, Bool, List, Option}
 use Rattle.link_cbor.specs.declared.check.CheckKind.{CheckKind}
-use Rattle.link_bundle_rows.specs.Rows.{◌>>=◌}
+use Rattle.link_bundle_heads.specs.Rows.{◌>>=◌}
 use Rattle.link_bundle.specs.Reading.{Reading, bytes_at}
 use Rattle.link_bundle.specs.CheckField.{field_at}
 

@@ -4,7 +4,7 @@ use Rattle.std.specs.Prelude.{ℕ, ◌+◌, ◌*◌, ◌==◌, Bool, true, List,
 use Rattle.link_cbor.specs.declared.check.CheckKind.{CheckKind}
 use Rattle.link_cbor.specs.Crc.{crc}
 use Rattle.link_bundle_types.specs.declared.fault.BundleFault.TheVariants.{CheckDiffers}
-use Rattle.link_bundle_rows.specs.Rows.{◌>>=◌, check_width, check_field}
+use Rattle.link_bundle_heads.specs.Rows.{◌>>=◌, check_width, check_field}
 use Rattle.link_bundle.specs.Reading.{Reading, stopped, row_at, bytes_at}
 
 -- the number that bytes spell after those that spell `high`, the most significant byte first

@@ -3,9 +3,9 @@
 use Rattle.std.specs.Prelude.{ℕ, ◌==◌, Bool, true, false, List, Option, Some, None, Ok}
 use Rattle.link_bundle_types.specs.declared.eid.Eid.{Eid}
 use Rattle.link_bundle_types.specs.declared.eid.Eid.TheVariants.{DtnNone, Dtn as DtnName, Ipn as IpnNumbers, Ipn3}
-use Rattle.link_bundle_rows.specs.declared.endpoint.Scheme.{Scheme}
-use Rattle.link_bundle_rows.specs.declared.endpoint.Scheme.TheVariants.{Dtn, Ipn}
-use Rattle.link_bundle_rows.specs.Rows.{◌>>=◌, unsigned, pair, scheme, dtn_part, ipn_part}
+use Rattle.link_bundle_heads.specs.declared.endpoint.Scheme.{Scheme}
+use Rattle.link_bundle_heads.specs.declared.endpoint.Scheme.TheVariants.{Dtn, Ipn}
+use Rattle.link_bundle_heads.specs.Rows.{◌>>=◌, unsigned, pair, scheme, dtn_part, ipn_part}
 use Rattle.link_bundle.specs.Reading.{Reading, row_at, bytes_at}
 
 -- dtn:none, or a dtn name of that many bytes

@@ -18,7 +18,7 @@ use Rattle.link_bundle.specs.declared.stage.CanonicalField.TheVariants as canoni
 use Rattle.link_bundle.specs.declared.stage.CheckType.{CheckType}
 use Rattle.link_bundle.specs.declared.stage.Role.{Role}
 use Rattle.link_bundle.specs.declared.stage.Role.TheVariants.{Destination, Source, ReportTo}
-use Rattle.link_bundle_kept.specs.KeptEid.{name_fits}
+use Rattle.link_bundle_types.specs.KeptEid.{name_fits}
 use Rattle.link_bundle.specs.declared.checks.BlockChecks.{BlockChecks}
 use Rattle.link_bundle.specs.CheckKinds.{kind_of, is_unread, is_kind}
 use Rattle.link_bundle.specs.Covers.{Covers}

@@ -25,14 +25,14 @@ use Rattle.link_bundle.specs.declared.stage.CheckType.TheVariants.{Is}
 use Rattle.link_bundle_types.specs.declared.fault.BundleFault.{BundleFault}
 use Rattle.link_bundle_types.specs.declared.fault.BundleFault.TheVariants.{CheckDiffers}
 use Rattle.link_bundle.specs.CheckKinds.{kind_of}
-use Rattle.link_bundle_rows.specs.Rows.{◌>>=◌, unsigned, byte_string, pair, scheme, version, is_fragment, primary_block, primary_check_type, block_number, block_check_type, closing}
+use Rattle.link_bundle_heads.specs.Rows.{◌>>=◌, unsigned, byte_string, pair, scheme, version, is_fragment, primary_block, primary_check_type, block_number, block_check_type, closing}
 use Rattle.link_bundle.specs.Reading.{Stop, stopped, Reading, head_at, row_at, bytes_at}
 use Rattle.link_bundle.specs.EndpointId.{specific_at, eid_at}
-use Rattle.link_bundle_kept.specs.KeptEid.{name_of}
+use Rattle.link_bundle_types.specs.KeptEid.{name_of}
 use Rattle.link_bundle.specs.CheckField.{number_from, field_at}
 use Rattle.link_bundle.specs.Primary.{Primary, fragment_at}
 use Rattle.link_bundle.specs.Canonical.{content_at}
-use Rattle.link_bundle.specs.Bundle.{Bundle, with_payload, info_of, payload_at, blocks_at, ends, judged}
+use Rattle.link_bundle.specs.Bundle.{Bundle, with_payload, info_of, payload_at, blocks_at, if_alone, judged}
 
 abbrev pub primary_of : Draft → Primary
 primary_of draft =
@@ -221,7 +221,7 @@ scheme_left bytes place = do
   specific_at scheme bytes place
 
 abbrev pub part_left : Part → Draft → List ℕ → ℕ → Reading Eid
-part_left part.Whole draft bytes place = eid_at bytes place
+part_left part.Array draft bytes place = eid_at bytes place
 part_left part.Scheme draft bytes place = scheme_left bytes place
 part_left (part.Specific scheme) draft bytes place = specific_at scheme bytes place
 part_left part.Allocator draft bytes place = allocator_left bytes place
@@ -300,10 +300,10 @@ field_left field.Closing draft start bytes place = do
   Ok (bundle_of draft end)
 
 -- the bundle that was read, if no byte follows it, or else the fault of trailing bytes
-abbrev pub ends_of : List ℕ → Result Bundle Stop → Result Bundle Stop
-ends_of bytes reading = do
+abbrev pub read_alone : List ℕ → Result Bundle Stop → Result Bundle Stop
+read_alone bytes reading = do
   bundle ← reading
-  ends bytes bundle
+  if_alone bytes bundle
 
 -- the check value of a block from its start to the content of its check field, and of that many
 -- zeros
@@ -311,11 +311,11 @@ unfoldable pub zeroed_check : CheckKind → ℕ → ℕ → ℕ → List ℕ →
 zeroed_check kind start content zeros bytes =
     crc kind (slice_range bytes start content ++ replicate zeros 0)
 
--- the rest of the content of a check field whose head is at `field`
+-- the rest of the content of a check field whose head is at `head`
 unfoldable pub stored_left : ℕ → ℕ → ℕ → ℕ → List ℕ → ℕ → Reading Bool
-stored_left left stored expected field bytes place = do
+stored_left left stored expected head bytes place = do
   (rest, next) ← bytes_at left bytes place
-  if number_from stored rest == expected then Ok (true, next) else Err (stopped CheckDiffers field)
+  if number_from stored rest == expected then Ok (true, next) else Err (stopped CheckDiffers head)
 
 -- the offset of the current block: the head of an array begins its block
 abbrev pub block_start : Field → ℕ → ℕ → ℕ
@@ -339,26 +339,26 @@ block_start (field.Canonical canonical.Data) start place = start
 block_start (field.Check kind) start place = start
 block_start field.Closing start place = start
 
--- The rest at a stage, in a block that begins at `start`. The current head or the head of the
--- current field is at `field`, and `place` bytes were seen.
+-- The rest at a stage, in a block that begins at `start`. The current head is at `head`, and
+-- `place` bytes were seen. In a check field, the head is at `head` and the content at `content`.
 unfoldable pub stage_left : Stage → Draft → ℕ → ℕ → List ℕ → ℕ → Result Bundle Stop
-stage_left Start draft start field bytes place = judged bytes
-stage_left (Head which) draft start field bytes place =
-    ends_of bytes (with_known_payload draft.payload
-    (field_left which draft (block_start which start field) bytes field))
-stage_left (Name role left) draft start field bytes place =
-    ends_of bytes (with_known_payload draft.payload
+stage_left Start draft start head bytes place = judged bytes
+stage_left (Head which) draft start head bytes place =
+    read_alone bytes (with_known_payload draft.payload
+    (field_left which draft (block_start which start head) bytes head))
+stage_left (Name role left) draft start head bytes place =
+    read_alone bytes (with_known_payload draft.payload
     (after_primary draft start bytes
     (after_eid role draft bytes (name_left (kept_name role draft) left bytes place))))
-stage_left (Content left) draft start field bytes place =
-    ends_of bytes (with_known_payload draft.payload
+stage_left (Content left) draft start head bytes place =
+    read_alone bytes (with_known_payload draft.payload
     (after_field draft bytes (content_at left (kind_of draft.check) start bytes place)))
-stage_left (Stored field left stored kind) draft start content bytes place =
+stage_left (Stored head left stored kind) draft start content bytes place =
     let check = zeroed_check kind start content (place + left - content) bytes in
-    ends_of bytes (with_known_payload draft.payload
-    (after_field draft bytes (stored_left left stored check field bytes place)))
-stage_left Ended draft start field bytes place = ends bytes (bundle_of draft field)
-stage_left (Failed fault at) draft start field bytes place =
+    read_alone bytes (with_known_payload draft.payload
+    (after_field draft bytes (stored_left left stored check head bytes place)))
+stage_left Ended draft start head bytes place = if_alone bytes (bundle_of draft head)
+stage_left (Failed fault at) draft start head bytes place =
     with_known_payload draft.payload (Err (stopped fault at))
 
 -- the rest after a whole head that begins at `place` and ends before `next`
@@ -372,7 +372,7 @@ goes_on (Err fault) draft start place next bytes =
 abbrev pub AsReadFrom : ℕ → ℕ → Field → Draft → HeadItem → Result Stage BundleFault → Draft → Type 0
 AsReadFrom place next which old head result new =
     (bytes : List ℕ) (start : ℕ) → head_at bytes place ≡ Ok (head, next) → next ≤ length bytes →
-    ends_of bytes (with_known_payload old.payload
+    read_alone bytes (with_known_payload old.payload
     (field_left which old (block_start which start place) bytes place))
     ≡ goes_on result new (block_start which start place) place next bytes
 
@@ -381,14 +381,14 @@ AsReadFrom place next which old head result new =
 abbrev pub BlockEnds : Draft → Stage → Draft → Type 0
 BlockEnds old stage new =
     (bytes : List ℕ) (start next : ℕ) →
-    ends_of bytes (with_known_payload old.payload
+    read_alone bytes (with_known_payload old.payload
     (block_end old.payload old.numbers (primary_of old) bytes next))
     ≡ stage_left stage new start next bytes next
 
 abbrev pub FieldsEnd : Draft → Stage → Draft → Type 0
 FieldsEnd old stage new =
     (bytes : List ℕ) (start next : ℕ) →
-    ends_of bytes (with_known_payload old.payload
+    read_alone bytes (with_known_payload old.payload
     (after_field old bytes (field_at (kind_of old.check) start bytes next)))
     ≡ stage_left stage new start next bytes next
 
@@ -396,14 +396,14 @@ FieldsEnd old stage new =
 abbrev pub ContentBegins : ℕ → Draft → Stage → Draft → Type 0
 ContentBegins size old stage new =
     (bytes : List ℕ) (start next : ℕ) → next ≤ length bytes →
-    ends_of bytes (with_known_payload old.payload
+    read_alone bytes (with_known_payload old.payload
     (after_field old bytes (content_at size (kind_of old.check) start bytes next)))
     ≡ stage_left stage new start next bytes next
 
 abbrev pub EidEnds : Role → Eid → Draft → Stage → Draft → Type 0
 EidEnds role eid old stage new =
     (bytes : List ℕ) (start next : ℕ) →
-    ends_of bytes (with_known_payload old.payload
+    read_alone bytes (with_known_payload old.payload
     (after_primary old start bytes (after_eid role old bytes (Ok (eid, next)))))
     ≡ stage_left stage new start next bytes next
 
@@ -411,13 +411,13 @@ EidEnds role eid old stage new =
 abbrev pub NameBegins : Role → ℕ → Draft → Stage → Draft → Type 0
 NameBegins role size old stage new =
     (bytes : List ℕ) (start next : ℕ) → next ≤ length bytes →
-    ends_of bytes (with_known_payload old.payload
+    read_alone bytes (with_known_payload old.payload
     (after_primary old start bytes (after_eid role old bytes (name_left [] size bytes next))))
     ≡ stage_left stage new start next bytes next
 
 -- the stage after more bytes of a name that had `left` bytes left
 abbrev pub NameGoesOn : Role → ℕ → List ℕ → Draft → Stage → Draft → Type 0
 NameGoesOn role left run old stage new =
-    (bytes more : List ℕ) (start field place : ℕ) → drop place bytes ≡ run ++ more →
-    stage_left (Name role left) old start field bytes place
+    (bytes more : List ℕ) (start head place : ℕ) → drop place bytes ≡ run ++ more →
+    stage_left (Name role left) old start head bytes place
     ≡ stage_left stage new start (place + length run) bytes (place + length run)

@@ -3,7 +3,7 @@
 use Rattle.std.specs.Prelude.{ℕ, Bool, true, false, List, Option, Some, None, Ok}
 use Rattle.link_cbor.specs.declared.check.CheckKind.{CheckKind}
 use Rattle.link_bundle_types.specs.declared.eid.Eid.{Eid}
-use Rattle.link_bundle_rows.specs.Rows.{◌>>=◌, unsigned, pair, primary_block, version, is_fragment, primary_check_type}
+use Rattle.link_bundle_heads.specs.Rows.{◌>>=◌, unsigned, pair, primary_block, version, is_fragment, primary_check_type}
 use Rattle.link_bundle.specs.Reading.{Reading, row_at}
 use Rattle.link_bundle.specs.EndpointId.{eid_at}
 

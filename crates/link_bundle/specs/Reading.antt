@@ -1,17 +1,19 @@
--- How the parts of a bundle are read at offsets of a whole list of bytes.
+-- How the parts of a bundle are read at offsets of a whole list of bytes. A `place` is an offset in
+-- that list, and `next` the offset after a part.
 
 use Rattle.std.specs.Prelude.{ℕ, ◌+◌, nat_lt, List, length, take, drop, Option, None, Result, Ok, Err, if◌then◌else◌}
 use Rattle.link_cbor.specs.declared.head.Head.{Head}
 use Rattle.link_cbor.specs.Head.{HeadFront, Cut as CutHead, IllFormed, Whole, head_front}
 use Rattle.link_bundle_types.specs.declared.fault.BundleFault.{BundleFault}
 use Rattle.link_bundle_types.specs.declared.fault.BundleFault.TheVariants.{Cut, BadHead}
-use Rattle.link_bundle_rows.specs.Rows.{◌>>=◌}
+use Rattle.link_bundle_heads.specs.Rows.{◌>>=◌}
 
 -- The end of a reading: the fault and its offset. If the head of the payload's data was accepted
 -- before, the offset and the length of the payload are known too.
 pub record Stop : Type 0 where
   pub fault : BundleFault
   pub place : ℕ
+  -- the offset and the length
   pub payload : Option (ℕ × ℕ)
 
 abbrev pub stopped : BundleFault → ℕ → Stop
@@ -34,15 +36,16 @@ placed bytes place (Whole head size) = Ok (head, place + size)
 unfoldable pub head_at : List ℕ → ℕ → Reading Head
 head_at bytes place = placed bytes place (head_front (drop place bytes))
 
-abbrev pub judged_at : {A : Type 0} → ℕ → ℕ → Result A BundleFault → Reading A
-judged_at place next (Ok value) = Ok (value, next)
-judged_at place next (Err fault) = Err (stopped fault place)
+-- the value of a head with the offset after the head, or its fault with the offset of the head
+abbrev pub outcome_at : {A : Type 0} → ℕ → ℕ → Result A BundleFault → Reading A
+outcome_at place next (Ok value) = Ok (value, next)
+outcome_at place next (Err fault) = Err (stopped fault place)
 
--- the head at an offset, judged; a fault has the offset of the head
+-- the head at an offset, judged by a function of link_bundle_heads
 unfoldable pub row_at : {A : Type 0} → (Head → Result A BundleFault) → List ℕ → ℕ → Reading A
 row_at row bytes place = do
   (head, next) ← head_at bytes place
-  judged_at place next (row head)
+  outcome_at place next (row head)
 
 -- that many bytes from an offset on
 unfoldable pub bytes_at : ℕ → List ℕ → ℕ → Reading (List ℕ)

@@ -1,7 +1,7 @@
 -- The bytes that a scan of a bundle has seen. The promises need only two facts: `new` has seen
 -- nothing, and a step adds its byte.
 
-use Rattle.std.specs.Prelude.{◌≡◌, ℕ, ◌≤◌, Bool, ◌-◌, List, [], ◌++◌, length, replicate, slice_range, drop}
+use Rattle.std.specs.Prelude.{◌≡◌, ℕ, ◌+◌, ◌-◌, ◌^◌, ◌<◌, ◌≤◌, Bool, true, List, [], ◌++◌, length, replicate, slice_range, take, drop}
 use Rattle.link_cbor.specs.Head.{AreBytes, Cut, head_front}
 use Rattle.link_cbor.specs.HeadScan.{HasScanned as HasScannedHead}
 use Rattle.link_bundle.specs.declared.cursor.Cursor.{Cursor}
@@ -11,7 +11,7 @@ use Rattle.link_bundle.specs.declared.stage.CheckType.{CheckType}
 use Rattle.link_bundle.specs.declared.stage.Field.{Field}
 use Rattle.link_bundle.specs.declared.stage.Stage.{Stage}
 use Rattle.link_bundle.specs.declared.stage.Stage.TheVariants.{Start, Head, Name, Content, Stored, Ended, Failed}
-use Rattle.link_bundle.specs.Bundle.{judged}
+use Rattle.link_bundle.specs.Bundle.{judged, bundle_goes}
 use Rattle.link_bundle.specs.Covers.{Covers}
 use Rattle.link_bundle.specs.Left.{block_start, stage_left}
 use Rattle.link_bundle.specs.Stages.{stage_state, takes_bytes}
@@ -93,3 +93,24 @@ scan_size scan = scan.cursor.count
 -- whether one more byte may be fed
 abbrev pub may_scan : BundleScan → Bool
 may_scan scan = takes_bytes (stage_state scan.stage)
+
+-- the scan has taken exactly these bytes
+pub record HasTaken (old new : BundleScan) (run : List ℕ) : Type 0 where
+  pub size : scan_size new ≡ scan_size old + length run
+  pub seen : (seen : List ℕ) → HasScanned old seen → HasScanned new (seen ++ run)
+
+-- the scan may take the next bytes of a piece: it needs more bytes, and the piece has some
+pub record MayTake (scan : BundleScan) (piece : List ℕ) : Type 0 where
+  pub goes : (seen : List ℕ) → HasScanned scan seen → bundle_goes seen ≡ true
+  pub some : 0 < length piece
+  pub room : scan_size scan + length piece ≤ 2 ^ 63 - 1
+
+-- The scan has taken the first `count` bytes of a piece, at least one. Before each of them, more
+-- bytes were needed.
+pub record Takes (old new : BundleScan) (piece : List ℕ) (count : ℕ) : Type 0 where
+  pub some : 0 < count
+  pub within : count ≤ length piece
+  pub size : scan_size new ≡ scan_size old + count
+  pub seen : (seen : List ℕ) → HasScanned old seen → HasScanned new (seen ++ take count piece)
+  pub goes : (seen : List ℕ) → HasScanned old seen
+      → (fewer : ℕ) → fewer < count → bundle_goes (seen ++ take fewer piece) ≡ true

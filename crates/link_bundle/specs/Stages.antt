@@ -22,8 +22,8 @@ stage_state (Failed fault place) = state.Failed fault place
 
 -- the stage at the head after an endpoint ID
 abbrev pub stage_after : Role → Stage
-stage_after Destination = Head (field.Endpoint Source part.Whole)
-stage_after Source = Head (field.Endpoint ReportTo part.Whole)
+stage_after Destination = Head (field.Endpoint Source part.Array)
+stage_after Source = Head (field.Endpoint ReportTo part.Array)
 stage_after ReportTo = Head (field.Primary primary.Timestamp)
 
 -- whether one more byte may be fed, which is not so after a fault

@@ -2,7 +2,7 @@
 -- definitions.
 
 use Rattle.std.specs.Prelude.{ℕ, ◌+◌, ◌==◌, List, [], ◌∷◌, ◌++◌, length, Result, if◌then◌else◌}
-use Rattle.link_bundle_rows.specs.Rows.{◌>>=◌}
+use Rattle.link_bundle_heads.specs.Rows.{◌>>=◌}
 use Rattle.link_bundle.specs.declared.whole.Heads.{Heads}
 use Rattle.link_bundle.specs.Reading.{Stop}
 use Rattle.link_bundle.specs.Primary.{Primary}
@@ -18,6 +18,7 @@ after_heads heads left numbers primary start bytes place =
       (_, next) ← content_at heads.size heads.check start bytes place
       blocks_at left (numbers ++ heads.number ∷ []) primary bytes next
 
+-- a bundle whose payload has this offset and this length
 abbrev pub bundle_by : Primary → ℕ → ℕ × ℕ → ℕ → Bundle
-bundle_by primary blocks payload end =
-    record { info = info_of primary blocks payload.1; length = end; payload = payload }
+bundle_by primary blocks span end =
+    record { info = info_of primary blocks span.1; length = end; payload = span }

@@ -1,10 +1,9 @@
 //! The progress of a scan: the bytes counted, the head that is being read, and the checks.
 ghost use Rattle.std.specs.Prelude.{◌≡◌, ℕ, ◌+◌, ◌-◌, ◌^◌, ◌<◌, ◌≤◌, ◌↔◌, IsTrue, List, ◌∷◌, [], ◌++◌, length};
-ghost use Rattle.std.specs.Bool.{MatchBool};
 ghost use Rattle.link_cbor.specs.Head.{head_front, front_of};
 ghost use Rattle.link_cbor.specs.HeadScan.{HasScanned as HasScannedHead, may_scan as may_scan_head};
 ghost use Rattle.link_bundle.specs.Covers.{Covers};
-ghost use Rattle.link_bundle.specs.Fits.{is_block};
+ghost use Rattle.link_bundle.specs.Moves.{TakesRun, Enters};
 
 use crate::checks::BlockChecks;
 use crate::stage::{CheckType, Stage};
@@ -40,12 +39,9 @@ impl Cursor {
     pub fn head_byte(&mut self, check: CheckType, byte: u8) -> HeadStep
         requires room { self.old.count < 2 ^ 63 - 1 }
         requires may_step { IsTrue (may_scan_head self.old.head) }
-        ensures count { self.new.count ≡ self.old.count + 1 }
-        ensures place { self.new.place ≡ self.old.place }
+        ensures takes { TakesRun check self.old self.new (byte ∷ []) }
         ensures head { (seen : List ℕ) → HasScannedHead self.old.head seen
             → HasScannedHead self.new.head (seen ++ byte ∷ []) }
-        ensures checks { (covered : List ℕ) → Covers check self.old.checks covered
-            → Covers check self.new.checks (covered ++ byte ∷ []) }
         ensures front { (seen : List ℕ) → HasScannedHead self.new.head seen
             → head_front seen ≡ front_of result (length seen) }
         ensures may_step { IsTrue (may_scan_head self.new.head) ↔ (result ≡ HeadStep.More) }
@@ -60,10 +56,7 @@ impl Cursor {
     #[inline(always)]
     pub fn content_run(&mut self, check: CheckType, run: &[u8])
         requires room { self.old.count + length run.now ≤ 2 ^ 63 - 1 }
-        ensures count { self.new.count ≡ self.old.count + length run.now }
-        ensures place { self.new.place ≡ self.old.place }
-        ensures checks { (covered : List ℕ) → Covers check self.old.checks covered
-            → Covers check self.new.checks (covered ++ run.now) }
+        ensures { TakesRun check self.old self.new run.now }
     {
         self.count += run.len() as u64;
         self.checks.take(check, run);
@@ -73,12 +66,7 @@ impl Cursor {
     ///
     /// The next head is new, and at the head of a block's array the checks are new too.
     pub fn enter(&mut self, stage: Stage)
-        ensures count { self.new.count ≡ self.old.count }
-        ensures place { self.new.place ≡ self.old.count }
-        ensures head { HasScannedHead self.new.head [] }
-        ensures may_step { IsTrue (may_scan_head self.new.head) }
-        ensures checks { MatchBool (is_block stage) (Covers CheckType.Unread self.new.checks [])
-            (self.new.checks ≡ self.old.checks) }
+        ensures { Enters stage self.old self.new }
     {
         self.place = self.count;
         self.head = HeadScan::new();

@@ -2,9 +2,8 @@
 ghost use Rattle.std.specs.Prelude.{◌≡◌, ◌≤◌, [], ◌++◌, IsTrue, length};
 
 use crate::stage::{CanonicalField, CheckType, Field, Part, PrimaryField, Role, Stage};
-use link_bundle_kept::{BlockNumbers, EidForm, KeptEid};
-use link_bundle_rows::{Scheme, row};
-use link_bundle_types::{BundleFault, BundleInfo, BundleView};
+use link_bundle_heads::{Scheme, row};
+use link_bundle_types::{BlockNumbers, BundleFault, BundleInfo, BundleView, EidForm, KeptEid};
 use link_cbor::Head;
 
 /// The values of the heads so far.
@@ -203,7 +202,7 @@ impl Draft {
         ensures { Judged (Field.Primary PrimaryField.CheckType) self.old head result self.new }
     {
         self.check = CheckType::Is(row::primary_check_type(self.count, self.flags, head)?);
-        Ok(Stage::Head(Field::Endpoint(Role::Destination, Part::Whole)))
+        Ok(Stage::Head(Field::Endpoint(Role::Destination, Part::Array)))
     }
 
     #[tactic(auto, using(crate::proofs::Heads::heads), unfolding(crate::specs::Left::field_left, crate::specs::Left::stage_left, crate::specs::Left::timestamp_left))]
@@ -265,7 +264,7 @@ impl Draft {
     ghost use Rattle.link_bundle.specs.Fits.{stage_fits, rest_fits, KeepsCheck};
     ghost use Rattle.link_bundle.specs.Judged.{Judged};
     ghost use Rattle.link_bundle.specs.Left.{EidEnds, NameBegins, NameGoesOn, with_eid, kept_name};
-    ghost use Rattle.link_bundle_kept.specs.KeptEid.{formed};
+    ghost use Rattle.link_bundle_types.specs.KeptEid.{formed};
     ghost use Rattle.link_bundle_types.specs.declared.eid.Eid.TheVariants.{Dtn};
 
     /// Judges a head of an endpoint ID.
@@ -273,7 +272,7 @@ impl Draft {
         ensures { Judged (Field.Endpoint role part) self.old head result self.new }
     {
         match part {
-            Part::Whole => self.eid(role, head),
+            Part::Array => self.eid(role, head),
             Part::Scheme => self.scheme(role, head),
             Part::Specific(Scheme::Dtn) => self.dtn(role, head),
             Part::Specific(Scheme::Ipn) => self.ipn(role, head),
@@ -285,7 +284,7 @@ impl Draft {
 
     #[tactic(auto, using(crate::proofs::Heads::heads), unfolding(crate::specs::Left::field_left, crate::specs::Left::stage_left, crate::specs::EndpointId::eid_at, crate::specs::Left::scheme_left))]
     fn eid(&mut self, role: Role, head: Head) -> Result<Stage, BundleFault>
-        ensures { Judged (Field.Endpoint role Part.Whole) self.old head result self.new }
+        ensures { Judged (Field.Endpoint role Part.Array) self.old head result self.new }
     {
         row::pair(head)?;
         Ok(Stage::Head(Field::Endpoint(role, Part::Scheme)))

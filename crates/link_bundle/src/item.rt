@@ -3,11 +3,11 @@
 //! The major type of each head is known. So one look at its first byte shows whether it is one of
 //! the frequent heads. An error means only that it is not, or that the slice ends.
 ghost use Rattle.std.specs.Prelude.{◌≡◌, ◌+◌, ◌*◌, ◌-◌, ◌^◌, ◌<◌, ◌≤◌, length, get_or, true, Ok, IfOk};
-ghost use Rattle.link_bundle_rows.specs.Rows.{unsigned, pair, closing};
+ghost use Rattle.link_bundle_heads.specs.Rows.{unsigned, pair, closing};
 ghost use Rattle.link_bundle.specs.Reading.{head_at, row_at, bytes_at};
 
 use byteorder::{BigEndian, ByteOrder};
-use link_bundle_rows::row;
+use link_bundle_heads::row;
 use link_bundle_types::BundleFault;
 use link_cbor::Head;
 

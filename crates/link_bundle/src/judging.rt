@@ -8,7 +8,7 @@ ghost use Rattle.link_bundle.specs.Scan.{HasCome, HeadCame};
 use crate::cursor::Cursor;
 use crate::draft::Draft;
 use crate::stage::{Field, Stage};
-use link_bundle_rows::row;
+use link_bundle_heads::row;
 use link_bundle_types::BundleFault;
 use link_cbor::Head;
 

@@ -27,8 +27,7 @@
 //!
 //! The verdict depends only on the bytes, however they are cut into pieces. It is the definition
 //! `verdict` of specs/Bundle.antt. The crate `link_bundle_types` has the types, and
-//! `link_bundle_rows` judges the heads. `link_bundle_kept` has the values that a scan keeps in
-//! place.
+//! `link_bundle_heads` judges the heads.
 #![tactic(auto)]
 
 mod checks;

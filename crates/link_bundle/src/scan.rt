@@ -39,7 +39,7 @@ impl BundleScan {
     ghost use Rattle.link_bundle.specs.Bundle.{verdict, state_of, payload_span};
     ghost use Rattle.link_bundle_types.specs.BundleView.{viewed_info, viewed_verdict};
     ghost use Rattle.link_bundle_types.specs.ShortNames.{HasShortNames};
-    ghost use Rattle.link_bundle.specs.Scan.{HasScanned, scan_size, may_scan};
+    ghost use Rattle.link_bundle.specs.Scan.{HasScanned, scan_size, may_scan, HasTaken};
     ghost use Rattle.link_bundle.specs.Stages.{takes_bytes};
 
     /// A scan that has seen no byte.
@@ -121,9 +121,7 @@ impl BundleScan {
     fn open(&mut self, byte: u8)
         requires stage { self.old.stage ≡ Stage.Start }
         requires room { self.old.cursor.count < 2 ^ 63 - 1 }
-        ensures size { scan_size self.new ≡ scan_size self.old + 1 }
-        ensures seen { (seen : List ℕ) → HasScanned self.old seen
-            → HasScanned self.new (seen ++ byte ∷ []) }
+        ensures { HasTaken self.old self.new (byte ∷ []) }
     {
         self.cursor.count += 1;
         if byte == OPENING {
@@ -138,9 +136,7 @@ impl BundleScan {
     fn head_byte(&mut self, field: Field, byte: u8)
         requires stage { self.old.stage ≡ Stage.Head field }
         requires room { self.old.cursor.count < 2 ^ 63 - 1 }
-        ensures size { scan_size self.new ≡ scan_size self.old + 1 }
-        ensures seen { (seen : List ℕ) → HasScanned self.old seen
-            → HasScanned self.new (seen ++ byte ∷ []) }
+        ensures { HasTaken self.old self.new (byte ∷ []) }
     {
         match self.cursor.head_byte(self.draft.check, byte) {
             HeadStep::More => {}
@@ -162,9 +158,7 @@ impl BundleScan {
         requires begins { self.old.cursor.place ≡ self.old.cursor.count }
         requires whole { head_front run.now ≡ Whole head (length run.now) }
         requires room { self.old.cursor.count + length run.now ≤ 2 ^ 63 - 1 }
-        ensures size { scan_size self.new ≡ scan_size self.old + length run.now }
-        ensures seen { (seen : List ℕ) → HasScanned self.old seen
-            → HasScanned self.new (seen ++ run.now) }
+        ensures { HasTaken self.old self.new run.now }
     {
         self.cursor.content_run(self.draft.check, run);
         self.stage = take_head(&mut self.draft, &mut self.cursor, field, head);
@@ -175,9 +169,7 @@ impl BundleScan {
         requires stage { self.old.stage ≡ Stage.Name role left }
         requires within { length run.now ≤ left }
         requires room { self.old.cursor.count + length run.now ≤ 2 ^ 63 - 1 }
-        ensures size { scan_size self.new ≡ scan_size self.old + length run.now }
-        ensures seen { (seen : List ℕ) → HasScanned self.old seen
-            → HasScanned self.new (seen ++ run.now) }
+        ensures { HasTaken self.old self.new run.now }
     {
         self.cursor.content_run(self.draft.check, run);
         let stage = self.draft.name_run(role, left, run);
@@ -191,9 +183,7 @@ impl BundleScan {
         requires stage { self.old.stage ≡ Stage.Content left }
         requires within { length run.now ≤ left }
         requires room { self.old.cursor.count + length run.now ≤ 2 ^ 63 - 1 }
-        ensures size { scan_size self.new ≡ scan_size self.old + length run.now }
-        ensures seen { (seen : List ℕ) → HasScanned self.old seen
-            → HasScanned self.new (seen ++ run.now) }
+        ensures { HasTaken self.old self.new run.now }
     {
         self.cursor.content_run(self.draft.check, run);
         let left = left - run.len() as u64;
@@ -210,9 +200,7 @@ impl BundleScan {
     fn stored_byte(&mut self, place: u64, left: u64, stored: u32, kind: CheckKind, byte: u8)
         requires stage { self.old.stage ≡ Stage.Stored place left stored kind }
         requires room { self.old.cursor.count < 2 ^ 63 - 1 }
-        ensures size { scan_size self.new ≡ scan_size self.old + 1 }
-        ensures seen { (seen : List ℕ) → HasScanned self.old seen
-            → HasScanned self.new (seen ++ byte ∷ []) }
+        ensures { HasTaken self.old self.new (byte ∷ []) }
     {
         self.cursor.content_run(self.draft.check, &[0]);
         let stored = stored * 256 + u32::from(byte);
@@ -238,9 +226,7 @@ impl BundleScan {
     fn trailing_byte(&mut self, byte: u8)
         requires stage { self.old.stage ≡ Stage.Ended }
         requires room { self.old.cursor.count < 2 ^ 63 - 1 }
-        ensures size { scan_size self.new ≡ scan_size self.old + 1 }
-        ensures seen { (seen : List ℕ) → HasScanned self.old seen
-            → HasScanned self.new (seen ++ byte ∷ []) }
+        ensures { HasTaken self.old self.new (byte ∷ []) }
     {
         self.stage = Stage::Failed(BundleFault::Trailing, self.cursor.place);
         self.cursor.count += 1;
@@ -248,8 +234,7 @@ impl BundleScan {
 }
 
 impl BundleScan {
-    ghost use Rattle.link_bundle.specs.Bundle.{bundle_goes};
-    ghost use Rattle.link_bundle.specs.Scan.{HasScanned, scan_size, may_scan};
+    ghost use Rattle.link_bundle.specs.Scan.{may_scan, MayTake, Takes};
 
     /// Takes the next bytes of a piece while more are needed, and returns how many, at least one.
     ///
@@ -258,17 +243,8 @@ impl BundleScan {
     #[inline(always)]
     fn advance(&mut self, piece: &[u8]) -> usize
         requires may_step { IsTrue (may_scan self.old) }
-        requires goes { (seen : List ℕ) → HasScanned self.old seen → bundle_goes seen ≡ true }
-        requires some { 0 < length piece.now }
-        requires room { scan_size self.old + length piece.now ≤ 2 ^ 63 - 1 }
-        ensures some { 0 < result }
-        ensures within { result ≤ length piece.now }
-        ensures size { scan_size self.new ≡ scan_size self.old + result }
-        ensures seen { (seen : List ℕ) → HasScanned self.old seen
-            → HasScanned self.new (seen ++ take result piece.now) }
-        // More bytes were needed before each of these.
-        ensures goes { (seen : List ℕ) → HasScanned self.old seen
-            → (count : ℕ) → count < result → bundle_goes (seen ++ take count piece.now) ≡ true }
+        requires may_take { MayTake self.old piece.now }
+        ensures { Takes self.old self.new piece.now result }
     {
         match self.stage {
             Stage::Name(role, left) => {
@@ -296,16 +272,8 @@ impl BundleScan {
     #[inline(never)]
     fn advance_start(&mut self, piece: &[u8]) -> usize
         requires stage { self.old.stage ≡ Stage.Start }
-        requires some { 0 < length piece.now }
-        requires room { scan_size self.old + length piece.now ≤ 2 ^ 63 - 1 }
-        requires goes { (seen : List ℕ) → HasScanned self.old seen → bundle_goes seen ≡ true }
-        ensures some { 0 < result }
-        ensures within { result ≤ length piece.now }
-        ensures size { scan_size self.new ≡ scan_size self.old + result }
-        ensures seen { (seen : List ℕ) → HasScanned self.old seen
-            → HasScanned self.new (seen ++ take result piece.now) }
-        ensures goes { (seen : List ℕ) → HasScanned self.old seen
-            → (count : ℕ) → count < result → bundle_goes (seen ++ take count piece.now) ≡ true }
+        requires may_take { MayTake self.old piece.now }
+        ensures { Takes self.old self.new piece.now result }
     {
         match self.draft.whole(piece) {
             Ok(size) => {
@@ -327,16 +295,8 @@ impl BundleScan {
     fn advance_head(&mut self, field: Field, piece: &[u8]) -> usize
         requires stage { self.old.stage ≡ Stage.Head field }
         requires begins { self.old.cursor.place ≡ self.old.cursor.count }
-        requires goes { (seen : List ℕ) → HasScanned self.old seen → bundle_goes seen ≡ true }
-        requires some { 0 < length piece.now }
-        requires room { scan_size self.old + length piece.now ≤ 2 ^ 63 - 1 }
-        ensures some { 0 < result }
-        ensures within { result ≤ length piece.now }
-        ensures size { scan_size self.new ≡ scan_size self.old + result }
-        ensures seen { (seen : List ℕ) → HasScanned self.old seen
-            → HasScanned self.new (seen ++ take result piece.now) }
-        ensures goes { (seen : List ℕ) → HasScanned self.old seen
-            → (count : ℕ) → count < result → bundle_goes (seen ++ take count piece.now) ≡ true }
+        requires may_take { MayTake self.old piece.now }
+        ensures { Takes self.old self.new piece.now result }
     {
         match Head::front(piece) {
             Some((head, size)) => {

@@ -1,7 +1,7 @@
 //! The stages of a scan.
 ghost use Rattle.std.specs.Prelude.{◌≡◌};
 
-use link_bundle_rows::Scheme;
+use link_bundle_heads::Scheme;
 use link_bundle_types::{BundleFault, State};
 use link_cbor::CheckKind;
 
@@ -21,8 +21,8 @@ impl Role {
         ensures { result ≡ stage_after self }
     {
         match self {
-            Role::Destination => Stage::Head(Field::Endpoint(Role::Source, Part::Whole)),
-            Role::Source => Stage::Head(Field::Endpoint(Role::ReportTo, Part::Whole)),
+            Role::Destination => Stage::Head(Field::Endpoint(Role::Source, Part::Array)),
+            Role::Source => Stage::Head(Field::Endpoint(Role::ReportTo, Part::Array)),
             Role::ReportTo => Stage::Head(Field::Primary(PrimaryField::Timestamp)),
         }
     }
@@ -32,7 +32,7 @@ impl Role {
 #[derive(Clone, Copy)]
 pub(crate) enum Part {
     /// The array of the scheme and the specific part.
-    Whole,
+    Array,
     Scheme,
     /// The head of this scheme's specific part.
     Specific(Scheme),

@@ -7,7 +7,7 @@ ghost use Rattle.std.specs.Prelude.{◌≡◌, ℕ, suc, ◌<◌, ◌≤◌, ◌
 ghost use Rattle.link_bundle_types.specs.EidView.{viewed_eid};
 ghost use Rattle.link_bundle_types.specs.ShortNames.{IsShort};
 ghost use Rattle.link_cbor.specs.Crc.{crc};
-ghost use Rattle.link_bundle_rows.specs.Rows.{check_width};
+ghost use Rattle.link_bundle_heads.specs.Rows.{check_width};
 ghost use Rattle.link_bundle.specs.EndpointId.{eid_at, specific_at};
 ghost use Rattle.link_bundle.specs.CheckField.{number_from, field_at};
 ghost use Rattle.link_bundle.specs.Canonical.{content_at};
@@ -15,15 +15,14 @@ ghost use Rattle.link_bundle.specs.Primary.{Primary, fragment_at, primary_at};
 ghost use Rattle.link_bundle.specs.Bundle.{blocks_at, bundle_at};
 ghost use Rattle.link_bundle.specs.Left.{primary_of, bundle_of};
 ghost use Rattle.link_bundle.specs.Whole.{after_heads, bundle_by};
-ghost use Rattle.link_bundle_rows.specs.declared.endpoint.Scheme.TheVariants.{Dtn, Ipn};
+ghost use Rattle.link_bundle_heads.specs.declared.endpoint.Scheme.TheVariants.{Dtn, Ipn};
 
 use crate::draft::Draft;
 use crate::item::{bytes_at, closing_at, item_at, pair_at, small_at, unsigned_at};
 use crate::scan::OPENING;
 use byteorder::{BigEndian, ByteOrder};
-use link_bundle_kept::BlockNumbers;
-use link_bundle_rows::{Scheme, row};
-use link_bundle_types::{BundleFault, EidView};
+use link_bundle_heads::{Scheme, row};
+use link_bundle_types::{BlockNumbers, BundleFault, EidView};
 use link_cbor::{Check, CheckKind};
 
 /// The first three bytes of an ipn endpoint ID of two numbers: an array, the scheme, an array.

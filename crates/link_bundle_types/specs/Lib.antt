@@ -2,3 +2,4 @@ pub mod EidView
 pub mod BundleView
 pub mod Faults
 pub mod ShortNames
+pub mod KeptEid

@@ -4,6 +4,10 @@
 //! [`BundleView`] and [`EidView`] are the same by reference. [`State`] is the state of a scan.
 //! [`BundleFault`] is the reason why bytes are no bundle.
 //!
+//! A scan keeps two values in place, and empties them without overwriting what they held. A
+//! [`KeptEid`] is an endpoint ID whose dtn name comes in pieces of any size. [`BlockNumbers`] has
+//! the numbers of the canonical blocks.
+//!
 //! ```ignore
 //! match state {
 //!     State::Going => {}                 // more bytes are needed
@@ -16,7 +20,11 @@
 mod eid;
 mod fault;
 mod info;
+mod kept_eid;
+mod numbers;
 
 pub use eid::{EID_LIMIT, Eid, EidView};
 pub use fault::{BundleFault, State};
 pub use info::{BLOCK_LIMIT, BundleInfo, BundleView};
+pub use kept_eid::{EidForm, KeptEid};
+pub use numbers::BlockNumbers;

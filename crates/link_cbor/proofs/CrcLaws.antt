@@ -67,8 +67,10 @@ bits_differ (suc zero) (suc (suc y)) a b other = absurd (omega arith)
 pub turn_first : (kind : CheckKind) (register number : ℕ)
     → bit_xor (turn kind register (number % 2)) (number / 2) ≡ turn kind (bit_xor register number) 0
 turn_first kind register number =
-    let low : bit_xor register number % 2 ≡ bit_xor (register % 2) (number % 2) = xor_mod register number 1 in
-    let half : bit_xor register number / 2 ≡ bit_xor (register / 2) (number / 2) = xor_shr register number 1 in
+    let low : bit_xor register number % 2 ≡ bit_xor (register % 2) (number % 2) =
+    xor_mod register number 1 in
+    let half : bit_xor register number / 2 ≡ bit_xor (register / 2) (number / 2) =
+    xor_shr register number 1 in
     ⊎_elim
     (λ same.
     ap (λ r. bit_xor r (number / 2)) (turn-same kind register (number % 2) same)
@@ -82,7 +84,8 @@ turn_first kind register number =
     ∙ sym (xor_assoc (register / 2) (number / 2) (polynomial kind))
     ∙ ap (λ r. bit_xor r (polynomial kind)) (sym half)
     ∙ sym (turn-other kind (bit_xor register number) 0
-    (λ none. bits_differ (register % 2) (number % 2) (omega arith) (omega arith) other (sym low ∙ none))))
+    (λ none. bits_differ (register % 2) (number % 2) (omega arith) (omega arith) other
+    (sym low ∙ none))))
     (cases_eq (register % 2) (number % 2))
 
 turns_first : (kind : CheckKind) (count register number : ℕ) → number < 2 ^ count
@@ -92,7 +95,8 @@ unfolding low_bits zero_turns
 turns_first kind zero register number below =
     let none : number ≡ 0 = omega arith in rw (none, xor_zero_r register) refl
 turns_first kind (suc count) register number below =
-    turns_first kind count (turn kind register (number % 2)) (number / 2) (omega (arith, pow-suc 2 count))
+    turns_first kind count (turn kind register (number % 2)) (number / 2)
+    (omega (arith, pow-suc 2 count))
     ∙ ap (λ r. fold (turn kind) r (replicate count 0)) (turn_first kind register number)
 
 -- a byte may be exclusive-ored into the register before the turns of eight zero bits
@@ -100,7 +104,8 @@ pub register_after-byte : (kind : CheckKind) (register byte : ℕ) → byte < 25
     → register_after kind register (byte ∷ []) ≡ zero_turns kind 8 (bit_xor register byte)
 unfolding register_after all_bits
 register_after-byte kind register byte below =
-    ap (λ bits. fold (turn kind) register bits) (append-nil (low_bits 8 byte)) ∙ turns_first kind 8 register byte below
+    ap (λ bits. fold (turn kind) register bits) (append-nil (low_bits 8 byte))
+    ∙ turns_first kind 8 register byte below
 
 pub register_after-cons : (kind : CheckKind) (register byte : ℕ) (bytes : List ℕ) → byte < 256
     → register_after kind register (byte ∷ bytes)
@@ -112,7 +117,8 @@ register_after-cons kind register byte bytes below =
 -- zero bytes of the message are the turns of their zero bits
 register_after-zeros : (kind : CheckKind) (register count : ℕ)
     → register_after kind register (replicate count 0) ≡ zero_turns kind (8 * count) register
-register_after-zeros kind register zero = register_after-nil kind register ∙ sym (zero_turns-none kind register)
+register_after-zeros kind register zero =
+    register_after-nil kind register ∙ sym (zero_turns-none kind register)
 register_after-zeros kind register (suc count) =
     let eights : 8 + 8 * count ≡ 8 * suc count = omega arith in
     register_after-cons kind register 0 (replicate count 0) (omega arith)

@@ -17,7 +17,8 @@ pub record TakenInAll (goes : List ℕ → Bool) (seen bytes : List ℕ) (count 
   pub size : count ≡ length (taken goes seen bytes)
 
 pub none_taken : (goes : List ℕ → Bool) (seen bytes : List ℕ) → TakenSoFar goes seen bytes 0
-none_taken goes seen bytes = record { splits = ap (λ h. taken goes h bytes) (sym (append-nil seen)) }
+none_taken goes seen bytes =
+    record { splits = ap (λ h. taken goes h bytes) (sym (append-nil seen)) }
 
 pub taken_more : (goes : List ℕ → Bool) (seen bytes : List ℕ) (count : ℕ) → count < length bytes
     → goes (seen ++ take count bytes) ≡ true
@@ -25,14 +26,19 @@ pub taken_more : (goes : List ℕ → Bool) (seen bytes : List ℕ) (count : ℕ
 taken_more goes seen bytes count below wanted before = record {
   splits =
       before.splits
-      ∙ ap (λ rest. take count bytes ++ taken goes (seen ++ take count bytes) rest) (drop_more bytes count 0 below)
+      ∙ ap (λ rest. take count bytes ++ taken goes (seen ++ take count bytes) rest)
+      (drop_more bytes count 0 below)
       ∙ ap (λ t. take count bytes ++ t)
-      (taken-cons goes (seen ++ take count bytes) (get_or bytes count 0) (drop (count + 1) bytes) wanted)
+      (taken-cons goes (seen ++ take count bytes) (get_or bytes count 0)
+      (drop (count + 1) bytes) wanted)
       ∙ sym (append_assoc (take count bytes) (get_or bytes count 0 ∷ [])
-      (taken goes ((seen ++ take count bytes) ++ get_or bytes count 0 ∷ []) (drop (count + 1) bytes)))
-      ∙ ap (λ front. front ++ taken goes ((seen ++ take count bytes) ++ get_or bytes count 0 ∷ []) (drop (count + 1) bytes))
+      (taken goes ((seen ++ take count bytes) ++ get_or bytes count 0 ∷ [])
+      (drop (count + 1) bytes)))
+      ∙ ap (λ front. front ++ taken goes ((seen ++ take count bytes) ++ get_or bytes count 0 ∷ [])
+      (drop (count + 1) bytes))
       (sym (take_more bytes count 0 below))
-      ∙ ap (λ h. take (count + 1) bytes ++ taken goes h (drop (count + 1) bytes)) (joined_more seen bytes count below);
+      ∙ ap (λ h. take (count + 1) bytes ++ taken goes h (drop (count + 1) bytes))
+      (joined_more seen bytes count below);
 }
 
 in_all : (goes : List ℕ → Bool) (seen bytes : List ℕ) (count : ℕ) → count ≤ length bytes
@@ -48,7 +54,8 @@ pub taken_stop : (goes : List ℕ → Bool) (seen bytes : List ℕ) (count : ℕ
 taken_stop goes seen bytes count within idle before =
     in_all goes seen bytes count within
     (before.splits
-    ∙ ap (λ t. take count bytes ++ t) (taken-idle goes (seen ++ take count bytes) (drop count bytes) idle)
+    ∙ ap (λ t. take count bytes ++ t)
+    (taken-idle goes (seen ++ take count bytes) (drop count bytes) idle)
     ∙ append-nil (take count bytes))
 
 pub taken_all : (goes : List ℕ → Bool) (seen bytes : List ℕ) (count : ℕ) → count ≡ length bytes
@@ -56,6 +63,7 @@ pub taken_all : (goes : List ℕ → Bool) (seen bytes : List ℕ) (count : ℕ)
 taken_all goes seen bytes count all before =
     in_all goes seen bytes count (omega arith)
     (before.splits
-    ∙ ap (λ rest. take count bytes ++ taken goes (seen ++ take count bytes) rest) (drop_all count bytes (omega arith))
+    ∙ ap (λ rest. take count bytes ++ taken goes (seen ++ take count bytes) rest)
+    (drop_all count bytes (omega arith))
     ∙ ap (λ t. take count bytes ++ t) (taken-nil goes (seen ++ take count bytes))
     ∙ append-nil (take count bytes))

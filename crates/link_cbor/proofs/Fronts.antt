@@ -25,10 +25,13 @@ pub by_first : (bytes : List ℕ) → 0 < length bytes
     (bit_and (get_or bytes 0 0) 31) (drop 1 bytes)
 unfolding head_front
 by_first [] some = absurd (omega arith)
-by_first (first ∷ rest) some = ap (λ (information : ℕ). front_by (first / 32) information rest) (sym (and_mask first 5))
+by_first (first ∷ rest) some =
+    ap (λ (information : ℕ). front_by (first / 32) information rest) (sym (and_mask first 5))
 
 others : (bytes : List ℕ) → take (length bytes - 1) (drop 1 bytes) ≡ drop 1 bytes
-others bytes = ap (λ (size : ℕ). take size (drop 1 bytes)) (sym (length-drop 1 bytes)) ∙ take-length (drop 1 bytes)
+others bytes =
+    ap (λ (size : ℕ). take size (drop 1 bytes)) (sym (length-drop 1 bytes))
+    ∙ take-length (drop 1 bytes)
 
 -- a head with additional information 24 to 27
 pub by_argument : (bytes : List ℕ) (information : ℕ) → 0 < length bytes
@@ -36,9 +39,11 @@ pub by_argument : (bytes : List ℕ) (information : ℕ) → 0 < length bytes
     → head_front bytes ≡ argument_front (get_or bytes 0 0 / 32) (2 ^ (information - 24))
     (take (length bytes - 1) (drop 1 bytes))
 by_argument bytes information some is least below =
-    by_first bytes some ∙ ap (λ (information : ℕ). front_by (get_or bytes 0 0 / 32) information (drop 1 bytes)) is
+    by_first bytes some ∙ ap (λ (information : ℕ). front_by (get_or bytes 0 0 / 32) information
+    (drop 1 bytes)) is
     ∙ front_by-argument (get_or bytes 0 0 / 32) information (drop 1 bytes) least below
-    ∙ ap (λ (rest : List ℕ). argument_front (get_or bytes 0 0 / 32) (2 ^ (information - 24)) rest) (sym (others bytes))
+    ∙ ap (λ (rest : List ℕ). argument_front (get_or bytes 0 0 / 32) (2 ^ (information - 24)) rest)
+    (sym (others bytes))
 
 shifted : (first rest place byte : ℕ)
     → first * (place * 256) + (rest * 256 + byte) ≡ (first * place + rest) * 256 + byte
@@ -50,5 +55,7 @@ pub big_endian-push : (bytes : List ℕ) (byte : ℕ)
 unfolding big_endian
 big_endian-push [] byte = omega arith
 big_endian-push (first ∷ rest) byte =
-    let longer : length (rest ++ byte ∷ []) ≡ suc (length rest) = omega (arith, length-append rest (byte ∷ [])) in
-    rw (longer, pow-suc 256 (length rest), big_endian-push rest byte) (shifted first (big_endian rest) (256 ^ length rest) byte)
+    let longer : length (rest ++ byte ∷ []) ≡ suc (length rest) =
+    omega (arith, length-append rest (byte ∷ [])) in
+    rw (longer, pow-suc 256 (length rest), big_endian-push rest byte)
+    (shifted first (big_endian rest) (256 ^ length rest) byte)

@@ -22,7 +22,8 @@ zero_turns-shift kind (suc count) number =
     omega (arith, ap (λ power. number * power) (pow-suc 2 count)) in
     let none : number * 2 ^ suc count % 2 ≡ 0 = omega arith in
     let half : number * 2 ^ suc count / 2 ≡ number * 2 ^ count = omega arith in
-    ap (λ r. fold (turn kind) r (replicate count 0)) (turn-same kind (number * 2 ^ suc count) 0 none ∙ half)
+    ap (λ r. fold (turn kind) r (replicate count 0))
+    (turn-same kind (number * 2 ^ suc count) 0 none ∙ half)
     ∙ zero_turns-shift kind count number
 
 -- the two bits of a message lead to registers that differ by the polynomial
@@ -52,7 +53,8 @@ turn-xor kind first second =
     let one : second % 2 ≡ 1 = omega arith in
     ap (λ r. bit_xor r (second / 2)) (ap (turn kind first) one ∙ turn-one kind first)
     ∙ xor_assoc (turn kind first 0) (polynomial kind) (second / 2)
-    ∙ ap (bit_xor (turn kind first 0)) (xor_comm (polynomial kind) (second / 2) ∙ sym (turn-other kind second 0 odd)))
+    ∙ ap (bit_xor (turn kind first 0))
+    (xor_comm (polynomial kind) (second / 2) ∙ sym (turn-other kind second 0 odd)))
     (cases_eq (second % 2) 0)
 
 -- after zero bits, the exclusive or of two registers is the exclusive or of the registers after
@@ -77,15 +79,18 @@ register_after-xor kind register number [] all =
 register_after-xor kind register number (byte ∷ bytes) all =
     let below : byte < 256 = All-head (λ b. b < 256) byte bytes all in
     let swapped : bit_xor (bit_xor register number) byte ≡ bit_xor (bit_xor register byte) number =
-    xor_assoc register number byte ∙ ap (bit_xor register) (xor_comm number byte) ∙ sym (xor_assoc register byte number) in
+    xor_assoc register number byte ∙ ap (bit_xor register) (xor_comm number byte)
+    ∙ sym (xor_assoc register byte number) in
     let eights : 8 + 8 * length bytes ≡ 8 * length (byte ∷ bytes) = omega arith in
     register_after-cons kind (bit_xor register number) byte bytes below
     ∙ ap (λ r. register_after kind r bytes)
     (ap (zero_turns kind 8) swapped ∙ zero_turns-xor kind 8 (bit_xor register byte) number)
-    ∙ register_after-xor kind (zero_turns kind 8 (bit_xor register byte)) (zero_turns kind 8 number) bytes
+    ∙ register_after-xor kind (zero_turns kind 8 (bit_xor register byte))
+    (zero_turns kind 8 number) bytes
     (All-tail (λ b. b < 256) byte bytes all)
     ∙ ap₂ bit_xor (sym (register_after-cons kind register byte bytes below))
-    (sym (zero_turns-add kind 8 (8 * length bytes) number) ∙ ap (λ count. zero_turns kind count number) eights)
+    (sym (zero_turns-add kind 8 (8 * length bytes) number)
+    ∙ ap (λ count. zero_turns kind count number) eights)
 
 -- The first byte of a message and the lowest byte of the register are exclusive-ored, and one zero
 -- byte follows for each other byte. The other bytes are taken into the rest of the register.
@@ -99,7 +104,8 @@ register_after-split kind register byte bytes below all =
     let low : ℕ = bit_xor (register % 256) byte in
     let whole : high + register % 256 ≡ register = omega arith in
     let parts : bit_xor register byte ≡ bit_xor high low =
-    ap (λ r. bit_xor r byte) (sym (xor_shifted (register / 256) 8 (register % 256) (omega arith) ∙ whole))
+    ap (λ r. bit_xor r byte) (sym (xor_shifted (register / 256) 8 (register % 256) (omega arith)
+    ∙ whole))
     ∙ xor_assoc high (register % 256) byte in
     let eights : 8 + 8 * length bytes ≡ 8 * (length bytes + 1) = omega arith in
     register_after-cons kind register byte bytes below
@@ -108,5 +114,7 @@ register_after-split kind register byte bytes below all =
     ∙ ap (λ r. bit_xor r (zero_turns kind 8 low)) (zero_turns-shift kind 8 (register / 256)))
     ∙ register_after-xor kind (register / 256) (zero_turns kind 8 low) bytes all
     ∙ ap (bit_xor (register_after kind (register / 256) bytes))
-    (sym (zero_turns-add kind 8 (8 * length bytes) low) ∙ ap (λ count. zero_turns kind count low) eights)
-    ∙ xor_comm (register_after kind (register / 256) bytes) (zero_turns kind (8 * (length bytes + 1)) low)
+    (sym (zero_turns-add kind 8 (8 * length bytes) low)
+    ∙ ap (λ count. zero_turns kind count low) eights)
+    ∙ xor_comm (register_after kind (register / 256) bytes)
+    (zero_turns kind (8 * (length bytes + 1)) low)

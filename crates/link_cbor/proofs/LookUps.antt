@@ -19,7 +19,8 @@ pub looked_up : (kind : CheckKind) (tables : List (List ℕ)) (register byte : �
     ≡ bit_xor (get_or (get_or tables (length bytes) []) (bit_xor (register % 256) byte) 0)
     (register_after kind (register / 256) bytes)
 looked_up kind tables register byte bytes rule below all few =
-    let index : bit_xor (register % 256) byte < 2 ^ 8 = xor_lt 8 (register % 256) byte (omega arith) below in
+    let index : bit_xor (register % 256) byte < 2 ^ 8 =
+    xor_lt 8 (register % 256) byte (omega arith) below in
     register_after-split kind register byte bytes below all
     ∙ ap (λ entry. bit_xor entry (register_after kind (register / 256) bytes))
     (sym (rule (length bytes) (bit_xor (register % 256) byte) few index
@@ -48,7 +49,8 @@ looked_up-before kind tables register bytes sum zeros rule all sixteen few was =
     ap (register_after kind left) (drop_more bytes position 0 within)
     ∙ looked_up kind tables left byte rest rule (all position 0 within)
     (All-drop (λ b. b < 256) (position + 1) bytes all) (omega arith)
-    ∙ ap₂ (λ k r. bit_xor (get_or (get_or tables k []) (bit_xor (left % 256) byte) 0) (register_after kind r rest))
+    ∙ ap₂ (λ k r. bit_xor (get_or (get_or tables k []) (bit_xor (left % 256) byte) 0)
+    (register_after kind r rest))
     size
     (shr-shr register (8 * position) 8 ∙ ap (λ bits. register / 2 ^ bits) eights)
     ∙ ap (λ n. bit_xor entry (register_after kind (register / 2 ^ (8 * n)) (drop n bytes))) next

@@ -13,7 +13,7 @@ use Rattle.link_cbor.specs.declared.head.HeadStep.{HeadStep}
 use Rattle.link_cbor.specs.declared.head.HeadStep.TheVariants.{More, Done, Bad}
 use Rattle.link_cbor.specs.Head.{Cut, Whole, big_endian, head_front, front_of, step_at, step_of, argument_front, with_argument, no_argument, front_by}
 use Rattle.link_cbor.proofs.HeadLaws.{argument_front-cut, argument_front-there, front_by-small, front_by-argument, front_by-reserved, front_by-none}
-use Rattle.link_cbor.specs.Stage.{front_from, outcome_at, stage_fits, StandsAt}
+use Rattle.link_cbor.specs.Stage.{front_from, in_argument, outcome_at, stage_fits, StandsAt}
 
 -- the bounds of an argument, from `stage_fits`
 pub record ArgumentFits (count left value : ℕ) : Type 0 where
@@ -26,8 +26,12 @@ pub argument_fits : (count major left value : ℕ)
     → stage_fits count (Argument major left value) ≡ true → ArgumentFits count left value
 unfolding stage_fits
 argument_fits count major left value test =
-    let first = and_parts (nat_lt 0 left) (nat_le left 8 && (nat_le (count + left) 9 && nat_lt value (256 ^ (8 - left)))) test in
-    let second = and_parts (nat_le left 8) (nat_le (count + left) 9 && nat_lt value (256 ^ (8 - left))) first.1 in
+    let first =
+    and_parts (nat_lt 0 left) (nat_le left 8
+    && (nat_le (count + left) 9 && nat_lt value (256 ^ (8 - left)))) test in
+    let second =
+    and_parts (nat_le left 8) (nat_le (count + left) 9 && nat_lt value (256 ^ (8 - left)))
+    first.1 in
     let third = and_parts (nat_le (count + left) 9) (nat_lt value (256 ^ (8 - left))) second.1 in
     record {
       wanted = ltb-true 0 left first.0;
@@ -40,14 +44,20 @@ pub stage_fits-argument : (count major left value : ℕ) → ArgumentFits count 
     → stage_fits count (Argument major left value) ≡ true
 unfolding stage_fits
 stage_fits-argument count major left value facts =
-    rw (lt-ltb 0 left facts.wanted, le-leb left 8 facts.most, le-leb (count + left) 9 facts.room, lt-ltb value (256 ^ (8 - left)) facts.fits) refl
+    rw (
+      lt-ltb 0 left facts.wanted,
+      le-leb left 8 facts.most,
+      le-leb (count + left) 9 facts.room,
+      lt-ltb value (256 ^ (8 - left)) facts.fits,
+    ) refl
 
 -- the outcome of a scan is the head that the bytes seen begin with
 outcome_from : (count : ℕ) (stage : Stage) → stage_fits count stage ≡ true
     → front_from count stage [] ≡ front_of (outcome_at stage) count
 unfolding front_from head_front argument_front
 outcome_from count Start fits = refl
-outcome_from count (Argument major left value) fits = rw (lt-ltb 0 left (argument_fits count major left value fits).wanted) refl
+outcome_from count (Argument major left value) fits =
+    rw (lt-ltb 0 left (argument_fits count major left value fits).wanted) refl
 outcome_from count Simple fits = refl
 outcome_from count (WholeHead head) fits = refl
 outcome_from count NoHead fits = refl
@@ -61,12 +71,14 @@ pub outcome_front : (count : ℕ) (stage : Stage) (seen : List ℕ) → count �
     → StandsAt count stage (λ more. head_front (seen ++ more))
     → head_front seen ≡ front_of (outcome_at stage) (length seen)
 outcome_front count stage seen size stands =
-    ap head_front (sym (append-nil seen)) ∙ stands.reads [] ∙ outcome_from count stage stands.fits ∙ ap (front_of (outcome_at stage)) size
+    ap head_front (sym (append-nil seen)) ∙ stands.reads [] ∙ outcome_from count stage stands.fits
+    ∙ ap (front_of (outcome_at stage)) size
 
 -- the outcome at a stage is that of a scan of these bytes
 pub outcome_step : (stage : Stage) (seen : List ℕ)
     → head_front seen ≡ front_of (outcome_at stage) (length seen) → outcome_at stage ≡ step_of seen
-outcome_step stage seen front = sym (ap step_at front ∙ step_at_front (outcome_at stage) (length seen))
+outcome_step stage seen front =
+    sym (ap step_at front ∙ step_at_front (outcome_at stage) (length seen))
 
 -- ---- an argument
 
@@ -77,7 +89,11 @@ from-cut count major left value more short = rw (lt-ltb (length more) left short
 
 from-there : (count major left value : ℕ) (more : List ℕ) → left ≤ length more
     → front_from count (Argument major left value) more
-    ≡ Whole (record { major = major; value = Some (value * 256 ^ left + big_endian (take left more)) }) (count + left)
+    ≡ Whole (record {
+      major = major;
+      value = Some
+          (value * 256 ^ left + big_endian (take left more));
+    }) (count + left)
 unfolding front_from
 from-there count major left value more there = rw (le-ltb (length more) left there) refl
 
@@ -90,7 +106,8 @@ value_more : (left value byte : ℕ) (more : List ℕ) → left ≤ length more
     ≡ (value * 256 + byte) * 256 ^ left + big_endian (take left more)
 unfolding big_endian
 value_more left value byte more there =
-    rw (length-take-le left more there, pow-suc 256 left) (scaled value byte (256 ^ left) (big_endian (take left more)))
+    rw (length-take-le left more there, pow-suc 256 left)
+    (scaled value byte (256 ^ left) (big_endian (take left more)))
 
 -- one more byte of an argument
 argument_more : (count major left value byte : ℕ) (more : List ℕ)
@@ -104,8 +121,12 @@ argument_more count major left value byte more =
     (λ there.
     let size : count + suc left ≡ count + 1 + left = omega arith in
     from-there count major (suc left) value (byte ∷ more) (omega arith)
-    ∙ ap (λ v. Whole (record { major = major; value = Some v }) (count + suc left)) (value_more left value byte more there)
-    ∙ ap (λ n. Whole (record { major = major; value = Some ((value * 256 + byte) * 256 ^ left + big_endian (take left more)) }) n) size
+    ∙ ap (λ v. Whole (record { major = major; value = Some v }) (count + suc left))
+    (value_more left value byte more there)
+    ∙ ap (λ n. Whole (record {
+      major = major;
+      value = Some ((value * 256 + byte) * 256 ^ left + big_endian (take left more));
+    }) n) size
     ∙ sym (from-there (count + 1) major left (value * 256 + byte) more there))
     (cases_lt (length more) left)
 
@@ -126,13 +147,16 @@ argument_byte : (count major left value byte : ℕ) (more : List ℕ) → 0 < le
     ≡ front_from (count + 1) (Argument major (left - 1) (value * 256 + byte)) more
 argument_byte count major zero value byte more wanted = absurd (omega arith)
 argument_byte count major (suc left) value byte more wanted =
-    let before : suc left - 1 ≡ left = omega arith in rw before (argument_more count major left value byte more)
+    let before : suc left - 1 ≡ left = omega arith in
+    rw before (argument_more count major left value byte more)
 
 argument_end : (count major left value byte : ℕ) (more : List ℕ) → left ≡ 1
     → front_from count (Argument major left value) (byte ∷ more)
-    ≡ front_from (count + 1) (WholeHead (record { major = major; value = Some (value * 256 + byte) })) more
+    ≡ front_from (count + 1) (WholeHead
+    (record { major = major; value = Some (value * 256 + byte) })) more
 argument_end count major left value byte more last =
-    rw last (argument_more count major 0 value byte more ∙ argument_done (count + 1) major (value * 256 + byte) more)
+    rw last (argument_more count major 0 value byte more
+    ∙ argument_done (count + 1) major (value * 256 + byte) more)
 
 -- the argument fits in 64 bits
 pub value_fits : (count major left value byte : ℕ)
@@ -164,7 +188,7 @@ more_fits count left value byte facts below other =
     }
 
 -- one more byte of an argument, which may be its last
-pub stands-more : (count major left value byte : ℕ)
+stands-more : (count major left value byte : ℕ)
     → stage_fits count (Argument major left value) ≡ true → byte < 256
     → (left ≡ 1 → ⊥)
     → StandsAt (count + 1) (Argument major (left - 1) (value * 256 + byte))
@@ -172,11 +196,12 @@ pub stands-more : (count major left value byte : ℕ)
 stands-more count major left value byte test below other =
     let facts = argument_fits count major left value test in
     record {
-      fits = stage_fits-argument (count + 1) major (left - 1) (value * 256 + byte) (more_fits count left value byte facts below other);
+      fits = stage_fits-argument (count + 1) major (left - 1) (value * 256 + byte)
+          (more_fits count left value byte facts below other);
       reads = λ more. argument_byte count major left value byte more facts.wanted;
     }
 
-pub stands-last : (count major left value byte : ℕ)
+stands-last : (count major left value byte : ℕ)
     → stage_fits count (Argument major left value) ≡ true → left ≡ 1
     → StandsAt (count + 1) (WholeHead (record { major = major; value = Some (value * 256 + byte) }))
     (λ more. front_from count (Argument major left value) (byte ∷ more))
@@ -187,6 +212,19 @@ stands-last count major left value byte test last =
       fits = le-leb (count + 1) 9 (omega (arith, facts.room));
       reads = λ more. argument_end count major left value byte more last;
     }
+
+pub stands-next : (count major left value byte : ℕ)
+    → stage_fits count (Argument major left value) ≡ true → byte < 256
+    → StandsAt (count + 1) (in_argument major (left - 1) (value * 256 + byte))
+    (λ more. front_from count (Argument major left value) (byte ∷ more))
+stands-next count major left value byte test below =
+    let wanted = (argument_fits count major left value test).wanted in
+    ⊎_elim
+    (λ (last : left ≡ 1). rw (le-ltb 0 (left - 1) (omega arith))
+    (stands-last count major left value byte test last))
+    (λ other. rw (lt-ltb 0 (left - 1) (omega arith))
+    (stands-more count major left value byte test below other))
+    (cases_eq left 1)
 
 -- ---- a simple value
 
@@ -249,7 +287,10 @@ stands-simple : (major information : ℕ) → major ≡ 7 → information ≡ 24
     → StandsAt 1 Simple (front_by major information)
 unfolding stage_fits front_from
 stands-simple major information seven simple =
-    rw (seven, simple) (record { fits = refl; reads = λ more. front_by-argument 7 24 more (omega arith) (omega arith) })
+    rw (seven, simple) (record {
+      fits = refl;
+      reads = λ more. front_by-argument 7 24 more (omega arith) (omega arith);
+    })
 
 -- an argument that is not a two-byte simple value
 plain_argument : (major size value : ℕ) → (major ≡ 7 → size ≡ 1 → ⊥)
@@ -268,7 +309,8 @@ argument_begins major size more other =
     ⊎_elim
     (λ short. argument_front-cut major size more short ∙ sym (from-cut 1 major size 0 more short))
     (λ there.
-    let none : 0 * 256 ^ size + big_endian (take size more) ≡ big_endian (take size more) = omega arith in
+    let none : 0 * 256 ^ size + big_endian (take size more) ≡ big_endian (take size more) =
+    omega arith in
     argument_front-there major size more there
     ∙ plain_argument major size (big_endian (take size more)) other
     ∙ ap (λ v. Whole (record { major = major; value = Some v }) (1 + size)) (sym none)
@@ -304,7 +346,8 @@ stands-argued major information left least below other is =
       });
       reads = λ more.
           front_by-argument major information more least below
-          ∙ rw same (argument_begins major (2 ^ (information - 24)) more (λ seven one. other seven (one_byte information least one)));
+          ∙ rw same (argument_begins major (2 ^ (information - 24)) more
+          (λ seven one. other seven (one_byte information least one)));
     }
 
 -- the first byte's major type and additional information determine the stage after it
@@ -314,14 +357,16 @@ first_reads : (first : ℕ) (stage : Stage)
 unfolding head_front
 first_reads first stage stands = record {
   fits = stands.fits;
-  reads = λ more. ap (λ information. front_by (first / 32) information more) (sym (and_mask first 5)) ∙ stands.reads more;
+  reads = λ more. ap (λ information. front_by (first / 32) information more)
+      (sym (and_mask first 5)) ∙ stands.reads more;
 }
 
 -- the four kinds of additional information, at the first byte
 pub begins-whole : (first value : ℕ) → value ≡ bit_and first 31 → bit_and first 31 < 24
     → StandsAt 1 (WholeHead (record { major = first / 32; value = Some value }))
     (λ more. head_front (first ∷ more))
-begins-whole first value is below = rw is (first_reads first _ (stands-whole (first / 32) (bit_and first 31) below))
+begins-whole first value is below =
+    rw is (first_reads first _ (stands-whole (first / 32) (bit_and first 31) below))
 
 pub begins-simple : (first : ℕ) → first ≡ 0xf8
     → StandsAt 1 Simple (λ more. head_front (first ∷ more))
@@ -339,13 +384,15 @@ begins-argument first least below other =
 
 pub begins-reserved : (first : ℕ) → 28 ≤ bit_and first 31 → bit_and first 31 < 31
     → StandsAt 1 NoHead (λ more. head_front (first ∷ more))
-begins-reserved first least below = first_reads first NoHead (stands-reserved (first / 32) (bit_and first 31) least below)
+begins-reserved first least below =
+    first_reads first NoHead (stands-reserved (first / 32) (bit_and first 31) least below)
 
 pub begins-unargued : (first : ℕ) (stage : Stage) → bit_and first 31 ≡ 31
     → StandsAt 1 stage (λ _. no_argument (first / 32))
     → StandsAt 1 stage (λ more. head_front (first ∷ more))
 begins-unargued first stage is stands =
-    first_reads first stage (stands-unargued stage (first / 32) (bit_and first 31) (omega arith) stands)
+    first_reads first stage (stands-unargued stage (first / 32) (bit_and first 31)
+    (omega arith) stands)
 
 pub begins-start : (count : ℕ) (stage : Stage) (byte : ℕ) → stage_fits count Start ≡ true
     → StandsAt 1 stage (λ more. head_front (byte ∷ more))
@@ -364,7 +411,8 @@ stands-wrong major wrong = record { fits = refl; reads = λ _. rw wrong refl }
 pub stands-right : (major : ℕ) → 2 ≤ major → (major ≡ 6 → ⊥)
     → StandsAt 1 (WholeHead (record { major = major; value = None })) (λ _. no_argument major)
 unfolding stage_fits front_from no_argument
-stands-right major two not_six = record { fits = refl; reads = λ _. rw (le-ltb major 2 two, ne_eqb major 6 not_six) refl }
+stands-right major two not_six =
+    record { fits = refl; reads = λ _. rw (le-ltb major 2 two, ne_eqb major 6 not_six) refl }
 
 -- ---- the history, with one more byte
 
@@ -374,7 +422,8 @@ pub scanned_more : (count : ℕ) (stage next : Stage) (seen : List ℕ) (byte : 
     → StandsAt (count + 1) next (λ more. head_front ((seen ++ byte ∷ []) ++ more))
 scanned_more count stage next seen byte before step = record {
   fits = step.fits;
-  reads = λ more. ap head_front (append_assoc seen (byte ∷ []) more) ∙ before.reads (byte ∷ more) ∙ step.reads more;
+  reads = λ more. ap head_front (append_assoc seen (byte ∷ []) more) ∙ before.reads (byte ∷ more)
+      ∙ step.reads more;
 }
 
 pub scanned_none : StandsAt 0 Start (λ more. head_front ([] ++ more))
@@ -386,7 +435,8 @@ scanned_none = record { fits = refl; reads = λ more. refl }
 pub count_fits : (count : ℕ) (stage : Stage) → stage_fits count stage ≡ true → count ≤ 9
 unfolding stage_fits
 count_fits count Start fits = omega (arith, eqb-true count 0 fits)
-count_fits count (Argument major left value) fits = omega (arith, (argument_fits count major left value fits).room)
+count_fits count (Argument major left value) fits =
+    omega (arith, (argument_fits count major left value fits).room)
 count_fits count Simple fits = omega (arith, eqb-true count 1 fits)
 count_fits count (WholeHead head) fits = leb-true count 9 fits
 count_fits count NoHead fits = leb-true count 9 fits

@@ -24,7 +24,8 @@ is_next kind (register ∷ registers) (entry ∷ entries) =
 -- the first table follows from these registers, and each later table from the one before it
 unfoldable pub are_next : CheckKind → List ℕ → List (List ℕ) → Bool
 are_next kind registers [] = true
-are_next kind registers (table ∷ tables) = is_next kind registers table && are_next kind table tables
+are_next kind registers (table ∷ tables) =
+    is_next kind registers table && are_next kind table tables
 
 is_next-length : (kind : CheckKind) (registers table : List ℕ) → is_next kind registers table ≡ true
     → length table ≡ length registers
@@ -41,7 +42,8 @@ is_next-at : (kind : CheckKind) (registers table : List ℕ) (index : ℕ)
 unfolding is_next
 is_next-at kind [] table index next within = absurd (omega arith)
 is_next-at kind (register ∷ registers) [] index next within = absurd (false≢true next)
-is_next-at kind (register ∷ registers) (entry ∷ entries) zero next within = eqb-true _ _ (and_parts _ _ next).0
+is_next-at kind (register ∷ registers) (entry ∷ entries) zero next within =
+    eqb-true _ _ (and_parts _ _ next).0
 is_next-at kind (register ∷ registers) (entry ∷ entries) (suc index) next within =
     is_next-at kind registers entries index (and_parts _ _ next).1 (omega arith)
 
@@ -64,7 +66,8 @@ are_next-at kind registers (table ∷ tables) (suc k) index next there within =
 are_tables : (kind : CheckKind) (tables : List (List ℕ)) → length tables ≡ 16
     → are_next kind (range_with_len 0 256) tables ≡ true → AreTables kind tables
 are_tables kind tables sixteen next k byte there below =
-    are_next-at kind (range_with_len 0 256) tables k byte next (omega arith) (omega (arith, length-range_with_len 0 256))
+    are_next-at kind (range_with_len 0 256) tables k byte next (omega arith)
+    (omega (arith, length-range_with_len 0 256))
     ∙ ap (zero_turns kind (8 * (k + 1))) (get_or-range_with_len 0 256 byte 0 below ∙ zero-add byte)
     ∙ sym (register_after-byte_zeros kind byte k below)
 

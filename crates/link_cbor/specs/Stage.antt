@@ -20,6 +20,12 @@ front_from count Simple more = argument_front 7 1 more
 front_from count (WholeHead head) more = Whole head count
 front_from count NoHead more = IllFormed
 
+-- the stage in an argument whose bytes seen encode `value`, if `left` more are needed
+abbrev pub in_argument : ℕ → ℕ → ℕ → Stage
+in_argument major left value =
+    if nat_lt 0 left then Argument major left value
+    else WholeHead (record { major = major; value = Some value })
+
 -- whether more bytes are needed
 abbrev pub wants_more : Stage → Bool
 wants_more Start = true

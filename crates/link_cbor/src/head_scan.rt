@@ -26,7 +26,7 @@ const LEAST_IN_NEXT_BYTE: u8 = 32;
 
 impl Stage {
     ghost use Rattle.link_cbor.specs.Head.{head_front, no_argument};
-    ghost use Rattle.link_cbor.specs.Stage.{outcome_at, StandsAt};
+    ghost use Rattle.link_cbor.specs.Stage.{outcome_at, in_argument, StandsAt};
 
     /// The state of the head after the bytes seen.
     fn outcome(self) -> HeadStep
@@ -61,6 +61,18 @@ impl Stage {
             31 => Stage::without_argument(major),
             _ => Stage::IllFormed,
         }
+    }
+
+    /// The stage in an argument whose bytes seen encode `value`; `left` more are needed.
+    #[inline(always)]
+    fn in_argument(major: u8, left: u8, value: u64) -> Stage
+        ensures { result ≡ in_argument major left value }
+    {
+        if left > 0 {
+            return Stage::Argument { major, left, value };
+        }
+        let value = Some(value);
+        Stage::Whole(Head { major, value })
     }
 
     /// The stage after a first byte with additional information 31.
@@ -126,18 +138,7 @@ impl HeadScan {
             Stage::Start => Stage::begin(byte),
             Stage::Argument { major, left, value } => {
                 let value = value * 256 + u64::from(byte);
-                if left == 1 {
-                    Stage::Whole(Head {
-                        major,
-                        value: Some(value),
-                    })
-                } else {
-                    Stage::Argument {
-                        major,
-                        left: left - 1,
-                        value,
-                    }
-                }
+                Stage::in_argument(major, left - 1, value)
             }
             Stage::Simple if byte < LEAST_IN_NEXT_BYTE => Stage::IllFormed,
             Stage::Simple => Stage::Whole(Head {

@@ -48,6 +48,7 @@ text_of name rows = unwrap_or (first_of name rows) []
 pub record IsWanted (rows : List Row) (wanted : Wanted) : Type 0 where
   pub only : wanted.only ≡ number_in (2 ^ 64) (codes "transfer") rows
   pub payload : wanted.payload ≡ is_set (codes "payload") rows
+  pub keep_going : wanted.keep_going ≡ is_set (codes "keep-going") rows
 
 -- `max` and `min` change no number that `clap` takes, because the table has the same bounds.
 pub record IsPackOptions (rows : List Row) (o : PackOptions) : Type 0 where

@@ -54,6 +54,7 @@ unfoldable pub unpack_words : Shape
 unpack_words = tool (codes "unpack") (
     number (codes "transfer") any_u64
     ∷ flag (codes "payload")
+    ∷ flag (codes "keep-going")
     ∷ file
     ∷ [])
 

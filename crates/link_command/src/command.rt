@@ -20,7 +20,7 @@ out of a capture.
 
 Exit status:
   0  the input was read to its end, and nothing was wrong with it; or help was asked for
-  1  unpack: some transfer is not good
+  1  unpack: some transfer is not good, or with --keep-going some message was out of order
   2  the arguments are wrong; standard error says how
   3  a fault of the input stopped the run
   4  the file could not be opened, reading or writing failed, the input is too long,
@@ -60,9 +60,13 @@ const UNPACK_HELP: &str =
 A capture (pcap, pcapng) or a compressed file (gzip, zstd) is no recording. The report
 then says `byte 0: not a contact header`.
 
+A message that is out of order stops the run. With --keep-going, it has a line in the
+report, and the run goes on. A segment whose transfer is not open is then left out.
+
 Exit status:
   0  each transfer is good, and nothing was wrong with the recording
-  1  the recording was read to its end, and some transfer is not good
+  1  the recording was read to its end, and some transfer is not good, or with
+     --keep-going some message was out of order
   2  the arguments are wrong; standard error says how
   3  a fault of the recording stopped the run
   4  the file could not be opened, reading or writing failed, the input is too long,
@@ -105,7 +109,7 @@ fn program<'a>(alloc: Global) -> Command<'a>
     ensures { app_of result ≡ record { top = program; subs = [] } }
 {
     Command::new(alloc, "tcpclkit")
-        .version("0.2.0")
+        .version("0.3.0")
         .about(ABOUT)
         .after_help(HELP)
         .subcommand_required(true)
@@ -125,11 +129,28 @@ fn unpack_command<'a>(alloc: Global) -> Result<Command<'a>, AllocError>
     ensures { IfOk result (IsTool unpack_words) }
 {
     let tool = tool(alloc, "unpack", UNPACK_ABOUT, UNPACK_HELP);
+    let keep_going = flag(
+        alloc,
+        "keep-going",
+        "Go on after a fault of the order of messages",
+    );
+    let one = with_selection(alloc, tool)?;
+    let two = one.arg(keep_going)?;
+    let whole = two.arg(file(alloc))?;
+    Ok(whole)
+}
+
+/// Adds the options of `unpack` for the data that is written.
+fn with_selection<'a>(alloc: Global, tool: Command<'a>) -> Result<Command<'a>, AllocError>
+    ensures { IfOk result (AddsRules (
+        number (codes "transfer") any_u64
+        ∷ flag (codes "payload")
+        ∷ []) tool.entry) }
+{
     let payload = flag(alloc, "payload", "Write the payload of each bundle alone");
     let one = tool.arg(transfer(alloc))?;
     let two = one.arg(payload)?;
-    let whole = two.arg(file(alloc))?;
-    Ok(whole)
+    Ok(two)
 }
 
 /// The tool `pack`.

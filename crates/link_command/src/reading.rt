@@ -100,6 +100,7 @@ fn wanted(tool: &ArgMatches<'_>) -> Wanted
     Wanted {
         only: number_in(tool, "transfer"),
         payload: is_set(tool, "payload"),
+        keep_going: is_set(tool, "keep-going"),
     }
 }
 

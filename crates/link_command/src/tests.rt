@@ -126,6 +126,7 @@ fn wrong_words(rt: HostRuntime) -> Result<(), Fail> {
             &["pack"],
             &["list", "a", "b"],
             &["list", "--payload"],
+            &["list", "--keep-going"],
             &["unpack", "--transfer", "18446744073709551616"],
             &["unpack", "--transfer", "-1"],
             &["unpack", "--transfer"],
@@ -133,6 +134,9 @@ fn wrong_words(rt: HostRuntime) -> Result<(), Fail> {
             &["unpack", "--transfer", "1", "--transfer", "1"],
             &["unpack", "--payload", "--payload"],
             &["unpack", "--payload=true"],
+            &["unpack", "--keep-going", "--keep-going"],
+            &["unpack", "--keep-going=true"],
+            &["unpack", "--keep"],
             &["unpack", "--end"],
             &["unpack", "a", "b"],
             &["pack", "--node", "x", "--peer-segment", "0"],
@@ -142,6 +146,7 @@ fn wrong_words(rt: HostRuntime) -> Result<(), Fail> {
             &["pack", "--node", "x", "--node", "x"],
             &["pack", "--node", "-x"],
             &["pack", "--node", "x", "--unknown"],
+            &["pack", "--node", "x", "--keep-going"],
             &["pack", "--node", "x", "a", "b"],
         ],
     )
@@ -179,20 +184,26 @@ fn list_has_no_options(rt: HostRuntime) -> Result<(), Fail> {
     Ok(())
 }
 
+/// Checks that each line asks for `unpack` with these options.
+fn all_unpack(rt: &impl Abort, alloc: Global, lines: &[(&[&str], Wanted)]) -> Result<(), Fail> {
+    for (line, wanted) in lines {
+        let invocation = taken(alloc, line)?;
+        assert!(rt; invocation.options == Options::Unpack(*wanted), "{line:?}");
+    }
+    Ok(())
+}
+
 #[test]
 fn options_of_unpack(rt: HostRuntime) -> Result<(), Fail> {
-    let alloc = rt.alloc();
-    let all = Wanted {
-        only: None,
-        payload: false,
-    };
+    let all = Wanted::default();
     let of_seven = Wanted {
         only: Some(7),
         payload: true,
+        ..all
     };
     let of_last = Wanted {
         only: Some(u64::MAX),
-        payload: false,
+        ..all
     };
     let lines: [(&[&str], Wanted); 6] = [
         (&["unpack"], all),
@@ -202,11 +213,30 @@ fn options_of_unpack(rt: HostRuntime) -> Result<(), Fail> {
         (&["unpack", "--transfer", "18446744073709551615"], of_last),
         (&["unpack", "--", "--payload"], all),
     ];
-    for (line, wanted) in lines {
-        let invocation = taken(alloc, line)?;
-        assert!(rt; invocation.options == Options::Unpack(wanted), "{line:?}");
-    }
-    Ok(())
+    all_unpack(&rt, rt.alloc(), &lines)
+}
+
+#[test]
+fn unpack_goes_on(rt: HostRuntime) -> Result<(), Fail> {
+    let going_on = Wanted {
+        keep_going: true,
+        ..Wanted::default()
+    };
+    let with_seven = Wanted {
+        only: Some(7),
+        payload: true,
+        keep_going: true,
+    };
+    let lines: [(&[&str], Wanted); 4] = [
+        (&["unpack", "--keep-going"], going_on),
+        (&["unpack", "f", "--keep-going"], going_on),
+        (&["unpack", "--", "--keep-going"], Wanted::default()),
+        (
+            &["unpack", "--keep-going", "--payload", "--transfer", "7"],
+            with_seven,
+        ),
+    ];
+    all_unpack(&rt, rt.alloc(), &lines)
 }
 
 #[test]
@@ -315,7 +345,13 @@ fn texts_of_help(rt: HostRuntime) -> Result<(), Fail> {
         ),
         (
             &["unpack", "--help"],
-            &["--transfer <ID>", "--payload", "Exit status:", "Example:"],
+            &[
+                "--transfer <ID>",
+                "--payload",
+                "--keep-going",
+                "Exit status:",
+                "Example:",
+            ],
         ),
         (
             &["pack", "--help"],
@@ -331,7 +367,7 @@ fn texts_of_help(rt: HostRuntime) -> Result<(), Fail> {
                 "Example:",
             ],
         ),
-        (&["--version"], &["tcpclkit 0.2.0\n"]),
+        (&["--version"], &["tcpclkit 0.3.0\n"]),
     ];
     for (line, parts) in lines {
         let text = text_of(rt.alloc(), line)?;
@@ -493,10 +529,18 @@ fn memory_of_unpack(rt: HostRuntime) -> Result<(), Fail> {
     let wanted = Wanted {
         only: Some(7),
         payload: true,
+        keep_going: true,
     };
     asks_for(
         &rt,
-        &["unpack", "--payload", "--transfer", "7", "f"],
+        &[
+            "unpack",
+            "--payload",
+            "--keep-going",
+            "--transfer",
+            "7",
+            "f",
+        ],
         &Options::Unpack(wanted),
         Some("f"),
     )

@@ -3,7 +3,7 @@ use Rattle.std.proofs.Common.{◌≡◌, ℕ, zero, suc, ◌+◌, ◌-◌, ◌<�
 use Rattle.std.proofs.lemmas.Bool.{cases_lt, false≢true, lt-ltb, le-ltb}
 use Rattle.std.proofs.lemmas.List.{take-append-le, drop-append-le}
 use Rattle.link_wire.specs.Message.{contact_at, message_at, data_length}
-use Rattle.link_wire.specs.Stream.{Entry, End, Cut, Stream, ended, with_entry, with_data_of, stream_at, Reading, reading_by, reading_of}
+use Rattle.link_wire.specs.Stream.{Entry, Cut, Stream, ended, with_entry, with_data_of, stream_at, Reading, reading_by, reading_of}
 use Rattle.link_wire.specs.declared.fault.WireFault.{WireFault}
 use Rattle.link_wire.specs.declared.message.Contact.{Contact}
 use Rattle.link_wire.specs.declared.message.Message.{Message}
@@ -20,23 +20,23 @@ use Rattle.link_laws.proofs.Fronts.{take-append}
 not_missing : (fault : WireFault) → is_lasting fault ≡ true → fault ≡ Truncated → ⊥
 not_missing fault stays is = false≢true (sym (ap is_lasting is) ∙ stays)
 
--- the data of a cut segment goes on
-pub record GrowsFirst (offset : ℕ) (message : Message) (content : List ℕ)
-    (rest : Stream) : Type 0 where
-  pub short : length content < data_length message
+-- the data of a head that is cut goes on, and then other heads may follow
+pub record GrowsTo (head : Entry) (more : List Entry) : Type 0 where
+  pub short : length head.content < data_length head.message
   pub piece : List ℕ
   pub others : List Entry
-  pub heads : rest.entries ++ cut_heads rest.end ≡ entry offset message (content ++ piece) ∷ others
+  pub are : more ≡ entry head.offset head.message (head.content ++ piece) ∷ others
 
--- the readings that may follow the whole messages of a stream that has this end
-abbrev pub FollowsEnd : End → Stream → Type 0
-FollowsEnd (Cut offset message content) rest = GrowsFirst offset message content rest
-FollowsEnd end rest = Unit {0}
+-- the heads that may follow the whole messages, where these are the last: none, or one that is cut
+abbrev pub LastGoesOn : (last more : List Entry) → Type 0
+LastGoesOn [] more = Unit {0}
+LastGoesOn (head ∷ []) more = GrowsTo head more
+LastGoesOn (head ∷ second ∷ rest) more = ⊥
 
 pub record GoesOn (before after : Stream) : Type 0 where
   pub rest : Stream
   pub are : after ≡ record { entries = before.entries ++ rest.entries; end = rest.end }
-  pub follows : FollowsEnd before.end rest
+  pub follows : LastGoesOn (cut_heads before.end) (rest.entries ++ cut_heads rest.end)
   -- a fault that lasts stays the same
   pub stays : is_shown (stop_of before.end) ≡ true → after ≡ before
 
@@ -54,10 +54,11 @@ goes_on_entry first before after on = record {
 module _ (offset : ℕ) (message : Message) (bytes more : List ℕ) where
   grows_by : (test : Bool) (count : ℕ) (later : Stream) → length bytes < data_length message
       → take count (bytes ++ more) ≡ bytes ++ take (count - length bytes) more
-      → GrowsFirst offset message bytes (if test then ended (Cut offset message (bytes ++ more))
-      else with_entry (entry offset message (take count (bytes ++ more))) later)
-  grows_by true count later short is = record { short = short; piece = more; others = []; heads = refl }
-  grows_by false count later short is = record { short = short; piece = take (count - length bytes) more; others = later.entries ++ cut_heads later.end; heads = ap (λ (xs : List ℕ). entry offset message xs ∷ later.entries ++ cut_heads later.end) is }
+      → (let rest : Stream = if test then ended (Cut offset message (bytes ++ more))
+      else with_entry (entry offset message (take count (bytes ++ more))) later in
+      GrowsTo (entry offset message bytes) (rest.entries ++ cut_heads rest.end))
+  grows_by true count later short is = record { short = short; piece = more; others = []; are = refl }
+  grows_by false count later short is = record { short = short; piece = take (count - length bytes) more; others = later.entries ++ cut_heads later.end; are = ap (λ (xs : List ℕ). entry offset message xs ∷ later.entries ++ cut_heads later.end) is }
 
   -- the data is cut
   cut_on : (before after : Stream) → length bytes < data_length message

@@ -5,11 +5,11 @@ use Rattle.std.proofs.lemmas.List.{flat_map_more}
 use Rattle.link_wire.specs.Stream.{End, reading_of}
 use Rattle.link_report.specs.Transfer.{transfer_text}
 use Rattle.link_report.specs.declared.transfer.TransferEntry.{TransferEntry}
-use Rattle.link_run.specs.Made.{StreamStop, whole_by}
+use Rattle.link_run.specs.Made.{StreamStop, Made, whole_by}
 use Rattle.link_unpack.specs.Transfers.{Ordered, Transfer, transfers_of, settled}
 use Rattle.link_unpack.specs.Unpacking.{part_of, parts_of, entry_of, line_of, lines_of, unpacking_of, unpacking_by}
 use Rattle.link_unpack.specs.declared.wanted.Wanted.{Wanted}
-use Rattle.link_laws.specs.Cuts.{order_of, entries_of, Follow, written_by, stop_at, lined, reported, stop_line, CutsOutput}
+use Rattle.link_laws.specs.Cuts.{order_of, entries_of, Follow, written_by, stop_at, lined, reported, stop_line, Divides, CutsOutput, stopping}
 use Rattle.link_laws.proofs.Prefixes.{whole_output}
 
 -- ---- one more entry
@@ -74,6 +74,21 @@ unlined_lined (Some stop) transfers = unlined_settled transfers
 
 -- ---- the whole
 
+-- the lines of transfers cut the output, wherever the stream stops
+pub cut_by_lines : (wanted : Wanted) (stop : Option StreamStop) (made : Made)
+    (transfers : List Transfer) → made.ended.output ≡ made.texts.output
+    → made.texts.output ≡ parts_of wanted transfers
+    → Divides wanted (whole_by stop made).texts.output (lined stop transfers)
+cut_by_lines wanted stop made transfers same is =
+    let left = unlined_lined stop transfers in
+    record {
+      follow = follows wanted (lined stop transfers);
+      left = left.0;
+      one = left.1;
+      whole = whole_output stop made same ∙ is ∙ ap (parts_of wanted) left.2;
+      size = all_written wanted (lined stop transfers);
+    }
+
 report_is : (wanted : Wanted) (stop : Option StreamStop) (end : End) (order : Ordered)
     → (whole_by stop (unpacking_by wanted end order)).texts.report
     ≡ lines_of wanted (lined stop (transfers_of order.heads)) ++ stop_line stop
@@ -81,19 +96,15 @@ report_is wanted None end order = sym (append-nil _)
 report_is wanted (Some stop) end order = refl
 
 -- the report cuts the output, for any stream
-pub cuts : (wanted : Wanted) (bytes : List ℕ) → CutsOutput wanted bytes
+pub cuts : (wanted : Wanted) (bytes : List ℕ) → CutsOutput (stopping wanted) bytes
 unfolding unpacking_of
 cuts wanted bytes =
+    let now = stopping wanted in
     let order = order_of bytes in
-    let end = (reading_of bytes).end in
     let stop = stop_at bytes in
-    let left = unlined_lined stop (transfers_of order.heads) in
     record {
-      lines = report_is wanted stop end order
-          ∙ ap (λ (lines : List ℕ). lines ++ stop_line stop) (lines_are wanted (reported bytes));
-      follow = follows wanted (reported bytes);
-      left = left.0;
-      one = left.1;
-      whole = whole_output stop (unpacking_of wanted bytes) refl ∙ ap (parts_of wanted) left.2;
-      size = all_written wanted (reported bytes);
+      lines = report_is now stop (reading_of bytes).end order
+          ∙ ap (λ (lines : List ℕ). lines ++ stop_line stop) (lines_are now (reported bytes));
+      divides =
+          cut_by_lines now stop (unpacking_of now bytes) (transfers_of order.heads) refl refl;
     }

@@ -1,6 +1,7 @@
--- The output of `unpack` without options is the data of the heads that are in order.
+-- The output of `unpack` for all data is the data of the heads that are in order or, if a fault of
+-- the order does not end the run, of those that are not stray.
 use Rattle.std.proofs.Common.{◌≡◌, ℕ, zero, suc, Bool, true, false, List, [], ◌∷◌, ◌++◌, length, take, Option, Some, None, Result, Ok, Err, nat_lt, if◌then◌else◌, refl, ap, sym, ◌∙◌, ⊎_elim, append-nil, append_assoc, arith}
-use Rattle.std.specs.List.{AllByRecursion, flat_map}
+use Rattle.std.specs.List.{AllByRecursion, flat_map, fold}
 use Rattle.std.proofs.lemmas.Bool.{ltb-true}
 use Rattle.link_wire.specs.Codes.{is_start}
 use Rattle.link_wire.specs.Message.{data_length, contact_at, message_at}
@@ -11,16 +12,20 @@ use Rattle.link_wire.specs.declared.message.Message.{Message}
 use Rattle.link_wire.specs.declared.message.Message.TheVariants as message
 use Rattle.link_wire.specs.declared.message.SegmentHead.{SegmentHead}
 use Rattle.link_transfer.specs.Event.{event_of}
-use Rattle.link_transfer.specs.Order.{is_segment, refusal}
+use Rattle.link_transfer.specs.Order.{is_segment, is_stray, refusal, with_taken}
 use Rattle.link_transfer.specs.declared.fault.OrderFault.{OrderFault}
 use Rattle.link_unpack.specs.Transfers.{cut_heads, heads_of, Ordered, ordered_by, ordered_after, ordered, Transfer, closes, continued, after_segment, after_message, transfers_of}
-use Rattle.link_unpack.specs.Unpacking.{parts_of, unpacking_of}
+use Rattle.link_unpack.specs.Unpacking.{parts_of, Unpacked, none_unpacked, transfers_with, with_head, unpacked_of, unpacking_of}
+use Rattle.link_unpack.specs.UnpackRun.{AreInOrder}
+use Rattle.link_unpack.specs.declared.wanted.Wanted.{Wanted}
+use Rattle.link_unpack.proofs.GoingOn.{kind_of, not_stray, taken_more, LatestIsOpen, KnowsOpen, knows_none, open_before, knows_head, unpacked_in_order}
 use Rattle.link_unpack.proofs.Heads.{entry, transfers_same}
+use Rattle.link_unpack.proofs.Orders.{all as in_order, first_may}
 use Rattle.link_unpack.proofs.Texts.{parts_more}
-use Rattle.link_laws.specs.Cuts.{data_of, HasEveryByte}
+use Rattle.link_laws.specs.Cuts.{data_of, going_on, taken_by, taken_after, HasEveryByte, HasEveryTakenByte}
 use Rattle.link_laws.specs.RoundTrip.{all}
+use Rattle.link_laws.proofs.Accepted.{accepted_in_order}
 use Rattle.link_laws.proofs.Prefixes.{whole_output}
-use Rattle.link_laws.proofs.Transfers.{IsOpen, kind_of, KnowsOpen, knows_none, open_before, knows_more, with_heads}
 
 -- ---- the data that is read
 
@@ -79,68 +84,126 @@ reading_own bytes = contact_own (contact_at bytes)
 -- ---- one more head
 
 -- the data is added at the end of the output
-abbrev Adds : (transfers after : List Transfer) (content : List ℕ) → Type 0
-Adds transfers after content = parts_of all after ≡ parts_of all transfers ++ content
+module _ (keep_going : Bool) where
+  -- all data of all transfers
+  abbrev everything : Wanted
+  everything = record { only = None; payload = false; keep_going = keep_going }
 
-continued_adds : (transfers : List Transfer) (content : List ℕ) (closed : Bool)
-    → IsOpen transfers → Adds transfers (continued transfers content closed) content
-continued_adds [] content closed opened = absurd opened
-continued_adds (latest ∷ earlier) content closed opened =
-    parts_more all _ earlier ∙ sym (append_assoc (parts_of all earlier) latest.content content)
-    ∙ ap (λ (parts : List ℕ). parts ++ content) (sym (parts_more all latest earlier))
+  abbrev Adds : (transfers after : List Transfer) (content : List ℕ) → Type 0
+  Adds transfers after content =
+      parts_of everything after ≡ parts_of everything transfers ++ content
 
-module _ (transfers : List Transfer) (before : List Message) (content : List ℕ)
-    (knows : KnowsOpen transfers before) where
-  segment_added : (starts : Bool) (head : SegmentHead) → is_start head.flags ≡ starts
-      → refusal before (event_of (message.Segment head)) ≡ None
-      → Adds transfers (after_segment transfers head content) content
-  segment_added true head is may = rw is (parts_more all _ transfers)
-  segment_added false head is may =
-      let opened = open_before transfers before knows head may is in
-      rw is (continued_adds transfers content (closes head content) opened)
+  continued_adds : (transfers : List Transfer) (content : List ℕ) (closed : Bool)
+      → LatestIsOpen transfers → Adds transfers (continued transfers content closed) content
+  continued_adds [] content closed opened = absurd opened
+  continued_adds (latest ∷ earlier) content closed opened =
+      parts_more everything _ earlier
+      ∙ sym (append_assoc (parts_of everything earlier) latest.content content)
+      ∙ ap (λ (parts : List ℕ). parts ++ content) (sym (parts_more everything latest earlier))
 
-  -- a head that is in order adds its data
-  message_added : (sent : Message) → (is_segment (event_of sent) ≡ false → content ≡ [])
-      → refusal before (event_of sent) ≡ None
-      → Adds transfers (after_message transfers sent content) content
-  message_added sent own may =
-      ⊎_elim
-      (λ segment. rw segment.1
-      (segment_added (is_start segment.0.flags) segment.0 refl (rw segment.1 at may)))
-      (λ other. ap (parts_of all) (transfers_same transfers sent content other) ∙ sym (append-nil _)
-      ∙ ap (λ (last : List ℕ). parts_of all transfers ++ last) (sym (own other)))
-      (kind_of sent)
+  module _ (transfers : List Transfer) (before : List Message) (content : List ℕ)
+      (knows : KnowsOpen transfers before) where
+    segment_added : (starts : Bool) (head : SegmentHead) → is_start head.flags ≡ starts
+        → is_stray before (event_of (message.Segment head)) ≡ false
+        → Adds transfers (after_segment transfers head content) content
+    segment_added true head is taken = rw is (parts_more everything _ transfers)
+    segment_added false head is taken =
+        let opened = open_before transfers before knows head taken is in
+        rw is (continued_adds transfers content (closes head content) opened)
 
--- ---- all heads
+    -- a head that is not stray adds its data
+    message_added : (sent : Message) → (is_segment (event_of sent) ≡ false → content ≡ [])
+        → is_stray before (event_of sent) ≡ false
+        → Adds transfers (after_message transfers sent content) content
+    message_added sent own taken =
+        ⊎_elim
+        (λ segment. rw segment.1
+        (segment_added (is_start segment.0.flags) segment.0 refl (rw segment.1 at taken)))
+        (λ other. ap (parts_of everything) (transfers_same transfers sent content other)
+        ∙ sym (append-nil _)
+        ∙ ap (λ (last : List ℕ). parts_of everything transfers ++ last) (sym (own other)))
+        (kind_of sent)
 
-heads_by : (refused : Option OrderFault) (transfers : List Transfer) (head : Entry) (rest : Ordered)
-    → (refused ≡ None → parts_of all
-    (with_heads (after_message transfers head.message head.content) rest.heads)
-    ≡ (parts_of all transfers ++ head.content) ++ flat_map data_of rest.heads)
-    → parts_of all (with_heads transfers (ordered_by refused head rest).heads)
-    ≡ parts_of all transfers ++ flat_map data_of (ordered_by refused head rest).heads
-heads_by (Some fault) transfers head rest later = sym (append-nil _)
-heads_by None transfers head rest later = later refl ∙ append_assoc (parts_of all transfers) head.content (flat_map data_of rest.heads)
+  -- ---- all heads
 
-heads_added : (heads : List Entry) (transfers : List Transfer) (before : List Message)
-    → HeadsOwn heads → KnowsOpen transfers before
-    → parts_of all (with_heads transfers (ordered_after before heads).heads)
-    ≡ parts_of all transfers ++ flat_map data_of (ordered_after before heads).heads
+  head_added : (stray : Bool) (transfers : List Transfer) (before : List Message) (head : Entry)
+      (rest : List Entry) → is_stray before (event_of head.message) ≡ stray → OwnsData head
+      → KnowsOpen transfers before
+      → parts_of everything (transfers_with stray transfers head) ++ flat_map data_of rest
+      ≡ parts_of everything transfers ++ flat_map data_of (taken_by stray head rest)
+  head_added true transfers before head rest is own knows = refl
+  head_added false transfers before head rest is own knows =
+      ap (λ (parts : List ℕ). parts ++ flat_map data_of rest)
+      (message_added transfers before head.content knows head.message own is)
+      ∙ append_assoc (parts_of everything transfers) head.content (flat_map data_of rest)
+
+  heads_added : (heads : List Entry) (un : Unpacked) → HeadsOwn heads
+      → KnowsOpen un.transfers un.taken
+      → parts_of everything (fold (with_head everything) un heads).transfers
+      ≡ parts_of everything un.transfers ++ flat_map data_of (taken_after un.taken heads)
+  unfolding taken_after
+  heads_added [] un own knows = sym (append-nil _)
+  heads_added (head ∷ more) un own knows =
+      heads_added more (with_head everything un head) own.1
+      (knows_head un.transfers un.taken knows head)
+      ∙ head_added (is_stray un.taken (event_of head.message)) un.transfers un.taken head
+      (taken_after (with_taken un.taken head.message) more) refl own.0 knows
+
+  unpacked_bytes : (heads : List Entry) → HeadsOwn heads
+      → parts_of everything (unpacked_of everything heads).transfers
+      ≡ flat_map data_of (taken_after [] heads)
+  unfolding unpacked_of parts_of
+  unpacked_bytes heads own = heads_added heads none_unpacked own knows_none
+
+-- ---- heads that are in order
+
+accepted_own_by : (refused : Option OrderFault) (head : Entry) (rest : Ordered) → OwnsData head
+    → HeadsOwn rest.heads → HeadsOwn (ordered_by refused head rest).heads
+accepted_own_by (Some fault) head rest own later = tt
+accepted_own_by None head rest own later = (own, later)
+
+accepted_own : (heads : List Entry) (before : List Message) → HeadsOwn heads
+    → HeadsOwn (ordered_after before heads).heads
 unfolding ordered_after
-heads_added [] transfers before own knows = sym (append-nil _)
-heads_added (head ∷ heads) transfers before own knows =
+accepted_own [] before own = tt
+accepted_own (head ∷ more) before own =
     let seen = before ++ head.message ∷ [] in
-    heads_by (refusal before (event_of head.message)) transfers head (ordered_after seen heads)
-    (λ may.
-    heads_added heads (after_message transfers head.message head.content) seen own.1
-    (knows_more transfers before knows head.message head.content may)
-    ∙ ap (λ (parts : List ℕ). parts ++ flat_map data_of (ordered_after seen heads).heads)
-    (message_added transfers before head.content knows head.message own.0 may))
+    accepted_own_by (refusal before (event_of head.message)) head (ordered_after seen more) own.0
+    (accepted_own more seen own.1)
 
--- the output for any stream
+-- none of them is stray
+taken_in_order : (heads : List Entry) (before : List Message)
+    → ordered_after before heads ≡ in_order heads → taken_after before heads ≡ heads
+unfolding taken_after
+taken_in_order [] before are = refl
+taken_in_order (head ∷ more) before are =
+    let first = first_may before head more are in
+    let taken = not_stray before (event_of head.message) first.0 in
+    rw (taken, taken_more before head.message taken)
+    (ap (λ hs. head ∷ hs) (taken_in_order more (before ++ head.message ∷ []) first.1))
+
+accepted_bytes : (heads : List Entry) → HeadsOwn heads → AreInOrder (ordered heads).heads
+    → parts_of all (transfers_of (ordered heads).heads) ≡ flat_map data_of (ordered heads).heads
+unfolding ordered
+accepted_bytes heads own are =
+    let accepted = (ordered heads).heads in
+    ap (λ (un : Unpacked). parts_of all un.transfers) (sym (unpacked_in_order all accepted are))
+    ∙ unpacked_bytes false accepted (accepted_own heads [] own)
+    ∙ ap (flat_map data_of) (taken_in_order accepted [] are)
+
+-- ---- the output for any stream
+
 pub every_byte : (bytes : List ℕ) → HasEveryByte bytes
-unfolding unpacking_of ordered transfers_of parts_of
+unfolding unpacking_of
 every_byte bytes =
     let made = unpacking_of all bytes in
+    let heads = heads_of (reading_of bytes) in
     whole_output made.stop made refl
-    ∙ heads_added (heads_of (reading_of bytes)) [] [] (reading_own bytes) knows_none
+    ∙ accepted_bytes heads (reading_own bytes) (accepted_in_order heads)
+
+pub every_taken_byte : (bytes : List ℕ) → HasEveryTakenByte bytes
+unfolding unpacking_of
+every_taken_byte bytes =
+    let made = unpacking_of (going_on all) bytes in
+    whole_output made.stop made refl
+    ∙ unpacked_bytes true (heads_of (reading_of bytes)) (reading_own bytes)

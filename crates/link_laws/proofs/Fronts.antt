@@ -22,6 +22,9 @@ front_first text more = (more, refl)
 pub front_none : (whole : List ℕ) → IsFrontOf [] whole
 front_none whole = (whole, refl)
 
+pub front_empty : (text whole : List ℕ) → text ≡ [] → IsFrontOf text whole
+front_empty text whole is = (whole, ap (λ (xs : List ℕ). xs ++ whole) (sym is))
+
 pub front_trans : (text mid whole : List ℕ) → IsFrontOf text mid
     → IsFrontOf mid whole → IsFrontOf text whole
 front_trans text mid whole first second =

@@ -1,122 +1,140 @@
--- The heads that are in order stay in order when more heads follow.
-use Rattle.std.proofs.Common.{◌≡◌, ℕ, ◌<◌, Bool, true, false, ◌&&◌, ◌==◌, List, [], ◌∷◌, ◌++◌, length, Option, Some, None, refl, ap, subst, ⊎_elim, arith}
-use Rattle.std.proofs.lemmas.Bool.{ne_eqb}
-use Rattle.link_wire.specs.Codes.{is_end}
+-- What heads have made, and their order, when more heads follow.
+use Rattle.std.proofs.Common.{◌≡◌, ℕ, ◌<◌, List, [], ◌∷◌, ◌++◌, length, Option, Some, None, refl, ap}
+use Rattle.std.specs.List.{fold}
+use Rattle.std.proofs.lemmas.Grind.{fold-append}
 use Rattle.link_wire.specs.Message.{data_length}
 use Rattle.link_wire.specs.Stream.{Entry}
 use Rattle.link_wire.specs.declared.message.Message.{Message}
-use Rattle.link_wire.specs.declared.message.Message.TheVariants as message
-use Rattle.link_wire.specs.declared.message.SegmentHead.{SegmentHead}
 use Rattle.link_transfer.specs.Event.{event_of}
 use Rattle.link_transfer.specs.Order.{refusal}
 use Rattle.link_transfer.specs.declared.fault.OrderFault.{OrderFault}
-use Rattle.link_unpack.specs.Transfers.{Ordered, ordered_by, ordered_after, Transfer, after_message}
+use Rattle.link_unpack.specs.Transfers.{Ordered, ordered_by, ordered_after, ordered}
+use Rattle.link_unpack.specs.Unpacking.{Unpacked, none_unpacked, with_head, unpacked_of}
 use Rattle.link_unpack.specs.declared.wanted.Wanted.{Wanted}
-use Rattle.link_unpack.proofs.Heads.{entry, transfers_same, transfer_grows}
+use Rattle.link_unpack.proofs.GoingOn.{KnowsOpen, knows_none, knows_head}
+use Rattle.link_unpack.proofs.Heads.{entry}
+use Rattle.link_laws.proofs.Continued.{LastGoesOn}
 use Rattle.link_laws.proofs.Fronts.{fronts_trans}
-use Rattle.link_laws.proofs.Transfers.{Precedes, precedes_same, continued_front, kind_of, segment_open, KnowsOpen, knows_more, with_heads, heads_front}
+use Rattle.link_laws.proofs.Transfers.{Precedes, heads_front, knows_heads, head_grows}
 
--- ---- the data of a segment
+-- The others have the same first heads. After these, some heads may have only the head of a segment
+-- whose data is cut.
+pub record HeadsGoOn (heads others : List Entry) : Type 0 where
+  pub first : List Entry
+  pub last : List Entry
+  pub more : List Entry
+  pub are : heads ≡ first ++ last
+  pub others_are : others ≡ first ++ more
+  pub follows : LastGoesOn last more
 
-unclosed_by : (ends : Bool) (size length : ℕ) → size < length → (ends && (size == length)) ≡ false
-unclosed_by false size length short = refl
-unclosed_by true size length short = ne_eqb size length (λ same. absurd (omega arith))
+-- ---- what is made
 
 module _ (wanted : Wanted) where
-  module _ (transfers : List Transfer) (seen : List Message) (knows : KnowsOpen transfers seen)
-      (content piece : List ℕ) where
-    segment_grows : (head : SegmentHead) → refusal seen (event_of (message.Segment head)) ≡ None
-        → length content < head.length
-        → Precedes wanted (after_message transfers (message.Segment head) content)
-        (after_message transfers (message.Segment head) (content ++ piece))
-    segment_grows head may short =
-        let unclosed = unclosed_by (is_end head.flags) (length content) head.length short in
-        let opened = segment_open transfers seen knows head content may unclosed in
-        rw (transfer_grows transfers head content piece)
-        (continued_front wanted _ piece _ opened)
+  last_on : (last more : List Entry) (un : Unpacked) → KnowsOpen un.transfers un.taken
+      → LastGoesOn last more
+      → Precedes wanted (fold (with_head wanted) un last) (fold (with_head wanted) un more)
+  last_on [] more un knows follows = heads_front wanted more un knows
+  last_on (head ∷ []) more un knows follows =
+      let longer = entry head.offset head.message (head.content ++ follows.piece) in
+      rw follows.are
+      (fronts_trans _ _ _
+      (head_grows wanted un head.offset head.message head.content follows.piece knows follows.short)
+      (heads_front wanted follows.others (with_head wanted un longer)
+      (knows_head un.transfers un.taken knows longer)))
+  last_on (head ∷ second ∷ rest) more un knows follows = absurd follows
 
-    -- more data of the segment changes only the latest transfer, which the segment has not closed
-    message_grows : (sent : Message) → refusal seen (event_of sent) ≡ None
-        → length content < data_length sent
-        → Precedes wanted (after_message transfers sent content)
-        (after_message transfers sent (content ++ piece))
-    message_grows sent may short =
-        ⊎_elim
-        (λ segment. rw segment.1
-        (segment_grows segment.0 (rw segment.1 at may)
-        (subst (λ (m : Message). length content < data_length m) segment.1 short)))
-        (λ other.
-        let same = transfers_same transfers sent (content ++ piece) other in
-        rw (transfers_same transfers sent content other, same) (precedes_same wanted transfers))
-        (kind_of sent)
+  parts_on : (first last more : List Entry) → LastGoesOn last more
+      → Precedes wanted (unpacked_of wanted (first ++ last)) (unpacked_of wanted (first ++ more))
+  unfolding unpacked_of
+  parts_on first last more follows =
+      let f = with_head wanted in
+      rw (fold-append f none_unpacked first last, fold-append f none_unpacked first more)
+      (last_on last more (fold f none_unpacked first)
+      (knows_heads wanted first none_unpacked knows_none) follows)
 
-  -- ---- the heads that are in order
+  pub unpacked_on : (heads others : List Entry) → HeadsGoOn heads others
+      → Precedes wanted (unpacked_of wanted heads) (unpacked_of wanted others)
+  unpacked_on heads others on =
+      rw (on.are, on.others_are) (parts_on on.first on.last on.more on.follows)
 
-  -- the order of some heads, and of heads that go on from them, both after these transfers
-  pub record OrderGoesOn (transfers : List Transfer) (before after : Ordered) : Type 0 where
-    pub stays : (stop : ℕ × OrderFault) → before.refused ≡ Some stop → after ≡ before
-    pub precedes : before.refused ≡ None
-        → Precedes wanted (with_heads transfers before.heads) (with_heads transfers after.heads)
+-- ---- the order
 
-  -- these heads go on from those, whatever comes before both
-  abbrev pub HeadsGoOn : (heads other : List Entry) → Type 0
-  HeadsGoOn heads other =
-      (transfers : List Transfer) (seen : List Message) → KnowsOpen transfers seen
-      → OrderGoesOn transfers (ordered_after seen heads) (ordered_after seen other)
+pub record OrderGoesOn (before after : Ordered) : Type 0 where
+  pub stays : (stop : ℕ × OrderFault) → before.refused ≡ Some stop → after ≡ before
+  pub goes : before.refused ≡ None → HeadsGoOn before.heads after.heads
 
-  -- the same head comes before both
-  same_first : (refused : Option OrderFault) (transfers : List Transfer) (head : Entry)
-      (before after : Ordered)
-      → (refused ≡ None
-      → OrderGoesOn (after_message transfers head.message head.content) before after)
-      → OrderGoesOn transfers (ordered_by refused head before) (ordered_by refused head after)
-  same_first (Some fault) transfers head before after on =
-      record { stays = λ stop is. refl; precedes = λ is. absurd (cc) }
-  same_first None transfers head before after on = record {
-    stays = λ stop is. ap (ordered_by None head) ((on refl).stays stop is);
-    precedes = (on refl).precedes;
-  }
+head_then : (head : Entry) (heads others : List Entry) → HeadsGoOn heads others
+    → HeadsGoOn (head ∷ heads) (head ∷ others)
+head_then head heads others on = record {
+  first = head ∷ on.first;
+  last = on.last;
+  more = on.more;
+  are = ap (λ hs. head ∷ hs) on.are;
+  others_are = ap (λ hs. head ∷ hs) on.others_are;
+  follows = on.follows;
+}
 
-  pub heads_on : (first heads other : List Entry) → HeadsGoOn heads other
-      → HeadsGoOn (first ++ heads) (first ++ other)
-  unfolding ordered_after
-  heads_on [] heads other on = on
-  heads_on (head ∷ first) heads other on = λ transfers seen knows.
-      same_first (refusal seen (event_of head.message)) transfers head _ _
-      (λ may. heads_on first heads other on (after_message transfers head.message head.content)
-      (seen ++ head.message ∷ [])
-      (knows_more transfers seen knows head.message head.content may))
+-- the same head comes before both
+same_first : (refused : Option OrderFault) (head : Entry) (before after : Ordered)
+    → OrderGoesOn before after
+    → OrderGoesOn (ordered_by refused head before) (ordered_by refused head after)
+same_first (Some fault) head before after on =
+    record { stays = λ stop is. refl; goes = λ is. absurd (cc) }
+same_first None head before after on = record {
+  stays = λ stop is. ap (ordered_by None head) (on.stays stop is);
+  goes = λ is. head_then head before.heads after.heads (on.goes is);
+}
 
-  -- more heads follow
-  pub more_on : (more : List Entry) → HeadsGoOn [] more
-  unfolding ordered_after
-  more_on more = λ transfers seen knows. record {
-    stays = λ stop is. absurd (cc);
-    precedes = λ is. heads_front wanted more transfers seen knows;
-  }
+-- the data of the last head goes on, and then other heads follow
+grown_order : (refused : Option OrderFault) (head : Entry) (piece : List ℕ) (rest : Ordered)
+    → length head.content < data_length head.message
+    → OrderGoesOn (ordered_by refused head (record { heads = []; refused = None }))
+    (ordered_by refused (entry head.offset head.message (head.content ++ piece)) rest)
+grown_order (Some fault) head piece rest short =
+    record { stays = λ stop is. refl; goes = λ is. absurd (cc) }
+grown_order None head piece rest short = record {
+  stays = λ stop is. absurd (cc);
+  goes = λ is.
+      record {
+        first = [];
+        last = head ∷ [];
+        more = entry head.offset head.message (head.content ++ piece) ∷ rest.heads;
+        are = refl;
+        others_are = refl;
+        follows = record { short = short; piece = piece; others = rest.heads; are = refl };
+      };
+}
 
-  -- the data of the last head goes on, and then other heads follow
-  module _ (offset : ℕ) (sent : Message) (content piece : List ℕ) (others : List Entry)
-      (short : length content < data_length sent) where
-    abbrev grown : Entry
-    grown = entry offset sent (content ++ piece)
+last_order : (last more : List Entry) (seen : List Message) → LastGoesOn last more
+    → OrderGoesOn (ordered_after seen last) (ordered_after seen more)
+unfolding ordered_after
+last_order [] more seen follows = record {
+  stays = λ stop is. absurd (cc);
+  goes = λ is.
+      record {
+        first = [];
+        last = [];
+        more = (ordered_after seen more).heads;
+        are = refl;
+        others_are = refl;
+        follows = tt;
+      };
+}
+last_order (head ∷ []) more seen follows =
+    rw follows.are
+    (grown_order (refusal seen (event_of head.message)) head follows.piece _ follows.short)
+last_order (head ∷ second ∷ rest) more seen follows = absurd follows
 
-    grown_by : (refused : Option OrderFault) (transfers : List Transfer) (seen : List Message)
-        → refusal seen (event_of sent) ≡ refused → KnowsOpen transfers seen
-        → OrderGoesOn transfers
-        (ordered_by refused (entry offset sent content) (record { heads = []; refused = None }))
-        (ordered_by refused grown (ordered_after (seen ++ sent ∷ []) others))
-    grown_by (Some fault) transfers seen is knows =
-        record { stays = λ stop same. refl; precedes = λ none. absurd (cc) }
-    grown_by None transfers seen is knows = record {
-      stays = λ stop same. absurd (cc);
-      precedes = λ none.
-          fronts_trans _ _ _ (message_grows transfers seen knows content piece sent is short)
-          (heads_front wanted others (after_message transfers sent (content ++ piece))
-          (seen ++ sent ∷ []) (knows_more transfers seen knows sent (content ++ piece) is));
-    }
+order_parts : (first last more : List Entry) (seen : List Message) → LastGoesOn last more
+    → OrderGoesOn (ordered_after seen (first ++ last)) (ordered_after seen (first ++ more))
+unfolding ordered_after
+order_parts [] last more seen follows = last_order last more seen follows
+order_parts (head ∷ first) last more seen follows =
+    same_first (refusal seen (event_of head.message)) head _ _
+    (order_parts first last more (seen ++ head.message ∷ []) follows)
 
-    pub grown_on : HeadsGoOn (entry offset sent content ∷ []) (grown ∷ others)
-    unfolding ordered_after
-    grown_on = λ transfers seen knows.
-        grown_by (refusal seen (event_of sent)) transfers seen refl knows
+pub order_on : (heads others : List Entry) → HeadsGoOn heads others
+    → OrderGoesOn (ordered heads) (ordered others)
+unfolding ordered
+order_on heads others on =
+    rw (on.are, on.others_are) (order_parts on.first on.last on.more [] on.follows)

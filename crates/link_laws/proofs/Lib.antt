@@ -17,8 +17,11 @@ mod Packings
 mod Continued
 mod Listings
 mod Payloads
+mod Accepted
 mod Transfers
 mod Heads
 mod Unpackings
 mod EveryByte
 mod Cut
+mod ReportLines
+mod SameInOrder

@@ -1,67 +1,88 @@
 -- The texts of `unpack` that some bytes determine are prefixes of its texts for longer inputs.
-use Rattle.std.proofs.Common.{◌≡◌, ℕ, true, List, [], ◌++◌, Option, Some, None, refl, ap, sym, ◌∙◌, subst, append_assoc}
-use Rattle.link_wire.specs.Stream.{End, Clean, Cut, Fault, Stream, Reading, reading_of}
+use Rattle.std.proofs.Common.{◌≡◌, ℕ, Bool, true, false, List, ◌++◌, Option, Some, None, refl, ap, sym, ◌∙◌, append_assoc}
+use Rattle.link_wire.specs.Stream.{Entry, End, Stream, Reading, reading_of}
 use Rattle.link_transfer.specs.declared.fault.OrderFault.{OrderFault}
 use Rattle.link_run.specs.Made.{is_shown}
-use Rattle.link_unpack.specs.Transfers.{Ordered, ordered, cut_heads, heads_of, transfers_of}
-use Rattle.link_unpack.specs.Unpacking.{stop_by, unpacking_by, unpacking_of, unpack_tool}
+use Rattle.link_unpack.specs.Transfers.{Ordered, ordered, cut_heads, heads_of}
+use Rattle.link_unpack.specs.Unpacking.{stop_by, unpacking_by, unpacked_of, made_of, unpacking_of, unpack_tool}
+use Rattle.link_unpack.specs.UnpackRun.{texts_of}
 use Rattle.link_unpack.specs.declared.wanted.Wanted.{Wanted}
-use Rattle.link_unpack.proofs.Texts.{by_reading}
+use Rattle.link_unpack.proofs.GoingOn.{unpacked_in_order, lines_abandoned}
 use Rattle.link_laws.specs.Prefix.{IsPrefixed}
-use Rattle.link_laws.proofs.Continued.{FollowsEnd, GoesOn, stream_of, ReadingGoesOn, reading_on}
-use Rattle.link_laws.proofs.Fronts.{front_same}
-use Rattle.link_laws.proofs.Heads.{OrderGoesOn, HeadsGoOn, heads_on, more_on, grown_on}
+use Rattle.link_laws.proofs.Accepted.{accepted_in_order}
+use Rattle.link_laws.proofs.Continued.{ReadingGoesOn, reading_on}
+use Rattle.link_laws.proofs.Fronts.{front_same, front_first, AreFronts, fronts_same, fronts_trans}
+use Rattle.link_laws.proofs.Heads.{HeadsGoOn, unpacked_on, OrderGoesOn, order_on}
 use Rattle.link_laws.proofs.Prefixes.{MadeOn, prefixed}
-use Rattle.link_laws.proofs.Transfers.{Precedes, precedes_same, settled_front, knows_none}
 
 module _ (wanted : Wanted) where
-  -- ---- the order of the heads
-
-  last_on : (end : End) (rest : Stream) → FollowsEnd end rest
-      → HeadsGoOn wanted (cut_heads end) (rest.entries ++ cut_heads rest.end)
-  last_on Clean rest follows = more_on wanted _
-  last_on (Cut offset message content) rest follows =
-      rw follows.heads
-      (grown_on wanted offset message content follows.piece follows.others follows.short)
-  last_on (Fault offset fault) rest follows = more_on wanted _
-
-  order_on : (before after : Reading) → GoesOn (stream_of before) (stream_of after)
-      → OrderGoesOn wanted [] (ordered (heads_of before)) (ordered (heads_of after))
-  unfolding ordered
-  order_on before after on =
-      let P : Stream → Type 0 = λ later. OrderGoesOn wanted [] (ordered (heads_of before))
-      (ordered (later.entries ++ cut_heads later.end)) in
-      let last = last_on before.end on.rest on.follows in
-      subst P (sym on.are)
-      (rw append_assoc (heads_on wanted before.entries _ _ last [] [] knows_none))
+  -- the texts up to the first head that is refused are those of the heads before it
+  accepted_texts : (end : End) (heads : List Entry)
+      → (unpacking_by wanted end (ordered heads)).texts
+      ≡ texts_of wanted (unpacked_of wanted (ordered heads).heads)
+  accepted_texts end heads =
+      sym (ap (texts_of wanted)
+      (unpacked_in_order wanted (ordered heads).heads (accepted_in_order heads)))
 
   -- ---- what is made of a reading that goes on
 
   module _ (before after : Reading) (on : ReadingGoesOn before after) where
+    heads_on : HeadsGoOn (heads_of before) (heads_of after)
+    heads_on =
+        let rest = on.messages.rest in
+        record {
+          first = before.entries;
+          last = cut_heads before.end;
+          more = rest.entries ++ cut_heads rest.end;
+          are = refl;
+          others_are = ap (λ (s : Stream). s.entries ++ cut_heads s.end) on.messages.are
+              ∙ append_assoc before.entries rest.entries (cut_heads rest.end);
+          follows = on.messages.follows;
+        }
+
     abbrev order : Ordered
     order = ordered (heads_of before)
 
-    orders : OrderGoesOn wanted [] order (ordered (heads_of after))
-    orders = order_on before after on.messages
+    abbrev later : Ordered
+    later = ordered (heads_of after)
 
-    precedes_by : (refused : Option (ℕ × OrderFault)) → order.refused ≡ refused
-        → Precedes wanted (transfers_of order.heads) (transfers_of (ordered (heads_of after)).heads)
-    unfolding transfers_of
-    precedes_by (Some stop) is = rw (orders.stays stop is) (precedes_same wanted _)
-    precedes_by None is = orders.precedes is
+    orders : OrderGoesOn order later
+    orders = order_on (heads_of before) (heads_of after) heads_on
+
+    -- ---- a fault of the order ends the run
+
+    texts_by : (refused : Option (ℕ × OrderFault)) → order.refused ≡ refused
+        → AreFronts (unpacking_by wanted before.end order).texts
+        (unpacking_by wanted after.end later).texts
+    texts_by (Some stop) is =
+        fronts_same _ _
+        (sym (ap (λ (o : Ordered). (unpacking_by wanted before.end o).texts) (orders.stays stop is)))
+    texts_by None is =
+        fronts_trans _ _ _
+        (fronts_same _ _ (accepted_texts before.end (heads_of before)))
+        (fronts_trans _ _ _ (unpacked_on wanted order.heads later.heads (orders.goes is))
+        (fronts_same _ _ (sym (accepted_texts after.end (heads_of after)))))
 
     -- a head is refused, or a fault of the wire is shown
     stays_by : (refused : Option (ℕ × OrderFault)) → order.refused ≡ refused
         → is_shown (stop_by refused before.end) ≡ true
-        → by_reading wanted after ≡ by_reading wanted before
+        → made_of false wanted after ≡ made_of false wanted before
     stays_by (Some stop) is shown =
         ap (unpacking_by wanted after.end) (orders.stays stop is) ∙ rw is refl
-    stays_by None is shown = ap (by_reading wanted) (on.stays shown)
+    stays_by None is shown = ap (made_of false wanted) (on.stays shown)
 
-    made_on : MadeOn (by_reading wanted before) (by_reading wanted after)
-    made_on = record {
-      texts = precedes_by order.refused refl;
-      ended = record { output = front_same _ _ refl; report = settled_front wanted _ };
+    -- ---- with each option
+
+    made_on : (keep_going : Bool)
+        → MadeOn (made_of keep_going wanted before) (made_of keep_going wanted after)
+    made_on true = record {
+      texts = unpacked_on wanted (heads_of before) (heads_of after) heads_on;
+      ended = record { output = front_same _ _ refl; report = front_first _ _ };
+      stays = λ shown. ap (made_of true wanted) (on.stays shown);
+    }
+    made_on false = record {
+      texts = texts_by order.refused refl;
+      ended = record { output = front_same _ _ refl; report = (_, lines_abandoned wanted _) };
       stays = stays_by order.refused refl;
     }
 
@@ -69,4 +90,5 @@ module _ (wanted : Wanted) where
   unfolding unpacking_of
   unpack_prefix bytes more =
       prefixed (unpacking_of wanted) bytes more
-      (made_on (reading_of bytes) (reading_of (bytes ++ more)) (reading_on bytes more))
+      (made_on (reading_of bytes) (reading_of (bytes ++ more)) (reading_on bytes more)
+      wanted.keep_going)

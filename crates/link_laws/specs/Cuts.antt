@@ -1,14 +1,30 @@
--- How the data of the stream makes up the output of `unpack`, and how the report cuts the output.
-use Rattle.std.specs.Prelude.{◌≡◌, ℕ, ◌+◌, ◌≤◌, false, List, [], ◌∷◌, ◌++◌, length, Option, Some, None}
+-- How the data of the stream makes up the output of `unpack`, and how the report cuts the output:
+-- where a fault of the order ends the run, and where it does not.
+use Rattle.std.specs.Prelude.{◌≡◌, ℕ, ◌+◌, ◌≤◌, Bool, true, false, List, [], ◌∷◌, ◌++◌, length, Option, Some, None}
 use Rattle.std.specs.List.{flat_map}
 use Rattle.link_wire.specs.Stream.{Entry, reading_of}
+use Rattle.link_wire.specs.declared.message.Message.{Message}
+use Rattle.link_transfer.specs.Event.{event_of}
+use Rattle.link_transfer.specs.Order.{is_stray, refusal, with_taken}
+use Rattle.link_transfer.specs.declared.fault.OrderFault.{OrderFault}
 use Rattle.link_report.specs.Fault.{fault_text}
+use Rattle.link_report.specs.declared.fault.Fault.TheVariants.{Order}
 use Rattle.link_report.specs.Transfer.{transfer_text}
 use Rattle.link_report.specs.declared.transfer.TransferEntry.{TransferEntry}
-use Rattle.link_run.specs.Made.{StreamStop}
+use Rattle.link_run.specs.Made.{StreamStop, stop_of}
 use Rattle.link_unpack.specs.Transfers.{Transfer, Ordered, ordered, heads_of, transfers_of, settled}
-use Rattle.link_unpack.specs.Unpacking.{parts_of, entry_of, stop_by, unpack_tool}
+use Rattle.link_unpack.specs.Unpacking.{parts_of, entry_of, stop_by, unpacked_of, unpacking_of, unpack_tool}
 use Rattle.link_unpack.specs.declared.wanted.Wanted.{Wanted}
+use Rattle.link_laws.specs.RoundTrip.{all}
+
+-- the same of the transfers is wanted, and a fault of the order does not end the run
+abbrev pub going_on : Wanted → Wanted
+going_on wanted =
+    record { only = wanted.only; payload = wanted.payload; keep_going = true }
+
+abbrev pub stopping : Wanted → Wanted
+stopping wanted =
+    record { only = wanted.only; payload = wanted.payload; keep_going = false }
 
 -- ---- the output
 
@@ -24,8 +40,25 @@ order_of bytes = ordered (heads_of (reading_of bytes))
 -- order
 abbrev pub HasEveryByte : List ℕ → Type 0
 HasEveryByte bytes =
-    ((unpack_tool (record { only = None; payload = false })).whole bytes).texts.output
-    ≡ flat_map data_of (order_of bytes).heads
+    ((unpack_tool all).whole bytes).texts.output ≡ flat_map data_of (order_of bytes).heads
+
+-- the heads that are not stray, from those that come after these messages
+abbrev pub taken_by : (stray : Bool) → Entry → List Entry → List Entry
+taken_by true head rest = rest
+taken_by false head rest = head ∷ rest
+
+unfoldable pub taken_after : List Message → List Entry → List Entry
+taken_after before [] = []
+taken_after before (head ∷ more) =
+    taken_by (is_stray before (event_of head.message)) head
+    (taken_after (with_taken before head.message) more)
+
+-- as `HasEveryByte`, where a fault of the order does not end the run: the output is the data of the
+-- segments that are not stray, in order
+abbrev pub HasEveryTakenByte : List ℕ → Type 0
+HasEveryTakenByte bytes =
+    ((unpack_tool (going_on all)).whole bytes).texts.output
+    ≡ flat_map data_of (taken_after [] (heads_of (reading_of bytes)))
 
 -- ---- the report
 
@@ -64,17 +97,75 @@ abbrev pub stop_line : Option StreamStop → List ℕ
 stop_line None = []
 stop_line (Some stop) = fault_text stop.fault
 
--- The report is the lines of these transfers, and then the line of the fault. The parts of the
--- output that the lines describe follow one another from its beginning. The rest of the output is
--- the part of the transfer that has no line.
+-- The parts of the output that the lines of these transfers describe follow one another from its
+-- beginning. The rest of the output is the part of the transfer that has no line.
+pub record Divides (wanted : Wanted) (output : List ℕ) (transfers : List Transfer) : Type 0 where
+  pub follow : Follow 0 (entries_of wanted transfers)
+  -- the transfer that has no line, if there is one: it is the latest, and the last in the output
+  pub left : List Transfer
+  pub one : length left ≤ 1
+  pub whole : output ≡ parts_of wanted (left ++ transfers)
+  pub size : length (parts_of wanted transfers) ≡ written_by (entries_of wanted transfers)
+
+-- The report is the lines of these transfers, and then the line of the fault. The lines cut the
+-- output.
 pub record CutsOutput (wanted : Wanted) (bytes : List ℕ) : Type 0 where
   pub lines : ((unpack_tool wanted).whole bytes).texts.report
       ≡ flat_map transfer_text (entries_of wanted (reported bytes))
       ++ stop_line (stop_at bytes)
-  pub follow : Follow 0 (entries_of wanted (reported bytes))
-  -- the transfer that has no line, if there is one: it is the latest, and the last in the output
-  pub left : List Transfer
-  pub one : length left ≤ 1
-  pub whole : ((unpack_tool wanted).whole bytes).texts.output ≡ parts_of wanted (left ++ reported bytes)
-  pub size : length (parts_of wanted (reported bytes))
-      ≡ written_by (entries_of wanted (reported bytes))
+  pub divides : Divides wanted ((unpack_tool wanted).whole bytes).texts.output (reported bytes)
+
+-- ---- a report with the lines of heads that are not in order
+
+-- a line of the report: of a head that is not in order, or of a transfer
+pub data ReportLine : Type 0 where
+  OfHead : (offset : ℕ) (fault : OrderFault) → ReportLine
+  OfTransfer : (entry : TransferEntry) → ReportLine
+
+abbrev pub text_of : ReportLine → List ℕ
+text_of (OfHead offset fault) = fault_text (Order offset fault)
+text_of (OfTransfer entry) = transfer_text entry
+
+abbrev pub entry_in : ReportLine → List TransferEntry
+entry_in (OfHead offset fault) = []
+entry_in (OfTransfer entry) = entry ∷ []
+
+abbrev pub fault_in : ReportLine → List (ℕ × OrderFault)
+fault_in (OfHead offset fault) = (offset, fault) ∷ []
+fault_in (OfTransfer entry) = []
+
+-- each head that is not in order, and its fault, from the heads that come after these messages
+abbrev pub fault_at : (offset : ℕ) → Option OrderFault → List (ℕ × OrderFault)
+fault_at offset None = []
+fault_at offset (Some fault) = (offset, fault) ∷ []
+
+unfoldable pub faults_after : List Message → List Entry → List (ℕ × OrderFault)
+faults_after before [] = []
+faults_after before (head ∷ more) =
+    fault_at head.offset (refusal before (event_of head.message))
+    ++ faults_after (with_taken before head.message) more
+
+-- the transfers that have a line in the report, if a fault of the order does not end the run
+abbrev pub reported_on : Wanted → List ℕ → List Transfer
+reported_on wanted bytes =
+    let reading = reading_of bytes in
+    lined (stop_of reading.end) (unpacked_of wanted (heads_of reading)).transfers
+
+-- As `CutsOutput`, where a fault of the order does not end the run. The report has a line for each
+-- head that is not in order. Without these lines it cuts the output.
+pub record CutsOutputOn (wanted : Wanted) (bytes : List ℕ) : Type 0 where
+  pub lines : List ReportLine
+  pub report : ((unpack_tool wanted).whole bytes).texts.report
+      ≡ flat_map text_of lines ++ stop_line (stop_of (reading_of bytes).end)
+  pub faults : flat_map fault_in lines ≡ faults_after [] (heads_of (reading_of bytes))
+  pub entries : flat_map entry_in lines ≡ entries_of wanted (reported_on wanted bytes)
+  pub divides : Divides wanted ((unpack_tool wanted).whole bytes).texts.output
+      (reported_on wanted bytes)
+
+-- ---- heads that are all in order
+
+-- if no head is refused, it changes nothing whether a fault of the order ends the run
+abbrev pub IsSameInOrder : Wanted → List ℕ → Type 0
+IsSameInOrder wanted bytes =
+    (order_of bytes).refused ≡ None
+    → unpacking_of (going_on wanted) bytes ≡ unpacking_of (stopping wanted) bytes

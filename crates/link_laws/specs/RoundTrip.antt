@@ -9,7 +9,7 @@ use Rattle.link_pack.specs.declared.options.PackOptions.{PackOptions}
 
 -- `unpack` without options: all data of all transfers
 abbrev pub all : Wanted
-all = record { only = None; payload = false }
+all = record { only = None; payload = false; keep_going = false }
 
 -- A line for each bundle: its number, its offset in the output, and the judgement that it is good.
 -- The first bundle has this number, and begins at `start`.

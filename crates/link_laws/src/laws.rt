@@ -10,7 +10,7 @@ ghost use Rattle.link_unpack.specs.Unpacking.{unpack_tool};
 ghost use Rattle.link_unpack.specs.declared.wanted.Wanted.{Wanted};
 ghost use Rattle.link_pack.specs.Packing.{pack_tool};
 ghost use Rattle.link_pack.specs.declared.options.PackOptions.{PackOptions};
-ghost use Rattle.link_laws.specs.Cuts.{HasEveryByte, CutsOutput};
+ghost use Rattle.link_laws.specs.Cuts.{going_on, stopping, HasEveryByte, HasEveryTakenByte, CutsOutput, CutsOutputOn, IsSameInOrder};
 ghost use Rattle.link_laws.specs.Listed.{IsListed};
 ghost use Rattle.link_laws.specs.PackedStream.{KeepsLimits};
 ghost use Rattle.link_laws.specs.Prefix.{IsPrefixed};
@@ -77,17 +77,30 @@ pub fn list_of_pack(options: &PackOptions, bytes: &[u8])
 /// `unpack` without options loses no byte of data, and repeats none.
 ///
 /// For all transfers, and without `--payload`, its output is the data of the segments that were
-/// accepted, in order.
+/// accepted, in order. If a fault of the order does not end the run, its output is the data of the
+/// segments that are not stray, in order.
 pub fn every_byte_once()
-    ensures { (bytes : List ℕ) → HasEveryByte bytes }
+    ensures stopping { (bytes : List ℕ) → HasEveryByte bytes }
+    ensures going_on { (bytes : List ℕ) → HasEveryTakenByte bytes }
 {}
 
 /// The report of `unpack` says how the output divides into transfers.
 ///
 /// The transfer of each line begins in the output where the transfers before it end. The output
-/// after the last of them is that of a transfer that a fault left open.
+/// after the last of them is that of a transfer that a fault left open. If a fault of the order
+/// does not end the run, the same holds of the lines of transfers. Beside them, the report has a
+/// line for each head that is not in order.
 pub fn report_cuts_output()
-    ensures { (wanted : Wanted) (bytes : List ℕ) → CutsOutput wanted bytes }
+    ensures stopping { (wanted : Wanted) (bytes : List ℕ)
+        → CutsOutput (stopping wanted) bytes }
+    ensures going_on { (wanted : Wanted) (bytes : List ℕ)
+        → CutsOutputOn (going_on wanted) bytes }
+{}
+
+/// If all messages are in order, `unpack` makes the same of a stream, whether or not a fault of the
+/// order would end the run.
+pub fn same_in_order()
+    ensures { (wanted : Wanted) (bytes : List ℕ) → IsSameInOrder wanted bytes }
 {}
 
 // ---- bounds that the types imply

@@ -1,35 +1,50 @@
 -- What holds after a step of `list`, by the result of its call of the session.
-use Rattle.std.proofs.Common.{◌≡◌, ℕ, ◌+◌, ◌<◌, ◌≤◌, Bool, true, false, List, [], ◌∷◌, ◌++◌, length, inl, Result, Ok, nat_lt, if◌then◌else◌, refl, ap, sym, ◌∙◌, subst, append-nil, append_assoc, arith}
+use Rattle.std.proofs.Common.{◌≡◌, ℕ, ◌+◌, ◌<◌, ◌≤◌, Bool, true, false, List, [], ◌∷◌, ◌++◌, length, length-append, inl, Result, Ok, nat_lt, if◌then◌else◌, refl, ap, sym, ◌∙◌, subst, append-nil, append_assoc, arith}
 use Rattle.std.proofs.lemmas.Bool.{lt-ltb, le-ltb}
 use Rattle.std.proofs.lemmas.Grind.{flat_map-append}
 use Rattle.link_wire.specs.Device.{Input}
 use Rattle.link_wire.specs.Limits.{window_size, longest_head}
 use Rattle.link_wire.specs.Message.{data_length}
-use Rattle.link_wire.specs.Source.{window_of, Takes, Readies}
+use Rattle.link_wire.specs.Source.{given_by, window_of, Takes, Readies}
 use Rattle.link_wire.specs.Stream.{Entry, End, Clean, Cut, Fault, Stream, ended, with_entry, Reading, reading_of}
+use Rattle.link_wire.specs.Whole.{ReadWhole}
 use Rattle.link_wire.specs.Session.{source_of, left_of, joined, data_after, IsLeft, ReadContact, ReadMessage, CleanEnd, PassedBytes}
 use Rattle.link_wire.specs.declared.IoFault.{IoFault}
 use Rattle.link_wire.specs.declared.message.Contact.{Contact}
 use Rattle.link_wire.specs.declared.message.Message.{Message}
 use Rattle.link_wire.specs.declared.session.Session.{Session}
 use Rattle.link_wire.proofs.Contacts.{reading-none}
-use Rattle.link_io.proofs.Sources.{Readies-takes}
+use Rattle.link_io.proofs.Sources.{Takes-none, Takes-then, Readies-takes}
 use Rattle.link_report.specs.Message.{contact_text, message_text}
 use Rattle.link_run.specs.Made.{Made, whole_by, is_shown, stop_of}
-use Rattle.link_run.specs.Run.{no_texts, ◌then◌, Looks, Devices, devices_at, LastStep, progress_after}
+use Rattle.link_run.specs.Run.{Texts, no_texts, ◌then◌, Looks, Devices, Place, devices_at, LastStep, progress_after}
 use Rattle.link_run.specs.Stages.{Stands, GivesStage, MayBegin}
 use Rattle.link_run.specs.Writers.{place_of, on_output, GivesTexts}
+use Rattle.link_run.specs.declared.run.Progress.{Progress}
 use Rattle.link_run.specs.declared.run.Status.{Status}
 use Rattle.link_run.specs.declared.writers.Writers.{Writers}
-use Rattle.link_run.proofs.Runs.{texts_as, then_none, few_over, writes_none}
+use Rattle.link_run.proofs.Runs.{texts_as, then_assoc, then_none, few_over, writes_none}
 use Rattle.link_run.proofs.Sessions.{SameTexts}
 use Rattle.link_run.proofs.Stands.{ends, goes_on, written}
 use Rattle.link_list.specs.Listing.{contact_lines, message_lines, lines_of, listing_by, listing_of, list_tool}
-use Rattle.link_list.specs.ListRun.{most_given, IsWaiting, IsWaitingAfter, Lists, IsDue, GivesRead, GoesOn}
+use Rattle.link_list.specs.ListRun.{most_by, IsWaiting, IsWaitingAfter, Lists, IsDue, IsListedTo, ListedOn, GivesRead, GivesLines, GivesFar, GoesOn}
 use Rattle.link_list.specs.declared.listing.Read.{Read}
 use Rattle.link_list.specs.declared.listing.Read.TheVariants as read
 use Rattle.link_list.specs.declared.listing.Stage.{Stage}
 use Rattle.link_list.specs.declared.listing.Stage.TheVariants as stage
+
+-- each step may be given a byte
+pub most_some : (piece : ℕ) (now : Stage) → 0 < piece → 0 < most_by piece now
+most_some piece stage.Contact some = omega arith
+most_some piece stage.Message some = omega arith
+most_some piece stage.Data some = some
+
+-- the stage that is left
+pub at_message : (now : Stage) → (now ≡ stage.Data → ⊥) → (now ≡ stage.Contact → ⊥)
+    → now ≡ stage.Message
+at_message stage.Contact no_data no_contact = absurd (no_contact refl)
+at_message stage.Message no_data no_contact = refl
+at_message stage.Data no_data no_contact = absurd (no_data refl)
 
 -- ---- what `list` makes of a reading
 
@@ -135,9 +150,9 @@ module _ {R W E : Type 0} {look : Looks R W E} {start : Devices R W E} (old new 
         else with_entry (record { offset = offset; message = message; content = [] }) (ended Clean))
     read_head test is = got.reading ∙ ap (λ b. joined (reading_of history) (if b then ended (Cut offset message []) else with_entry (record { offset = offset; message = message; content = [] }) (ended Clean))) is
 
-    pub message_read : (next : Read) → GoesOn (left_of new) next
-        → GivesRead look start stage.Message old new w (message_text offset message) history next
-    message_read read.Whole none =
+    pub message_read : (piece : ℕ) (next : Read) → GoesOn (left_of new) next
+        → GivesRead look start piece stage.Message old new w (message_text offset message) history next
+    message_read piece read.Whole none =
         let left = got.left in
         let reading = read_head false (le-ltb 0 (data_length message) (omega arith)) in
         record {
@@ -151,7 +166,7 @@ module _ {R W E : Type 0} {look : Looks R W E} {start : Devices R W E} (old new 
           session_at = got.at;
           clean = ap (λ (r : Reading). r.end) reading;
         }
-    message_read read.Waits more =
+    message_read piece read.Waits more =
         let left = got.left in
         let reading = read_head true (lt-ltb 0 (data_length message) (omega arith)) in
         let P : End → Type 0 = λ end. IsWaiting stage.Data (message_text offset message) end in
@@ -162,7 +177,7 @@ module _ {R W E : Type 0} {look : Looks R W E} {start : Devices R W E} (old new 
         (λ bytes. Lists look.input stage.Data (message_text offset message) new bytes × IsWaitingAfter stage.Message (reading_of bytes).end)
         (λ begun. got.some) (record { session_at = got.at; waits = subst P end (refl, refl) }, subst Q end refl)
         (writes_none look.output look.report w) (λ some. refl)
-    message_read (read.Ended answer) goes = absurd goes
+    message_read piece (read.Ended answer) goes = absurd goes
 
   -- the stream has ended between two messages
   pub clean_ended : (status : Status) → status.0 ≡ 0 → CleanEnd look.input old new history
@@ -212,7 +227,8 @@ module _ {R W E : Type 0} {look : Looks R W E} {start : Devices R W E} (old mid 
     (at : Stands look listing_of start true (place_of (source_of old) w) history)
     (within : Inside line history (left_of old))
     (ready : Readies look.input (source_of old) (source_of mid))
-    (gave : PassedBytes look.input mid new history bytes) (some : 0 < length bytes) (size : length bytes ≤ 4096) where
+    (gave : PassedBytes look.input mid new history bytes) (some : 0 < length bytes)
+    {piece : ℕ} (size : length bytes ≤ piece) where
   takes : Takes look.input (source_of old) (source_of new) bytes
   takes = Readies-takes look.input (source_of old) (source_of mid) (source_of new) bytes ready gave.takes some
 
@@ -231,7 +247,7 @@ module _ {R W E : Type 0} {look : Looks R W E} {start : Devices R W E} (old mid 
       ∙ ap (λ b. joined (reading_of history) (if b then ended (Cut within.offset within.message (within.content ++ bytes)) else with_entry (record { offset = within.offset; message = within.message; content = within.content ++ bytes }) (ended Clean))) is
 
   pub data_read : (next : Read) → GoesOn (left_of new) next
-      → GivesRead look start stage.Data old new w line history next
+      → GivesRead look start piece stage.Data old new w line history next
   data_read read.Whole none =
       let reading = read_data false (le-ltb 0 (left_of new) (omega arith)) in
       record {
@@ -248,23 +264,89 @@ module _ {R W E : Type 0} {look : Looks R W E} {start : Devices R W E} (old mid 
   data_read read.Waits more =
       let reading = read_data true (lt-ltb 0 (left_of new) more) in
       let P : End → Type 0 = λ end. IsWaiting stage.Data line end in
-      goes_on 4096 (source_of old) (source_of new) w at takes size (takes.window.less some) w no_texts
+      goes_on piece (source_of old) (source_of new) w at takes size (takes.window.less some) w no_texts
       (texts_same history bytes _ reading refl) (unshown_by history bytes _ reading refl)
       (λ given. Lists look.input stage.Data line new given × IsWaitingAfter stage.Data (reading_of given).end)
       (λ begun. some) (record { session_at = gave.at; waits = subst P (sym (ap (λ (r : Reading). r.end) reading)) (refl, within.shown) }, tt)
       (writes_none look.output look.report w) (λ begun. refl)
   data_read (read.Ended answer) goes = absurd goes
 
--- ---- the line that is due
+-- ---- the line that is due, and those of the messages after it
 
-module _ {R W E : Type 0} {look : Looks R W E} {start : Devices R W E} {now : Stage}
-    (old new : Session R) (mid after : Writers W E) {line history : List ℕ}
-    (at : IsDue look start now old new mid line history) where
-  pub line_written : (last : List ℕ) (result : Result (Unit {0}) IoFault)
-      → GivesTexts look.output look.report mid after (on_output line) result
-      → GivesStage look listing_of start true (place_of (source_of old) mid) (place_of (source_of new) after) (Lists look.input stage.Message last new) (most_given now) history (progress_after result)
-  line_written last result gives =
+module _ {R : Type 0} (look : R → Input) (first : Texts) (old : Session R) {history : List ℕ} where
+  -- nothing was given yet
+  pub listed_none : (lines : List ℕ) → IsListedTo look first old lines history
+      → ListedOn look first old old lines history
+  listed_none lines is =
+      let P : List ℕ → Type 0 = λ bytes. IsListedTo look first old lines bytes in
+      record {
+        given = [];
+        takes = Takes-none look (source_of old);
+        listed = subst P (sym (append-nil history)) is;
+      }
+
+  -- one more message was given
+  pub listed_more : (mid new : Session R) (lines : List ℕ) (offset : ℕ) (message : Message)
+      → (on : ListedOn look first old mid lines history)
+      → ReadWhole look mid new (history ++ on.given) offset message
+      → ListedOn look first old new (lines ++ message_text offset message) history
+  listed_more mid new lines offset message on got =
+      let passed = got.passed in
+      let line = message_text offset message in
+      let P : List ℕ → Type 0 = λ bytes. IsListedTo look first new (lines ++ line) bytes in
+      record {
+        given = on.given ++ got.given;
+        takes = Takes-then look (source_of old) (source_of mid) (source_of new) on.given got.given on.takes passed.takes;
+        listed = subst P (append_assoc history on.given got.given) (record {
+          session_at = passed.at;
+          clean = ap (λ (r : Reading). r.end) passed.reading;
+          texts = then_assoc first (on_output lines) (on_output line)
+              ∙ ap (λ t. t then on_output line) on.listed.texts
+              ∙ texts_one (history ++ on.given) got.given _ passed.reading _ refl;
+        });
+      }
+
+module _ {R W E : Type 0} {look : Looks R W E} {start : Devices R W E} {piece : ℕ} {now : Stage}
+    (old mid new : Session R) (before after : Writers W E) {line history : List ℕ}
+    (due : IsDue look start piece now old mid before line history) where
+  -- the message whose line is due is the latest of those so far
+  pub due_listed : IsListedTo look.input (listing_of history).texts mid line (history ++ due.given)
+  due_listed = record { session_at = due.session_at; clean = due.clean; texts = due.texts }
+
+  same_given : (given : List ℕ) → Takes look.input (source_of mid) (source_of new) given → new ≡ mid
+      → length given ≡ 0
+  same_given given takes same =
+      let count = takes.count in
+      let at = ap (λ (s : Session R). given_by (source_of s)) same in
+      omega (arith, count, at)
+
+  pub lines_written : (far : Bool) (last : List ℕ) (result : Result (Unit {0}) IoFault)
+      → (far ≡ false → new ≡ mid)
+      → GivesLines look (listing_of history).texts mid new before after (history ++ due.given) result
+      → GivesFar look start piece far now (place_of (source_of old) before) (place_of (source_of new) after) (Lists look.input stage.Message last new) history (progress_after result)
+  lines_written far last result near gives =
+      let on = gives.2 in
+      let bytes = due.given ++ on.given in
+      let all : (history ++ due.given) ++ on.given ≡ history ++ bytes = append_assoc history due.given on.given in
       let P : End → Type 0 = λ end. IsWaiting stage.Message last end in
-      written (most_given now) (source_of old) (source_of new) mid at.stood at.takes at.size at.few after (on_output line) at.texts
-      (clean_unshown (history ++ at.given) at.clean) (Lists look.input stage.Message last new) (λ begun. at.some)
-      (record { session_at = at.session_at; waits = subst P (sym at.clean) refl }) (λ some. refl) result gives
+      let Q : List ℕ → Type 0 = λ given. IsListedTo look.input (listing_of history).texts new gives.0 given in
+      let listed = subst Q all on.listed in
+      let size = most_by piece now + length on.given in
+      let takes = Takes-then look.input (source_of old) (source_of mid) (source_of new) due.given on.given due.takes on.takes in
+      let some : 0 < length bytes = omega (arith, due.some, length-append due.given on.given) in (
+        size,
+        λ is. omega (arith, same_given on.given on.takes (near is)),
+        omega (arith, due.some, due.size),
+        written size (source_of old) (source_of new) before due.stood takes (omega (arith, due.size, length-append due.given on.given)) (takes.window.less some) after (on_output gives.0) listed.texts
+            (clean_unshown (history ++ bytes) listed.clean) (Lists look.input stage.Message last new) (λ begun. some)
+            (record { session_at = listed.session_at; waits = subst P (sym listed.clean) refl }) (λ some. refl) result gives.1,
+      )
+
+-- what holds after a step that did not go on
+pub not_far : {R W E : Type 0} (look : Looks R W E) (start : Devices R W E) (piece : ℕ)
+    (far : Bool) (now : Stage) (old new : Place R W E) (knows : List ℕ → Type 0) (history : List ℕ)
+    (result : Result Progress IoFault) → 0 < piece
+    → GivesStage look listing_of start true old new knows (most_by piece now) history result
+    → GivesFar look start piece far now old new knows history result
+not_far look start piece far now old new knows history result some gives =
+    (most_by piece now, λ is. refl, most_some piece now some, gives)

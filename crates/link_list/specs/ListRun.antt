@@ -1,16 +1,18 @@
 -- The state of a run of `list`.
-use Rattle.std.specs.Prelude.{◌≡◌, ℕ, ◌<◌, ◌≤◌, Bool, List, [], ◌++◌, length, true}
+use Rattle.std.specs.Prelude.{◌≡◌, ℕ, ◌<◌, ◌≤◌, Bool, true, false, List, [], ◌++◌, length, Result}
 use Rattle.link_wire.specs.Device.{Input}
 use Rattle.link_wire.specs.Limits.{longest_head, window_size}
 use Rattle.link_wire.specs.Stream.{End, Clean, Cut, Fault, reading_of}
 use Rattle.link_wire.specs.MessageBuffer.{message_of}
 use Rattle.link_wire.specs.Session.{source_of, IsSessionAt, may_open, may_read, is_opened}
 use Rattle.link_wire.specs.Source.{Takes, window_of}
+use Rattle.link_wire.specs.declared.IoFault.{IoFault}
 use Rattle.link_wire.specs.declared.session.Session.{Session}
 use Rattle.link_report.specs.Message.{message_text}
-use Rattle.link_run.specs.Run.{Looks, ◌then◌, Devices, LastStep, WentOn, devices_at}
-use Rattle.link_run.specs.Stages.{Stands}
-use Rattle.link_run.specs.Writers.{place_of, on_output}
+use Rattle.link_run.specs.Run.{Texts, Looks, ◌then◌, Devices, Place, LastStep, WentOn, devices_at}
+use Rattle.link_run.specs.Stages.{Stands, GivesStage}
+use Rattle.link_run.specs.Writers.{place_of, on_output, GivesTexts}
+use Rattle.link_run.specs.declared.run.Progress.{Progress}
 use Rattle.link_run.specs.declared.writers.Writers.{Writers}
 use Rattle.link_list.specs.Listing.{list_tool, listing_of}
 use Rattle.link_list.specs.declared.listing.Latest.{Latest}
@@ -20,10 +22,14 @@ use Rattle.link_list.specs.declared.listing.Stage.{Stage}
 use Rattle.link_list.specs.declared.listing.Stage.TheVariants as stage
 
 -- the most bytes that a step is given: a contact header, the head of a message, or a piece of data
+-- of at most `piece` bytes
+abbrev pub most_by : (piece : ℕ) → Stage → ℕ
+most_by piece stage.Contact = 6
+most_by piece stage.Message = longest_head
+most_by piece stage.Data = piece
+
 abbrev pub most_given : Stage → ℕ
-most_given stage.Contact = 6
-most_given stage.Message = longest_head
-most_given stage.Data = 4096
+most_given now = most_by 4096 now
 
 -- whether the session permits the call of a step at this stage
 abbrev pub may_go_on : {R : Type 0} → Stage → Session R → Bool
@@ -75,14 +81,14 @@ module _ {R : Type 0} (look : R → Input) where
   IsListing stage.Message line session history = Lists stage.Message line session history
   IsListing stage.Data line session history = Lists stage.Data line session history
 
-module _ {R W E : Type 0} (look : Looks R W E) (start : Devices R W E) (now : Stage)
+module _ {R W E : Type 0} (look : Looks R W E) (start : Devices R W E) (piece : ℕ) (now : Stage)
     (old new : Session R) (w : Writers W E) (line history : List ℕ) where
   -- the message is whole, and only its line is still to be written
   pub record IsDue : Type 0 where
     pub given : List ℕ
     pub some : 0 < length given
     pub takes : Takes look.input (source_of old) (source_of new) given
-    pub size : length given ≤ most_given now
+    pub size : length given ≤ most_by piece now
     pub few : length (window_of (source_of new)) < window_size
     pub stood : Stands look listing_of start true (place_of (source_of old) w) history
     pub texts : (listing_of history).texts then on_output line
@@ -97,10 +103,38 @@ module _ {R W E : Type 0} (look : Looks R W E) (start : Devices R W E) (now : St
       WentOn (source_of old) (source_of new)
       (λ bytes. Stands look listing_of start true (place_of (source_of new) w) bytes
       × (Lists look.input stage.Data line new bytes
-      × IsWaitingAfter now (reading_of bytes).end)) (most_given now) history
+      × IsWaitingAfter now (reading_of bytes).end)) (most_by piece now) history
   GivesRead (read.Ended answer) =
-      LastStep look list_tool start (devices_at (place_of (source_of new) w)) (most_given now)
+      LastStep look list_tool start (devices_at (place_of (source_of new) w)) (most_by piece now)
       history answer
+
+module _ {R : Type 0} (look : R → Input) (first : Texts) where
+  -- Between two messages, after the texts `first`, these lines make the texts of the bytes so far.
+  pub record IsListedTo (session : Session R) (lines history : List ℕ) : Type 0 where
+    pub session_at : IsSessionAt look session history
+    pub clean : (reading_of history).end ≡ Clean
+    pub texts : first then on_output lines ≡ (listing_of history).texts
+
+  -- some whole messages were given after the history, and these lines make the texts now
+  pub record ListedOn (old new : Session R) (lines history : List ℕ) : Type 0 where
+    pub given : List ℕ
+    pub takes : Takes look (source_of old) (source_of new) given
+    pub listed : IsListedTo new lines (history ++ given)
+
+-- some whole messages were given, and their lines were written, or a writer failed in them
+abbrev pub GivesLines : {R W E : Type 0} → Looks R W E → (first : Texts) → (old new : Session R)
+    → (before after : Writers W E) → (history : List ℕ) → Result (Unit {0}) IoFault → Type 0
+GivesLines look first old new before after history result =
+    (lines : List ℕ) × GivesTexts look.output look.report before after (on_output lines) result
+    × ListedOn look.input first old new lines history
+
+-- what holds after a step, which has the bound of a step unless it went on
+abbrev pub GivesFar : {R W E : Type 0} → Looks R W E → Devices R W E → (piece : ℕ) → (far : Bool)
+    → (now : Stage) → (old new : Place R W E) → (knows : List ℕ → Type 0) → (history : List ℕ)
+    → Result Progress IoFault → Type 0
+GivesFar look start piece far now old new knows history result =
+    (size : ℕ) × (far ≡ false → size ≡ most_by piece now) × (0 < size)
+    × GivesStage look listing_of start true old new knows size history result
 
 -- the line waits if data is to come, and is due if none is
 abbrev pub GoesOn : (left : ℕ) → Read → Type 0

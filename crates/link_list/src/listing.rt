@@ -3,15 +3,15 @@
 ghost use Rattle.std.specs.Prelude.{◌≡◌, ◌<◌, true, false, [], IsTrue, List, ℕ, Err};
 ghost use Rattle.link_wire.specs.Session.{may_open, may_read, is_opened, left_of, source_of};
 ghost use Rattle.link_run.specs.Reading.{inner_of, HasEnough};
-ghost use Rattle.link_run.specs.Run.{Devices, devices_at, looks, GivesAnswer};
+ghost use Rattle.link_run.specs.Run.{Texts, Devices, devices_at, looks, GivesAnswer};
 ghost use Rattle.link_run.specs.Stages.{Stands, GivesStage, HandedOn, IsMore};
-ghost use Rattle.link_run.specs.Writers.{GivesTexts, on_output, place_of};
+ghost use Rattle.link_run.specs.Writers.{GivesTexts, WritesSome, on_output, place_of};
 ghost use Rattle.link_list.specs.Listing.{listing_of, list_tool};
-ghost use Rattle.link_list.specs.ListRun.{may_go_on, may_follow, latest_line, most_given, IsListing, Begins, Lists, GivesRead, GoesOn};
+ghost use Rattle.link_list.specs.ListRun.{may_go_on, may_follow, latest_line, IsListing, Begins, Lists, IsListedTo, GivesRead, GivesLines, GivesFar, GoesOn};
 
 use link_report::{KeptDigits, MessageText, contact_line};
 use link_run::{Input, Progress, Run, RunEnd, Stages, Status, ToolRun, Writers};
-use link_wire::{InDevice, IoFault, MessageBuffer, OutDevice, Session, Source};
+use link_wire::{InDevice, IoFault, MessageBuffer, OutDevice, Session, Source, WINDOW};
 
 /// The most bytes of a segment's data that one step is given.
 const PIECE: usize = 4096;
@@ -73,27 +73,69 @@ impl<R: InDevice, W: OutDevice, E: OutDevice> Stages<Session<R>, W, E> for Listi
 
     ghost most = { λ tool. most_given tool.stage };
 
-    /// Only one place writes the line of a message, so the code for it is inlined once.
     #[inline(always)]
     fn stage(
         &mut self,
         input: &mut Input<Session<R>>,
         writers: &mut Writers<W, E>,
     ) -> Result<Progress, IoFault> {
-        if let Stage::Contact = self.stage {
-            self.stage = Stage::Message;
-            return list_contact(input, writers);
+        step(self, PIECE, false, input, writers)
+    }
+
+    /// A stride is given all data in the window, and the messages that lie whole in it after that.
+    #[inline(always)]
+    fn stride(
+        &mut self,
+        input: &mut Input<Session<R>>,
+        writers: &mut Writers<W, E>,
+    ) -> Result<Progress, IoFault> {
+        step(self, WINDOW, true, input, writers)
+    }
+}
+
+/// Does a step that is given at most `piece` bytes of data. If `far` is true and the step has
+/// written a line, it goes on with the messages that lie whole in the window.
+#[inline(always)]
+fn step<R: InDevice, W: OutDevice, E: OutDevice>(
+    tool: &mut Listing,
+    piece: usize,
+    far: bool,
+    input: &mut Input<Session<R>>,
+    writers: &mut Writers<W, E>,
+) -> Result<Progress, IoFault>
+    requires fits { IsTrue (may_go_on tool.old.stage (inner_of input.old)) }
+    requires piece { 0 < piece }
+    ensures fits { IsMore result → IsTrue (may_go_on tool.new.stage (inner_of input.new)) }
+    ensures gives { (start : Devices R W E) (history : List ℕ)
+        → Stands (looks R.state W.state E.state) listing_of start true
+        (place_of (source_of (inner_of input.old)) writers.old) history
+        → IsListing R.state tool.old.stage (latest_line tool.old.latest) (inner_of input.old) history
+        → GivesFar (looks R.state W.state E.state) start piece far tool.old.stage
+        (place_of (source_of (inner_of input.old)) writers.old)
+        (place_of (source_of (inner_of input.new)) writers.new)
+        (IsListing R.state tool.new.stage (latest_line tool.new.latest) (inner_of input.new))
+        history result }
+    ensures handed { (history : List ℕ)
+        → IsListing R.state tool.old.stage (latest_line tool.old.latest) (inner_of input.old) history
+        → (result ≡ Err IoFault.Write → ⊥)
+        → HandedOn (looks R.state W.state E.state) W.handed E.handed
+        (HasEnough R.state (inner_of input.old))
+        (place_of (source_of (inner_of input.old)) writers.old)
+        (place_of (source_of (inner_of input.new)) writers.new) }
+{
+    if let Stage::Contact = tool.stage {
+        tool.stage = Stage::Message;
+        return list_contact(input, writers);
+    }
+    match advance(tool.stage, piece, input, writers, &mut tool.latest) {
+        Read::Waits => {
+            tool.stage = Stage::Data;
+            Ok(Progress::More)
         }
-        match advance(self.stage, input, writers, &mut self.latest) {
-            Read::Waits => {
-                self.stage = Stage::Data;
-                Ok(Progress::More)
-            }
-            Read::Ended(answer) => Progress::ended(answer),
-            Read::Whole => {
-                self.stage = Stage::Message;
-                Progress::after(write_line(writers, &mut self.latest))
-            }
+        Read::Ended(answer) => Progress::ended(answer),
+        Read::Whole => {
+            tool.stage = Stage::Message;
+            Progress::after(write_lines(far, input, writers, &mut tool.latest))
         }
     }
 }
@@ -135,18 +177,20 @@ fn list_contact<R: InDevice, W: OutDevice, E: OutDevice>(
 #[inline(always)]
 fn advance<R: InDevice, W: OutDevice, E: OutDevice>(
     stage: Stage,
+    piece: usize,
     input: &mut Input<Session<R>>,
     writers: &mut Writers<W, E>,
     latest: &mut Latest,
 ) -> Read
     requires going { stage ≡ Stage.Contact → ⊥ }
     requires fits { IsTrue (may_go_on stage (inner_of input.old)) }
+    requires piece { 0 < piece }
     ensures fits { IsTrue (may_follow result (inner_of input.new)) }
     ensures gives { (start : Devices R W E) (history : List ℕ)
         → Stands (looks R.state W.state E.state) listing_of start true
         (place_of (source_of (inner_of input.old)) writers.old) history
         → IsListing R.state stage (latest_line latest.old) (inner_of input.old) history
-        → GivesRead (looks R.state W.state E.state) start stage (inner_of input.old)
+        → GivesRead (looks R.state W.state E.state) start piece stage (inner_of input.old)
         (inner_of input.new) writers.new (latest_line latest.new) history result }
     ensures handed { (history : List ℕ)
         → IsListing R.state stage (latest_line latest.old) (inner_of input.old) history
@@ -157,7 +201,7 @@ fn advance<R: InDevice, W: OutDevice, E: OutDevice>(
         (place_of (source_of (inner_of input.new)) writers.new) }
 {
     match stage {
-        Stage::Data => pass_data(input, writers),
+        Stage::Data => pass_data(piece, input, writers),
         _ => read_message(input, writers, latest),
     }
 }
@@ -171,11 +215,11 @@ fn read_message<R: InDevice, W: OutDevice, E: OutDevice>(
 ) -> Read
     requires { IsTrue (may_read (inner_of input.old)) }
     ensures fits { IsTrue (may_follow result (inner_of input.new)) }
-    ensures gives { (start : Devices R W E) (history : List ℕ)
+    ensures gives { (start : Devices R W E) (piece : ℕ) (history : List ℕ)
         → Stands (looks R.state W.state E.state) listing_of start true
         (place_of (source_of (inner_of input.old)) writers.old) history
         → Lists R.state Stage.Message (latest_line latest.old) (inner_of input.old) history
-        → GivesRead (looks R.state W.state E.state) start Stage.Message (inner_of input.old)
+        → GivesRead (looks R.state W.state E.state) start piece Stage.Message (inner_of input.old)
         (inner_of input.new) writers.new (latest_line latest.new) history result }
     ensures handed { (history : List ℕ)
         → Lists R.state Stage.Message (latest_line latest.old) (inner_of input.old) history
@@ -195,19 +239,21 @@ fn read_message<R: InDevice, W: OutDevice, E: OutDevice>(
     }
 }
 
-/// Passes over a piece of a segment's data.
+/// Passes over a piece of a segment's data, of at most `piece` bytes.
 #[inline(always)]
 fn pass_data<R: InDevice, W: OutDevice, E: OutDevice>(
+    piece: usize,
     input: &mut Input<Session<R>>,
     writers: &mut Writers<W, E>,
 ) -> Read
-    requires { IsTrue (is_opened (inner_of input.old)) }
+    requires opened { IsTrue (is_opened (inner_of input.old)) }
+    requires piece { 0 < piece }
     ensures fits { IsTrue (may_follow result (inner_of input.new)) }
     ensures gives { (start : Devices R W E) (line history : List ℕ)
         → Stands (looks R.state W.state E.state) listing_of start true
         (place_of (source_of (inner_of input.old)) writers.old) history
         → Lists R.state Stage.Data line (inner_of input.old) history
-        → GivesRead (looks R.state W.state E.state) start Stage.Data (inner_of input.old)
+        → GivesRead (looks R.state W.state E.state) start piece Stage.Data (inner_of input.old)
         (inner_of input.new) writers.new line history result }
     ensures handed { (line history : List ℕ)
         → Lists R.state Stage.Data line (inner_of input.old) history
@@ -219,7 +265,7 @@ fn pass_data<R: InDevice, W: OutDevice, E: OutDevice>(
 {
     match input.load_data(writers) {
         Ok(ready) => {
-            input.pass(ready.min(PIECE));
+            input.pass(ready.min(piece));
             go_on(input)
         }
         Err(stop) => Read::Ended(writers.end(stop)),
@@ -237,6 +283,41 @@ fn go_on<R: InDevice>(input: &Input<Session<R>>) -> Read
         return Read::Waits;
     }
     Read::Whole
+}
+
+/// Writes the line of the message that was read last. If `far` is true, it does the same for each
+/// message that lies whole in the window.
+///
+/// Only one place writes the line of a message, so the code for that is inlined once.
+#[inline(always)]
+fn write_lines<R: InDevice, W: OutDevice, E: OutDevice>(
+    far: bool,
+    input: &mut Input<Session<R>>,
+    writers: &mut Writers<W, E>,
+    latest: &mut Latest,
+) -> Result<(), IoFault>
+    requires { IsTrue (may_read (inner_of input.old)) }
+    ensures fits { IsTrue (may_read (inner_of input.new)) }
+    ensures near { far ≡ false → input.new ≡ input.old }
+    ensures gives { (first : Texts) (history : List ℕ)
+        → IsListedTo R.state first (inner_of input.old) (latest_line latest.old) history
+        → GivesLines (looks R.state W.state E.state) first (inner_of input.old)
+        (inner_of input.new) writers.old writers.new history result }
+    ensures wrote { WritesSome W.state E.state writers.old writers.new result }
+{
+    'lines: loop {
+        match write_line(writers, latest) {
+            Ok(()) => {}
+            Err(fault) => return Err(fault),
+        }
+        if !far {
+            return Ok(());
+        }
+        match input.next_whole(&mut latest.message) {
+            Some(offset) => latest.offset = offset,
+            None => return Ok(()),
+        }
+    }
 }
 
 /// Writes the line of the message that was read last.

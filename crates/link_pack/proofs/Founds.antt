@@ -1,8 +1,7 @@
 -- What holds after a step of `pack`, by what its bytes show of the bundle.
-use Rattle.std.proofs.Common.{◌≡◌, ℕ, ◌+◌, ◌-◌, ◌^◌, ◌<◌, ◌≤◌, min, inl, inr, true, false, List, [], ◌∷◌, ◌++◌, length, take, drop, OnOk, Option, Some, None, Result, Ok, Err, refl, ap, sym, ◌∙◌, subst, append-nil, append_assoc, length-append, length-take, arith}
+use Rattle.std.proofs.Common.{◌≡◌, ℕ, ◌+◌, ◌-◌, ◌^◌, ◌<◌, ◌≤◌, inl, inr, true, false, List, [], ◌∷◌, ◌++◌, length, take, drop, OnOk, Option, Some, None, Result, Ok, Err, refl, ap, sym, ◌∙◌, subst, append-nil, append_assoc, length-append, length-take, arith}
 use Rattle.std.proofs.lemmas.List.{take-take}
 use Rattle.link_wire.specs.Device.{Input}
-use Rattle.link_wire.specs.Limits.{window_size}
 use Rattle.link_wire.specs.Source.{window_of, IsLive, IsOver, Takes, Readies}
 use Rattle.link_wire.specs.declared.IoFault.{IoFault}
 use Rattle.link_wire.specs.declared.Source.{Source}
@@ -21,9 +20,10 @@ use Rattle.link_run.specs.declared.writers.Writers.{Writers}
 use Rattle.link_run.proofs.Runs.{few_over}
 use Rattle.link_run.proofs.Sessions.{then_fault}
 use Rattle.link_run.proofs.Stands.{goes_on, loses, ends, last_step, written}
-use Rattle.link_pack.specs.Bundles.{Packed, Refusal, Faulty, front_of, divided, joined}
+use Rattle.link_pack.specs.Bundles.{Packed, Faulty, front_of, divided, joined}
 use Rattle.link_pack.specs.Packing.{prelude_bytes, end_bytes, line_of, refusal_fault, packing_of, packing_by, pack_tool}
-use Rattle.link_pack.specs.Packer.{Holds, Grows, Refuses, MakesOf, IsCut, CutShort}
+use Rattle.link_transfer.specs.Cutter.{IsCutterAt}
+use Rattle.link_pack.specs.Packer.{cutting, before_last, Holds, Grows, Refuses, MakesOf, IsCut, CutShort}
 use Rattle.link_pack.specs.PackRun.{texts_of, run_segments, Packs, IsPacking, WritesOn, WritesLast, GivesFound, GivesShort, GivesFinish}
 use Rattle.link_pack.specs.declared.options.PackOptions.{PackOptions}
 use Rattle.link_pack.specs.declared.packer.Found.{Found}
@@ -50,7 +50,7 @@ prelude_written {look = look} {start = start} source before after packer {histor
     (written 0 source source before (subst P at.0 stood) (Takes-none look.input source) (omega arith) (omega arith) after (on_output (prelude_bytes packer.options)) (sym (prelude_texts packer.options))
     (ap (λ (m : Made). is_shown m.stop) (made_none packer.options)) (Packs look.input packer source) (λ is. absurd (cc)) (subst Q at.0 at.2) (λ some. absurd (omega arith)) result gives)
 
-module _ {R W E : Type 0} {look : Looks R W E} {start : Devices R W E} (old : Source R)
+module _ {R W E : Type 0} {look : Looks R W E} {start : Devices R W E} (most : ℕ) (old : Source R)
     (before after : Writers W E) (packer : Packer) {history : List ℕ}
     (stood : Stands look (packing_of packer.options) start true (place_of old before) history)
     (at : Packs look.input packer old history) where
@@ -66,11 +66,11 @@ module _ {R W E : Type 0} {look : Looks R W E} {start : Devices R W E} (old : So
   -- ---- a run of bytes was given
 
   module _ (new : Source R) (run : List ℕ) (takes : Takes look.input old new run)
-      (live : IsLive look.input new) (some : 0 < length run) (size : length run ≤ 4096)
+      (live : IsLive look.input new) (some : 0 < length run) (size : length run ≤ most)
       (mid : Packer) (same : mid.options ≡ options) (numbered : mid.number ≡ packer.number)
       (packed : Packer) (kept : packed.options ≡ mid.options) (result : Result Progress IoFault) where
     abbrev Gives : Result Progress IoFault → Type 0
-    Gives = GivesStage look (packing_of options) start true (place_of old before) (place_of new after) (Packs look.input packed new) 4096 history
+    Gives = GivesStage look (packing_of options) start true (place_of old before) (place_of new after) (Packs look.input packed new) most history
 
     divides : (rest : List ℕ)
         → divided limit ((history ++ run) ++ rest)
@@ -113,15 +113,15 @@ module _ {R W E : Type 0} {look : Looks R W E} {start : Devices R W E} (old : So
       by_write : (write : Result (Unit {0}) IoFault) → GivesTexts look.output look.report before after more write
           → OnOk write (Holds packed bundles begun) → Gives (progress_after write)
       by_write (Ok done) writes holds =
-          goes_on 4096 old new before stood takes size (takes.window.less some) after more due (unshown_going options (history ++ run) bundles begun front goes fits come)
+          goes_on most old new before stood takes size (takes.window.less some) after more due (unshown_going options (history ++ run) bundles begun front goes fits come)
           (Packs look.input packed new) (λ is. some) (packs holds) writes (λ may. refl)
       by_write (Err fault) part holds =
-          loses 4096 old new before stood takes size (takes.window.less some) after more due (unshown_going options (history ++ run) bundles begun front goes fits come) fault part
+          loses most old new before stood takes size (takes.window.less some) after more due (unshown_going options (history ++ run) bundles begun front goes fits come) fault part
 
       going : WritesOn look.output look.report before after more (Holds packed bundles begun) result → Gives result
       going gave = subst Gives (sym gave.is) (by_write gave.written gave.gives gave.holds)
 
-    part_came : Grows mid at.begun run false → bundle_goes (at.begun ++ run) ≡ true
+    part_came : Grows mid at.begun run → bundle_goes (at.begun ++ run) ≡ true
         → WritesOn look.output look.report before after (on_output (run_segments mid.options mid.number at.begun run false)) (Holds packed at.bundles (at.begun ++ run)) result
         → Gives result
     part_came grows goes gave =
@@ -134,7 +134,7 @@ module _ {R W E : Type 0} {look : Looks R W E} {start : Devices R W E} (old : So
     abbrev bundle_of : BundleInfo → Packed
     bundle_of info = record { bytes = at.begun ++ run; info = info }
 
-    whole_came : Grows mid at.begun run true → (info : BundleInfo) → verdict (at.begun ++ run) ≡ Ok info
+    whole_came : Grows mid at.begun run → (info : BundleInfo) → verdict (at.begun ++ run) ≡ Ok info
         → WritesOn look.output look.report before after (record { output = run_segments mid.options mid.number at.begun run true; report = line_of mid.options mid.number (bundle_of info) })
         (Holds packed (at.bundles ++ bundle_of info ∷ []) []) result
         → Gives result
@@ -149,29 +149,29 @@ module _ {R W E : Type 0} {look : Looks R W E} {start : Devices R W E} (old : So
     module _ (fault : Fault) (refuses : Refuses mid at.begun run fault) where
       made_refused : (rest : List ℕ)
           → packing_of options ((history ++ run) ++ rest)
-          ≡ packing_by options (refused_so options at.bundles (at.begun ++ refuses.accepted) refuses.refusal)
+          ≡ packing_by options (refused_so options at.bundles (at.begun ++ before_last run) refuses.refusal)
       made_refused rest =
           made_as options _ _ (divides rest
-          ∙ ap (joined at.bundles) (subst (λ (o : PackOptions). divided o.peer_transfer ((at.begun ++ run) ++ rest) ≡ refused_so options [] (at.begun ++ refuses.accepted) refuses.refusal) same (refuses.divides rest))
-          ∙ ap (λ (all : List Packed). refused_so options all (at.begun ++ refuses.accepted) refuses.refusal) (append-nil at.bundles))
+          ∙ ap (joined at.bundles) (subst (λ (o : PackOptions). divided o.peer_transfer ((at.begun ++ run) ++ rest) ≡ refused_so options [] (at.begun ++ before_last run) refuses.refusal) same (refuses.divides rest))
+          ∙ ap (λ (all : List Packed). refused_so options all (at.begun ++ before_last run) refuses.refusal) (append-nil at.bundles))
 
       made_now : packing_of options (history ++ run)
-          ≡ packing_by options (refused_so options at.bundles (at.begun ++ refuses.accepted) refuses.refusal)
+          ≡ packing_by options (refused_so options at.bundles (at.begun ++ before_last run) refuses.refusal)
       made_now = ap (packing_of options) (sym (append-nil (history ++ run))) ∙ made_refused []
 
-      refused_came : WritesLast look.output look.report before after (record { output = run_segments mid.options mid.number at.begun refuses.accepted false; report = fault_text fault }) 3 result
+      refused_came : WritesLast look.output look.report before after (record { output = run_segments mid.options mid.number at.begun (before_last run) false; report = fault_text fault }) 3 result
           → Gives result
       refused_came gave =
           let line : fault ≡ refusal_fault (length at.bundles) refuses.refusal = refuses.is ∙ ap (λ n. refusal_fault n refuses.refusal) (numbered ∙ at.holds.number) in
           let now = ap whole_of made_now in
-          let texts : Texts = record { output = run_segments options (length at.bundles) at.begun refuses.accepted false; report = fault_text fault } in
-          let gave_now = as_stood (λ o n. GivesLast look.output look.report before after (record { output = run_segments o n at.begun refuses.accepted false; report = fault_text fault }) 3 gave.answer) gave.gives in
+          let texts : Texts = record { output = run_segments options (length at.bundles) at.begun (before_last run) false; report = fault_text fault } in
+          let gave_now = as_stood (λ o n. GivesLast look.output look.report before after (record { output = run_segments o n at.begun (before_last run) false; report = fault_text fault }) 3 gave.answer) gave.gives in
           let P : ℕ → Type 0 = λ status. GivesLast look.output look.report before after texts status gave.answer in
           subst Gives (sym gave.is)
           (last_step (packing_of options) (place_of old before) (place_of new after) _ gave.answer
-          (ends 4096 old new before stood takes size (takes.window.less some) after texts
-          (ap (λ t. t then texts) texts_now ∙ texts_refused options at.bundles at.begun refuses.accepted (fault_text fault) ∙ then_fault fault _
-          ∙ ap (λ f. with_fault f (texts_of options at.bundles (at.begun ++ refuses.accepted))) line ∙ sym (ap (λ (o : Outcome). o.texts) now))
+          (ends most old new before stood takes size (takes.window.less some) after texts
+          (ap (λ t. t then texts) texts_now ∙ texts_refused options at.bundles at.begun (before_last run) (fault_text fault) ∙ then_fault fault _
+          ∙ ap (λ f. with_fault f (texts_of options at.bundles (at.begun ++ before_last run))) line ∙ sym (ap (λ (o : Outcome). o.texts) now))
           (inr (ap (λ (m : Made). is_shown m.stop) made_now ∙ refuses.lasts, λ rest. made_refused rest ∙ sym made_now))
           gave.answer (subst P (sym (ap (λ (o : Outcome). o.status) now)) gave_now)))
 
@@ -189,17 +189,17 @@ module _ {R W E : Type 0} {look : Looks R W E} {start : Devices R W E} (old : So
     ended_by : (more : Texts) (outcome : Outcome) → whole_of (packing_of options history) ≡ outcome
         → texts_of options at.bundles at.begun then more ≡ outcome.texts
         → GivesLast look.output look.report before after more outcome.status answer
-        → LastStep look (pack_tool options) start (devices_at (place_of new after)) 4096 history answer
+        → LastStep look (pack_tool options) start (devices_at (place_of new after)) most history answer
     ended_by more outcome is same gives =
         let now : whole_of (packing_of options (history ++ [])) ≡ outcome = ap (λ bytes. whole_of (packing_of options bytes)) (append-nil history) ∙ is in
         let P : ℕ → Type 0 = λ status. GivesLast look.output look.report before after more status answer in
-        ends 4096 old new before stood takes (omega arith) (few_over look.input new over) after more
+        ends most old new before stood takes (omega arith) (few_over look.input new over) after more
         (ap (λ t. t then more) texts_now ∙ same ∙ sym (ap (λ (o : Outcome). o.texts) now)) (inl over)
         answer (subst P (sym (ap (λ (o : Outcome). o.status) now)) gives)
 
     ended_short : (short : Option Fault) → CutShort packer.number at.begun short
         → GivesShort look.output look.report before after options short answer
-        → LastStep look (pack_tool options) start (devices_at (place_of new after)) 4096 history answer
+        → LastStep look (pack_tool options) start (devices_at (place_of new after)) most history answer
     ended_short None why gives =
         ended_by (on_output (end_bytes options)) (clean options at.bundles at.begun)
         (whole_clean options history at.bundles at.begun at.holds.front at.holds.goes at.holds.within at.divides why) refl gives
@@ -211,16 +211,22 @@ module _ {R W E : Type 0} {look : Looks R W E} {start : Devices R W E} (old : So
         (then_fault fault _ ∙ ap (λ f. with_fault f (texts_of options at.bundles at.begun)) line) gives
 
     pub finished : GivesFinish look.output look.report before after packer at.begun answer
-        → LastStep look (pack_tool options) start (devices_at (place_of new after)) 4096 history answer
+        → LastStep look (pack_tool options) start (devices_at (place_of new after)) most history answer
     finished gives = ended_short gives.short gives.why gives.gave
 
 -- ---- the bytes that the packer takes of the window
 
--- the packer took the first `count` bytes of the window
-pub record Took (packer : Packer) (begun window : List ℕ) (count : ℕ) (what : Found) : Type 0 where
-  pub some : 0 < length (take count window)
-  pub size : length (take count window) ≤ 4096
-  pub makes : MakesOf packer begun (take count window) what
+-- a packer with the same cutter and options has cut the same
+pub cut_at : (old new : Packer) (begun : List ℕ) → new.cutter ≡ old.cutter
+    → new.options ≡ old.options → IsCutterAt old.cutter (cutting old.options begun)
+    → IsCutterAt new.cutter (cutting new.options begun)
+cut_at old new begun cutter options at = rw (cutter, options) at
+
+-- the run is the first `count` bytes of the window
+pub record IsRun (most : ℕ) (window run : List ℕ) (count : ℕ) : Type 0 where
+  pub some : 0 < length run
+  pub size : length run ≤ most
+  pub same : take count window ≡ run
 
 -- the bytes of the bundle and those of the window are fewer than 2 ^ 63
 pub window_bound : {R : Type 0} {look : R → Input} (packer : Packer) (old mid : Source R) {history : List ℕ}
@@ -235,14 +241,13 @@ window_bound packer old mid at ready shown most is =
     let size : length shown ≡ length (window_of mid) = ap length is in
     omega (arith, size, length-take most shown, ahead)
 
-pub window_taken : (packer : Packer) (begun window shown : List ℕ) (most count : ℕ) (what : Found)
-    → shown ≡ window → most ≤ 4096 → count ≤ length (take most shown) → 0 < count
-    → MakesOf packer begun (take count (take most shown)) what → Took packer begun window count what
-window_taken packer begun window shown most count what is size within some makes =
-    let sizes : length (take most shown) ≡ min most (length window) = length-take most shown ∙ ap (λ (w : List ℕ). min most (length w)) is in
-    let same : take count (take most shown) ≡ take count window = take-take count most shown (omega (arith, length-take most shown)) ∙ ap (take count) is in
+pub window_run : (most : ℕ) (window shown : List ℕ) (ready count : ℕ)
+    → shown ≡ window → ready ≤ most → count ≤ length (take ready shown) → 0 < count
+    → IsRun most window (take count (take ready shown)) count
+window_run most window shown ready count is size within some =
+    let sizes = length-take ready shown in
     record {
-      some = omega (arith, sizes, length-take count window);
-      size = omega (arith, sizes, length-take count window);
-      makes = subst (λ (run : List ℕ). MakesOf packer begun run what) same makes;
+      some = omega (arith, sizes, length-take count (take ready shown));
+      size = omega (arith, sizes, length-take count (take ready shown));
+      same = sym (take-take count ready shown (omega (arith, sizes)) ∙ ap (take count) is);
     }

@@ -1,5 +1,5 @@
 -- What is written once bytes of a bundle have come.
-use Rattle.std.proofs.Common.{◌≡◌, ◌⊎◌, ℕ, ◌+◌, ◌<◌, true, false, List, [], ◌∷◌, ◌++◌, length, OnOk, Option, Some, None, Result, Ok, Err, refl, ap, sym, ◌∙◌, subst, append-nil, length-append, arith}
+use Rattle.std.proofs.Common.{◌≡◌, ◌⊎◌, ℕ, ◌+◌, ◌<◌, true, false, List, [], ◌∷◌, ◌++◌, length, OnOk, Option, Some, None, Result, Ok, Err, refl, ap, sym, ◌∙◌, append-nil, length-append, arith}
 use Rattle.link_wire.specs.Device.{Output}
 use Rattle.link_wire.specs.declared.IoFault.{IoFault}
 use Rattle.link_wire.specs.declared.IoFault.TheVariants as io
@@ -8,7 +8,7 @@ use Rattle.link_bundle.specs.Scan.{HasScanned}
 use Rattle.link_report.specs.Fault.{fault_text}
 use Rattle.link_report.specs.declared.fault.Fault.{Fault}
 use Rattle.link_transfer.specs.Cutter.{IsCutterAt}
-use Rattle.link_transfer.specs.Cutting.{Cutting, with_bytes}
+use Rattle.link_transfer.specs.Cutting.{with_bytes}
 use Rattle.link_run.specs.Run.{Texts, ◌then◌, Looks, answer_of, progress_after}
 use Rattle.link_run.specs.Stages.{HandedOn}
 use Rattle.link_run.specs.Writers.{place_of, on_output, on_report, Writes, WritesPart, GivesTexts, GivesLast, HasHandedOn}
@@ -19,7 +19,7 @@ use Rattle.link_run.proofs.Handing.{handed_by, handed_written}
 use Rattle.link_run.proofs.Runs.{texts_as, writes_then, part_of_more, part_behind}
 use Rattle.link_pack.specs.Bundles.{Packed}
 use Rattle.link_pack.specs.Packing.{segment_size, line_of}
-use Rattle.link_pack.specs.Packer.{cutting, Holds, MakesOf}
+use Rattle.link_pack.specs.Packer.{cutting, before_last, accepted_of, is_whole, Holds, MakesOf}
 use Rattle.link_pack.specs.PackRun.{GivesFound, GivesShort, GivesFinish}
 use Rattle.link_pack.specs.Segments.{segments_left, all_given}
 use Rattle.link_pack.specs.declared.packer.Found.{Found}
@@ -60,17 +60,17 @@ module _ {W E : Type 0} (out_look : W → Output) (report_look : E → Output) w
     -- the run ends, since a writer failed in the segments
     pub lost : (what : Found) (took : MakesOf old begun run what)
         (packed : Packer) (fault : IoFault)
-        → ((so_far : Cutting) → IsCutterAt old.cutter so_far
         → WritesPart out_look report_look before mid
-        (on_output (segments_left old.number so_far)) fault)
+        (on_output (segments_left old.number
+        (with_bytes (accepted_of what run) (is_whole what) (cutting old.options begun)))) fault
         → GivesFound out_look report_look before mid old bundles begun run packed what took
         (Err fault)
     lost found.Part took packed fault gives =
-        record { written = Err fault; is = refl; gives = gives _ took.0.cut; holds = tt }
+        record { written = Err fault; is = refl; gives = gives; holds = tt }
     lost found.Whole took packed fault gives =
-        record { written = Err fault; is = refl; gives = segments_lost before mid _ _ fault (gives _ took.0.cut); holds = tt }
+        record { written = Err fault; is = refl; gives = segments_lost before mid _ _ fault gives; holds = tt }
     lost (found.Refused why) took packed fault gives =
-        record { answer = Err fault; is = refl; gives = segments_lost before mid _ _ fault (gives _ took.cut) }
+        record { answer = Err fault; is = refl; gives = segments_lost before mid _ _ fault gives }
 
     -- the bundle goes on
     pub grown : (took : MakesOf old begun run found.Part) (packed : Packer)
@@ -119,7 +119,7 @@ module _ {W E : Type 0} (out_look : W → Output) (report_look : E → Output) w
         (result : Result Progress IoFault) → result ≡ answer_of answer
         → Writes out_look report_look before mid
         (on_output (segments_left old.number
-        (with_bytes took.accepted false (cutting old.options begun))))
+        (with_bytes (before_last run) false (cutting old.options begun))))
         → GivesLast out_look report_look mid after (on_report (fault_text why)) 3 answer
         → GivesFound out_look report_look before after old bundles begun run packed (found.Refused why) took result
     refused why took after packed answer result is writes gives =

@@ -1,10 +1,9 @@
 -- What a run of bytes shows of the bundle that is being packed.
 use Rattle.std.proofs.Common.{◌≡◌, ℕ, ◌+◌, ◌-◌, ◌*◌, ◌/◌, ◌%◌, ◌<◌, ◌≤◌, min, Bool, true, false, List, [], ◌∷◌, ◌++◌, length, take, Result, Ok, Err, refl, sym, ap, ◌∙◌, subst, append_assoc, append-nil, length-append, arith}
-use Rattle.std.specs.Prelude.{◌==◌, if◌then◌else◌}
-use Rattle.std.proofs.lemmas.Bool.{eq-eqb}
+use Rattle.std.specs.Prelude.{if◌then◌else◌}
 use Rattle.std.proofs.lemmas.Grind.{div_ceil_times}
 use Rattle.std.proofs.lemmas.List.{length-take, take-take}
-use Rattle.std.proofs.Math.Seq.{take-append-add, take-length}
+use Rattle.std.proofs.Math.Seq.{take-append-add}
 use Rattle.link_cbor.specs.Pieces.{taken}
 use Rattle.link_cbor.specs.PieceLaws.{takes_shortest, taken-cons}
 use Rattle.link_bundle_types.specs.declared.fault.BundleFault.{BundleFault}
@@ -13,18 +12,16 @@ use Rattle.link_bundle_types.specs.declared.info.BundleInfo.{BundleInfo}
 use Rattle.link_bundle_types.specs.Faults.{lasts}
 use Rattle.link_bundle.specs.Bundle.{verdict, state_of, is_going, bundle_goes}
 use Rattle.link_bundle.specs.Scan.{HasScanned}
-use Rattle.link_transfer.specs.Cutter.{IsCutterAt}
-use Rattle.link_transfer.specs.Cutting.{Cutting, with_bytes}
-use Rattle.link_transfer.specs.declared.cutter.Cutter.{Cutter}
 use Rattle.link_transfer.specs.Chunks.{chunk_count}
 use Rattle.link_transfer.proofs.Due.{fits, fits_back}
 use Rattle.link_report.specs.declared.fault.Fault.TheVariants.{TooLong}
 use Rattle.link_report.specs.Packed.{packed_text}
 use Rattle.link_pack.specs.Bundles.{Packed, Longer, Faulty, front_of}
-use Rattle.link_pack.specs.Packer.{Holds, Grows, Refuses, MakesOf, cutting, found_by, accepted_of, is_whole}
+use Rattle.link_pack.specs.Packer.{Holds, Grows, Refuses, MakesOf, found_by, accepted_of}
 use Rattle.link_pack.specs.Packing.{segment_size, line_of}
 use Rattle.link_pack.specs.declared.options.PackOptions.{PackOptions}
 use Rattle.link_pack.specs.declared.packer.Found.{Found}
+use Rattle.link_pack.specs.declared.packer.Found.TheVariants as found
 use Rattle.link_pack.specs.declared.packer.Packer.{Packer}
 use Rattle.link_pack.proofs.Dividing.{front_kept, divided_longer, divided_faulty}
 
@@ -36,9 +33,7 @@ pub too_long : (packer : Packer) (bundles : List Packed) (begun piece : List ℕ
     → Refuses packer begun (take 1 piece) (TooLong packer.number packer.options.peer_transfer)
 too_long packer bundles begun [] holds some full = absurd (omega arith)
 too_long packer bundles begun (byte ∷ bytes) holds some full = record {
-  accepted = [];
   refusal = Longer packer.options.peer_transfer;
-  cut = holds.cut;
   is = refl;
   lasts = refl;
   divides = λ more. rw (append_assoc begun (byte ∷ []) more, append-nil begun)
@@ -71,14 +66,14 @@ module _ (begun piece : List ℕ) (size count : ℕ)
       taken_is begun (take size piece) ∙ ap (λ n. take n (take size piece)) (sym counted) ∙ take-take count size piece taken_few.0
 
 -- a run of bytes has come, and was scanned
-pub record Comes (packer : Packer) (begun run : List ℕ) : Type 0 where
+record Comes (packer : Packer) (begun run : List ℕ) : Type 0 where
   pub some : 0 < length run
   pub scanned : HasScanned packer.scan (begun ++ run)
   pub front : front_of (begun ++ run) ≡ begun ++ run
   pub within : length (begun ++ run) ≤ packer.options.peer_transfer
 
 -- the run is the bytes that a scan takes of the first `size` bytes of a piece
-pub comes : (packer : Packer) (begun piece : List ℕ) (size count : ℕ)
+comes : (packer : Packer) (begun piece : List ℕ) (size count : ℕ)
     → count ≡ length (taken bundle_goes begun (take size piece))
     → 0 < count → HasScanned packer.scan (begun ++ taken bundle_goes begun (take size piece))
     → front_of begun ≡ begun
@@ -101,58 +96,51 @@ but_last begun run some =
     ap (λ n. take n (begun ++ run)) size ∙ take-append-add begun run (length run - 1)
 
 module _ (packer : Packer) (begun run : List ℕ) (here : Comes packer begun run) where
-  -- the accepted bytes were pushed to the cutter
-  Cuts : Found → Type 0
-  Cuts found = IsCutterAt packer.cutter (with_bytes (accepted_of found run) (is_whole found) (cutting packer.options begun))
-
-  grows : (whole : Bool)
-      → IsCutterAt packer.cutter (with_bytes run whole (cutting packer.options begun))
-      → Grows packer begun run whole
-  grows whole cut = record { scanned = here.scanned; cut = cut; front = here.front; within = here.within }
+  grows : Grows packer begun run
+  grows = record { scanned = here.scanned; front = here.front; within = here.within }
 
   took_fault : (fault : BundleFault) (place : ℕ) (test : Bool) → lasts fault ≡ test
       → verdict (begun ++ run) ≡ Err (fault, place)
-      → Cuts (found_by packer.number (if test then state.Failed fault place else state.Going))
       → MakesOf packer begun run (found_by packer.number (if test
       then state.Failed fault place else state.Going))
-  unfolding Cuts
-  took_fault fault place true lasting outcome cut = record {
-    accepted = take (length run - 1) run;
+  took_fault fault place true lasting outcome = record {
     refusal = Faulty fault place;
-    cut = cut;
     is = refl;
     lasts = lasting;
     divides = λ more. rw (sym (but_last begun run here.some))
         (divided_faulty packer.options.peer_transfer (begun ++ run) more fault place here.front outcome lasting here.within);
   }
-  took_fault fault place false lasting outcome cut = (
-    grows false cut,
+  took_fault fault place false lasting outcome = (
+    grows,
     ap (λ outcome. is_going (state_of outcome)) outcome ∙ ap (λ test. is_going (if test then state.Failed fault place else state.Going)) lasting,
   )
 
   took_told : (outcome : Result BundleInfo (BundleFault × ℕ)) → verdict (begun ++ run) ≡ outcome
-      → Cuts (found_by packer.number (state_of outcome))
       → MakesOf packer begun run (found_by packer.number (state_of outcome))
-  unfolding Cuts
-  took_told (Ok info) outcome cut = (grows true cut, (info, outcome))
-  took_told (Err (fault, place)) outcome cut = took_fault fault place (lasts fault) refl outcome cut
+  took_told (Ok info) outcome = (grows, (info, outcome))
+  took_told (Err (fault, place)) outcome = took_fault fault place (lasts fault) refl outcome
 
-  pub took : (found : Found) → found ≡ found_by packer.number (state_of (verdict (begun ++ run)))
-      → IsCutterAt packer.cutter
-      (with_bytes (accepted_of found run) (is_whole found) (cutting packer.options begun))
+  took : (found : Found) → found ≡ found_by packer.number (state_of (verdict (begun ++ run)))
       → MakesOf packer begun run found
-  unfolding Cuts
-  took found is cut = subst (MakesOf packer begun run) (sym is) (took_told (verdict (begun ++ run)) refl (subst Cuts is cut))
+  took found is = subst (MakesOf packer begun run) (sym is) (took_told (verdict (begun ++ run)) refl)
 
--- the cutter took a whole run, which ends with the bundle's last byte
-pub whole_pushed : (cutter : Cutter) (so_far : Cutting) (run : List ℕ)
-    (count : ℕ) → count ≡ length run
-    → IsCutterAt cutter (with_bytes (take count run) (count == length run) so_far)
-    → IsCutterAt cutter (with_bytes run true so_far)
-whole_pushed cutter so_far run count counted pushed =
-    let all : take count run ≡ run = ap (λ n. take n run) counted ∙ take-length run in
-    subst (λ whole. IsCutterAt cutter (with_bytes run whole so_far)) (eq-eqb count (length run) counted)
-    (subst (λ bytes. IsCutterAt cutter (with_bytes bytes (count == length run) so_far)) all pushed)
+-- the run is what a scan takes of the first `size` bytes of a piece
+pub judged : (packer : Packer) (begun piece : List ℕ) (size count : ℕ) (found : Found)
+    → count ≡ length (taken bundle_goes begun (take size piece))
+    → 0 < count → HasScanned packer.scan (begun ++ taken bundle_goes begun (take size piece))
+    → front_of begun ≡ begun → length begun + size ≤ packer.options.peer_transfer
+    → ((seen : List ℕ) → HasScanned packer.scan seen
+    → found ≡ found_by packer.number (state_of (verdict seen)))
+    → MakesOf packer begun (take count piece) found
+judged packer begun piece size count found counted some scanned kept within shows =
+    let here = comes packer begun piece size count counted some scanned kept within in
+    took packer begun (take count piece) here found (shows (begun ++ take count piece) here.scanned)
+
+-- a run has at least as many bytes as are accepted of it
+pub accepted_few : (found : Found) (run : List ℕ) → length (accepted_of found run) ≤ length run
+accepted_few found.Part run = omega arith
+accepted_few found.Whole run = omega arith
+accepted_few (found.Refused fault) run = omega (arith, length-take (length run - 1) run)
 
 -- ---- the line
 

@@ -1,17 +1,20 @@
 -- Chunks written as segments, one after another.
-use Rattle.std.proofs.Common.{◌≡◌, ℕ, suc, ◌+◌, ◌-◌, ◌<◌, Bool, true, false, ltb, cond, List, [], ◌∷◌, ◌++◌, length, Option, Some, None, is_some, Result, Ok, Err, refl, ap, ap₂, sym, ◌∙◌, append_assoc, append-nil, arith}
-use Rattle.std.proofs.lemmas.Bool.{ltb-true, ltb-false, eqb-true, and_parts, cond-false, false_from_ne_true}
+use Rattle.std.proofs.Common.{◌≡◌, ℕ, suc, ◌+◌, ◌-◌, ◌<◌, Bool, true, false, ltb, cond, ◌&&◌, ◌==◌, List, [], ◌∷◌, ◌++◌, length, take, OnOk, Option, Some, None, is_some, Result, Ok, Err, refl, ap, ap₂, subst, sym, ◌∙◌, append_assoc, append-nil, arith}
+use Rattle.std.proofs.lemmas.Bool.{ltb-true, ltb-false, eqb-true, eq-eqb, and_parts, cond-false, false_from_ne_true}
+use Rattle.std.proofs.Math.Seq.{take-length}
 use Rattle.std.proofs.lemmas.List.{length_push}
 use Rattle.std.proofs.lemmas.Option.{cond_some}
 use Rattle.link_wire.specs.Device.{Output}
-use Rattle.link_wire.specs.Spelling.{segment_head_bytes}
+use Rattle.link_wire.specs.Spelled.{be}
+use Rattle.link_wire.specs.Spelling.{total_bytes, announce_bytes, list_bytes, segment_head_bytes}
 use Rattle.link_wire.specs.declared.IoFault.{IoFault}
 use Rattle.link_transfer.specs.Chunks.{chunk_at, first_chunks}
-use Rattle.link_transfer.specs.Cutting.{Cutting, beginning, due, announcement, is_last, next_chunk, next_cut, after_cut, shown}
-use Rattle.link_transfer.specs.Cutter.{IsCutterAt}
+use Rattle.link_transfer.specs.Cutting.{Cutting, beginning, due, announcement, is_last, next_chunk, next_cut, after_cut, unshown, shown, with_bytes}
+use Rattle.link_transfer.specs.Cutter.{IsCutterAt, cut_waits}
 use Rattle.link_transfer.specs.declared.cut.Cut.{Cut}
 use Rattle.link_transfer.specs.declared.cutter.Cutter.{Cutter}
 use Rattle.link_transfer.proofs.Chunking.{first_chunks-zero}
+use Rattle.link_transfer.proofs.Giving.{next_cut-none}
 use Rattle.link_transfer.proofs.Steps.{next_cut-is}
 use Rattle.link_run.specs.Writers.{on_output, Writes, WritesPart, GivesTexts}
 use Rattle.link_run.specs.declared.writers.Writers.{Writers}
@@ -19,24 +22,28 @@ use Rattle.link_run.proofs.Runs.{writes_then, part_of_more, part_behind}
 use Rattle.link_pack.specs.Segments.{flags_of, segment_bytes, Sending, cut_at, segments_from, sending_of, segments_left, all_given}
 use Rattle.link_pack.proofs.Sending.{due_none, left_none}
 
--- the head of a segment that is not the first has no list
-head_of : (id size : ℕ) (first last : Bool) (announce : Option ℕ)
-    → segment_head_bytes (flags_of first last) id size (cond first announce None)
-    ≡ segment_head_bytes (flags_of first last) id size announce
+-- the head of a segment, whose list is there only if it is the first
+pub head_spelled : (id size : ℕ) (first last : Bool) (announce : Option ℕ)
+    → segment_head_bytes (flags_of first last) id size announce
+    ≡ (1 ∷ flags_of first last ∷ []) ++ be 8 id ++ list_bytes first announce ++ be 8 size
 unfolding segment_head_bytes
-head_of id size true last announce = refl
-head_of id size false true announce = refl
-head_of id size false false announce = refl
+head_spelled id size true true announce = refl
+head_spelled id size true false announce = refl
+head_spelled id size false true announce = refl
+head_spelled id size false false announce = refl
 
--- a head that is put into an empty buffer is all of its bytes
-pub head_put : (id size flags : ℕ) (cut : Cut) (announce : Option ℕ) (before after : List ℕ)
-    → before ≡ [] → after ≡ before ++ segment_head_bytes flags id size announce
-    → flags ≡ flags_of cut.first cut.last → announce ≡ cond cut.first cut.announce None
-    → after ≡ segment_head_bytes (flags_of cut.first cut.last) id size cut.announce
-head_put id size flags cut announce before after empty put same_flags same_announce =
-    put ∙ ap (λ (front : List ℕ). front ++ segment_head_bytes flags id size announce) empty
-    ∙ ap₂ (λ f a. segment_head_bytes f id size a) same_flags same_announce
-    ∙ head_of id size cut.first cut.last cut.announce
+-- a list that announces the length
+pub total_spelled : (total : ℕ)
+    → (0 ∷ 0 ∷ 0 ∷ 13 ∷ 0 ∷ 0 ∷ 1 ∷ 0 ∷ 8 ∷ []) ++ be 8 total ≡ announce_bytes (Some total)
+unfolding announce_bytes total_bytes
+total_spelled total = refl
+
+-- four pieces after a text
+pub four_after : (before a b c d : List ℕ)
+    → before ++ a ++ b ++ c ++ d ≡ before ++ (a ++ b ++ c ++ d)
+four_after before a b c d =
+    append_assoc (before ++ a ++ b) c d ∙ append_assoc (before ++ a) b (c ++ d) ∙ append_assoc before a (b ++ (c ++ d))
+    ∙ ap (λ (more : List ℕ). before ++ more) (sym (append_assoc (a ++ b) c d ∙ append_assoc a b (c ++ d)))
 
 module _ {W E : Type 0} (out_look : W → Output) (report_look : E → Output) where
   pub gives_then : (old mid new : Writers W E) (first second : List ℕ)
@@ -150,14 +157,60 @@ quiet_left : (id : ℕ) (cutter : Cutter) (now : Cutting)
     → segments_left id now ≡ []
 quiet_left id cutter now at is = left_none id (sending_of now) (length now.given) (due now) (all_due cutter now at is)
 
-quiet_ends : (cutter : Cutter) (now : Cutting) → IsCutterAt cutter now → next_cut now ≡ None
-    → after_cut now ≡ all_given now
-unfolding after_cut
-quiet_ends cutter now at is =
+quiet_all : (cutter : Cutter) (now : Cutting) → IsCutterAt cutter now → next_cut now ≡ None
+    → unshown now ≡ all_given now
+quiet_all cutter now at is =
     let all = all_due cutter now at is in
     let goes_on = false_from_ne_true now.whole (λ whole. absurd (omega (arith, at.left whole))) in
     let given = at.given ∙ ap (λ count. first_chunks now.segment count now.bundle) all in
-    rw is (ap (λ (given : List (List ℕ)). record now { given = given; chunk = None }) given ∙ sym (cond-false now.whole _ _ goes_on))
+    ap (λ (given : List (List ℕ)). record now { given = given; chunk = None }) given ∙ sym (cond-false now.whole _ _ goes_on)
+
+quiet_ends : (cutter : Cutter) (now : Cutting) → IsCutterAt cutter now → next_cut now ≡ None
+    → after_cut now ≡ all_given now
+unfolding after_cut
+quiet_ends cutter now at is = rw is (quiet_all cutter now at is)
+
+-- ---- one chunk that is cut where it lies, with no other ready
+
+pub one_left : (id : ℕ) (now : Cutting) (cut : Cut) (chunk : List ℕ) (after : Cutter)
+    → next_cut now ≡ Some cut → next_chunk now ≡ chunk
+    → IsCutterAt after (unshown (after_cut now)) → cut_waits after ≡ false
+    → segment_bytes id cut chunk ≡ segments_left id now
+unfolding due
+one_left id now cut chunk after is same at quiet =
+    let none = quiet_left id after (unshown (after_cut now)) at (sym (next_cut-none after (unshown (after_cut now)) at quiet)) in
+    let shows = ap shown (after_is now cut is) ∙ shown_after now (is_last now) ∙ same in
+    sym (cut_left id now cut is
+    ∙ ap₂ (λ (chunk more : List ℕ). segment_bytes id cut chunk ++ more) shows none
+    ∙ append-nil (segment_bytes id cut chunk))
+
+pub one_ends : (now : Cutting) (cut : Cut) (after : Cutter) → next_cut now ≡ Some cut
+    → IsCutterAt after (unshown (after_cut now)) → cut_waits after ≡ false
+    → IsCutterAt after (all_given now)
+unfolding due
+one_ends now cut after is at quiet =
+    let ends = quiet_all after (unshown (after_cut now)) at (sym (next_cut-none after (unshown (after_cut now)) at quiet)) in
+    subst (IsCutterAt after) (ends ∙ cut_ends now cut is) at
+
+-- the cutter took a whole run
+pub all_pushed : (cutter : Cutter) (so_far : Cutting) (run : List ℕ) (count : ℕ) (last : Bool)
+    → count ≡ length run
+    → IsCutterAt cutter (with_bytes (take count run) (last && count == length run) so_far)
+    → IsCutterAt cutter (with_bytes run last so_far)
+all_pushed cutter so_far run count last counted pushed =
+    let all : take count run ≡ run = ap (λ n. take n run) counted ∙ take-length run in
+    let ends : (last && count == length run) ≡ last = ap (λ test. last && test) (eq-eqb count (length run) counted) ∙ and_true last in
+    subst (λ ends. IsCutterAt cutter (with_bytes run ends so_far)) ends
+    (subst (λ bytes. IsCutterAt cutter (with_bytes bytes (last && count == length run) so_far)) all pushed)
+  where
+    and_true : (a : Bool) → (a && true) ≡ a
+    and_true true = refl
+    and_true false = refl
+
+-- a fact that holds in any case
+pub any_result : {A E : Type 0} (result : Result A E) (P : Type 0) → P → OnOk result P
+any_result (Ok value) P holds = holds
+any_result (Err fault) P holds = tt
 
 -- ---- the cuts of a cutter, one after another
 

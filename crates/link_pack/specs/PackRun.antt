@@ -16,7 +16,7 @@ use Rattle.link_run.specs.declared.writers.Writers.{Writers}
 use Rattle.link_pack.specs.Bundles.{Packed, divided, joined}
 use Rattle.link_pack.specs.Segments.{segments_of, segments_left}
 use Rattle.link_pack.specs.Packing.{prelude_bytes, sending, transfers_of, end_bytes, line_of, lines_of}
-use Rattle.link_pack.specs.Packer.{cutting, Holds, MakesOf, CutShort}
+use Rattle.link_pack.specs.Packer.{cutting, before_last, Holds, MakesOf, CutShort}
 use Rattle.link_pack.specs.declared.options.PackOptions.{PackOptions}
 use Rattle.link_pack.specs.declared.packer.Found.{Found}
 use Rattle.link_pack.specs.declared.packer.Found.TheVariants as found
@@ -107,7 +107,7 @@ module _ {W E : Type 0} (out_look : W → Output) (report_look : E → Output)
   GivesFound before bundles begun run after (found.Refused fault) took result =
       WritesLast
       (record {
-        output = run_segments before.options before.number begun took.accepted false;
+        output = run_segments before.options before.number begun (before_last run) false;
         report = fault_text fault;
       }) 3 result
 

@@ -8,7 +8,7 @@ use Rattle.link_bundle_types.specs.declared.fault.State.{State}
 use Rattle.link_bundle_types.specs.declared.fault.State.TheVariants as state
 use Rattle.link_bundle_types.specs.declared.info.BundleInfo.{BundleInfo}
 use Rattle.link_transfer.specs.Cutter.{IsCutterAt, cut_waits}
-use Rattle.link_transfer.specs.Cutting.{Cutting, beginning, with_bytes}
+use Rattle.link_transfer.specs.Cutting.{Cutting, beginning}
 use Rattle.link_transfer.specs.declared.cutter.Cutter.{Cutter}
 use Rattle.link_report.specs.declared.fault.Fault.{Fault}
 use Rattle.link_report.specs.declared.fault.Fault.TheVariants.{Bundle}
@@ -40,35 +40,35 @@ pub record Holds (packer : Packer) (bundles : List Packed) (begun : List ℕ) : 
   pub goes : bundle_goes begun ≡ true
   pub within : length begun ≤ packer.options.peer_transfer
 
--- the bytes `run` have come after the bytes `begun`; `whole` is whether they end the bundle
-pub record Grows (packer : Packer) (begun run : List ℕ) (whole : Bool) : Type 0 where
+-- the bytes `run` have come after the bytes `begun`
+pub record Grows (packer : Packer) (begun run : List ℕ) : Type 0 where
   pub scanned : HasScanned packer.scan (begun ++ run)
-  pub cut : IsCutterAt packer.cutter (with_bytes run whole (cutting packer.options begun))
   pub front : front_of (begun ++ run) ≡ begun ++ run
   pub within : length (begun ++ run) ≤ packer.options.peer_transfer
 
--- the bytes `begun` and then `run` are not the start of a bundle that the peer takes, whatever
--- follows
+-- the bytes of a run before its last byte, which shows a fault
+abbrev pub before_last : (run : List ℕ) → List ℕ
+before_last run = take (length run - 1) run
+
+-- The bytes `begun` and then `run` are not the start of a bundle that the peer takes, whatever
+-- follows. The last byte shows this.
 pub record Refuses (packer : Packer) (begun run : List ℕ) (fault : Fault) : Type 0 where
-  -- the bytes of `run` before the byte that shows this
-  pub accepted : List ℕ
   pub refusal : Refusal
-  pub cut : IsCutterAt packer.cutter (with_bytes accepted false (cutting packer.options begun))
   pub is : fault ≡ refusal_fault packer.number refusal
   pub lasts : lasting refusal ≡ true
   pub divides : (more : List ℕ)
       → divided packer.options.peer_transfer ((begun ++ run) ++ more)
       ≡ record {
         bundles = [];
-        rest = Some (record { accepted = begun ++ accepted; refusal = refusal });
+        rest = Some (record { accepted = begun ++ before_last run; refusal = refusal });
       }
 
 -- what the bytes `run` show of the bundle, after the bytes `begun`
 abbrev pub MakesOf : Packer → (begun run : List ℕ) → Found → Type 0
 MakesOf packer begun run found.Part =
-    Grows packer begun run false × (bundle_goes (begun ++ run) ≡ true)
+    Grows packer begun run × (bundle_goes (begun ++ run) ≡ true)
 MakesOf packer begun run found.Whole =
-    Grows packer begun run true × ((info : BundleInfo) × (verdict (begun ++ run) ≡ Ok info))
+    Grows packer begun run × ((info : BundleInfo) × (verdict (begun ++ run) ≡ Ok info))
 MakesOf packer begun run (found.Refused fault) = Refuses packer begun run fault
 
 -- the bytes end inside a bundle
@@ -95,7 +95,7 @@ found_by number (state.Failed fault place) = found.Refused (Bundle number place 
 abbrev pub accepted_of : Found → (run : List ℕ) → List ℕ
 accepted_of found.Part run = run
 accepted_of found.Whole run = run
-accepted_of (found.Refused fault) run = take (length run - 1) run
+accepted_of (found.Refused fault) run = before_last run
 
 abbrev pub is_whole : Found → Bool
 is_whole found.Part = false

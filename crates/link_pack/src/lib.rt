@@ -12,6 +12,7 @@
 mod options;
 mod packer;
 mod packing;
+mod segment_text;
 mod segments;
 
 pub use options::PackOptions;

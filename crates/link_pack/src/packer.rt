@@ -63,6 +63,32 @@ pub fn cutter_for(alloc: Global, options: &PackOptions) -> Result<Cutter, AllocE
     Cutter::new(alloc, segment(options) as usize, options.announce as usize)
 }
 
+impl Found {
+    ghost use Rattle.link_pack.specs.Packer.{accepted_of, is_whole};
+
+    /// Whether the bytes are the end of a whole bundle.
+    #[inline(always)]
+    pub fn is_whole(self) -> bool
+        ensures { result ≡ is_whole self }
+    {
+        match self {
+            Found::Whole => true,
+            _ => false,
+        }
+    }
+
+    /// The accepted bytes of a run that shows this: all but the byte that shows a fault.
+    #[inline(always)]
+    pub fn accepted(self, run: &[u8]) -> &[u8]
+        ensures { result.now ≡ accepted_of self run.now }
+    {
+        match self {
+            Found::Refused(_) => &run[..run.len().saturating_sub(1)],
+            _ => run,
+        }
+    }
+}
+
 impl Packer {
     ghost use Rattle.std.specs.Prelude.{◌≡◌, ◌+◌, ◌-◌, min, true, ◌^◌, ◌<◌, ◌≤◌, false, List, ℕ, [], ◌∷◌, ◌++◌, length, take, IfSome, IfNone, Ok};
     ghost use Rattle.link_bundle.specs.Bundle.{verdict, state_of, bundle_goes};
@@ -70,11 +96,10 @@ impl Packer {
     ghost use Rattle.link_bundle_types.specs.declared.info.BundleInfo.{BundleInfo};
     ghost use Rattle.link_report.specs.Fault.{fault_text};
     ghost use Rattle.link_run.specs.Writers.{GivesTexts, on_report};
-    ghost use Rattle.link_transfer.specs.Cutter.{IsCutterAt, cut_waits, wanted_by};
-    ghost use Rattle.link_transfer.specs.Cutting.{Cutting, with_bytes};
+    ghost use Rattle.link_transfer.specs.Cutter.{cut_waits, wanted_by};
     ghost use Rattle.link_pack.specs.Bundles.{Packed};
     ghost use Rattle.link_pack.specs.Packing.{line_of};
-    ghost use Rattle.link_pack.specs.Packer.{Holds, IsCutterFor, MakesOf, CutShort, found_by, accepted_of, is_whole};
+    ghost use Rattle.link_pack.specs.Packer.{Holds, IsCutterFor, MakesOf, CutShort, found_by};
 
     /// Makes a packer that has packed nothing, with a new cutter for the same options.
     #[inline(never)]
@@ -104,35 +129,36 @@ impl Packer {
             .saturating_sub(self.scan.count())
     }
 
-    /// Takes the next bytes of a nonempty piece, and returns how many it took and what they show.
+    /// Scans the next bytes of a nonempty piece, and returns how many these are and what they show.
     ///
-    /// It takes no more bytes than the peer's limit leaves, and no more than the next chunk needs.
-    /// If the limit leaves none, it takes one byte, which shows that the bundle is too long. It may
-    /// be called only if no chunk is ready.
-    #[inline(never)]
-    pub fn take(&mut self, piece: &[u8]) -> (usize, Found)
+    /// They are no more bytes than the peer's limit leaves, and no more than the next chunk needs.
+    /// If the limit leaves none, it is one byte, which shows that the bundle is too long. It may be
+    /// called only if no chunk is ready.
+    #[inline(always)]
+    pub fn judge(&mut self, piece: &[u8]) -> (usize, Found)
         requires some { 0 < length piece.now }
         requires quiet { cut_waits self.old.cutter ≡ false }
         ensures within { result.0 ≤ length piece.now }
+        ensures few { result.0 ≤ wanted_by self.old.cutter }
         ensures some { (bundles : List Packed) (begun : List ℕ) → Holds self.old bundles begun
             → length begun + length piece.now < 2 ^ 63
             → 0 < result.0 }
         ensures took { (bundles : List Packed) (begun : List ℕ) → Holds self.old bundles begun
             → length begun + length piece.now < 2 ^ 63
             → MakesOf self.new begun (take result.0 piece.now) result.1 }
+        ensures cutter { self.new.cutter ≡ self.old.cutter }
         ensures options { self.new.options ≡ self.old.options }
         ensures number { self.new.number ≡ self.old.number }
     {
+        let wanted = self.cutter.wanted();
         let room = self.room();
         if room == 0 {
             let fault = Fault::TooLong(self.number, self.options.peer_transfer);
             return (1, Found::Refused(fault));
         }
-        let size = room.min(piece.len().min(self.cutter.wanted()) as u64) as usize;
+        let size = room.min(piece.len().min(wanted) as u64) as usize;
         let count = self.scan.feed(&piece[..size]);
-        let found = self.found();
-        self.cut(&piece[..count], found);
-        (count, found)
+        (count, self.found())
     }
 
     /// What the scanned bytes show of the bundle.
@@ -147,27 +173,6 @@ impl Packer {
                 Found::Refused(Fault::Bundle(self.number, place, fault))
             }
         }
-    }
-
-    /// Pushes the accepted bytes of a run to the cutter: all but the byte that shows a fault.
-    fn cut(&mut self, run: &[u8], found: Found)
-        requires { cut_waits self.old.cutter ≡ false }
-        ensures cut { (so_far : Cutting) → IsCutterAt self.old.cutter so_far
-            → length run.now ≤ wanted_by self.old.cutter
-            → IsCutterAt self.new.cutter
-            (with_bytes (accepted_of found run.now) (is_whole found) so_far) }
-        ensures scan { self.new.scan ≡ self.old.scan }
-        ensures number { self.new.number ≡ self.old.number }
-        ensures options { self.new.options ≡ self.old.options }
-    {
-        match found {
-            Found::Part => self.cutter.push_slice(run, false),
-            Found::Whole => self.cutter.push_slice(run, true),
-            Found::Refused(_) => {
-                self.cutter
-                    .push_slice(&run[..run.len().saturating_sub(1)], false)
-            }
-        };
     }
 
     /// Writes the line of the bundle, which is whole, to the report.

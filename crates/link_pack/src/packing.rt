@@ -1,6 +1,6 @@
 //! `pack`: the stream of a sender that carries the bundles, and a line for each bundle.
 
-ghost use Rattle.std.specs.Prelude.{◌≡◌, ◌+◌, ◌^◌, ◌<◌, IfErr, IfOk, OnOk, false, true, [], List, ℕ, length, Ok, Err};
+ghost use Rattle.std.specs.Prelude.{◌≡◌, ◌+◌, ◌^◌, ◌<◌, ◌≤◌, IfErr, IfOk, OnOk, false, true, [], List, ℕ, length, Ok, Err};
 ghost use Rattle.link_wire.specs.Device.{HasBytes};
 ghost use Rattle.link_wire.specs.Source.{ahead};
 ghost use Rattle.link_run.specs.Reading.{inner_of};
@@ -10,19 +10,20 @@ ghost use Rattle.link_run.specs.Writers.{GivesTexts, on_output, on_report, place
 ghost use Rattle.link_bundle.specs.Bundle.{verdict, bundle_goes};
 ghost use Rattle.link_bundle.specs.Scan.{HasScanned};
 ghost use Rattle.link_bundle_types.specs.declared.info.BundleInfo.{BundleInfo};
-ghost use Rattle.link_transfer.specs.Cutter.{cut_waits};
+ghost use Rattle.link_transfer.specs.Cutter.{IsCutterAt, cut_waits, wanted_by};
 ghost use Rattle.link_pack.specs.Bundles.{Packed};
 ghost use Rattle.link_pack.specs.Packing.{prelude_bytes, end_bytes, line_of, packing_of, pack_tool};
-ghost use Rattle.link_pack.specs.Packer.{IsCutterFor, MakesOf};
+ghost use Rattle.link_pack.specs.Packer.{IsCutterFor, MakesOf, cutting};
 ghost use Rattle.link_pack.specs.PackRun.{Packs, GivesFound, GivesFinish, LacksMemory};
 
 use crate::options::PackOptions;
 use crate::packer::{Found, Packer};
-use crate::segments::write_segments;
+use crate::segments::write_run;
 use link_run::{Input, Progress, Run, RunEnd, Stages, Status, ToolRun, Writers};
 use link_transfer::Cutter;
 use link_wire::{
-    HeadBuf, InDevice, IoFault, OutDevice, Source, put_contact, put_sess_init, put_sess_term,
+    HeadBuf, InDevice, IoFault, OutDevice, Source, WINDOW, put_contact, put_sess_init,
+    put_sess_term,
 };
 use std::alloc::AllocError;
 
@@ -76,7 +77,25 @@ impl<R: InDevice, W: OutDevice, E: OutDevice> Stages<Source<R>, W, E> for Packin
                 self.stage = Stage::Bundles;
                 Progress::after(write_prelude(writers, &self.packer.options, &mut self.head))
             }
-            Stage::Bundles => take_bundles(input, writers, &mut self.packer, &mut self.head),
+            Stage::Bundles => {
+                take_bundles(PIECE, input, writers, &mut self.packer, &mut self.head)
+            }
+        }
+    }
+
+    /// Does the step that writes the beginning of the stream, or a step that is given as many bytes
+    /// as the window has.
+    #[inline(always)]
+    fn stride(
+        &mut self,
+        input: &mut Input<Source<R>>,
+        writers: &mut Writers<W, E>,
+    ) -> Result<Progress, IoFault> {
+        match self.stage {
+            Stage::Prelude => self.stage(input, writers),
+            Stage::Bundles => {
+                take_bundles(WINDOW, input, writers, &mut self.packer, &mut self.head)
+            }
         }
     }
 }
@@ -115,14 +134,16 @@ fn write_prelude<W: OutDevice, E: OutDevice>(
     writers.write_output(head.as_slice())
 }
 
-/// Reads bytes of one chunk of one bundle, and writes what they make due.
+/// Reads bytes of one chunk of one bundle, at most this many, and writes what they make due.
 fn take_bundles<R: InDevice, W: OutDevice, E: OutDevice>(
+    most: usize,
     input: &mut Input<Source<R>>,
     writers: &mut Writers<W, E>,
     packer: &mut Packer,
     head: &mut HeadBuf,
 ) -> Result<Progress, IoFault>
-    requires { cut_waits packer.old.cutter ≡ false }
+    requires some { 0 < most }
+    requires quiet { cut_waits packer.old.cutter ≡ false }
     ensures fits { IsMore result → cut_waits packer.new.cutter ≡ false }
     ensures gives { (start : Devices R W E) (history : List ℕ)
         → Stands (looks R.state W.state E.state) (packing_of packer.old.options) start true
@@ -130,7 +151,7 @@ fn take_bundles<R: InDevice, W: OutDevice, E: OutDevice>(
         → Packs R.state packer.old (inner_of input.old) history
         → GivesStage (looks R.state W.state E.state) (packing_of packer.old.options) start true
         (place_of (inner_of input.old) writers.old) (place_of (inner_of input.new) writers.new)
-        (Packs R.state packer.new (inner_of input.new)) 4096 history result }
+        (Packs R.state packer.new (inner_of input.new)) most history result }
     ensures handed { (history : List ℕ) → Packs R.state packer.old (inner_of input.old) history
         → (result ≡ Err IoFault.Write → ⊥)
         → HandedOn (looks R.state W.state E.state) W.handed E.handed
@@ -140,31 +161,39 @@ fn take_bundles<R: InDevice, W: OutDevice, E: OutDevice>(
 {
     let ready = match input.ready_bytes(writers) {
         Ok(0) => return Progress::ended(finish(writers, packer, head)),
-        Ok(ready) => ready.min(PIECE),
+        Ok(ready) => ready.min(most),
         Err(fault) => return Err(fault),
     };
-    let (count, found) = packer.take(&input.window()[..ready]);
+    let piece = &input.window()[..ready];
+    let (count, found) = packer.judge(piece);
+    let progress = go_on(found, &piece[..count], writers, packer);
     input.give(count);
-    go_on(found, writers, packer, head)
+    progress
 }
 
-/// Writes what new bytes make due: segments, and then the line of a whole bundle or of a fault.
-#[inline(never)]
+/// Writes what a run of new bytes makes due: segments, and then the line of a whole bundle or of a
+/// fault.
+#[inline(always)]
 fn go_on<W: OutDevice, E: OutDevice>(
     found: Found,
+    run: &[u8],
     writers: &mut Writers<W, E>,
     packer: &mut Packer,
-    head: &mut HeadBuf,
 ) -> Result<Progress, IoFault>
+    requires quiet { cut_waits packer.old.cutter ≡ false }
     ensures fits { IsMore result → cut_waits packer.new.cutter ≡ false }
-    ensures gives { (bundles : List Packed) (begun run : List ℕ)
-        → packer.old.number ≡ length bundles → length bundles + 1 < 2 ^ 64 → 0 < length run
-        → (took : MakesOf packer.old begun run found)
-        → GivesFound W.state E.state writers.old writers.new packer.old bundles begun run
+    ensures gives { (bundles : List Packed) (begun : List ℕ)
+        → packer.old.number ≡ length bundles → length bundles + 1 < 2 ^ 64 → 0 < length run.now
+        → IsCutterAt packer.old.cutter (cutting packer.old.options begun)
+        → length run.now ≤ wanted_by packer.old.cutter
+        → (took : MakesOf packer.old begun run.now found)
+        → GivesFound W.state E.state writers.old writers.new packer.old bundles begun run.now
         packer.new found took result }
     ensures options { packer.new.options ≡ packer.old.options }
 {
-    if let Err(fault) = write_segments(packer.number, &mut packer.cutter, head, writers) {
+    let accepted = found.accepted(run);
+    let whole = found.is_whole();
+    if let Err(fault) = write_run(packer.number, accepted, whole, &mut packer.cutter, writers) {
         return Err(fault);
     }
     match found {

@@ -1,57 +1,56 @@
 //! The segments of a bundle, written as its chunks are cut.
 
-ghost use Rattle.std.specs.Prelude.{◌≡◌, false, OnOk};
-ghost use Rattle.link_wire.specs.Spelling.{segment_head_bytes};
+ghost use Rattle.std.specs.Prelude.{◌≡◌, ◌≤◌, Bool, false, List, ℕ, length, OnOk};
 ghost use Rattle.link_run.specs.Writers.{GivesTexts, on_output};
-ghost use Rattle.link_transfer.specs.Cutting.{Cutting};
-ghost use Rattle.link_transfer.specs.Cutter.{IsCutterAt, cut_waits};
-ghost use Rattle.link_pack.specs.Segments.{flags_of, segment_bytes, segments_left, all_given};
+ghost use Rattle.link_transfer.specs.Cutting.{Cutting, with_bytes};
+ghost use Rattle.link_transfer.specs.Cutter.{IsCutterAt, cut_waits, wanted_by};
+ghost use Rattle.link_pack.specs.Segments.{segment_bytes, segments_left, all_given};
 
+use crate::segment_text::{CHUNK_MAX, HeadText, SegmentText};
 use link_run::Writers;
 use link_transfer::{Cut, Cutter};
-use link_wire::{END, HeadBuf, IoFault, OutDevice, START, put_segment_head};
-
-/// The flags of a chunk's segment (RFC 9174 section 5.2.2).
-fn flags(cut: Cut) -> u8
-    ensures { result ≡ flags_of cut.first cut.last }
-{
-    let start = if cut.first { START } else { 0 };
-    let end = if cut.last { END } else { 0 };
-    start | end
-}
-
-/// Replaces the contents of the buffer by the head of a chunk's segment.
-fn put_head(head: &mut HeadBuf, id: u64, cut: Cut, size: u64)
-    ensures { head.new.items
-        ≡ segment_head_bytes (flags_of cut.first cut.last) id size cut.announce }
-{
-    // Only a first segment has the list that announces the length.
-    let announce = if cut.first { cut.announce } else { None };
-    head.clear();
-    put_segment_head(head, flags(cut), id, size, announce);
-}
+use link_wire::{IoFault, OutDevice};
 
 /// Writes a chunk as a segment of the transfer with this ID.
+///
+/// A short chunk is written in one go with its head.
+#[inline(always)]
 fn write_segment<W: OutDevice, E: OutDevice>(
     id: u64,
     cut: Cut,
     chunk: &[u8],
-    head: &mut HeadBuf,
     writers: &mut Writers<W, E>,
 ) -> Result<(), IoFault>
     ensures gives { GivesTexts W.state E.state writers.old writers.new
         (on_output (segment_bytes id cut chunk.now)) result }
 {
-    put_head(head, id, cut, chunk.len() as u64);
-    writers.write_output(head.as_slice())?;
+    if chunk.len() > CHUNK_MAX {
+        return write_long(id, cut, chunk, writers);
+    }
+    writers.write_text(&SegmentText { id, cut, chunk })
+}
+
+/// Writes a chunk as a segment: its head, and then the chunk.
+#[inline(never)]
+fn write_long<W: OutDevice, E: OutDevice>(
+    id: u64,
+    cut: Cut,
+    chunk: &[u8],
+    writers: &mut Writers<W, E>,
+) -> Result<(), IoFault>
+    ensures gives { GivesTexts W.state E.state writers.old writers.new
+        (on_output (segment_bytes id cut chunk.now)) result }
+{
+    let size = chunk.len() as u64;
+    writers.write_text(&HeadText { id, cut, size })?;
     writers.write_output(chunk)
 }
 
 /// Writes each waiting chunk as a segment of the transfer with this ID.
-pub fn write_segments<W: OutDevice, E: OutDevice>(
+#[inline(never)]
+fn write_segments<W: OutDevice, E: OutDevice>(
     id: u64,
     cutter: &mut Cutter,
-    head: &mut HeadBuf,
     writers: &mut Writers<W, E>,
 ) -> Result<(), IoFault>
     ensures gives { (so_far : Cutting) → IsCutterAt cutter.old so_far
@@ -62,7 +61,58 @@ pub fn write_segments<W: OutDevice, E: OutDevice>(
     ensures quiet { OnOk result (cut_waits cutter.new ≡ false) }
 {
     while let Some(cut) = cutter.cut() {
-        write_segment(id, cut, cutter.bytes(), head, writers)?;
+        write_segment(id, cut, cutter.bytes(), writers)?;
     }
     Ok(())
+}
+
+/// Pushes a run of bytes to the cutter, and writes each chunk that is then ready.
+#[inline(never)]
+fn push_and_write<W: OutDevice, E: OutDevice>(
+    id: u64,
+    run: &[u8],
+    last: bool,
+    cutter: &mut Cutter,
+    writers: &mut Writers<W, E>,
+) -> Result<(), IoFault>
+    requires quiet { cut_waits cutter.old ≡ false }
+    ensures gives { (so_far : Cutting) → IsCutterAt cutter.old so_far
+        → length run.now ≤ wanted_by cutter.old
+        → GivesTexts W.state E.state writers.old writers.new
+        (on_output (segments_left id (with_bytes run.now last so_far))) result }
+    ensures after { (so_far : Cutting) → IsCutterAt cutter.old so_far
+        → length run.now ≤ wanted_by cutter.old
+        → OnOk result (IsCutterAt cutter.new (all_given (with_bytes run.now last so_far))) }
+    ensures quiet { OnOk result (cut_waits cutter.new ≡ false) }
+{
+    cutter.push_slice(run, last);
+    write_segments(id, cutter, writers)
+}
+
+/// Writes the segments that become due with a run of bytes. It has no more bytes than the next
+/// chunk needs, and `last` is whether it ends with the bundle's last byte.
+///
+/// If the run is a whole chunk, it is written from where it lies.
+#[inline(always)]
+pub fn write_run<W: OutDevice, E: OutDevice>(
+    id: u64,
+    run: &[u8],
+    last: bool,
+    cutter: &mut Cutter,
+    writers: &mut Writers<W, E>,
+) -> Result<(), IoFault>
+    requires quiet { cut_waits cutter.old ≡ false }
+    ensures gives { (so_far : Cutting) → IsCutterAt cutter.old so_far
+        → length run.now ≤ wanted_by cutter.old
+        → GivesTexts W.state E.state writers.old writers.new
+        (on_output (segments_left id (with_bytes run.now last so_far))) result }
+    ensures after { (so_far : Cutting) → IsCutterAt cutter.old so_far
+        → length run.now ≤ wanted_by cutter.old
+        → OnOk result (IsCutterAt cutter.new (all_given (with_bytes run.now last so_far))) }
+    ensures quiet { OnOk result (cut_waits cutter.new ≡ false) }
+{
+    match cutter.cut_slice(run, last) {
+        Some(cut) => write_segment(id, cut, run, writers),
+        None => push_and_write(id, run, last, cutter, writers),
+    }
 }

@@ -12,7 +12,7 @@ use Rattle.std.proofs.KnownBytes.{Appends-trans}
 use Rattle.link_wire.specs.Device.{Input}
 use Rattle.link_run.specs.Run.{Texts, ◌then◌, Looks, progress_after}
 use Rattle.link_run.specs.Stages.{HandedOn}
-use Rattle.link_run.specs.Writers.{place_of, on_output, Writes, GivesTexts, GivesEnd, HasHandedOn}
+use Rattle.link_run.specs.Writers.{place_of, on_output, Writes, GivesTexts, WritesSome, GivesEnd, HasHandedOn}
 use Rattle.link_run.specs.declared.run.Status.{Status}
 use Rattle.link_run.specs.declared.writers.Writers.{Writers}
 use Rattle.link_run.proofs.Runs.{writes_none}
@@ -46,13 +46,12 @@ module _ {R W E : Type 0} (look : Looks R W E) {out_handed : W → Option (List 
   handed_written texts (Ok done) kept held writes other = handed_by texts kept held writes
   handed_written texts (Err fault) kept held part other = absurd (other (ap Err part.kind))
 
-  -- the step writes more texts
-  pub handed_then : (texts : Texts) (written : Result (Unit {0}) IoFault)
-      → HandedOn look out_handed report_handed enough (place_of old before) (place_of new mid)
-      → GivesTexts look.output look.report mid after texts written
-      → (progress_after written ≡ Err io.Write → ⊥)
+  -- a later step reads nothing, and writes more texts
+  pub handed_later : {between : Source R} (texts : Texts)
+      → HandedOn look out_handed report_handed enough (place_of old before) (place_of between mid)
+      → Writes look.output look.report mid after texts
       → HandedOn look out_handed report_handed enough (place_of old before) (place_of new after)
-  handed_then texts (Ok done) handed writes other = record {
+  handed_later texts handed writes = record {
     output = handed.output;
     report = handed.report;
     output_kept = handed.output_kept;
@@ -62,7 +61,24 @@ module _ {R W E : Type 0} (look : Looks R W E) {out_handed : W → Option (List 
     writes = Appends-trans (look.output handed.output).written (look.output mid.output).written (look.output after.output).written handed.texts.output texts.output handed.writes writes.output;
     reports = Appends-trans (look.report handed.report).written (look.report mid.report).written (look.report after.report).written handed.texts.report texts.report handed.reports writes.report;
   }
+
+  -- the same, by the result of the write, which did not fail
+  pub handed_then : {between : Source R} (texts : Texts) (written : Result (Unit {0}) IoFault)
+      → HandedOn look out_handed report_handed enough (place_of old before) (place_of between mid)
+      → GivesTexts look.output look.report mid after texts written
+      → (progress_after written ≡ Err io.Write → ⊥)
+      → HandedOn look out_handed report_handed enough (place_of old before) (place_of new after)
+  handed_then texts (Ok done) handed writes other = handed_later texts handed writes
   handed_then texts (Err fault) handed part other = absurd (other (ap Err part.kind))
+
+  -- the same, if only that is known of the texts
+  pub handed_some : {between : Source R} (written : Result (Unit {0}) IoFault)
+      → HandedOn look out_handed report_handed enough (place_of old before) (place_of between mid)
+      → WritesSome look.output look.report mid after written
+      → (progress_after written ≡ Err io.Write → ⊥)
+      → HandedOn look out_handed report_handed enough (place_of old before) (place_of new after)
+  handed_some (Ok done) handed some other = handed_later some.0 handed some.1
+  handed_some (Err fault) handed kind other = absurd (other (ap Err kind))
 
 -- a session that has enough for its next message has enough for a step
 pub enough_by : {R : Type 0} {A : Type 0} (look : R → Input) (session : Session R)

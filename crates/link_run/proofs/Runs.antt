@@ -1,5 +1,5 @@
 -- How the texts of the steps make up the texts of a run, and how a run ends.
-use Rattle.std.proofs.Common.{◌≡◌, ℕ, ◌+◌, ◌-◌, min, ◌<◌, ◌≤◌, ◌⊎◌, inl, inr, true, false, List, [], ◌++◌, length, take, drop, Option, Some, None, Result, Err, ⊎_elim, refl, ap, sym, ◌∙◌, subst, length-append, append-nil, append_assoc, take_all, arith}
+use Rattle.std.proofs.Common.{◌≡◌, ℕ, ◌+◌, ◌-◌, min, ◌<◌, ◌≤◌, ◌⊎◌, inl, inr, true, false, List, [], ◌++◌, length, take, drop, Option, Some, None, Result, Ok, Err, ⊎_elim, refl, ap, sym, ◌∙◌, subst, length-append, append-nil, append_assoc, take_all, arith}
 use Rattle.std.proofs.lemmas.Bool.{false≢true}
 use Rattle.std.proofs.Math.Nat.{min-le_right}
 use Rattle.std.proofs.Math.Seq.{take-append-add}
@@ -13,7 +13,7 @@ use Rattle.link_wire.specs.declared.IoFault.{IoFault}
 use Rattle.link_wire.specs.declared.IoFault.TheVariants as io
 use Rattle.link_wire.specs.declared.Source.{Source}
 use Rattle.link_run.specs.Run.{Texts, no_texts, ◌then◌, Tool, Looks, Devices, Place, devices_at, NoneFailed, Moves, HasWritten, HandedBack, AllGiven, FinishedRun, AreDue, IsBehind, EndedRun, GivesAnswer}
-use Rattle.link_run.specs.Writers.{place_of, on_output, Writes, WritesPart, Unsettled}
+use Rattle.link_run.specs.Writers.{place_of, on_output, Writes, WritesPart, GivesTexts, WritesSome, Unsettled}
 use Rattle.link_run.specs.declared.run.Status.{Status}
 use Rattle.link_run.specs.declared.writers.Writers.{Writers}
 
@@ -445,6 +445,24 @@ module _ {W E : Type 0} (out_look : W → Output) (report_look : E → Output) w
         (λ lost. inr (let whole = lost.whole in record { failed = lost.failed; part = lost.part; whole = omega (arith, length-append first second.output); output_sound = lost.output_sound ∙ one.output_sound }))
         part.failed;
   }
+
+module _ {W E : Type 0} (out_look : W → Output) (report_look : E → Output) (old mid new : Writers W E) where
+  -- a text was written to the output, and then another, or a writer failed in it
+  pub outputs_then : (first second : List ℕ) (result : Result (Unit {0}) IoFault)
+      → Writes out_look report_look old mid (on_output first)
+      → GivesTexts out_look report_look mid new (on_output second) result
+      → GivesTexts out_look report_look old new (on_output (first ++ second)) result
+  outputs_then first second (Ok done) one two =
+      writes_then out_look report_look old mid new (on_output first) (on_output second) one two
+  outputs_then first second (Err fault) one part =
+      part_behind out_look report_look old mid new first (on_output second) fault one part
+
+  -- some texts were written, or a writer failed
+  pub wrote_some : (texts : Texts) (result : Result (Unit {0}) IoFault)
+      → GivesTexts out_look report_look old new texts result
+      → WritesSome out_look report_look old new result
+  wrote_some texts (Ok done) writes = (texts, writes)
+  wrote_some texts (Err fault) part = part.kind
 
 module _ {R W E : Type 0} (look : Looks R W E) where
   -- handing on leaves the written texts as they are

@@ -240,6 +240,14 @@ module _ {R W E : Type 0} (look : Looks R W E) where
   GivesStep tool start old new stands most history (Err fault) =
       LastStep tool start (devices_at new) most history (Err fault)
 
+  -- what holds after a stride: what holds after a step, without its bound
+  abbrev pub GivesStride : Tool → Devices R W E → (old new : Place R W E)
+      → (stands : List ℕ → Type 0) → (most : ℕ) → (history : List ℕ)
+      → Result Progress IoFault → Type 0
+  GivesStride tool start old new stands most history result =
+      (size : ℕ) × (0 < most → 0 < size)
+      × GivesStep tool start old new stands size history result
+
 -- this is the result of a run's last step
 abbrev pub IsEnd : Result Progress IoFault → Type 0
 IsEnd (Ok More) = ⊥

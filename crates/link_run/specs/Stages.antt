@@ -1,5 +1,5 @@
 -- The state of a run between two steps, and what a step hands on.
-use Rattle.std.specs.Prelude.{◌≡◌, ℕ, ◌⊎◌, Bool, true, false, List, [], Option, Some, None, Result, Ok}
+use Rattle.std.specs.Prelude.{◌≡◌, ℕ, ◌<◌, ◌⊎◌, Bool, true, false, List, [], Option, Some, None, Result, Ok}
 use Rattle.std.specs.Io.KnownBytes.{Appends}
 use Rattle.link_wire.specs.declared.IoFault.{IoFault}
 use Rattle.link_run.specs.Run.{Texts, no_texts, Looks, Devices, Place, devices_at, NoneFailed, HasWritten, GivesStep, answer_of}
@@ -34,6 +34,15 @@ abbrev pub GivesStage : {R W E : Type 0} → Looks R W E → (made : List ℕ �
 GivesStage look made start begun old new knows most history result =
     GivesStep look (tool_of made) start old new
     (λ bytes. Stands look made start begun new bytes × knows bytes) most history result
+
+-- what holds after a stride of stages: what holds after a step, without its bound
+abbrev pub GivesStageStride : {R W E : Type 0} → Looks R W E → (made : List ℕ → Made)
+    → (start : Devices R W E) → (begun : Bool) → (old new : Place R W E)
+    → (knows : List ℕ → Type 0) → (most : ℕ) → (history : List ℕ)
+    → Result Progress IoFault → Type 0
+GivesStageStride look made start begun old new knows most history result =
+    (size : ℕ) × (0 < most → 0 < size)
+    × GivesStage look made start begun old new knows size history result
 
 -- Nothing was held back while a step waited for input. At its read the writers were `output` and
 -- `report`. By then everything written had been handed on, or the input had enough bytes left. The

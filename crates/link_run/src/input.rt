@@ -92,8 +92,9 @@ impl<S> Input<S> {
 
 /// The calls that read a recorded session.
 impl<R: InDevice> Input<Session<R>> {
-    ghost use Rattle.std.specs.Prelude.{◌≤◌, take};
-    ghost use Rattle.link_wire.specs.Session.{may_open, PassedBytes, GivesContact};
+    ghost use Rattle.std.specs.Prelude.{◌≤◌, None, take};
+    ghost use Rattle.link_wire.specs.Session.{source_of, may_open, HasNext, PassedBytes, GivesContact};
+    ghost use Rattle.link_wire.specs.Whole.{ReadWhole, PassedQuiet};
     ghost use Rattle.link_run.specs.Reading.{inner_of};
 
     /// Reads the contact header, as [`Session::open`] does.
@@ -141,6 +142,49 @@ impl<R: InDevice> Input<Session<R>> {
             Some(offset) => Ok(Some(offset)),
             None => self.read_message(writers, message),
         }
+    }
+
+    /// Gives the next message with its data if it lies whole in the window, as
+    /// [`Session::next_whole`] does.
+    ///
+    /// It reads nothing, so it hands nothing on.
+    #[inline(always)]
+    pub fn next_whole(&mut self, message: &mut MessageBuffer) -> Option<u64>
+        requires { IsTrue (may_read (inner_of self.old)) }
+        ensures none { result ≡ None → (self.new ≡ self.old) × (message.new ≡ message.old) }
+        ensures may_read { IsTrue (may_read (inner_of self.new)) }
+        ensures gives { (history : List ℕ) → IsSessionAt R.state (inner_of self.old) history
+            → IfSome result (λ offset. ReadWhole R.state (inner_of self.old) (inner_of self.new)
+            history offset (message_of message.new)) }
+        ensures totals { IfSome result (λ offset. SegmentHasTotals message.new) }
+        ensures opened { IsTrue (is_opened (inner_of self.new)) }
+        ensures stopped { (stop : _) → HasStopped (inner_of self.old) stop → result ≡ None }
+        ensures here { (history : List ℕ) → IsSessionAt R.state (inner_of self.old) history
+            → IfSome result (λ offset. HasNext R.state (inner_of self.old)) }
+        ensures shrinks { IfSome result (λ offset.
+            length (window_of (source_of (inner_of self.new)))
+            < length (window_of (source_of (inner_of self.old)))) }
+    {
+        self.inner.next_whole(message)
+    }
+
+    /// Passes over the quiet messages that lie whole in the window, as [`Session::pass_quiet`]
+    /// does, and returns how many bytes they have.
+    ///
+    /// It reads nothing, so it hands nothing on.
+    #[inline(always)]
+    pub fn pass_quiet(&mut self) -> usize
+        requires { IsTrue (may_read (inner_of self.old)) }
+        ensures none { result ≡ 0 → self.new ≡ self.old }
+        ensures may_read { IsTrue (may_read (inner_of self.new)) }
+        ensures gives { (history : List ℕ) → IsSessionAt R.state (inner_of self.old) history
+            → PassedQuiet R.state (inner_of self.old) (inner_of self.new) history result }
+        ensures opened { IsTrue (is_opened (inner_of self.new)) }
+        ensures stopped { (stop : _) → HasStopped (inner_of self.old) stop → result ≡ 0 }
+        ensures here { (history : List ℕ) → IsSessionAt R.state (inner_of self.old) history
+            → 0 < result → HasNext R.state (inner_of self.old) }
+    {
+        self.inner.pass_quiet()
     }
 
     /// Reads the head of the next message if it is rare, or if the window does not have all of it.

@@ -1,8 +1,8 @@
-//! The trait of runs: its single step, and the loop over the steps.
+//! The trait of runs: a single step, a stride of several steps, and the loop over the strides.
 
 ghost use Rattle.std.specs.Prelude.{◌≡◌, ◌<◌, ℕ, List, [], Result, Err};
 ghost use Rattle.link_wire.specs.declared.IoFault.{IoFault};
-ghost use Rattle.link_run.specs.Run.{Tool, Devices, Place, devices_at, looks, GivesStep, GivesAnswer, IsEnd};
+ghost use Rattle.link_run.specs.Run.{Tool, Devices, Place, devices_at, looks, GivesStep, GivesStride, GivesAnswer, IsEnd};
 ghost use Rattle.link_run.specs.Stages.{HandedOn};
 ghost use Rattle.link_run.specs.declared.run.Progress.{Progress};
 
@@ -114,13 +114,36 @@ pub trait Run<R: InDevice, W: OutDevice, E: OutDevice>: Sized {
         ensures again { (answer : _) → has_ended self.old answer
             → (self.new ≡ self.old) × (result ≡ answer) };
 
+    /// Does at least one step, and as many more as the bytes at hand allow: a *stride*.
+    ///
+    /// It leaves what that many steps would have left, one after another, and it ends at the first
+    /// fault, failure or end. What was written before it is handed on as [`Run::step`] does it. It
+    /// has no bound on the bytes that it is given.
+    ///
+    /// # Errors
+    ///
+    /// A device failed, or the input has more than 2^63 - 1 bytes.
+    fn stride(&mut self) -> Result<Progress, IoFault>
+        ensures tool { tool self.new ≡ tool self.old }
+        ensures gives { (start : Devices R W E) (history : List ℕ) → stands self.old start history
+            → GivesStride (looks R.state W.state E.state) (tool self.old) start (place self.old)
+            (place self.new) (stands self.new start) (most self.old) history result }
+        ensures handed { (start : Devices R W E) (history : List ℕ) → stands self.old start history
+            → 0 < most self.old → (result ≡ Err IoFault.Write → ⊥)
+            → HandedOn (looks R.state W.state E.state) W.handed E.handed (has_next self.old)
+            (place self.old) (place self.new) }
+        ensures goes_on { most self.new ≡ 0 → IsEnd result }
+        ensures ends { IsEnd result → has_ended self.new result }
+        ensures again { (answer : _) → has_ended self.old answer
+            → (self.new ≡ self.old) × (result ≡ answer) };
+
     /// Returns the reader, the output and the report. Bytes that were read ahead and not given are
     /// dropped.
     fn into_parts(self) -> (R, W, E)
         ensures { record { reader = result.0; output = result.1; report = result.2 }
             ≡ devices_at (place self) };
 
-    /// Takes steps until the run has ended.
+    /// Takes strides until the run has ended.
     final fn run(self) -> RunEnd<R, W, E>
         requires { stands self (devices_at (place self)) [] }
         ensures { GivesAnswer (looks R.state W.state E.state) (tool self) (devices_at (place self))
@@ -128,8 +151,8 @@ pub trait Run<R: InDevice, W: OutDevice, E: OutDevice>: Sized {
             result.answer }
     {
         let mut run = self;
-        'steps: loop {
-            match run.step() {
+        'strides: loop {
+            match run.stride() {
                 Ok(Progress::More) => {}
                 Ok(Progress::Done(status)) => return end(run, Ok(status)),
                 Err(fault) => return end(run, Err(fault)),

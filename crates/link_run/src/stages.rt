@@ -1,11 +1,11 @@
-//! The stages of a tool, and the run that goes through them.
+//! The stages of a tool, and the run that goes through them by steps or by strides.
 
 ghost use Rattle.std.specs.Prelude.{◌≡◌, ◌<◌, ℕ, Bool, List, IsTrue, Err, None};
 ghost use Rattle.link_wire.specs.declared.IoFault.{IoFault};
 ghost use Rattle.link_run.specs.Run.{Devices, looks, IsEnd};
 ghost use Rattle.link_run.specs.Made.{Made, tool_of};
 ghost use Rattle.link_run.specs.Reading.{inner_of};
-ghost use Rattle.link_run.specs.Stages.{Stands, GivesStage, HandedOn, IsMore};
+ghost use Rattle.link_run.specs.Stages.{Stands, GivesStage, GivesStageStride, HandedOn, IsMore, HasEnded};
 ghost use Rattle.link_run.specs.Writers.{place_of};
 
 use crate::input::{Feed, Input};
@@ -54,6 +54,37 @@ pub trait Stages<S: Feed, W: OutDevice, E: OutDevice>: Sized {
             (S.has_next (inner_of input.old))
             (place_of (S.source (inner_of input.old)) writers.old)
             (place_of (S.source (inner_of input.new)) writers.new) };
+
+    /// Does at least one step, and as many more as the bytes at hand allow.
+    ///
+    /// A tool without a faster way does one step.
+    #[inline(always)]
+    fn stride(
+        &mut self,
+        input: &mut Input<S>,
+        writers: &mut Writers<W, E>,
+    ) -> Result<Progress, IoFault>
+        requires { IsTrue (fits self.old (inner_of input.old)) }
+        ensures made { made self.new ≡ made self.old }
+        ensures fits { IsMore result → IsTrue (fits self.new (inner_of input.new)) }
+        ensures gives { (start : Devices S.Reader W E) (history : List ℕ)
+            → Stands (looks S.Reader.state W.state E.state) (made self.old) start
+            (begun self.old) (place_of (S.source (inner_of input.old)) writers.old) history
+            → knows self.old (inner_of input.old) history
+            → GivesStageStride (looks S.Reader.state W.state E.state) (made self.old) start
+            (begun self.new) (place_of (S.source (inner_of input.old)) writers.old)
+            (place_of (S.source (inner_of input.new)) writers.new)
+            (knows self.new (inner_of input.new)) (most self.old) history result }
+        ensures goes_on { most self.new ≡ 0 → IsEnd result }
+        ensures handed { (history : List ℕ) → knows self.old (inner_of input.old) history
+            → 0 < most self.old → (result ≡ Err IoFault.Write → ⊥)
+            → HandedOn (looks S.Reader.state W.state E.state) W.handed E.handed
+            (S.has_next (inner_of input.old))
+            (place_of (S.source (inner_of input.old)) writers.old)
+            (place_of (S.source (inner_of input.new)) writers.new) }
+    {
+        self.stage(input, writers)
+    }
 }
 
 /// A run of a tool: its input, its writers, the tool, and the answer once the run has ended.
@@ -115,7 +146,7 @@ impl<S: Feed, W: OutDevice, E: OutDevice, T: Stages<S, W, E> + Drop> ToolRun<S, 
 
 impl<S: Feed, W: OutDevice, E: OutDevice, T: Stages<S, W, E> + Drop> Run<S::Reader, W, E>
     for ToolRun<S, W, E, T> {
-    ghost use Rattle.link_run.specs.Stages.{most_by, HasEnded};
+    ghost use Rattle.link_run.specs.Stages.{most_by};
 
     ghost tool = { λ run. tool_of (T.made run.tool) };
 
@@ -138,11 +169,17 @@ impl<S: Feed, W: OutDevice, E: OutDevice, T: Stages<S, W, E> + Drop> Run<S::Read
             return Progress::ended(answer);
         }
         let progress = self.tool.stage(&mut self.input, &mut self.writers);
-        match progress {
-            Ok(Progress::More) => {}
-            Ok(Progress::Done(status)) => self.answer = Some(Ok(status)),
-            Err(fault) => self.answer = Some(Err(fault)),
+        keep(&mut self.answer, progress);
+        progress
+    }
+
+    #[inline(always)]
+    fn stride(&mut self) -> Result<Progress, IoFault> {
+        if let Some(ended) = self.answer {
+            return Progress::ended(ended);
         }
+        let progress = self.tool.stride(&mut self.input, &mut self.writers);
+        keep(&mut self.answer, progress);
         progress
     }
 
@@ -159,5 +196,19 @@ impl<S: Feed, W: OutDevice, E: OutDevice, T: Stages<S, W, E> + Drop> Run<S::Read
             output,
             report,
         )
+    }
+}
+
+/// Keeps the answer of a run whose latest step returned this, if the step was the last.
+#[inline(always)]
+fn keep(answer: &mut Option<Result<Status, IoFault>>, progress: Result<Progress, IoFault>)
+    ensures more { IsMore progress → answer.new ≡ answer.old }
+    ensures going { answer.new ≡ None → IsMore progress }
+    ensures ends { IsEnd progress → HasEnded answer.new progress }
+{
+    match progress {
+        Ok(Progress::More) => {}
+        Ok(Progress::Done(status)) => *answer = Some(Ok(status)),
+        Err(fault) => *answer = Some(Err(fault)),
     }
 }

@@ -7,7 +7,7 @@ use Rattle.std.proofs.lemmas.Bool.{false≢true}
 use Rattle.std.proofs.lemmas.Bool.Decides.{nat_tests}
 use Rattle.link_wire.specs.Bytes.{IsByte}
 use Rattle.link_transfer.specs.Chunks.{chunk_count, chunks, first_chunks}
-use Rattle.link_transfer.specs.Cutting.{Cutting, beginning, due, due_of, announcement, is_first, is_last, next_chunk, next_cut, after_cut, left_of}
+use Rattle.link_transfer.specs.Cutting.{Cutting, beginning, due, due_of, announcement, is_first, is_last, next_chunk, next_cut, after_cut, unshown, left_of}
 use Rattle.link_transfer.specs.Cutter.{IsCutterAt, IsGiven, cut_waits}
 use Rattle.link_transfer.specs.Held.{is_last_of, announced_by, cut_of}
 use Rattle.link_transfer.specs.declared.cut.Cut.{Cut}
@@ -35,7 +35,7 @@ announced_is whole segment hold (suc count) size = grind (arith, nat_tests)
 first_is : (count : ℕ) → not (ltb 0 count) ≡ eqb count 0
 first_is count = grind (arith, nat_tests)
 
-same_cut : (f g l m : Bool) (a b : Option ℕ) → f ≡ g → l ≡ m → a ≡ b
+pub same_cut : (f g l m : Bool) (a b : Option ℕ) → f ≡ g → l ≡ m → a ≡ b
     → ◌≡◌ {A = Cut} (record { first = f; last = l; announce = a })
     (record { first = g; last = m; announce = b })
 same_cut f g l m a b first last announce = cc
@@ -83,28 +83,37 @@ pub next_cut-none : (cutter : Cutter) (so_far : Cutting) → IsCutterAt cutter s
 unfolding next_cut
 next_cut-none cutter so_far at quiet = rw (waiting_test cutter so_far false at quiet) refl
 
+-- the bytes given last are forgotten
+pub IsCutterAt-unshown : (old new : Cutter) (so_far : Cutting)
+    → new.segment ≡ old.segment → new.hold ≡ old.hold
+    → new.held.given ≡ [] → new.held.bytes ≡ old.held.bytes → new.begun ≡ old.begun
+    → new.ended ≡ old.ended
+    → IsCutterAt old so_far → IsCutterAt new (unshown so_far)
+unfolding due
+IsCutterAt-unshown old new so_far segment hold given bytes begun ended at = record {
+  some = at.some;
+  segment = segment ∙ at.segment;
+  hold = hold ∙ at.hold;
+  bytes = at.bytes;
+  given = at.given;
+  few = at.few;
+  left = at.left;
+  held = bytes ∙ at.held;
+  chunk = given;
+  begun = begun ∙ at.begun;
+  ended = ended ∙ at.ended;
+}
+
 -- a cut while no chunk is ready
 pub IsCutterAt-forget : (old new : Cutter) (so_far : Cutting) → cut_waits old ≡ false
     → new.segment ≡ old.segment → new.hold ≡ old.hold
     → new.held.given ≡ [] → new.held.bytes ≡ old.held.bytes → new.begun ≡ old.begun
     → new.ended ≡ old.ended
     → IsCutterAt old so_far → IsCutterAt new (after_cut so_far)
-unfolding after_cut due
+unfolding after_cut
 IsCutterAt-forget old new so_far quiet segment hold given bytes begun ended at =
     rw (sym (next_cut-none old so_far at quiet))
-    (record {
-      some = at.some;
-      segment = segment ∙ at.segment;
-      hold = hold ∙ at.hold;
-      bytes = at.bytes;
-      given = at.given;
-      few = at.few;
-      left = at.left;
-      held = bytes ∙ at.held;
-      chunk = given;
-      begun = begun ∙ at.begun;
-      ended = ended ∙ at.ended;
-    })
+    (IsCutterAt-unshown old new so_far segment hold given bytes begun ended at)
 
 -- a chunk that is due has a byte
 left_some : (whole : Bool) (segment hold count size : ℕ) → 0 < segment

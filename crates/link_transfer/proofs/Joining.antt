@@ -1,15 +1,16 @@
 -- The messages that a joiner has accepted, with one more.
-use Rattle.std.proofs.Common.{◌≡◌, ℕ, Bool, true, false, ◌||◌, cond, List, [], ◌∷◌, ◌++◌, reverse, Some, None, refl, ap, sym, ◌∙◌}
+use Rattle.std.proofs.Common.{◌≡◌, ℕ, Bool, true, false, ◌||◌, cond, List, [], ◌∷◌, ◌++◌, reverse, Option, Some, None, if◌then◌else◌, refl, ap, sym, subst, ◌∙◌}
 use Rattle.std.proofs.lemmas.List.{map_push, reverse-append}
 use Rattle.std.proofs.lemmas.List.Folds.{list_any-append}
 use Rattle.std.specs.List.{list_any, find}
 use Rattle.std.specs.Option.{option_and_then}
 use Rattle.link_wire.specs.declared.message.Message.{Message}
 use Rattle.link_transfer.specs.Event.{event_of}
-use Rattle.link_transfer.specs.Order.{is_sess_init, is_sess_term, is_segment, events_of, has_sess_init, has_sess_term, open_after, open_of, refusal, refusal_by, turn_of, turn_by, judged, judged_by}
+use Rattle.link_transfer.specs.Order.{is_sess_init, is_sess_term, is_segment, events_of, has_sess_init, has_sess_term, open_after, open_of, refusal, refusal_by, turn_of, turn_by, judged, judged_by, is_stray, is_stray_by, effect_of, effect_by, with_taken, taken_by}
 use Rattle.link_transfer.specs.Joiner.{IsJoinerAt, joiner_after}
 use Rattle.link_transfer.specs.declared.event.Event.{Event}
 use Rattle.link_transfer.specs.declared.event.Event.TheVariants.{SessInit, SessTerm, Segment, Other}
+use Rattle.link_transfer.specs.declared.fault.OrderFault.TheVariants.{SecondSessInit, SegmentBeforeSessInit, NoSuchOpenTransfer, StartRepeatsOpenId, StartAfterSessTerm}
 use Rattle.link_transfer.specs.declared.joiner.Joiner.{Joiner}
 
 any-push : (test : Event → Bool) (before : List Message) (message : Message)
@@ -108,3 +109,46 @@ pub judged-at : (joiner : Joiner) (before : List Message) (event : Event) → Is
     (turn_by joiner.transfer event) ≡ judged before event
 unfolding judged refusal turn_of
 judged-at joiner before event at = rw (at.initiated, at.terminated, at.transfer) refl
+
+-- ---- a message that is taken whether or not it may come
+
+-- the third rule refuses a stray segment
+third_rule : (first second stray fourth fifth : Bool)
+    → (if first then Some SecondSessInit
+    else if second then Some SegmentBeforeSessInit
+    else if stray then Some NoSuchOpenTransfer
+    else if fourth then Some StartRepeatsOpenId
+    else if fifth then Some StartAfterSessTerm
+    else None) ≡ None → stray ≡ false
+third_rule true second stray fourth fifth is = cc
+third_rule false true stray fourth fifth is = cc
+third_rule false false true fourth fifth is = cc
+third_rule false false false fourth fifth is = refl
+
+pub not_stray : (initiated terminated : Bool) (transfer : Option ℕ) (event : Event)
+    → refusal_by initiated terminated transfer event ≡ None → is_stray_by transfer event ≡ false
+not_stray initiated terminated transfer event is = third_rule _ _ _ _ _ is
+
+module _ (joiner : Joiner) (before : List Message) (event : Event)
+    (at : IsJoinerAt joiner before) where
+  pub refusal-at : refusal_by joiner.initiated joiner.terminated joiner.transfer event
+      ≡ refusal before event
+  unfolding refusal
+  refusal-at = rw (at.initiated, at.terminated, at.transfer) refl
+
+  pub stray-at : is_stray_by joiner.transfer event ≡ is_stray before event
+  unfolding is_stray
+  stray-at = rw at.transfer refl
+
+  pub effect-at : (stray : Bool) → is_stray_by joiner.transfer event ≡ stray
+      → effect_by stray (turn_by joiner.transfer event) ≡ effect_of before event
+  unfolding effect_of turn_of
+  effect-at stray is = rw (← is, stray-at, at.transfer) refl
+
+  pub taken-at : (message : Message) → event_of message ≡ event → (stray : Bool)
+      → is_stray_by joiner.transfer event ≡ stray → (after : Joiner)
+      → IsJoinerAt after (taken_by stray before message) → IsJoinerAt after (with_taken before message)
+  unfolding with_taken
+  taken-at message same stray is after holds =
+      let P : Bool → Type 0 = λ b. IsJoinerAt after (taken_by b before message) in
+      subst P (sym is ∙ stray-at ∙ ap (is_stray before) (sym same)) holds

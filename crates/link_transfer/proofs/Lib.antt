@@ -6,4 +6,5 @@ pub mod Steps
 pub mod Chunking
 pub mod Pushing
 pub mod Giving
+pub mod InPlace
 pub mod Cuttings

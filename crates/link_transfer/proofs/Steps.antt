@@ -56,13 +56,16 @@ shown_chunk None given left is some = absurd (omega (arith, ap length is))
 shown_chunk (Some chunk) given left is some = is.0
 
 -- a cutter with no chunk ready has an incomplete bundle
+pub not_ended : (cutter : Cutter) → cut_waits cutter ≡ false → cutter.ended ≡ false
+not_ended cutter quiet = neither cutter.ended _ quiet
+  where
+    neither : (ended other : Bool) → (ended || other) ≡ false → ended ≡ false
+    neither true other is = is
+    neither false other is = refl
+
 pub goes_on : (cutter : Cutter) (so_far : Cutting) → IsCutterAt cutter so_far
     → cut_waits cutter ≡ false → so_far.whole ≡ false
-goes_on cutter so_far at quiet = sym at.ended ∙ not_ended cutter.ended _ quiet
-  where
-    not_ended : (ended other : Bool) → (ended || other) ≡ false → ended ≡ false
-    not_ended true other is = is
-    not_ended false other is = refl
+goes_on cutter so_far at quiet = sym at.ended ∙ not_ended cutter quiet
 
 -- a cutter that holds nothing is at the beginning
 pub IsCutterAt-new : (cutter : Cutter) (segment hold : ℕ) → 0 < segment → cutter.segment ≡ segment

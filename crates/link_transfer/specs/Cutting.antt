@@ -86,6 +86,10 @@ unfoldable pub after_cut : Cutting → Cutting
 after_cut so_far =
     if is_some (next_cut so_far) then with_chunk so_far else record so_far { chunk = None }
 
+-- the chunk of the last cut is no longer shown
+abbrev pub unshown : Cutting → Cutting
+unshown so_far = record so_far { chunk = None }
+
 -- the bytes of the bundle that were not cut
 abbrev pub left_of : Cutting → List ℕ
 left_of so_far = drop (length so_far.given * so_far.segment) so_far.bundle

@@ -1,5 +1,5 @@
 -- The bytes that a cutter holds, and what follows from their number.
-use Rattle.std.specs.Prelude.{ℕ, ◌+◌, ◌-◌, max, Bool, not, ◌||◌, ◌&&◌, nat_lt, nat_le, List, Option, Some, None, if◌then◌else◌}
+use Rattle.std.specs.Prelude.{ℕ, ◌+◌, ◌-◌, max, Bool, not, ◌||◌, ◌&&◌, ◌==◌, nat_lt, nat_le, List, Option, Some, None, if◌then◌else◌}
 use Rattle.link_transfer.specs.declared.cut.Cut.{Cut}
 
 -- the size of the buffer, the bytes that were given last, and the bytes that were not given
@@ -16,6 +16,13 @@ waits begun ended segment hold size = ended || (nat_le segment size && (begun ||
 -- the number of further bytes after which a chunk is ready, if none of them is the bundle's last
 abbrev pub wanted_of : (begun : Bool) (segment hold size : ℕ) → ℕ
 wanted_of begun segment hold size = (if begun then segment else max segment (hold + 1)) - size
+
+-- Whether `size` bytes are exactly the next chunk, if nothing is held. `last` is whether the bundle
+-- ends with them.
+abbrev pub is_chunk : (begun last : Bool) (segment hold size : ℕ) → Bool
+is_chunk begun last segment hold size =
+    if last then nat_lt 0 size && nat_le size segment
+    else (size == segment) && (begun || nat_lt hold size)
 
 -- whether the bytes held are the bundle's last chunk
 abbrev pub is_last_of : (ended : Bool) (segment size : ℕ) → Bool

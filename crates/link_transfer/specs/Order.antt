@@ -1,6 +1,6 @@
 -- The order of the messages that one entity sends in a session (RFC 9174). Which message may come
 -- next depends on the whole list of messages that were accepted before.
-use Rattle.std.specs.Prelude.{ℕ, Bool, true, false, not, ◌&&◌, ◌==◌, List, map, reverse, find, Option, Some, None, Result, Ok, Err, if◌then◌else◌}
+use Rattle.std.specs.Prelude.{ℕ, Bool, true, false, not, ◌&&◌, ◌==◌, List, [], ◌∷◌, ◌++◌, map, reverse, find, Option, Some, None, Result, Ok, Err, if◌then◌else◌}
 use Rattle.std.specs.List.{list_any}
 use Rattle.std.specs.Option.{option_and_then, option_eq}
 use Rattle.link_wire.specs.Codes.{is_start, is_end}
@@ -116,3 +116,30 @@ judged_by None done = Ok done
 
 unfoldable pub judged : List Message → Event → Result Turn OrderFault
 judged before event = judged_by (refusal before event) (turn_of before event)
+
+-- ---- going on after a fault of the order
+
+-- Whether the event is a segment that belongs to no transfer, while this transfer is open. It is
+-- not the first of its transfer, and its transfer is not open (section 5.2.2).
+abbrev pub is_stray_by : (transfer : Option ℕ) → Event → Bool
+is_stray_by transfer event = continues event && not (is_of transfer event)
+
+unfoldable pub is_stray : List Message → Event → Bool
+is_stray before event = is_stray_by (open_of before) event
+
+-- The effect of a message that is taken whether or not it may come. A stray segment has none.
+abbrev pub effect_by : (stray : Bool) → Turn → Option Turn
+effect_by true done = None
+effect_by false done = Some done
+
+unfoldable pub effect_of : List Message → Event → Option Turn
+effect_of before event = effect_by (is_stray before event) (turn_of before event)
+
+-- The messages that the order of the next one depends on, if all are taken: all but the stray
+-- segments.
+abbrev pub taken_by : (stray : Bool) → List Message → Message → List Message
+taken_by true before message = before
+taken_by false before message = before ++ message ∷ []
+
+unfoldable pub with_taken : List Message → Message → List Message
+with_taken before message = taken_by (is_stray before (event_of message)) before message

@@ -1,6 +1,6 @@
 //! Cutting bundles into the chunks that become the data of segments.
 
-ghost use Rattle.std.specs.Prelude.{◌≡◌, ◌+◌, ◌<◌, ◌≤◌, Bool, true, false, ◌&&◌, ◌==◌, max, List, [], ◌∷◌, ◌++◌, length, take, is_some, is_ok, IfOk, IfSome, IfNone, OnSome, vec_len};
+ghost use Rattle.std.specs.Prelude.{◌≡◌, ◌+◌, ◌<◌, ◌≤◌, Bool, true, false, ◌&&◌, not, ◌==◌, max, List, [], ◌∷◌, ◌++◌, length, take, is_some, is_ok, IfOk, IfSome, IfNone, OnSome, vec_capacity};
 ghost use Rattle.std.specs.Bool.{OnTrue, OnFalse};
 
 use crate::cut::Cut;
@@ -30,9 +30,9 @@ pub struct Cutter {
 
 impl Cutter {
     ghost use Rattle.link_transfer.specs.Chunks.{chunks};
-    ghost use Rattle.link_transfer.specs.Cutting.{Cutting, beginning, with_bytes, with_each, due, next_chunk, next_cut, after_cut, shown};
+    ghost use Rattle.link_transfer.specs.Cutting.{Cutting, beginning, with_bytes, with_each, due, next_chunk, next_cut, after_cut, unshown, shown};
     ghost use Rattle.link_transfer.specs.Cutter.{IsCutterAt, cut_waits, wanted_by, held_size};
-    ghost use Rattle.link_transfer.specs.Held.{cut_of, is_last_of, announced_by};
+    ghost use Rattle.link_transfer.specs.Held.{cut_of, is_chunk, is_last_of, announced_by};
 
     /// A cutter for segments of at most `segment` bytes, that announces up to `hold` bytes.
     ///
@@ -45,7 +45,11 @@ impl Cutter {
         ensures start { IfOk result (λ cutter. IsCutterAt cutter (beginning segment hold)) }
         ensures quiet { IfOk result (λ cutter. cut_waits cutter ≡ false) }
     {
-        Cutter::over(vec![in alloc; 0; segment.max(hold + 1)], segment, hold)
+        Cutter::over(
+            Vec::with_capacity(alloc, segment.max(hold + 1)),
+            segment,
+            hold,
+        )
     }
 
     /// A cutter in this memory, or the error that there is none.
@@ -56,13 +60,14 @@ impl Cutter {
     ) -> Result<Cutter, AllocError>
         requires positive { 0 < segment }
         requires hold_within { hold ≤ 1048576 }
-        requires room { IfOk memory (λ buffer. vec_len buffer ≡ max segment (hold + 1)) }
+        requires empty { IfOk memory (λ buffer. buffer.items ≡ []) }
+        requires room { IfOk memory (λ buffer. max segment (hold + 1) ≤ vec_capacity buffer) }
         ensures start { IfOk result (λ cutter. IsCutterAt cutter (beginning segment hold)) }
         ensures quiet { IfOk result (λ cutter. cut_waits cutter ≡ false) }
         ensures given { is_ok result ≡ is_ok memory }
     {
         Ok(Cutter {
-            held: Held::new(memory?),
+            held: Held::new(memory?, segment.max(hold + 1)),
             segment,
             hold,
             begun: false,
@@ -147,6 +152,52 @@ impl Cutter {
         count
     }
 
+    /// Cuts a chunk where it lies, if these bytes are a whole chunk. The cutter then takes none of
+    /// them.
+    ///
+    /// `last` is whether the last byte of the slice is the bundle's last. This is the case if the
+    /// cutter holds nothing and a chunk is ready after these bytes, but not before the last of them
+    /// and not after the cut. The effect is that of pushing the bytes, of the cut, and of one more
+    /// call of `cut`. In all other cases nothing changes. It may be called only if no chunk is
+    /// ready.
+    #[inline(always)]
+    pub fn cut_slice(&mut self, bytes: &[u8], last: bool) -> Option<Cut>
+        requires { cut_waits self.old ≡ false }
+        ensures cut { (so_far : Cutting) → IsCutterAt self.old so_far
+            → IfSome result (λ cut. next_cut (with_bytes bytes.now last so_far) ≡ Some cut) }
+        ensures chunk { (so_far : Cutting) → IsCutterAt self.old so_far
+            → OnSome result (next_chunk (with_bytes bytes.now last so_far) ≡ bytes.now) }
+        ensures after { (so_far : Cutting) → IsCutterAt self.old so_far
+            → OnSome result (IsCutterAt self.new
+            (unshown (after_cut (with_bytes bytes.now last so_far)))) }
+        ensures quiet { cut_waits self.new ≡ false }
+        ensures none { IfNone result (self.new ≡ self.old) }
+    {
+        if self.held.len() > 0 {
+            return None;
+        }
+        if !self.is_chunk(bytes.len(), last) {
+            return None;
+        }
+        let cut = self.described(last, None);
+        self.held.forget();
+        self.begun = !last;
+        Some(cut)
+    }
+
+    /// Whether `size` bytes are one chunk, if the cutter holds nothing.
+    ///
+    /// `last` is whether the bundle ends with them.
+    #[inline(always)]
+    fn is_chunk(&self, size: usize, last: bool) -> bool
+        ensures { result ≡ is_chunk self.now.begun last self.now.segment self.now.hold size }
+    {
+        if last {
+            return 0 < size && size <= self.segment;
+        }
+        size == self.segment && (self.begun || size > self.hold)
+    }
+
     /// The number of bytes after which a chunk is ready, if none of them is the bundle's last.
     ///
     /// It may be called only if no chunk is ready.
@@ -197,10 +248,19 @@ impl Cutter {
             ≡ cut_of self.now.begun self.now.ended self.now.segment self.now.hold
             (held_size self.now) }
     {
+        self.described(self.is_last(), self.announcement())
+    }
+
+    /// The description of a chunk, with whether it is the bundle's last and what it announces.
+    #[inline(always)]
+    fn described(&self, last: bool, announce: Option<u64>) -> Cut
+        ensures { result
+            ≡ record { first = not self.now.begun; last = last; announce = announce } }
+    {
         Cut {
             first: !self.begun,
-            last: self.is_last(),
-            announce: self.announcement(),
+            last,
+            announce,
         }
     }
 

@@ -1,77 +1,83 @@
 //! The bytes that a cutter holds.
 
-ghost use Rattle.std.specs.Prelude.{◌≡◌, ℕ, ◌+◌, ◌-◌, ◌<◌, ◌≤◌, List, [], ◌∷◌, ◌++◌, length, take, drop, slice_range};
+ghost use Rattle.std.specs.Prelude.{◌≡◌, ℕ, ◌+◌, ◌-◌, ◌<◌, ◌≤◌, List, [], ◌∷◌, ◌++◌, length, take, drop, vec_capacity};
 
 use std::marker::Model;
 
-/// Bytes in the order in which they came, in a buffer of a fixed size.
+/// Bytes in the order in which they came, in memory that is taken once.
 ///
-/// The bytes that were given last stay readable before those held.
+/// The bytes that were given last stay readable before those held. Memory is written only when a
+/// byte comes, so nothing is cleared beforehand.
 ///
 /// ```text
-///               given        start           end
-/// +---------------+------------+---------------+-----------+
-/// | free          | given last | held          | free      |
-/// +---------------+------------+---------------+-----------+
+///               given        start           end of `buffer`       room
+/// +---------------+------------+---------------+---------------------+
+/// | free          | given last | held          | never written, or   |
+/// |               |            |               | written and dropped |
+/// +---------------+------------+---------------+---------------------+
 /// ```
 #[derive(Drop)]
 pub(crate) struct Held {
     buffer: Vec<u8>,
+    /// The number of bytes for which the buffer has memory.
+    room: usize,
     given: usize,
     start: usize,
-    end: usize,
 }
 
 impl Model for Held {
-    ghost use Rattle.std.specs.Prelude.{◌≤◌, length, slice_range};
+    ghost use Rattle.std.specs.Prelude.{◌≤◌, length, drop, slice_range, vec_capacity};
     ghost use Rattle.link_transfer.specs.Held.{HeldBytes};
 
     ghost Value = { HeldBytes };
 
     ghost view = { λ held. record {
-      room = length held.buffer.items;
+      room = held.room;
       given = slice_range held.buffer.items held.given held.start;
-      bytes = slice_range held.buffer.items held.start held.end;
+      bytes = drop held.start held.buffer.items;
     } };
 
     ghost invariant = { λ held.
-        (held.given ≤ held.start) × (held.start ≤ held.end)
-        × (held.end ≤ length held.buffer.items) };
+        (held.given ≤ held.start) × (held.start ≤ length held.buffer.items)
+        × (held.room ≤ vec_capacity held.buffer) };
 }
 
-/// Makes room for `count` bytes after the held ones, and returns the range of the held bytes.
+/// Makes room for `count` bytes after the held ones, and returns where the held bytes begin.
 ///
-/// The held bytes are those from `start` to `end`. If there are none, or there is too little room
-/// after them, they are moved to the beginning of the buffer. So short bundles use the same few
-/// bytes of the buffer, one after another.
+/// The held bytes are those from `start` on. If there are none, or there is too little room after
+/// them, they are moved to the beginning of the buffer. So short bundles use the same few bytes of
+/// the buffer, one after another.
 #[inline]
-fn with_room(buffer: &mut Vec<u8>, start: usize, end: usize, count: usize) -> (usize, usize)
-    requires order { start ≤ end }
-    requires within { end ≤ length buffer.old.items }
-    requires room { (end - start) + count ≤ length buffer.old.items }
-    ensures bytes { slice_range buffer.new.items result.0 result.1
-        ≡ slice_range buffer.old.items start end }
-    ensures order { result.0 ≤ result.1 }
-    ensures room { result.1 + count ≤ length buffer.new.items }
-    ensures size { length buffer.new.items ≡ length buffer.old.items }
+fn with_room(buffer: &mut Vec<u8>, start: usize, count: usize, room: usize) -> usize
+    requires order { start ≤ length buffer.old.items }
+    requires room { (length buffer.old.items - start) + count ≤ room }
+    requires within { room ≤ vec_capacity buffer.old }
+    ensures bytes { drop result buffer.new.items ≡ drop start buffer.old.items }
+    ensures order { result ≤ length buffer.new.items }
+    ensures room { length buffer.new.items + count ≤ vec_capacity buffer.new }
+    ensures capacity { vec_capacity buffer.new ≡ vec_capacity buffer.old }
 {
-    if start < end && count <= buffer.len() - end {
-        return (start, end);
+    let end = buffer.len();
+    if start < end && count <= buffer.capacity() - end {
+        return start;
     }
     buffer.copy_within(start..end, 0);
-    (0, end - start)
+    buffer.truncate(end - start);
+    0
 }
 
 impl Held {
-    /// A buffer that holds no bytes.
-    pub fn new(buffer: Vec<u8>) -> Held
-        ensures { result ≡ record { room = length buffer.items; given = []; bytes = [] } }
+    /// A buffer that holds no bytes, in this memory, which has room for `room` bytes.
+    pub fn new(buffer: Vec<u8>, room: usize) -> Held
+        requires empty { buffer.items ≡ [] }
+        requires room { room ≤ vec_capacity buffer }
+        ensures { result ≡ record { room = room; given = []; bytes = [] } }
     {
         Held {
             buffer,
+            room,
             given: 0,
             start: 0,
-            end: 0,
         }
     }
 
@@ -80,14 +86,14 @@ impl Held {
     pub fn len(&self) -> usize
         ensures { result ≡ length self.now.bytes }
     {
-        self.end - self.start
+        self.buffer.len() - self.start
     }
 
     /// The bytes held.
     pub fn bytes(&self) -> &[u8]
         ensures { result.now ≡ self.now.bytes }
     {
-        &self.buffer[self.start..self.end]
+        &self.buffer[self.start..]
     }
 
     /// The bytes given last.
@@ -103,11 +109,7 @@ impl Held {
         requires { length self.old.bytes < self.old.room }
         ensures { self.new ≡ record self.old { given = []; bytes = self.old.bytes ++ byte ∷ [] } }
     {
-        let (start, end) = with_room(&mut self.buffer, self.start, self.end, 1);
-        self.buffer[end] = byte;
-        self.given = start;
-        self.start = start;
-        self.end = end + 1;
+        self.append(&[byte]);
     }
 
     /// Appends bytes to those held, and forgets the bytes given last.
@@ -116,11 +118,10 @@ impl Held {
         requires { length self.old.bytes + length bytes.now ≤ self.old.room }
         ensures { self.new ≡ record self.old { given = []; bytes = self.old.bytes ++ bytes.now } }
     {
-        let (start, end) = with_room(&mut self.buffer, self.start, self.end, bytes.len());
-        copy_at(&mut self.buffer, end, bytes);
+        let start = with_room(&mut self.buffer, self.start, bytes.len(), self.room);
+        put_after(&mut self.buffer, bytes);
         self.given = start;
         self.start = start;
-        self.end = end + bytes.len();
     }
 
     /// Gives the first `count` bytes held: they are held no longer, and `given` returns them.
@@ -137,6 +138,7 @@ impl Held {
     }
 
     /// Forgets the bytes given last.
+    #[inline]
     pub fn forget(&mut self)
         ensures { self.new ≡ record self.old { given = [] } }
     {
@@ -144,13 +146,13 @@ impl Held {
     }
 }
 
-/// Copies bytes into the buffer, from the index `at` on.
+/// Appends bytes to the buffer, which has room for them.
 #[inline]
-fn copy_at(buffer: &mut Vec<u8>, at: usize, bytes: &[u8])
-    requires { at + length bytes.now ≤ length buffer.old.items }
-    ensures before { take at buffer.new.items ≡ take at buffer.old.items }
-    ensures bytes { slice_range buffer.new.items at (at + length bytes.now) ≡ bytes.now }
-    ensures size { length buffer.new.items ≡ length buffer.old.items }
+fn put_after(buffer: &mut Vec<u8>, bytes: &[u8])
+    requires { length buffer.old.items + length bytes.now ≤ vec_capacity buffer.old }
+    ensures items { buffer.new.items ≡ buffer.old.items ++ bytes.now }
+    ensures capacity { vec_capacity buffer.old ≤ vec_capacity buffer.new }
 {
-    buffer[at..at + bytes.len()].copy_from_slice(bytes);
+    // By the contract of this call, it succeeds and takes no memory where there is room.
+    let _ = buffer.extend_from_slice(bytes);
 }

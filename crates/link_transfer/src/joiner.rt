@@ -30,6 +30,17 @@ pub enum Turn {
     },
 }
 
+/// A message that was taken whether or not it may come.
+#[derive(Clone, Copy, Debug, PartialEq, Eq)]
+pub struct Taken {
+    /// The first reason why the message may not come, if there is one.
+    pub fault: Option<OrderFault>,
+    /// The effect of the message, or `None` for a stray segment.
+    ///
+    /// A stray segment is not the first of its transfer, and its transfer is not open.
+    pub turn: Option<Turn>,
+}
+
 /// Judges the order of the messages that one entity sends in a session.
 ///
 /// The rules are those of RFC 9174 sections 4.6, 5.2 and 6.1.
@@ -46,7 +57,7 @@ pub struct Joiner {
 impl Joiner {
     ghost use Rattle.std.specs.Option.{option_eq};
     ghost use Rattle.link_transfer.specs.Event.{event_of};
-    ghost use Rattle.link_transfer.specs.Order.{judged, open_of, refusal_by, turn_by};
+    ghost use Rattle.link_transfer.specs.Order.{judged, open_of, refusal, refusal_by, turn_by, is_stray_by, effect_of, with_taken};
     ghost use Rattle.link_transfer.specs.Joiner.{IsJoinerAt, joiner_after};
 
     /// A joiner that has accepted no message.
@@ -165,6 +176,54 @@ impl Joiner {
             return Err(fault);
         }
         Ok(self.accept(event))
+    }
+
+    /// Whether the event is a segment that belongs to no transfer.
+    fn is_stray(&self, event: Event) -> bool
+        ensures { result ≡ is_stray_by self.now.transfer event }
+    {
+        match event {
+            Event::Segment { flags, id } if !has_start_flag(flags) => self.transfer != Some(id),
+            _ => false,
+        }
+    }
+
+    /// Takes any message with this event, whether or not it may come.
+    ///
+    /// A message that may not come has the effect that it would have if it might. A stray segment
+    /// changes nothing.
+    pub fn take(&mut self, event: Event) -> Taken
+        ensures fault { (before : List Message) → IsJoinerAt self.old before
+            → result.fault ≡ refusal before event }
+        ensures turn { (before : List Message) → IsJoinerAt self.old before
+            → result.turn ≡ effect_of before event }
+        ensures taken { (before : List Message) (message : Message) → event_of message ≡ event
+            → IsJoinerAt self.old before → IsJoinerAt self.new (with_taken before message) }
+    {
+        match self.refusal(event) {
+            None => Taken {
+                fault: None,
+                turn: Some(self.accept(event)),
+            },
+            Some(fault) => Taken {
+                fault: Some(fault),
+                turn: self.take_refused(event),
+            },
+        }
+    }
+
+    /// Takes an event that may not come, and returns its effect on the transfers.
+    #[cold]
+    fn take_refused(&mut self, event: Event) -> Option<Turn>
+        ensures turn { (before : List Message) → IsJoinerAt self.old before
+            → result ≡ effect_of before event }
+        ensures taken { (before : List Message) (message : Message) → event_of message ≡ event
+            → IsJoinerAt self.old before → IsJoinerAt self.new (with_taken before message) }
+    {
+        if self.is_stray(event) {
+            return None;
+        }
+        Some(self.accept(event))
     }
 }
 

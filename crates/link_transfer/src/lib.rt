@@ -42,5 +42,5 @@ pub use cut::Cut;
 pub use cutter::Cutter;
 pub use event::Event;
 pub use fault::OrderFault;
-pub use joiner::{Joiner, Turn};
+pub use joiner::{Joiner, Taken, Turn};
 pub use length::announced;

@@ -4,10 +4,19 @@ mod Transfers
 pub mod Orders
 pub mod Heads
 pub mod Texts
+mod Taken
+mod Turns
+mod Cuts
 mod Joins
 mod Begins
 mod Messages
+mod Refusals
 mod Outcomes
 mod Steps
 mod Data
+mod Strays
+mod Loads
 mod Writing
+mod Quiets
+mod Strides
+pub mod GoingOn

@@ -1,55 +1,47 @@
--- How the head of a message changes the transfers.
-use Rattle.std.proofs.Common.{◌≡◌, ℕ, ◌<◌, ◌≤◌, Bool, true, false, not, ◌&&◌, ◌==◌, nat_lt, is_some, List, [], ◌∷◌, ◌++◌, length, Option, Some, None, if◌then◌else◌, refl, ap, sym, ◌∙◌, subst, append-nil, length-append, arith}
-use Rattle.std.proofs.lemmas.Bool.{ltb-true, ltb-false}
+-- The head of a message has come, and what comes of it.
+use Rattle.std.proofs.Common.{◌≡◌, ℕ, zero, suc, ◌<◌, Bool, true, false, not, ◌&&◌, ◌==◌, nat_lt, is_some, List, [], ◌∷◌, ◌++◌, length, Option, Some, None, if◌then◌else◌, ⊎_elim, refl, ap, sym, ◌∙◌, subst, append-nil, length-append, arith}
+use Rattle.std.proofs.Math.Bool.{and-true}
+use Rattle.std.proofs.lemmas.Bool.{lt-ltb}
 use Rattle.link_wire.specs.Codes.{is_start, is_end}
 use Rattle.link_wire.specs.Message.{data_length}
 use Rattle.link_wire.specs.MessageBuffer.{message_of}
 use Rattle.link_wire.specs.Session.{source_of, left_of, joined, ReadMessage}
-use Rattle.link_wire.specs.Stream.{Entry, End, Clean, Cut, Fault, ended, with_entry, Reading, reading_of}
+use Rattle.link_wire.specs.Stream.{Entry, End, Clean, Cut, ended, with_entry, Reading, reading_of}
 use Rattle.link_wire.specs.declared.message.Message.{Message}
-use Rattle.link_wire.specs.declared.message.Message.TheVariants as message
+use Rattle.link_wire.specs.declared.message.Message.TheVariants as variant
 use Rattle.link_wire.specs.declared.message.MessageBuffer.{MessageBuffer}
 use Rattle.link_wire.specs.declared.message.SegmentHead.{SegmentHead}
 use Rattle.link_wire.specs.declared.session.Session.{Session}
 use Rattle.link_transfer.specs.Event.{event_of}
-use Rattle.link_transfer.specs.Order.{is_segment, open_of, refusal}
+use Rattle.link_transfer.specs.Order.{is_segment, is_stray, open_of, refusal, turn_by}
 use Rattle.link_transfer.specs.Joiner.{IsJoinerAt}
+use Rattle.link_transfer.specs.declared.fault.OrderFault.{OrderFault}
 use Rattle.link_transfer.specs.declared.joiner.Joiner.{Joiner}
-use Rattle.link_transfer.proofs.Joining.{after-segment, after-other}
+use Rattle.link_transfer.specs.declared.joiner.Turn.{Turn}
+use Rattle.link_transfer.specs.declared.joiner.Turn.TheVariants as effects
 use Rattle.link_bundle.specs.Bundle.{payload_in}
-use Rattle.link_run.specs.Run.{Looks, Devices, devices_at, NoneFailed, HasWritten}
+use Rattle.link_run.specs.Run.{Looks, Devices}
 use Rattle.link_run.specs.Stages.{Stands}
 use Rattle.link_run.specs.Writers.{place_of}
 use Rattle.link_run.specs.declared.writers.Writers.{Writers}
 use Rattle.link_run.proofs.Runs.{texts_as, written_as, written_given, sound_given}
-use Rattle.link_unpack.specs.Transfers.{heads_of, Transfer, closes, continued, after_message, transfers_of, settled}
-use Rattle.link_unpack.specs.Unpacking.{parts_of, part_of, is_selected, are_good, unpacking_of}
-use Rattle.link_unpack.specs.TransferScan.{Follows, grown}
-use Rattle.link_unpack.specs.UnpackRun.{messages_of, AreInOrder, texts_of, GoesOn, IsOpen, IsInSegment, IsWaiting, IsWaitingAfter, IsAfter, Unpacks, StandsAt, IsJoining, IsBeginning}
+use Rattle.link_unpack.specs.Transfers.{heads_of, Transfer, closes, continued, after_segment, after_message, settled}
+use Rattle.link_unpack.specs.Unpacking.{parts_of, part_of, is_selected, are_good, Unpacked, unpacked_of, order_line, abandoned_line, closed_line, transfers_with, with_head, unpacking_of}
+use Rattle.link_unpack.specs.TransferScan.{Follows, begun, grown}
+use Rattle.link_unpack.specs.UnpackRun.{messages_of, AreInOrder, AreTaken, unpacked_from, is_open_after, GoesOn, IsOpen, IsCut, IsInData, IsWaiting, IsWaitingAfter, Unpacks, StandsAt, HasCome, IsTaken, IsJoining, IsBeginning}
 use Rattle.link_unpack.specs.declared.transfer.TransferScan.{TransferScan}
+use Rattle.link_unpack.specs.declared.unpacking.Stage.{Stage}
 use Rattle.link_unpack.specs.declared.unpacking.Stage.TheVariants as stage
 use Rattle.link_unpack.specs.declared.unpacking.Unpacker.{Unpacker}
 use Rattle.link_unpack.specs.declared.wanted.Wanted.{Wanted}
-use Rattle.link_unpack.proofs.Heads.{entry, heads_with_message, messages_push, transfers_push, transfers_same, transfer_begins, transfer_continues, is_whole}
-use Rattle.link_unpack.proofs.Joins.{stands}
-use Rattle.link_unpack.proofs.Orders.{in_order_more, open_where_continued}
-use Rattle.link_unpack.proofs.Texts.{texts_in_order, unlined, parts_more, texts_open, settled_open}
-
--- at the stage of a message, the reading ends between two messages
-pub between : (is_open : Bool) (latest : TransferScan) (transfers : List Transfer) (end : End)
-    → IsWaiting stage.Message is_open latest transfers end
-    → (end ≡ Clean) × IsOpen is_open latest transfers
-between is_open latest transfers Clean waits = (refl, waits.1)
-between is_open latest transfers (Cut offset sent content) waits = let never = waits.1 in absurd (cc)
-between is_open latest transfers (Fault offset fault) waits = absurd waits
-
--- how the reading ends after the head of a segment
-after_head_by : (test : Bool) (offset : ℕ) (sent : Message) (last : Bool) (left : ℕ)
-    → nat_lt 0 (data_length sent) ≡ test → left ≡ data_length sent → IsInSegment last sent
-    → IsAfter last left (if test then ended (Cut offset sent [])
-    else with_entry (entry offset sent []) (ended Clean)).end
-after_head_by true offset sent last left test is in_segment = (let some : 0 < data_length sent = ltb-true 0 (data_length sent) test in omega arith, in_segment)
-after_head_by false offset sent last left test is in_segment = let none : data_length sent ≤ 0 = ltb-false 0 (data_length sent) test in omega arith
+use Rattle.link_unpack.proofs.GoingOn.{kind_of, unpacked_push, unpacked_in_order, open_where_taken}
+use Rattle.link_unpack.proofs.Heads.{entry, heads_clean, heads_with_message, transfers_same, transfer_begins, transfer_continues, is_whole}
+use Rattle.link_unpack.proofs.Joins.{left_none, stands}
+use Rattle.link_unpack.proofs.Orders.{in_order_more, begins, continues, no_segment, segment_of}
+use Rattle.link_unpack.proofs.Taken.{texts_taken}
+use Rattle.link_unpack.proofs.Texts.{parts_more, settled_open}
+use Rattle.link_unpack.proofs.Transfers.{part_of-begun}
+use Rattle.link_unpack.proofs.Turns.{has_effect, has_none, ChangesNone, segment_opened, segment_transfers, segment_report, stray_changes, other_changes}
 
 -- the step that reads a head is given none of the data
 abbrev IsAlone : End → Type 0
@@ -61,10 +53,23 @@ alone_by : (test : Bool) (offset : ℕ) (sent : Message)
 alone_by true offset sent = refl
 alone_by false offset sent = tt
 
--- a transfer is open after each segment but its last
-pub opened_by : (ends : Bool) (id : ℕ) → is_some (if ends then None else Some id) ≡ not ends
-opened_by true id = refl
-opened_by false id = refl
+-- only a segment has data
+no_data : (sent : Message) → is_segment (event_of sent) ≡ false → data_length sent ≡ 0
+no_data (variant.SessInit keepalive segment_mru transfer_mru node items) is = refl
+no_data (variant.Segment head) is = absurd (cc)
+no_data (variant.Ack flags id size) is = refl
+no_data (variant.Refuse reason id) is = refl
+no_data variant.Keepalive is = refl
+no_data (variant.SessTerm flags reason) is = refl
+no_data (variant.MsgReject reason header) is = refl
+
+-- a message with no effect on the transfers is passed, and so is its data, if it has data
+pub by_left : (P : Stage → Type 0) (left : ℕ) (now : Stage)
+    → (0 < left → now ≡ stage.Stray) → (left ≡ 0 → now ≡ stage.Message)
+    → (0 < left → P stage.Stray) → (left ≡ 0 → P stage.Message) → P now
+by_left P zero now stays goes some all = subst P (sym (goes refl)) (all refl)
+by_left P (suc left) now stays goes some all =
+    let more : 0 < suc left = omega arith in subst P (sym (stays more)) (some more)
 
 -- if no data is added, the written bytes stay the same
 same_part : (wanted : Wanted) (transfer : Transfer) (closed : Bool)
@@ -83,172 +88,330 @@ follows_same now transfer closed earlier follows = record {
   judged = rw append-nil follows.judged;
 }
 
-same_unlined : (wanted : Wanted) (transfer : Transfer) (closed : Bool) (earlier : List Transfer)
-    → unlined wanted transfer earlier ≡ unlined wanted (grown transfer [] closed) earlier
-same_unlined wanted transfer closed earlier =
-    texts_as (parts_more wanted transfer earlier ∙ ap (λ (xs : List ℕ). parts_of wanted earlier ++ xs) (sym (same_part wanted transfer closed)) ∙ sym (parts_more wanted (grown transfer [] closed) earlier)) refl
+same_parts : (wanted : Wanted) (transfer : Transfer) (closed : Bool) (earlier : List Transfer)
+    → parts_of wanted (transfer ∷ earlier) ≡ parts_of wanted (grown transfer [] closed ∷ earlier)
+same_parts wanted transfer closed earlier =
+    parts_more wanted transfer earlier
+    ∙ ap (λ (xs : List ℕ). parts_of wanted earlier ++ xs) (sym (same_part wanted transfer closed))
+    ∙ sym (parts_more wanted (grown transfer [] closed) earlier)
+
+-- a head alone adds no bytes
+parts_begun : (starts : Bool) (wanted : Wanted) (transfers : List Transfer) (head : SegmentHead)
+    → is_start head.flags ≡ starts
+    → parts_of wanted (after_segment transfers head []) ≡ parts_of wanted transfers
+parts_begun true wanted transfers head is =
+    ap (parts_of wanted) (transfer_begins transfers head [] is)
+    ∙ parts_more wanted (begun head (closes head [])) transfers
+    ∙ ap (λ (xs : List ℕ). parts_of wanted transfers ++ xs) (part_of-begun wanted head (closes head []))
+    ∙ append-nil _
+parts_begun false wanted [] head is = ap (parts_of wanted) (transfer_continues [] head [] is)
+parts_begun false wanted (latest ∷ earlier) head is =
+    ap (parts_of wanted) (transfer_continues (latest ∷ earlier) head [] is)
+    ∙ sym (same_parts wanted latest (closes head []) earlier)
+
+pub parts_head : (stray : Bool) (wanted : Wanted) (transfers : List Transfer) (offset : ℕ)
+    (sent : Message)
+    → parts_of wanted (transfers_with stray transfers (entry offset sent []))
+    ≡ parts_of wanted transfers
+parts_head true wanted transfers offset sent = refl
+parts_head false wanted transfers offset sent =
+    ⊎_elim
+    (λ segment. ap (λ m. parts_of wanted (after_message transfers m [])) segment.1
+    ∙ parts_begun (is_start segment.0.flags) wanted transfers segment.0 refl)
+    (λ other. ap (parts_of wanted) (transfers_same transfers sent [] other))
+    (kind_of sent)
 
 module _ {R W E : Type 0} (look : Looks R W E)
     (start : Devices R W E) where
+  -- ---- the head was read
+
   module _ (old new : Session R) (before : Writers W E) (u : Unpacker) (history : List ℕ)
       (stood : Stands look (unpacking_of u.latest.wanted) start true (place_of (source_of old) before) history)
       (at : Unpacks look.input stage.Message old u history)
-      (offset : ℕ) (sent : Message) (got : ReadMessage look.input old new history offset sent) where
-    abbrev pub heads : List Entry
-    heads = heads_of (reading_of history)
-
-    abbrev pub transfers : List Transfer
-    transfers = transfers_of heads
-
-    clean : (reading_of history).end ≡ Clean
-    clean = (between _ u.latest transfers _ at.waits).0
-
-    pub was_open : IsOpen (is_some (open_of (messages_of heads))) u.latest transfers
-    was_open = (between _ u.latest transfers _ at.waits).1
-
-    pub new_heads : heads_of (reading_of (history ++ got.given))
-        ≡ heads ++ entry offset sent [] ∷ []
-    new_heads = ap heads_of got.reading ∙ heads_with_message (reading_of history) offset sent clean
-
-    new_messages : messages_of (heads_of (reading_of (history ++ got.given)))
-        ≡ messages_of heads ++ sent ∷ []
-    new_messages = ap messages_of new_heads ∙ messages_push heads (entry offset sent [])
-
-    new_transfers : transfers_of (heads_of (reading_of (history ++ got.given)))
-        ≡ after_message transfers sent []
-    new_transfers = ap transfers_of new_heads ∙ transfers_push heads (entry offset sent [])
+      (offset : ℕ) (message : MessageBuffer)
+      (got : ReadMessage look.input old new history offset (message_of message)) where
+    abbrev had : Unpacked
+    had = unpacked_from u.latest.wanted history
 
     pub alone : IsAlone (reading_of (history ++ got.given)).end
-    alone = let P : Reading → Type 0 = λ r. IsAlone r.end in subst P (sym got.reading) (alone_by (nat_lt 0 (data_length sent)) offset sent)
+    alone = let P : Reading → Type 0 = λ r. IsAlone r.end in subst P (sym got.reading) (alone_by (nat_lt 0 (data_length (message_of message))) offset (message_of message))
 
-    new_in_order : refusal (messages_of heads) (event_of sent) ≡ None
-        → AreInOrder (heads_of (reading_of (history ++ got.given)))
-    new_in_order may = let P : List Entry → Type 0 = AreInOrder in subst P (sym new_heads) (in_order_more heads (entry offset sent []) at.in_order may)
-
-    new_joiner : (joiner : Joiner) → IsJoinerAt joiner (messages_of heads ++ sent ∷ [])
-        → IsJoinerAt joiner (messages_of (heads_of (reading_of (history ++ got.given))))
-    new_joiner joiner is = rw new_messages is
-
-    new_written : HasWritten look start (place_of (source_of new) before)
-        (history ++ got.given) (texts_of u.latest.wanted transfers)
-    new_written = written_as look (written_given look start (source_of old) (source_of new) before history got.given _ stood.written got.takes) refl (texts_in_order u.latest.wanted history at.in_order)
-
-    new_sound : NoneFailed look
-        (devices_at (place_of (source_of new) before))
-    new_sound = sound_given look (source_of old) (source_of new) before got.given stood.sound got.takes
-
-    new_total : u.latest.total ≤ length (history ++ got.given)
-    new_total = let total = at.total in omega (arith, length-append history got.given)
-
-    -- ---- a segment
-
-    module _ (head : SegmentHead) (is : sent ≡ message.Segment head) (last : Bool)
-        (ends : last ≡ is_end head.flags) where
-      left_is : left_of new ≡ head.length
-      left_is = got.left ∙ ap data_length is
-
-      pub after : IsAfter last (left_of new) (reading_of (history ++ got.given)).end
-      after = let P : Reading → Type 0 = λ r. IsAfter last (left_of new) r.end in
-          subst P (sym got.reading) (after_head_by (nat_lt 0 (data_length sent)) offset sent last (left_of new) refl got.left (record { head = head; is = is; ends = ends }))
-
-      pub closed : closes head [] ≡ (last && (left_of new == 0))
-      closed = ap (λ b. b && (0 == head.length)) (sym ends) ∙ ap (λ b. last && b) (is_whole 0 (left_of new) head.length (omega (arith, left_is)))
-
-      pub opened : is_some (open_of (messages_of (heads_of (reading_of (history ++ got.given)))))
-          ≡ not last
-      opened =
-          ap (λ ms. is_some (open_of ms)) new_messages
-          ∙ ap is_some (after-segment (messages_of heads) sent head.flags head.id (ap event_of is))
-          ∙ opened_by (is_end head.flags) head.id ∙ ap not (sym ends)
-
-      pub beginning : (abandoned : Option ℕ) (buffer : MessageBuffer) (joiner : Joiner)
-          → message_of buffer ≡ sent → is_start head.flags ≡ true
-          → abandoned ≡ open_of (messages_of heads)
-          → refusal (messages_of heads) (event_of sent) ≡ None
-          → IsJoinerAt joiner (messages_of heads ++ sent ∷ [])
-          → IsBeginning look start (is_some abandoned) last new before
-          (record { joiner = joiner; latest = u.latest; good = u.good })
-          buffer (history ++ got.given)
-      beginning abandoned buffer joiner holds starts was may joins = record {
-        session = got.at;
-        window = got.takes.window.less got.some;
-        in_order = new_in_order may;
-        joiner = new_joiner joiner joins;
-        head = head;
-        is = holds ∙ is;
-        begins = starts;
-        transfers = transfers;
-        are = new_transfers ∙ ap (λ m. after_message transfers m []) is ∙ transfer_begins transfers head [] starts ∙ ap (λ c. record { first = head; content = []; closed = c } ∷ transfers) closed;
-        before = rw was was_open;
-        written = new_written;
-        sound = new_sound;
-        sum = at.sum;
-        total = new_total;
-        good = at.good;
-        opened = opened;
-        after = after;
-      }
-
-      module _ (joiner : Joiner) (starts : is_start head.flags ≡ false)
-          (may : refusal (messages_of heads) (event_of sent) ≡ None)
-          (joins : IsJoinerAt joiner (messages_of heads ++ sent ∷ [])) where
-        going : GoesOn u.latest transfers
-        going =
-            let is_open = open_where_continued (messages_of heads) head.flags head.id starts (ap (λ m. refusal (messages_of heads) (event_of m)) (sym is) ∙ may) in
-            let P : Bool → Type 0 = λ b. IsOpen b u.latest transfers in
-            subst P is_open was_open
-
-        pub continuing : IsJoining look start last new before
-            (record { joiner = joiner; latest = u.latest; good = u.good }) (history ++ got.given)
-        continuing = record {
+    pub come : (joiner : Joiner) → HasCome look start had offset None new before
+        (record { joiner = joiner; latest = u.latest; good = u.good }) message (history ++ got.given)
+    come joiner =
+        let clean = at.waits.0 in
+        let heads = heads_clean (reading_of history) clean in
+        let T : List Entry → Type 0 = AreTaken u.latest.wanted in
+        let total = at.total in
+        record {
           session = got.at;
           window = got.takes.window.less got.some;
-          in_order = new_in_order may;
-          joiner = new_joiner joiner joins;
-          transfer = grown going.transfer [] (last && (left_of new == 0));
-          earlier = going.earlier;
-          are = new_transfers ∙ ap (λ m. after_message transfers m []) is ∙ transfer_continues transfers head [] starts ∙ ap (λ ts. continued ts [] (closes head [])) going.are ∙ ap (λ c. grown going.transfer [] c ∷ going.earlier) closed;
-          closed = refl;
-          follows = follows_same u.latest going.transfer _ going.earlier going.follows;
-          written = written_as look new_written refl (ap (texts_of u.latest.wanted) going.are ∙ texts_open u.latest.wanted going.transfer going.earlier going.is_open ∙ same_unlined u.latest.wanted going.transfer _ going.earlier);
-          sound = new_sound;
-          total = new_total;
-          good = at.good ∙ ap (λ ts. are_good (settled ts)) going.are ∙ ap are_good (settled_open going.transfer going.earlier going.is_open);
-          opened = opened;
-          after = after;
+          had = reading_of history;
+          clean = clean;
+          is_before = ap (unpacked_of u.latest.wanted) (sym heads);
+          taken = subst T heads at.taken;
+          reading = got.reading;
+          left = got.left;
+          is_open = at.waits.1;
+          written = written_as look (written_given look start (source_of old) (source_of new) before history got.given _ stood.written got.takes) refl
+              (texts_taken u.latest.wanted history at.taken ∙ texts_as refl (sym (append-nil had.report)));
+          sound = sound_given look (source_of old) (source_of new) before got.given stood.sound got.takes;
+          sum = at.sum;
+          total = omega (arith, length-append history got.given);
+          good = at.good ∙ ap (λ b. are_good (settled had.transfers) && b) (sym (and-true had.in_order));
         }
 
-    -- ---- another message
+  -- ---- what comes of it
 
-    module _ (joiner : Joiner) (other : is_segment (event_of sent) ≡ false)
-        (may : refusal (messages_of heads) (event_of sent) ≡ None)
-        (joins : IsJoinerAt joiner (messages_of heads ++ sent ∷ [])) where
-      no_data : data_length sent ≡ 0
-      no_data = none sent other
-        where
-          none : (m : Message) → is_segment (event_of m) ≡ false → data_length m ≡ 0
-          none (message.SessInit keepalive segment_mru transfer_mru node items) is = refl
-          none (message.Segment head) is = absurd (cc)
-          none (message.Ack flags id size) is = refl
-          none (message.Refuse reason id) is = refl
-          none message.Keepalive is = refl
-          none (message.SessTerm flags reason) is = refl
-          none (message.MsgReject reason header) is = refl
+  module _ (before : Unpacked) (offset : ℕ) (line : Option OrderFault) (s : Session R) (w : Writers W E) (u : Unpacker) (message : MessageBuffer) (history : List ℕ)
+      (at : HasCome look start before offset line s w u message history) where
+    abbrev pub wanted : Wanted
+    wanted = u.latest.wanted
 
-      pub no_left : left_of new ≡ 0
-      no_left = got.left ∙ no_data
+    abbrev pub sent : Message
+    sent = message_of message
 
-      ends_clean : (reading_of (history ++ got.given)).end ≡ Clean
-      ends_clean =
-          ap (λ (r : Reading). r.end) got.reading
-          ∙ ap (λ n. (joined (reading_of history) (if nat_lt 0 n then ended (Cut offset sent []) else with_entry (entry offset sent []) (ended Clean))).end) no_data
+    abbrev pub head_of : Entry
+    head_of = entry offset sent []
 
-      pub passed : StandsAt look start u.latest.wanted stage.Message new before
-          (record { joiner = joiner; latest = u.latest; good = u.good }) (history ++ got.given)
-      passed =
-          let is_open = ap (λ ms. is_some (open_of ms)) new_messages ∙ ap is_some (after-other (messages_of heads) sent other) in
-          let P : Bool → Type 0 = λ b. IsOpen b u.latest transfers in
-          let Q : End → Type 0 = λ e. IsWaiting stage.Message (is_some (open_of (messages_of (heads_of (reading_of (history ++ got.given)))))) u.latest transfers e in
-          stands look start stage.Message new before (record { joiner = joiner; latest = u.latest; good = u.good }) (history ++ got.given) transfers
-          (new_transfers ∙ transfers_same transfers sent [] other) got.at (new_in_order may) (new_joiner joiner joins) new_written new_sound at.sum new_total at.good
-          (subst Q (sym ends_clean) (refl, subst P (sym is_open) was_open))
+    abbrev pub after : Unpacked
+    after = with_head wanted before head_of
+
+    abbrev pub unpacked : Unpacked
+    unpacked = unpacked_from wanted history
+
+    heads_are : heads_of (reading_of history) ≡ at.had.entries ++ head_of ∷ []
+    heads_are =
+        ap heads_of at.reading ∙ heads_with_message at.had offset sent at.clean
+        ∙ ap (λ hs. hs ++ head_of ∷ []) (heads_clean at.had at.clean)
+
+    pub unpacked_is : unpacked ≡ after
+    unpacked_is =
+        ap (unpacked_of wanted) heads_are ∙ unpacked_push wanted at.had.entries head_of
+        ∙ ap (λ un. with_head wanted un head_of) at.is_before
+
+    -- the reading ends inside the data of the message if it has data
+    module _ (stray : Bool) (is : is_stray before.taken (event_of sent) ≡ stray)
+        (some : 0 < left_of s) where
+      inside : reading_of history ≡ joined at.had (ended (Cut offset sent []))
+      inside =
+          at.reading
+          ∙ ap (λ b. joined at.had (if b then ended (Cut offset sent []) else with_entry head_of (ended Clean)))
+          (lt-ltb 0 (data_length sent) (omega (arith, at.left)))
+
+      abbrev is_cut : IsCut wanted stray (reading_of history)
+      is_cut = record {
+        offset = offset;
+        sent = sent;
+        content = [];
+        cut = ap (λ (r : Reading). r.end) inside;
+        is_stray =
+            ap (λ es. is_stray (unpacked_of wanted es).taken (event_of sent))
+            (ap (λ (r : Reading). r.entries) inside ∙ append-nil at.had.entries)
+            ∙ ap (λ (un : Unpacked). is_stray un.taken (event_of sent)) at.is_before ∙ is;
+      }
+
+    module _ (turn : Option Turn) (judged : IsTaken before line turn u sent) where
+      taken : AreTaken wanted (heads_of (reading_of history))
+      taken = λ stops.
+          let are = at.taken stops in
+          let same : before.taken ≡ messages_of at.had.entries =
+          ap (λ (un : Unpacked). un.taken) (sym at.is_before ∙ unpacked_in_order wanted at.had.entries are) in
+          let may = ap (λ ms. refusal ms (event_of sent)) (sym same) ∙ judged.refused ∙ judged.only stops in
+          let P : List Entry → Type 0 = AreInOrder in
+          subst P (sym heads_are) (in_order_more at.had.entries head_of are may)
+
+      in_order_is : unpacked.in_order ≡ (before.in_order && not (is_some line))
+      in_order_is =
+          ap (λ (un : Unpacked). un.in_order) unpacked_is
+          ∙ ap (λ l. before.in_order && not (is_some l)) judged.refused
+
+      good_is : (transfers : List Transfer) → settled before.transfers ≡ transfers
+          → u.good ≡ (are_good transfers && unpacked.in_order)
+      good_is transfers is =
+          at.good ∙ ap (λ b. are_good (settled before.transfers) && b) (sym in_order_is)
+          ∙ ap (λ ts. are_good ts && unpacked.in_order) is
+
+      -- the lines before those of transfers
+      abbrev lines : List ℕ
+      lines = before.report ++ order_line offset line
+
+      lines_are : before.report ++ order_line offset (refusal before.taken (event_of sent)) ≡ lines
+      lines_are = ap (λ l. before.report ++ order_line offset l) judged.refused
+
+      joiner_is : IsJoinerAt u.joiner unpacked.taken
+      joiner_is = let J : Unpacked → Type 0 = λ un. IsJoinerAt u.joiner un.taken in subst J (sym unpacked_is) judged.joiner
+
+      -- ---- a segment that is not stray
+
+      module _ (belongs : is_stray before.taken (event_of sent) ≡ false) (head : SegmentHead)
+          (is : sent ≡ variant.Segment head) (last : Bool) (ends : last ≡ is_end head.flags) where
+        transfers_are : unpacked.transfers ≡ after_segment before.transfers head []
+        transfers_are =
+            ap (λ (un : Unpacked). un.transfers) unpacked_is
+            ∙ segment_transfers wanted before offset sent [] belongs head is
+
+        report_is : unpacked.report
+            ≡ lines ++ ((if is_start head.flags then abandoned_line wanted before.transfers else [])
+            ++ closed_line wanted unpacked.transfers)
+        report_is =
+            ap (λ (un : Unpacked). un.report) unpacked_is
+            ∙ segment_report wanted before offset sent [] belongs head is
+            ∙ ap (λ xs. xs ++ ((if is_start head.flags then abandoned_line wanted before.transfers else []) ++ closed_line wanted after.transfers)) lines_are
+            ∙ ap (λ (un : Unpacked). lines ++ ((if is_start head.flags then abandoned_line wanted before.transfers else []) ++ closed_line wanted un.transfers)) (sym unpacked_is)
+
+        opened : is_open_after unpacked ≡ not last
+        opened =
+            ap is_open_after unpacked_is
+            ∙ segment_opened wanted before offset sent [] belongs head is last ends
+
+        closed : closes head [] ≡ (last && (left_of s == 0))
+        closed =
+            let size : left_of s ≡ head.length = at.left ∙ ap data_length is in
+            ap (λ b. b && (0 == head.length)) (sym ends)
+            ∙ ap (λ b. last && b) (is_whole 0 (left_of s) head.length (omega (arith, size)))
+
+        in_data : 0 < left_of s → IsInData wanted last (reading_of history)
+        in_data some = record {
+          cut = is_cut false belongs some;
+          segment = record { head = head; is = is; ends = ends };
+        }
+
+        beginning : (abandoned : Bool) → is_start head.flags ≡ true
+            → abandoned ≡ is_open_after before
+            → IsBeginning look start abandoned last s w u message history
+        beginning abandoned starts was = record {
+          session = at.session;
+          window = at.window;
+          taken = taken;
+          joiner = joiner_is;
+          head = head;
+          is = is;
+          begins = starts;
+          transfers = before.transfers;
+          are = transfers_are ∙ transfer_begins before.transfers head [] starts
+              ∙ ap (λ c. record { first = head; content = []; closed = c } ∷ before.transfers) closed;
+          before = rw was at.is_open;
+          report = lines;
+          reports = report_is
+              ∙ ap (λ b. lines ++ ((if b then abandoned_line wanted before.transfers else []) ++ closed_line wanted unpacked.transfers)) starts;
+          written = at.written;
+          sound = at.sound;
+          sum = at.sum;
+          total = at.total;
+          good = good_is (settled before.transfers) refl;
+          opened = opened;
+          in_data = in_data;
+        }
+
+        module _ (starts : is_start head.flags ≡ false) where
+          going : GoesOn u.latest before.transfers
+          going =
+              let stray = ap (λ m. is_stray before.taken (event_of m)) (sym is) ∙ belongs in
+              let is_open = open_where_taken before.taken head.flags head.id starts stray in
+              let P : Bool → Type 0 = λ b. IsOpen b u.latest before.transfers in
+              subst P is_open at.is_open
+
+          continued_are : unpacked.transfers
+              ≡ grown going.transfer [] (last && (left_of s == 0)) ∷ going.earlier
+          continued_are =
+              transfers_are ∙ transfer_continues before.transfers head [] starts
+              ∙ ap (λ ts. continued ts [] (closes head [])) going.are
+              ∙ ap (λ c. grown going.transfer [] c ∷ going.earlier) closed
+
+          continuing : IsJoining look start last s w u history
+          continuing = record {
+            session = at.session;
+            window = at.window;
+            taken = taken;
+            joiner = joiner_is;
+            transfer = grown going.transfer [] (last && (left_of s == 0));
+            earlier = going.earlier;
+            are = continued_are;
+            closed = refl;
+            follows = follows_same u.latest going.transfer _ going.earlier going.follows;
+            report = lines;
+            reports = report_is
+                ∙ ap (λ b. lines ++ ((if b then abandoned_line wanted before.transfers else []) ++ closed_line wanted unpacked.transfers)) starts
+                ∙ ap (λ ts. lines ++ closed_line wanted ts) continued_are;
+            written = written_as look at.written refl
+                (texts_as (ap (parts_of wanted) going.are ∙ same_parts wanted going.transfer _ going.earlier) refl);
+            sound = at.sound;
+            total = at.total;
+            good = good_is going.earlier (ap settled going.are ∙ settled_open going.transfer going.earlier going.is_open);
+            opened = opened;
+            in_data = in_data;
+          }
+
+      -- ---- a message that changes no transfer
+
+      module _ (none : ChangesNone wanted before after (order_line offset (refusal before.taken (event_of sent)))) where
+        still_open : IsOpen (is_open_after unpacked) u.latest unpacked.transfers
+        still_open =
+            let P : Bool → Type 0 = λ b. IsOpen b u.latest before.transfers in
+            let Q : List Transfer → Type 0 = λ ts. IsOpen (is_open_after after) u.latest ts in
+            let S : Unpacked → Type 0 = λ un. IsOpen (is_open_after un) u.latest un.transfers in
+            subst S (sym unpacked_is) (subst Q (sym none.transfers) (subst P (sym none.opened) at.is_open))
+
+        passed : (now : Stage) → IsWaiting now u.latest unpacked (reading_of history)
+            → StandsAt look start wanted now s w u history
+        passed now waits =
+            let transfers : unpacked.transfers ≡ before.transfers =
+            ap (λ (un : Unpacked). un.transfers) unpacked_is ∙ none.transfers in
+            let report : unpacked.report ≡ lines =
+            ap (λ (un : Unpacked). un.report) unpacked_is ∙ none.report ∙ lines_are in
+            stands look start now s w u history at.session taken joiner_is
+            (written_as look at.written refl (texts_as (ap (parts_of wanted) (sym transfers)) (sym report)))
+            at.sound (at.sum ∙ ap (λ ts. length (parts_of wanted ts)) (sym transfers)) at.total
+            (good_is (settled unpacked.transfers) (ap settled (sym transfers))) waits
+
+        passed_all : left_of s ≡ 0 → StandsAt look start wanted stage.Message s w u history
+        passed_all all =
+            passed stage.Message (left_none s.offset s.left (reading_of history).end at.session.left all, still_open)
+
+        passed_head : is_stray before.taken (event_of sent) ≡ true → 0 < left_of s
+            → StandsAt look start wanted stage.Stray s w u history
+        passed_head stray some = passed stage.Stray (is_cut true stray some, still_open)
+
+      -- ---- by the effect of the message
+
+      module _ (effect : Turn) (is : turn ≡ Some effect) where
+        has : (is_stray before.taken (event_of sent) ≡ false)
+            × (turn_by (open_of before.taken) (event_of sent) ≡ effect)
+        has = has_effect before.taken (event_of sent) effect (sym is ∙ judged.effect)
+
+      pub begun_by : (abandoned : Option ℕ) (last : Bool)
+          → turn ≡ Some (effects.Begin abandoned last)
+          → IsBeginning look start (is_some abandoned) last s w u message history
+      begun_by abandoned last is =
+          let parts = has _ is in
+          let turns = begins (open_of before.taken) (event_of sent) abandoned last parts.1 in
+          let segment = segment_of sent turns.flags turns.id turns.is in
+          beginning parts.0 segment.head segment.is last (turns.ends ∙ sym (ap is_end segment.has_flags))
+          (is_some abandoned) (ap is_start segment.has_flags ∙ turns.starts) (ap is_some turns.abandons)
+
+      pub continued_by : (last : Bool) → turn ≡ Some (effects.Continue last)
+          → IsJoining look start last s w u history
+      continued_by last is =
+          let parts = has _ is in
+          let turns = continues (open_of before.taken) (event_of sent) last parts.1 in
+          let segment = segment_of sent turns.flags turns.id turns.is in
+          continuing parts.0 segment.head segment.is last (turns.ends ∙ sym (ap is_end segment.has_flags))
+          (ap is_start segment.has_flags ∙ turns.starts)
+
+      pub other_by : turn ≡ Some effects.Other
+          → (left_of s ≡ 0) × StandsAt look start wanted stage.Message s w u history
+      other_by is =
+          let parts = has _ is in
+          let other = no_segment (open_of before.taken) (event_of sent) parts.1 in
+          let none = at.left ∙ no_data sent other in
+          (none, passed_all (other_changes wanted before offset sent [] parts.0 other) none)
+
+      pub stray_by : (now : Stage) → turn ≡ None
+          → (0 < left_of s → now ≡ stage.Stray) → (left_of s ≡ 0 → now ≡ stage.Message)
+          → StandsAt look start wanted now s w u history
+      stray_by now is stays goes =
+          let stray = has_none before.taken (event_of sent) (sym is ∙ judged.effect) in
+          let changes = stray_changes wanted before offset sent [] stray in
+          by_left (λ n. StandsAt look start wanted n s w u history) (left_of s) now stays goes
+          (passed_head changes stray) (passed_all changes)

@@ -1,18 +1,15 @@
 -- The order of heads, and what one more head does to the transfers.
-use Rattle.std.proofs.Common.{◌≡◌, ℕ, Bool, true, false, is_some, List, [], ◌∷◌, ◌++◌, Option, Some, None, Ok, Err, if◌then◌else◌, refl, ap, sym, ◌∙◌, subst, append-nil, append_assoc, ◌==◌}
-use Rattle.std.specs.Option.{option_eq}
+use Rattle.std.proofs.Common.{◌≡◌, ℕ, Bool, true, false, List, [], ◌∷◌, ◌++◌, Option, Some, None, if◌then◌else◌, refl, ap, sym, ◌∙◌, subst, append-nil, append_assoc}
 use Rattle.link_wire.specs.Codes.{is_start, is_end}
 use Rattle.link_wire.specs.Stream.{Entry}
 use Rattle.link_wire.specs.declared.message.Message.{Message}
 use Rattle.link_wire.specs.declared.message.Message.TheVariants as message
 use Rattle.link_wire.specs.declared.message.SegmentHead.{SegmentHead}
 use Rattle.link_transfer.specs.Event.{event_of}
-use Rattle.link_transfer.specs.Order.{is_segment, refusal, refusal_by, turn_of, turn_by, judged, judged_by, open_of, has_sess_init, has_sess_term}
+use Rattle.link_transfer.specs.Order.{is_segment, refusal, turn_by}
 use Rattle.link_transfer.specs.declared.event.Event.{Event}
 use Rattle.link_transfer.specs.declared.event.Event.TheVariants as event
 use Rattle.link_transfer.specs.declared.fault.OrderFault.{OrderFault}
-use Rattle.link_transfer.specs.declared.fault.OrderFault.TheVariants.{NoSuchOpenTransfer}
-use Rattle.link_transfer.specs.declared.joiner.Turn.{Turn}
 use Rattle.link_transfer.specs.declared.joiner.Turn.TheVariants as turn
 use Rattle.link_unpack.specs.Transfers.{Ordered, ordered_by, ordered_after, ordered}
 use Rattle.link_unpack.specs.UnpackRun.{messages_of, AreInOrder}
@@ -44,7 +41,7 @@ module _ (before : List Message) (head : Entry) (more : List Entry) where
       ≡ before ++ messages_of (head ∷ more)
   messages_then = append_assoc before (head.message ∷ []) (messages_of more)
 
-  first_may : ordered_after before (head ∷ more) ≡ all (head ∷ more)
+  pub first_may : ordered_after before (head ∷ more) ≡ all (head ∷ more)
       → (refusal before (event_of head.message) ≡ None)
       × (ordered_after (before ++ head.message ∷ []) more ≡ all more)
   unfolding ordered_after
@@ -118,28 +115,7 @@ in_order_refused heads head more fault are refused =
     ∙ ap (followed heads) (first_refused (messages_of heads) head more fault refused)
     ∙ ap (λ hs. record { heads = hs; refused = Some (head.offset, fault) }) (append-nil heads)
 
--- ---- what an accepted message does
-
-pub accepted_by : (refused : Option OrderFault) (done turn : Turn)
-    → judged_by refused done ≡ Ok turn → (refused ≡ None) × (done ≡ turn)
-accepted_by (Some fault) done turn is = absurd (cc)
-accepted_by None done turn is = (refl, cc)
-
-pub refused_by : (refused : Option OrderFault) (done : Turn) (fault : OrderFault)
-    → judged_by refused done ≡ Err fault → refused ≡ Some fault
-refused_by (Some fault) done other is = cc
-refused_by None done other is = absurd (cc)
-
-module _ (before : List Message) (happened : Event) where
-  pub accepted : (turn : Turn) → judged before happened ≡ Ok turn → (refusal before happened ≡ None)
-      × (turn_by (open_of before) happened ≡ turn)
-  unfolding judged turn_of
-  accepted turn is = accepted_by (refusal before happened) (turn_of before happened) turn is
-
-  pub refused_for : (fault : OrderFault) → judged before happened ≡ Err fault
-      → refusal before happened ≡ Some fault
-  unfolding judged
-  refused_for fault is = refused_by (refusal before happened) (turn_of before happened) fault is
+-- ---- what a message does
 
 -- a segment whose head has START
 pub record Begins (transfer : Option ℕ) (happened : Event) (abandoned : Option ℕ)
@@ -200,26 +176,6 @@ no_segment transfer event.SessInit is = refl
 no_segment transfer event.SessTerm is = refl
 no_segment transfer (event.Segment flags id) is = absurd (not_other_by (is_start flags) transfer flags is)
 no_segment transfer event.Other is = refl
-
--- if a segment without START is accepted, a transfer is open
-open_by : (transfer : Option ℕ) (id : ℕ) → option_eq ◌==◌ transfer (Some id) ≡ true
-    → is_some transfer ≡ true
-open_by None id is = is
-open_by (Some other) id is = refl
-
-continues_open : (initiated terminated is_same starts : Bool) (transfer : Option ℕ) (flags id : ℕ)
-    → is_start flags ≡ starts → starts ≡ false → option_eq ◌==◌ transfer (Some id) ≡ is_same
-    → refusal_by initiated terminated transfer (event.Segment flags id) ≡ None
-    → is_some transfer ≡ true
-continues_open initiated terminated true starts transfer flags id start none same is = open_by transfer id same
-continues_open false terminated false starts transfer flags id start none same is = absurd (cc)
-continues_open true terminated false starts transfer flags id start none same is =
-    let never : refusal_by true terminated transfer (event.Segment flags id) ≡ Some NoSuchOpenTransfer = rw (start, none, same) refl in absurd (cc)
-
-pub open_where_continued : (before : List Message) (flags id : ℕ) → is_start flags ≡ false
-    → refusal before (event.Segment flags id) ≡ None → is_some (open_of before) ≡ true
-unfolding refusal
-open_where_continued before flags id starts may = continues_open (has_sess_init before) (has_sess_term before) (option_eq ◌==◌ (open_of before) (Some id)) (is_start flags) (open_of before) flags id refl starts refl may
 
 -- the message is a segment with these flags and this ID
 pub record IsSegment (sent : Message) (flags id : ℕ) : Type 0 where

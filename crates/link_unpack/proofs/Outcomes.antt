@@ -1,14 +1,14 @@
 -- The outcome of a stream that a fault stops.
-use Rattle.std.proofs.Common.{◌≡◌, ℕ, ◌<◌, ◌⊎◌, inl, inr, Bool, true, false, nat_lt, List, [], ◌∷◌, ◌++◌, length, Option, Some, None, if◌then◌else◌, ⊎_elim, refl, ap, sym, ◌∙◌, append-nil, append_assoc, arith}
+use Rattle.std.proofs.Common.{◌≡◌, ℕ, Bool, true, false, nat_lt, List, [], ◌∷◌, ◌++◌, Some, if◌then◌else◌, ap, ◌∙◌, append-nil, append_assoc}
 use Rattle.link_wire.specs.Message.{data_length}
 use Rattle.link_wire.specs.Session.{joined, with_message, rest_after}
-use Rattle.link_wire.specs.Stream.{Entry, End, Clean, Cut, Fault, Stream, ended, with_entry, Reading, reading_of}
+use Rattle.link_wire.specs.Stream.{Entry, Clean, Cut, Stream, ended, with_entry, Reading, reading_of}
 use Rattle.link_wire.specs.declared.message.Message.{Message}
 use Rattle.link_transfer.specs.Event.{event_of}
 use Rattle.link_transfer.specs.Order.{refusal}
 use Rattle.link_transfer.specs.declared.fault.OrderFault.{OrderFault}
 use Rattle.link_unpack.specs.Transfers.{Ordered, ordered, cut_heads, heads_of}
-use Rattle.link_unpack.specs.Unpacking.{unpacking_of, unpacking_by}
+use Rattle.link_unpack.specs.Unpacking.{made_of, unpacking_of, unpacking_by}
 use Rattle.link_unpack.specs.UnpackRun.{messages_of, AreInOrder}
 use Rattle.link_unpack.specs.declared.wanted.Wanted.{Wanted}
 use Rattle.link_unpack.proofs.Heads.{entry, heads_joined, stays_first}
@@ -21,14 +21,14 @@ abbrev pub refused_at : List Entry → ℕ → OrderFault → Ordered
 refused_at heads offset fault = record { heads = heads; refused = Some (offset, fault) }
 
 module _ (wanted : Wanted) (heads : List Entry) (offset : ℕ) (sent : Message) (fault : OrderFault)
-    (in_order : AreInOrder heads)
+    (stops : wanted.keep_going ≡ false) (in_order : AreInOrder heads)
     (refused : refusal (messages_of heads) (event_of sent) ≡ Some fault)
     (bytes content : List ℕ) (others : List Entry) (are : heads_of (reading_of bytes) ≡ heads ++ entry offset sent content ∷ others) where
-  -- what follows the refused head changes nothing
+  -- without the option, what follows the refused head changes nothing
   pub made_refused : unpacking_of wanted bytes
       ≡ unpacking_by wanted Clean (refused_at heads offset fault)
   made_refused =
-      made_is wanted bytes
+      made_is wanted bytes ∙ ap (λ k. made_of k wanted (reading_of bytes)) stops
       ∙ ap (unpacking_by wanted (reading_of bytes).end) (ap ordered are ∙ in_order_refused heads (entry offset sent content) others fault in_order refused)
 
 -- ---- a head keeps its position, whatever bytes follow

@@ -1,6 +1,5 @@
 -- What a step of `unpack` writes after it has read.
-use Rattle.std.proofs.Common.{◌≡◌, ◌⊎◌, List, [], ℕ, Option, Result, Ok, Err, ap, ◌∙◌}
-use Rattle.std.proofs.KnownBytes.{Appends-trans}
+use Rattle.std.proofs.Common.{◌≡◌, ◌⊎◌, List, [], ℕ, Option, Result, Ok, Err, ap}
 use Rattle.link_wire.specs.Device.{Output}
 use Rattle.link_wire.specs.declared.IoFault.{IoFault}
 use Rattle.link_wire.specs.declared.IoFault.TheVariants as io
@@ -11,6 +10,11 @@ use Rattle.link_run.specs.Writers.{place_of, on_output, Writes, WritesSome, Give
 use Rattle.link_run.specs.declared.run.Status.{Status}
 use Rattle.link_run.specs.declared.writers.Writers.{Writers}
 use Rattle.link_run.proofs.Handing.{handed_by}
+use Rattle.link_run.proofs.Runs.{writes_then}
+use Rattle.link_unpack.specs.UnpackRun.{next_of, WritesNext}
+use Rattle.link_unpack.specs.declared.unpacking.Next.{Next}
+use Rattle.link_unpack.specs.declared.unpacking.Next.TheVariants as next
+use Rattle.link_unpack.specs.declared.unpacking.Stage.{Stage}
 
 module _ {W E : Type 0} (out_look : W → Output) (report_look : E → Output)
     (old new : Writers W E) where
@@ -26,22 +30,34 @@ module _ {W E : Type 0} (out_look : W → Output) (report_look : E → Output)
   some_last texts status (Ok ended) writes = (texts, writes.0)
   some_last texts status (Err fault) part = part.kind
 
+  -- the same, by what comes next
+  pub some_next : (result : Result Stage IoFault)
+      → WritesSome out_look report_look old new result
+      → WritesNext out_look report_look old new (next_of result)
+  some_next (Ok stage) writes = writes
+  some_next (Err fault) kind = kind
+
 -- some texts were written, and then more
 pub then_some : {W E B : Type 0} (out_look : W → Output) (report_look : E → Output)
     (old mid new : Writers W E) (texts : Texts) (result : Result B IoFault)
     → Writes out_look report_look old mid texts
     → WritesSome out_look report_look mid new result
     → WritesSome out_look report_look old new result
-then_some out_look report_look old mid new texts (Ok value) had more = (
-  texts then more.0,
-  record {
-    output = Appends-trans (out_look old.output).written (out_look mid.output).written (out_look new.output).written texts.output more.0.output had.output more.1.output;
-    report = Appends-trans (report_look old.report).written (report_look mid.report).written (report_look new.report).written texts.report more.0.report had.report more.1.report;
-    output_sound = more.1.output_sound ∙ had.output_sound;
-    report_sound = more.1.report_sound ∙ had.report_sound;
-  },
-)
+then_some out_look report_look old mid new texts (Ok value) had more =
+    (texts then more.0, writes_then out_look report_look old mid new texts more.0 had more.1)
 then_some out_look report_look old mid new texts (Err fault) had kind = kind
+
+-- the same, by what comes next
+pub then_next : {W E : Type 0} (out_look : W → Output) (report_look : E → Output)
+    (old mid new : Writers W E) (texts : Texts) (result : Next)
+    → Writes out_look report_look old mid texts
+    → WritesNext out_look report_look mid new result
+    → WritesNext out_look report_look old new result
+then_next out_look report_look old mid new texts (next.Stage stage) had more =
+    (texts then more.0, writes_then out_look report_look old mid new texts more.0 had more.1)
+then_next out_look report_look old mid new texts (next.Ended (Ok status)) had more =
+    (texts then more.0, writes_then out_look report_look old mid new texts more.0 had more.1)
+then_next out_look report_look old mid new texts (next.Ended (Err fault)) had kind = kind
 
 -- texts that a step writes after its read were not held back during the read
 pub handed_some : {R W E B : Type 0} (look : Looks R W E) {out_handed : W → Option (List ℕ)}
@@ -56,3 +72,19 @@ handed_some look old new before mid after (Ok value) kept held wrote other =
     handed_by look old new before mid after wrote.0 kept held wrote.1
 handed_some look old new before mid after (Err fault) kept held kind other =
     absurd (other (ap Err kind))
+
+-- the same, by what comes next
+pub handed_next : {R W E : Type 0} (look : Looks R W E) {out_handed : W → Option (List ℕ)}
+    {report_handed : E → Option (List ℕ)} {enough : Type 0} (old new : Source R)
+    (before mid after : Writers W E) (result : Next)
+    → Writes look.output look.report before mid (on_output [])
+    → HasHandedOn look.output look.report out_handed report_handed mid ⊎ enough
+    → WritesNext look.output look.report mid after result
+    → (result ≡ next.Ended (Err io.Write) → ⊥)
+    → HandedOn look out_handed report_handed enough (place_of old before) (place_of new after)
+handed_next look old new before mid after (next.Stage stage) kept held wrote other =
+    handed_by look old new before mid after wrote.0 kept held wrote.1
+handed_next look old new before mid after (next.Ended (Ok status)) kept held wrote other =
+    handed_by look old new before mid after wrote.0 kept held wrote.1
+handed_next look old new before mid after (next.Ended (Err fault)) kept held kind other =
+    absurd (other (ap (λ e. next.Ended (Err e)) kind))

@@ -1,27 +1,35 @@
 -- The state of a run of `unpack`.
-use Rattle.std.specs.Prelude.{◌≡◌, ℕ, ◌+◌, ◌<◌, ◌≤◌, ◌==◌, Bool, true, false, not, ◌&&◌, is_some, List, [], ◌∷◌, map, length, None, Result, Ok, Err, if◌then◌else◌}
+use Rattle.std.specs.Prelude.{◌≡◌, ℕ, ◌+◌, ◌<◌, ◌≤◌, ◌⊎◌, ◌==◌, Bool, true, false, not, ◌&&◌, is_some, List, [], ◌∷◌, ◌++◌, map, length, Option, None, Result, Ok, Err, if◌then◌else◌}
 use Rattle.link_wire.specs.Device.{Input, Output}
 use Rattle.link_wire.specs.Codes.{is_start, is_end}
 use Rattle.link_wire.specs.Limits.{longest_head, window_size}
+use Rattle.link_wire.specs.Message.{data_length}
 use Rattle.link_wire.specs.MessageBuffer.{message_of}
 use Rattle.link_wire.specs.Source.{window_of}
-use Rattle.link_wire.specs.Session.{source_of, left_of, IsSessionAt, may_open, may_read, is_opened}
-use Rattle.link_wire.specs.Stream.{Entry, End, Clean, Cut, Fault, reading_of}
+use Rattle.link_wire.specs.Session.{source_of, left_of, with_message, IsSessionAt, may_open, may_read, is_opened}
+use Rattle.link_wire.specs.Stream.{Entry, End, Clean, Cut, Reading, reading_of}
+use Rattle.link_wire.specs.Whole.{PassedQuiet}
 use Rattle.link_wire.specs.declared.IoFault.{IoFault}
+use Rattle.link_wire.specs.declared.IoFault.TheVariants as io
 use Rattle.link_wire.specs.declared.message.Message.{Message}
 use Rattle.link_wire.specs.declared.message.Message.TheVariants.{Segment}
 use Rattle.link_wire.specs.declared.message.MessageBuffer.{MessageBuffer}
 use Rattle.link_wire.specs.declared.message.SegmentHead.{SegmentHead}
 use Rattle.link_wire.specs.declared.session.Session.{Session}
+use Rattle.link_transfer.specs.Event.{event_of}
 use Rattle.link_transfer.specs.Joiner.{IsJoinerAt}
-use Rattle.link_transfer.specs.Order.{open_of}
-use Rattle.link_run.specs.Run.{Texts, Looks, Devices, devices_at, NoneFailed, HasWritten, WentOn, LastStep, EndedRun}
+use Rattle.link_transfer.specs.Order.{open_of, is_stray, refusal, effect_of, with_taken}
+use Rattle.link_transfer.specs.declared.fault.OrderFault.{OrderFault}
+use Rattle.link_transfer.specs.declared.joiner.Turn.{Turn}
+use Rattle.link_run.specs.Run.{Texts, Looks, Devices, devices_at, NoneFailed, HasWritten, WentOn, LastStep, GivesStep, EndedRun, answer_of}
 use Rattle.link_run.specs.Stages.{Stands}
-use Rattle.link_run.specs.Writers.{place_of, on_report, GivesLast}
+use Rattle.link_run.specs.Writers.{place_of, on_report, Writes, GivesLast}
+use Rattle.link_run.specs.declared.run.Progress.{Progress}
+use Rattle.link_run.specs.declared.run.Progress.TheVariants.{More}
 use Rattle.link_run.specs.declared.run.Status.{Status}
 use Rattle.link_run.specs.declared.writers.Writers.{Writers}
-use Rattle.link_unpack.specs.Transfers.{ordered, heads_of, Transfer, transfers_of, settled}
-use Rattle.link_unpack.specs.Unpacking.{parts_of, line_of, lines_of, are_good, unpacking_of, unpack_tool}
+use Rattle.link_unpack.specs.Transfers.{ordered, heads_of, Transfer, settled}
+use Rattle.link_unpack.specs.Unpacking.{parts_of, are_good, Unpacked, unpacked_of, order_line, abandoned_line, closed_line, unpacking_of, unpack_tool}
 use Rattle.link_unpack.specs.TransferScan.{Follows}
 use Rattle.link_unpack.specs.declared.transfer.TransferScan.{TransferScan}
 use Rattle.link_unpack.specs.declared.unpacking.Next.{Next}
@@ -32,21 +40,32 @@ use Rattle.link_unpack.specs.declared.unpacking.Unpacker.{Unpacker}
 use Rattle.link_unpack.specs.declared.wanted.Wanted.{Wanted}
 
 -- the most bytes that a step is given: a contact header, the head of a message, or a piece of data
+-- of at most `piece` bytes
+abbrev pub most_by : (piece : ℕ) → Stage → ℕ
+most_by piece stage.Contact = 6
+most_by piece stage.Message = longest_head
+most_by piece (stage.Data last) = piece
+most_by piece stage.Stray = piece
+
 abbrev pub most_given : Stage → ℕ
-most_given stage.Contact = 6
-most_given stage.Message = longest_head
-most_given (stage.Data last) = 4096
+most_given now = most_by 4096 now
 
 -- whether the session permits the call of a step at this stage
 abbrev pub may_go_on : {R : Type 0} → Stage → Session R → Bool
 may_go_on stage.Contact session = may_open session
 may_go_on stage.Message session = may_read session
 may_go_on (stage.Data last) session = is_opened session
+may_go_on stage.Stray session = is_opened session
 
 -- what comes after a write
 abbrev pub next_of : Result Stage IoFault → Next
 next_of (Ok stage) = next.Stage stage
 next_of (Err fault) = next.Ended (Err fault)
+
+-- the result of a step, from what comes next
+abbrev pub progress_of : Next → Result Progress IoFault
+progress_of (next.Stage stage) = Ok More
+progress_of (next.Ended answer) = answer_of answer
 
 -- whether the session permits the call that comes next
 abbrev pub may_follow : {R : Type 0} → Next → Session R → Bool
@@ -62,10 +81,26 @@ messages_of heads = map (λ (head : Entry). head.message) heads
 abbrev pub AreInOrder : List Entry → Type 0
 AreInOrder heads = ordered heads ≡ record { heads = heads; refused = None }
 
--- the texts for these transfers; the latest has no line yet if it is not closed
-abbrev pub texts_of : Wanted → List Transfer → Texts
-texts_of wanted transfers =
-    record { output = parts_of wanted transfers; report = lines_of wanted (settled transfers) }
+-- All of these heads are taken: the run goes on after a fault of the order, or they are in order.
+abbrev pub AreTaken : Wanted → List Entry → Type 0
+AreTaken wanted heads = wanted.keep_going ≡ false → AreInOrder heads
+
+-- what the heads in these bytes have made
+abbrev pub unpacked_from : Wanted → List ℕ → Unpacked
+unpacked_from wanted history = unpacked_of wanted (heads_of (reading_of history))
+
+-- the texts that are determined by what the heads have made
+abbrev pub texts_of : Wanted → Unpacked → Texts
+texts_of wanted unpacked =
+    record { output = parts_of wanted unpacked.transfers; report = unpacked.report }
+
+-- whether a transfer is open after these heads
+abbrev pub is_open_after : Unpacked → Bool
+is_open_after unpacked = is_some (open_of unpacked.taken)
+
+-- whether all transfers that have their lines are good, and all heads are in order
+abbrev pub is_good_so_far : Unpacked → Bool
+is_good_so_far unpacked = are_good (settled unpacked.transfers) && unpacked.in_order
 
 -- the latest transfer is open, and the scan is at it
 pub record GoesOn (latest : TransferScan) (transfers : List Transfer) : Type 0 where
@@ -86,21 +121,36 @@ pub record IsInSegment (last : Bool) (message : Message) : Type 0 where
   pub is : message ≡ Segment head
   pub ends : last ≡ is_end head.flags
 
--- The stage and the latest transfer, by how the reading of the bytes so far ends. `is_open` is
--- whether the order of the messages permits another segment of that transfer.
-abbrev pub IsWaiting : Stage → Bool → TransferScan → List Transfer → End → Type 0
-IsWaiting now is_open latest transfers Clean =
-    (now ≡ stage.Message) × IsOpen is_open latest transfers
-IsWaiting now is_open latest transfers (Cut offset message content) =
-    (last : Bool) × (now ≡ stage.Data last) × (is_open ≡ not last) × IsInSegment last message
-    × GoesOn latest transfers
-IsWaiting now is_open latest transfers (Fault offset fault) = ⊥
+-- The reading ends inside the data of a segment. `stray` is whether that segment is stray after the
+-- messages before it.
+pub record IsCut (wanted : Wanted) (stray : Bool) (reading : Reading) : Type 0 where
+  pub offset : ℕ
+  pub sent : Message
+  pub content : List ℕ
+  pub cut : reading.end ≡ Cut offset sent content
+  pub is_stray : is_stray (unpacked_of wanted reading.entries).taken (event_of sent) ≡ stray
 
--- how the reading ends after the head of a segment or after data of it
-abbrev pub IsAfter : (last : Bool) (left : ℕ) → End → Type 0
-IsAfter last left Clean = left ≡ 0
-IsAfter last left (Cut offset message content) = (0 < left) × IsInSegment last message
-IsAfter last left (Fault offset fault) = ⊥
+-- the reading ends inside the data of a segment of the open transfer; `last` is whether it has END
+pub record IsInData (wanted : Wanted) (last : Bool) (reading : Reading) : Type 0 where
+  pub cut : IsCut wanted false reading
+  pub segment : IsInSegment last cut.sent
+
+-- How the reading of the bytes so far ends at a stage, and the latest transfer.
+abbrev pub IsWaiting : Stage → TransferScan → Unpacked → Reading → Type 0
+IsWaiting stage.Contact latest unpacked reading = ⊥
+IsWaiting stage.Message latest unpacked reading =
+    (reading.end ≡ Clean) × IsOpen (is_open_after unpacked) latest unpacked.transfers
+IsWaiting (stage.Data last) latest unpacked reading =
+    IsInData latest.wanted last reading × (is_open_after unpacked ≡ not last)
+    × GoesOn latest unpacked.transfers
+IsWaiting stage.Stray latest unpacked reading =
+    IsCut latest.wanted true reading × IsOpen (is_open_after unpacked) latest unpacked.transfers
+
+-- quiet messages were passed over, or nothing was given
+abbrev pub PassesQuiet : {R : Type 0} → (R → Input) → (old new : Session R) → (history : List ℕ)
+    → Type 0
+PassesQuiet look old new history =
+    (new ≡ old) ⊎ ((count : ℕ) × (0 < count) × PassedQuiet look old new history count)
 
 -- How the reading ends if data is to come after a step. A step that reads a head is given none of
 -- the data.
@@ -108,10 +158,14 @@ abbrev pub IsWaitingAfter : Stage → End → Type 0
 IsWaitingAfter stage.Message (Cut offset message content) = content ≡ []
 IsWaitingAfter now end = Unit {0}
 
--- the line of the latest transfer if it is abandoned, and nothing if it is closed
-abbrev pub last_lines : Wanted → List Transfer → List ℕ
-last_lines wanted [] = []
-last_lines wanted (latest ∷ earlier) = if latest.closed then [] else line_of wanted latest earlier
+-- The message is taken after the messages of `before`. This is its fault, if it is not in order,
+-- and its effect. Only a run that goes on takes a message that is not in order.
+pub record IsTaken (before : Unpacked) (fault : Option OrderFault) (turn : Option Turn)
+    (u : Unpacker) (message : Message) : Type 0 where
+  pub refused : refusal before.taken (event_of message) ≡ fault
+  pub only : u.latest.wanted.keep_going ≡ false → fault ≡ None
+  pub effect : turn ≡ effect_of before.taken (event_of message)
+  pub joiner : IsJoinerAt u.joiner (with_taken before.taken message)
 
 module _ {R : Type 0} (look : R → Input) where
   -- a run that begins was given nothing
@@ -126,14 +180,13 @@ module _ {R : Type 0} (look : R → Input) where
   -- the state of a run that was given these bytes
   pub record Unpacks (now : Stage) (s : Session R) (u : Unpacker) (history : List ℕ) : Type 0 where
     pub session : IsSessionAt look s history
-    pub in_order : AreInOrder (heads_of (reading_of history))
-    pub joiner : IsJoinerAt u.joiner (messages_of (heads_of (reading_of history)))
+    pub taken : AreTaken u.latest.wanted (heads_of (reading_of history))
+    pub joiner : IsJoinerAt u.joiner (unpacked_from u.latest.wanted history).taken
     pub sum : u.latest.start + u.latest.written
-        ≡ length (parts_of u.latest.wanted (transfers_of (heads_of (reading_of history))))
+        ≡ length (parts_of u.latest.wanted (unpacked_from u.latest.wanted history).transfers)
     pub total : u.latest.total ≤ length history
-    pub good : u.good ≡ are_good (settled (transfers_of (heads_of (reading_of history))))
-    pub waits : IsWaiting now (is_some (open_of (messages_of (heads_of (reading_of history)))))
-        u.latest (transfers_of (heads_of (reading_of history))) (reading_of history).end
+    pub good : u.good ≡ is_good_so_far (unpacked_from u.latest.wanted history)
+    pub waits : IsWaiting now u.latest (unpacked_from u.latest.wanted history) (reading_of history)
 
   abbrev pub IsUnpacking : Stage → Unpacker → Session R → List ℕ → Type 0
   IsUnpacking stage.Contact unpacker session history = Begins session unpacker history
@@ -141,6 +194,7 @@ module _ {R : Type 0} (look : R → Input) where
       Unpacks stage.Message session unpacker history
   IsUnpacking (stage.Data last) unpacker session history =
       Unpacks (stage.Data last) session unpacker history
+  IsUnpacking stage.Stray unpacker session history = Unpacks stage.Stray session unpacker history
 
 module _ {R W E : Type 0} (look : Looks R W E) (start : Devices R W E) where
   -- `Stands` and `Unpacks` hold of a run
@@ -149,24 +203,65 @@ module _ {R W E : Type 0} (look : Looks R W E) (start : Devices R W E) where
       Stands look (unpacking_of wanted) start true (place_of (source_of s) w) history
       × Unpacks look.input now s u history
 
-  -- what holds after these bytes were given: a stage comes next, or a writer failed
-  abbrev pub StandsAfter : Wanted → Session R → Writers W E → Unpacker → (history : List ℕ)
-      → Result Stage IoFault → Type 0
-  StandsAfter wanted s w u history (Ok now) = StandsAt wanted now s w u history
-  StandsAfter wanted s w u history (Err fault) =
+  -- what holds after these bytes were given: a stage comes next, or the run has ended
+  abbrev pub StandsNext : Wanted → Session R → Writers W E → Unpacker → (history : List ℕ)
+      → Next → Type 0
+  StandsNext wanted s w u history (next.Stage now) = StandsAt wanted now s w u history
+  StandsNext wanted s w u history (next.Ended answer) =
       EndedRun look (unpack_tool wanted) start (devices_at (place_of (source_of s) w)) history
-      (Err fault)
+      answer
 
   -- what holds after a step at the stage `now`
-  abbrev pub GivesNext : Wanted → (now : Stage) → (old new : Session R) → Writers W E → Unpacker
-      → (history : List ℕ) → Next → Type 0
-  GivesNext wanted now old new after u history (next.Stage stage) =
+  abbrev pub GivesNext : Wanted → (piece : ℕ) → (now : Stage) → (old new : Session R)
+      → Writers W E → Unpacker → (history : List ℕ) → Next → Type 0
+  GivesNext wanted piece now old new after u history (next.Stage stage) =
       WentOn (source_of old) (source_of new)
       (λ bytes. StandsAt wanted stage new after u bytes
-      × IsWaitingAfter now (reading_of bytes).end) (most_given now) history
-  GivesNext wanted now old new after u history (next.Ended answer) =
+      × IsWaitingAfter now (reading_of bytes).end) (most_by piece now) history
+  GivesNext wanted piece now old new after u history (next.Ended answer) =
       LastStep look (unpack_tool wanted) start (devices_at (place_of (source_of new) after))
-      (most_given now) history answer
+      (most_by piece now) history answer
+
+  -- the state of the run if a stage comes next
+  abbrev pub StandsIf : Wanted → Session R → Writers W E → Unpacker → Next → (history : List ℕ)
+      → Type 0
+  StandsIf wanted s w u (next.Stage stage) history = StandsAt wanted stage s w u history
+  StandsIf wanted s w u (next.Ended answer) history = Unit {0}
+
+  -- what holds after a stride, which was given at most some number of bytes
+  abbrev pub GivesFar : Wanted → (old new : Session R) → (before after : Writers W E) → Unpacker
+      → (history : List ℕ) → Next → Type 0
+  GivesFar wanted old new before after u history next =
+      (size : ℕ) × (0 < size)
+      × GivesStep look (unpack_tool wanted) start (place_of (source_of old) before)
+      (place_of (source_of new) after) (StandsIf wanted new after u next) size history
+      (progress_of next)
+
+  -- The head of a message has come at this offset, after the heads that have made `before`.
+  -- Nothing is written of what comes of it, except the line of this fault, if there is one.
+  pub record HasCome (before : Unpacked) (offset : ℕ) (line : Option OrderFault)
+      (s : Session R) (w : Writers W E) (u : Unpacker) (message : MessageBuffer)
+      (history : List ℕ) : Type 0 where
+    pub session : IsSessionAt look.input s history
+    pub window : length (window_of (source_of s)) < window_size
+    pub had : Reading
+    pub clean : had.end ≡ Clean
+    pub is_before : unpacked_of u.latest.wanted had.entries ≡ before
+    pub taken : AreTaken u.latest.wanted had.entries
+    pub reading : reading_of history ≡ with_message offset (message_of message) had
+    pub left : left_of s ≡ data_length (message_of message)
+    pub is_open : IsOpen (is_open_after before) u.latest before.transfers
+    pub written : HasWritten look start (place_of (source_of s) w) history
+        (record {
+          output = parts_of u.latest.wanted before.transfers;
+          report = before.report ++ order_line offset line;
+        })
+    pub sound : NoneFailed look (devices_at (place_of (source_of s) w))
+    pub sum : u.latest.start + u.latest.written
+        ≡ length (parts_of u.latest.wanted before.transfers)
+    pub total : u.latest.total ≤ length history
+    pub good : u.good
+        ≡ (are_good (settled before.transfers) && (before.in_order && not (is_some line)))
 
   -- The head of a segment, or data of it, has come. Everything that is due for its transfer is
   -- written, except the line.
@@ -174,23 +269,23 @@ module _ {R W E : Type 0} (look : Looks R W E) (start : Devices R W E) where
       (history : List ℕ) : Type 0 where
     pub session : IsSessionAt look.input s history
     pub window : length (window_of (source_of s)) < window_size
-    pub in_order : AreInOrder (heads_of (reading_of history))
-    pub joiner : IsJoinerAt u.joiner (messages_of (heads_of (reading_of history)))
+    pub taken : AreTaken u.latest.wanted (heads_of (reading_of history))
+    pub joiner : IsJoinerAt u.joiner (unpacked_from u.latest.wanted history).taken
     pub transfer : Transfer
     pub earlier : List Transfer
-    pub are : transfers_of (heads_of (reading_of history)) ≡ transfer ∷ earlier
+    pub are : (unpacked_from u.latest.wanted history).transfers ≡ transfer ∷ earlier
     pub closed : transfer.closed ≡ (last && (left_of s == 0))
     pub follows : Follows u.latest transfer earlier
+    pub report : List ℕ
+    pub reports : (unpacked_from u.latest.wanted history).report
+        ≡ report ++ closed_line u.latest.wanted (transfer ∷ earlier)
     pub written : HasWritten look start (place_of (source_of s) w) history
-        (record {
-          output = parts_of u.latest.wanted (transfer ∷ earlier);
-          report = lines_of u.latest.wanted earlier;
-        })
+        (record { output = parts_of u.latest.wanted (transfer ∷ earlier); report = report })
     pub sound : NoneFailed look (devices_at (place_of (source_of s) w))
     pub total : u.latest.total ≤ length history
-    pub good : u.good ≡ are_good earlier
-    pub opened : is_some (open_of (messages_of (heads_of (reading_of history)))) ≡ not last
-    pub after : IsAfter last (left_of s) (reading_of history).end
+    pub good : u.good ≡ (are_good earlier && (unpacked_from u.latest.wanted history).in_order)
+    pub opened : is_open_after (unpacked_from u.latest.wanted history) ≡ not last
+    pub in_data : 0 < left_of s → IsInData u.latest.wanted last (reading_of history)
 
   -- The head of a transfer's first segment has come. The transfers before it are `transfers`. Their
   -- latest is abandoned, or none of them is open.
@@ -198,32 +293,52 @@ module _ {R W E : Type 0} (look : Looks R W E) (start : Devices R W E) where
       (message : MessageBuffer) (history : List ℕ) : Type 0 where
     pub session : IsSessionAt look.input s history
     pub window : length (window_of (source_of s)) < window_size
-    pub in_order : AreInOrder (heads_of (reading_of history))
-    pub joiner : IsJoinerAt u.joiner (messages_of (heads_of (reading_of history)))
+    pub taken : AreTaken u.latest.wanted (heads_of (reading_of history))
+    pub joiner : IsJoinerAt u.joiner (unpacked_from u.latest.wanted history).taken
     pub head : SegmentHead
     pub is : message_of message ≡ Segment head
     pub begins : is_start head.flags ≡ true
     pub transfers : List Transfer
-    pub are : transfers_of (heads_of (reading_of history))
+    pub are : (unpacked_from u.latest.wanted history).transfers
         ≡ record { first = head; content = []; closed = last && (left_of s == 0) } ∷ transfers
     pub before : IsOpen abandoned u.latest transfers
+    pub report : List ℕ
+    pub reports : (unpacked_from u.latest.wanted history).report
+        ≡ report ++ (abandoned_line u.latest.wanted transfers
+        ++ closed_line u.latest.wanted (unpacked_from u.latest.wanted history).transfers)
     pub written : HasWritten look start (place_of (source_of s) w) history
-        (texts_of u.latest.wanted transfers)
+        (record { output = parts_of u.latest.wanted transfers; report = report })
     pub sound : NoneFailed look (devices_at (place_of (source_of s) w))
     pub sum : u.latest.start + u.latest.written ≡ length (parts_of u.latest.wanted transfers)
     pub total : u.latest.total ≤ length history
-    pub good : u.good ≡ are_good (settled transfers)
-    pub opened : is_some (open_of (messages_of (heads_of (reading_of history)))) ≡ not last
-    pub after : IsAfter last (left_of s) (reading_of history).end
+    pub good : u.good
+        ≡ (are_good (settled transfers) && (unpacked_from u.latest.wanted history).in_order)
+    pub opened : is_open_after (unpacked_from u.latest.wanted history) ≡ not last
+    pub in_data : 0 < left_of s → IsInData u.latest.wanted last (reading_of history)
 
 -- ---- what the parts of a step do
 
--- The line of a transfer that is still open is written. Then the run ends with status 0 if all
--- transfers are good, and else with 1.
-abbrev pub GivesFinish : {W E : Type 0} → (W → Output) → (E → Output) → Unpacker → List Transfer
-    → (old new : Writers W E) → Result Status IoFault → Type 0
-GivesFinish out_look report_look unpacker transfers old new answer =
-    unpacker.good ≡ are_good (settled transfers)
-    → GivesLast out_look report_look old new
-    (on_report (last_lines unpacker.latest.wanted transfers))
-    (if are_good transfers then 0 else 1) answer
+module _ {W E : Type 0} (out_look : W → Output) (report_look : E → Output) where
+  -- The line of a transfer that is still open is written. Then the run ends with status 0 if all
+  -- transfers are good and all heads are in order, and else with 1.
+  abbrev pub GivesFinish : Unpacker → Unpacked → (old new : Writers W E)
+      → Result Status IoFault → Type 0
+  GivesFinish unpacker unpacked old new answer =
+      unpacker.good ≡ is_good_so_far unpacked
+      → GivesLast out_look report_look old new
+      (on_report (abandoned_line unpacker.latest.wanted unpacked.transfers))
+      (if (are_good unpacked.transfers && unpacked.in_order) then 0 else 1) answer
+
+  -- the run ends with this status after these texts, or a writer failed in them
+  abbrev pub EndsWith : (old new : Writers W E) → Texts → (status : ℕ) → Next → Type 0
+  EndsWith old new texts status (next.Stage stage) = ⊥
+  EndsWith old new texts status (next.Ended answer) =
+      GivesLast out_look report_look old new texts status answer
+
+  -- some texts were written, or a writer failed
+  abbrev pub WritesNext : (old new : Writers W E) → Next → Type 0
+  WritesNext old new (next.Stage stage) =
+      (texts : Texts) × Writes out_look report_look old new texts
+  WritesNext old new (next.Ended (Ok status)) =
+      (texts : Texts) × Writes out_look report_look old new texts
+  WritesNext old new (next.Ended (Err fault)) = fault ≡ io.Write

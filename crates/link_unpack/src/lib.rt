@@ -4,7 +4,7 @@
 //! steps. [`Wanted`] selects the data that is written.
 //!
 //! ```ignore
-//! let wanted = Wanted { only: None, payload: false };
+//! let wanted = Wanted { only: None, payload: false, keep_going: false };
 //! let end = unpack(wanted, reader, output, report);
 //! ```
 #![tactic(auto)]

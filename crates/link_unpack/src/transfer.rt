@@ -107,6 +107,13 @@ impl TransferScan {
         }
     }
 
+    /// Whether the run goes on after a fault of the order.
+    pub fn keeps_going(&self) -> bool
+        ensures { result ≡ self.now.wanted.keep_going }
+    {
+        self.wanted.keep_going
+    }
+
     /// Begins a transfer. Its bytes in the output come after those of the transfer before it.
     pub fn begin(&mut self, id: u64, announced: Announced)
         ensures follows { (head : SegmentHead) (closed : _) (earlier : List Transfer) → head.id ≡

@@ -1,28 +1,31 @@
 //! `unpack`: the data of the transfers of a recorded stream, and a line for each transfer.
 
-ghost use Rattle.std.specs.Prelude.{◌≡◌, ◌+◌, ◌&&◌, ◌<◌, true, false, not, [], is_some, if◌then◌else◌, IsTrue, List, length, ℕ, Ok, Err};
-ghost use Rattle.link_wire.specs.Session.{may_open, may_read, is_opened, left_of, source_of};
+ghost use Rattle.std.specs.Prelude.{◌≡◌, ◌+◌, ◌&&◌, ◌<◌, ◌≤◌, true, false, not, [], is_some, if◌then◌else◌, IsTrue, List, length, ℕ, IfSome, Ok, Err, Option, Some, None};
+ghost use Rattle.link_wire.specs.Session.{may_open, may_read, is_opened, left_of, source_of, data_in, IsSessionAt};
 ghost use Rattle.link_run.specs.Reading.{inner_of, HasEnough};
 ghost use Rattle.link_run.specs.Run.{Devices, devices_at, looks, GivesAnswer};
 ghost use Rattle.link_run.specs.Stages.{Stands, HandedOn};
 ghost use Rattle.link_run.specs.Writers.{GivesTexts, WritesSome, on_report, place_of};
+ghost use Rattle.link_report.specs.Fault.{fault_text};
 ghost use Rattle.link_wire.specs.Codes.{is_start};
 ghost use Rattle.link_wire.specs.MessageBuffer.{SegmentHasTotals, message_of};
 ghost use Rattle.link_wire.specs.declared.message.SegmentHead.{SegmentHead};
 ghost use Rattle.link_wire.specs.declared.message.Message.{Message};
+ghost use Rattle.link_transfer.specs.Event.{event_of};
 ghost use Rattle.link_transfer.specs.Joiner.{IsJoinerAt};
-ghost use Rattle.link_transfer.specs.Order.{open_of};
+ghost use Rattle.link_transfer.specs.Order.{refusal};
+ghost use Rattle.link_transfer.specs.declared.fault.OrderFault.{OrderFault};
 ghost use Rattle.link_unpack.specs.Transfers.{Transfer, settled};
-ghost use Rattle.link_unpack.specs.Unpacking.{unpacking_of, unpack_tool, parts_of, line_of, is_good, are_good, judgement_of};
+ghost use Rattle.link_unpack.specs.Unpacking.{unpacking_of, unpack_tool, parts_of, line_of, is_good, are_good, judgement_of, Unpacked, abandoned_line};
 ghost use Rattle.link_unpack.specs.TransferScan.{Follows, begun};
-ghost use Rattle.link_unpack.specs.UnpackRun.{may_go_on, may_follow, next_of, IsUnpacking, Begins, Unpacks, IsBeginning, IsJoining, IsOpen, last_lines, GivesNext, StandsAfter, GivesFinish};
+ghost use Rattle.link_unpack.specs.UnpackRun.{may_go_on, may_follow, next_of, is_open_after, IsUnpacking, Begins, Unpacks, HasCome, IsTaken, IsBeginning, IsJoining, IsOpen, GivesNext, GivesFar, PassesQuiet, StandsNext, GivesFinish, EndsWith, WritesNext};
 
 use crate::transfer::{TransferScan, is_bundle};
 use crate::wanted::Wanted;
 use link_report::Fault;
 use link_run::{Input, Progress, Run, RunEnd, Stages, Status, ToolRun, Writers};
 use link_transfer::{Event, Joiner, Turn, announced};
-use link_wire::{Fields, InDevice, IoFault, MessageBuffer, OutDevice, Session, Source};
+use link_wire::{Fields, InDevice, IoFault, MessageBuffer, OutDevice, Session, Source, WINDOW};
 
 /// The most bytes of a segment's data that one step is given.
 const PIECE: usize = 4096;
@@ -36,6 +39,8 @@ enum Stage {
     Message,
     /// Data of a segment. `last` is whether the segment is the last of its transfer.
     Data { last: bool },
+    /// Data of a stray segment, which is passed over.
+    Stray,
 }
 
 /// What comes after a step.
@@ -106,6 +111,29 @@ impl<R: InDevice, W: OutDevice, E: OutDevice> Stages<Session<R>, W, E> for Unpac
     ) -> Result<Progress, IoFault> {
         let next = advance(
             self.stage,
+            PIECE,
+            input,
+            writers,
+            &mut self.message,
+            &mut self.unpacker,
+        );
+        match next {
+            Next::Stage(stage) => {
+                self.stage = stage;
+                Ok(Progress::More)
+            }
+            Next::Ended(answer) => Progress::ended(answer),
+        }
+    }
+
+    #[inline(always)]
+    fn stride(
+        &mut self,
+        input: &mut Input<Session<R>>,
+        writers: &mut Writers<W, E>,
+    ) -> Result<Progress, IoFault> {
+        let next = stride_from(
+            self.stage,
             input,
             writers,
             &mut self.message,
@@ -121,8 +149,9 @@ impl<R: InDevice, W: OutDevice, E: OutDevice> Stages<Session<R>, W, E> for Unpac
     }
 }
 
-/// Takes the step of this stage, and returns what comes next.
-fn advance<R: InDevice, W: OutDevice, E: OutDevice>(
+/// Takes a stride that begins at this stage, and returns what comes next.
+#[inline(always)]
+fn stride_from<R: InDevice, W: OutDevice, E: OutDevice>(
     stage: Stage,
     input: &mut Input<Session<R>>,
     writers: &mut Writers<W, E>,
@@ -135,7 +164,107 @@ fn advance<R: InDevice, W: OutDevice, E: OutDevice>(
         → Stands (looks R.state W.state E.state) (unpacking_of unpacker.old.latest.wanted) start true
         (place_of (source_of (inner_of input.old)) writers.old) history
         → IsUnpacking R.state stage unpacker.old (inner_of input.old) history
-        → GivesNext (looks R.state W.state E.state) start unpacker.old.latest.wanted stage
+        → GivesFar (looks R.state W.state E.state) start unpacker.old.latest.wanted
+        (inner_of input.old) (inner_of input.new) writers.old writers.new unpacker.new history
+        result }
+    ensures handed { (history : List ℕ)
+        → IsUnpacking R.state stage unpacker.old (inner_of input.old) history
+        → (result ≡ Next.Ended (Err IoFault.Write) → ⊥)
+        → HandedOn (looks R.state W.state E.state) W.handed E.handed
+        (HasEnough R.state (inner_of input.old))
+        (place_of (source_of (inner_of input.old)) writers.old)
+        (place_of (source_of (inner_of input.new)) writers.new) }
+    ensures wanted { unpacker.new.latest.wanted ≡ unpacker.old.latest.wanted }
+{
+    if let Stage::Message = stage {
+        return stride_message(input, writers, message, unpacker);
+    }
+    advance(stage, WINDOW, input, writers, message, unpacker)
+}
+
+/// Takes a message. If it is a segment with data in the window, this data is taken too. Otherwise
+/// the quiet messages after it are passed over, if it has no data to come.
+#[inline(always)]
+fn stride_message<R: InDevice, W: OutDevice, E: OutDevice>(
+    input: &mut Input<Session<R>>,
+    writers: &mut Writers<W, E>,
+    message: &mut MessageBuffer,
+    unpacker: &mut Unpacker,
+) -> Next
+    requires { IsTrue (may_read (inner_of input.old)) }
+    ensures fits { IsTrue (may_follow result (inner_of input.new)) }
+    ensures gives { (start : Devices R W E) (history : List ℕ)
+        → Stands (looks R.state W.state E.state) (unpacking_of unpacker.old.latest.wanted) start true
+        (place_of (source_of (inner_of input.old)) writers.old) history
+        → Unpacks R.state Stage.Message (inner_of input.old) unpacker.old history
+        → GivesFar (looks R.state W.state E.state) start unpacker.old.latest.wanted
+        (inner_of input.old) (inner_of input.new) writers.old writers.new unpacker.new history
+        result }
+    ensures handed { (history : List ℕ)
+        → Unpacks R.state Stage.Message (inner_of input.old) unpacker.old history
+        → (result ≡ Next.Ended (Err IoFault.Write) → ⊥)
+        → HandedOn (looks R.state W.state E.state) W.handed E.handed
+        (HasEnough R.state (inner_of input.old))
+        (place_of (source_of (inner_of input.old)) writers.old)
+        (place_of (source_of (inner_of input.new)) writers.new) }
+    ensures wanted { unpacker.new.latest.wanted ≡ unpacker.old.latest.wanted }
+{
+    let next = take_message(input, writers, message, unpacker);
+    let ready = input.loaded().len();
+    match at_hand(next, ready) {
+        Some(last) => take_loaded(last, ready, input, writers, unpacker),
+        None => pass_quiet(next, input),
+    }
+}
+
+/// Passes over the quiet messages in the window if a message comes next. Returns what comes next.
+#[inline(always)]
+fn pass_quiet<R: InDevice>(next: Next, input: &mut Input<Session<R>>) -> Next
+    requires { IsTrue (may_follow next (inner_of input.old)) }
+    ensures fits { IsTrue (may_follow result (inner_of input.new)) }
+    ensures same { result ≡ next }
+    ensures other { (next ≡ Next.Stage Stage.Message → ⊥)
+        → inner_of input.new ≡ inner_of input.old }
+    ensures passed { (history : List ℕ) → IsSessionAt R.state (inner_of input.old) history
+        → PassesQuiet R.state (inner_of input.old) (inner_of input.new) history }
+{
+    if let Next::Stage(Stage::Message) = next {
+        input.pass_quiet();
+    }
+    next
+}
+
+/// If data of a segment comes next, and `ready` bytes of it are in the window: whether the segment
+/// is the last of its transfer.
+#[inline(always)]
+fn at_hand(next: Next, ready: usize) -> Option<bool>
+    ensures { IfSome result (λ last. (next ≡ Next.Stage (Stage.Data last)) × (0 < ready)) }
+{
+    match next {
+        Next::Stage(Stage::Data { last }) if ready > 0 => Some(last),
+        _ => None,
+    }
+}
+
+/// Takes the step of this stage, and returns what comes next. Of data it takes at most `piece`
+/// bytes.
+#[inline(always)]
+fn advance<R: InDevice, W: OutDevice, E: OutDevice>(
+    stage: Stage,
+    piece: usize,
+    input: &mut Input<Session<R>>,
+    writers: &mut Writers<W, E>,
+    message: &mut MessageBuffer,
+    unpacker: &mut Unpacker,
+) -> Next
+    requires fits { IsTrue (may_go_on stage (inner_of input.old)) }
+    requires piece { 0 < piece }
+    ensures fits { IsTrue (may_follow result (inner_of input.new)) }
+    ensures gives { (start : Devices R W E) (history : List ℕ)
+        → Stands (looks R.state W.state E.state) (unpacking_of unpacker.old.latest.wanted) start true
+        (place_of (source_of (inner_of input.old)) writers.old) history
+        → IsUnpacking R.state stage unpacker.old (inner_of input.old) history
+        → GivesNext (looks R.state W.state E.state) start unpacker.old.latest.wanted piece stage
         (inner_of input.old) (inner_of input.new) writers.new unpacker.new history result }
     ensures handed { (history : List ℕ)
         → IsUnpacking R.state stage unpacker.old (inner_of input.old) history
@@ -149,7 +278,8 @@ fn advance<R: InDevice, W: OutDevice, E: OutDevice>(
     match stage {
         Stage::Contact => open(input, writers, unpacker),
         Stage::Message => take_message(input, writers, message, unpacker),
-        Stage::Data { last } => take_data(last, input, writers, unpacker),
+        Stage::Data { last } => take_data(last, piece, input, writers, unpacker),
+        Stage::Stray => pass_stray(piece, input, writers, unpacker),
     }
 }
 
@@ -161,12 +291,12 @@ fn open<R: InDevice, W: OutDevice, E: OutDevice>(
 ) -> Next
     requires { IsTrue (may_open (inner_of input.old)) }
     ensures fits { IsTrue (may_follow result (inner_of input.new)) }
-    ensures gives { (start : Devices R W E) (history : List ℕ)
+    ensures gives { (start : Devices R W E) (piece : ℕ) (history : List ℕ)
         → Stands (looks R.state W.state E.state) (unpacking_of unpacker.now.latest.wanted) start true
         (place_of (source_of (inner_of input.old)) writers.old) history
         → Begins R.state (inner_of input.old) unpacker.now history
-        → GivesNext (looks R.state W.state E.state) start unpacker.now.latest.wanted Stage.Contact
-        (inner_of input.old) (inner_of input.new) writers.new unpacker.now history result }
+        → GivesNext (looks R.state W.state E.state) start unpacker.now.latest.wanted piece
+        Stage.Contact (inner_of input.old) (inner_of input.new) writers.new unpacker.now history result }
     ensures handed { (result ≡ Next.Ended (Err IoFault.Write) → ⊥)
         → HandedOn (looks R.state W.state E.state) W.handed E.handed
         (HasEnough R.state (inner_of input.old))
@@ -180,6 +310,7 @@ fn open<R: InDevice, W: OutDevice, E: OutDevice>(
 }
 
 /// Reads the head of a message, and begins, continues or closes a transfer with it.
+#[inline(always)]
 fn take_message<R: InDevice, W: OutDevice, E: OutDevice>(
     input: &mut Input<Session<R>>,
     writers: &mut Writers<W, E>,
@@ -188,12 +319,12 @@ fn take_message<R: InDevice, W: OutDevice, E: OutDevice>(
 ) -> Next
     requires { IsTrue (may_read (inner_of input.old)) }
     ensures fits { IsTrue (may_follow result (inner_of input.new)) }
-    ensures gives { (start : Devices R W E) (history : List ℕ)
+    ensures gives { (start : Devices R W E) (piece : ℕ) (history : List ℕ)
         → Stands (looks R.state W.state E.state) (unpacking_of unpacker.old.latest.wanted) start true
         (place_of (source_of (inner_of input.old)) writers.old) history
         → Unpacks R.state Stage.Message (inner_of input.old) unpacker.old history
-        → GivesNext (looks R.state W.state E.state) start unpacker.old.latest.wanted Stage.Message
-        (inner_of input.old) (inner_of input.new) writers.new unpacker.new history result }
+        → GivesNext (looks R.state W.state E.state) start unpacker.old.latest.wanted piece
+        Stage.Message (inner_of input.old) (inner_of input.new) writers.new unpacker.new history result }
     ensures handed { (history : List ℕ)
         → Unpacks R.state Stage.Message (inner_of input.old) unpacker.old history
         → (result ≡ Next.Ended (Err IoFault.Write) → ⊥)
@@ -209,17 +340,142 @@ fn take_message<R: InDevice, W: OutDevice, E: OutDevice>(
         Err(stop) => return Next::Ended(writers.end(stop)),
     };
     match unpacker.joiner.event(Event::of_fields(message.fields)) {
-        Ok(Turn::Begin { abandoned, last }) => {
+        Ok(turn) => follow(turn, input, writers, message, unpacker),
+        Err(fault) => {
+            let fault = Fault::Order(offset, fault);
+            refuse(&fault, input, writers, message, unpacker)
+        }
+    }
+}
+
+/// Reports a head that is not in order. The run ends there, unless it is to go on.
+#[cold]
+#[inline(never)]
+fn refuse<R: InDevice, W: OutDevice, E: OutDevice>(
+    fault: &Fault,
+    input: &Input<Session<R>>,
+    writers: &mut Writers<W, E>,
+    message: &MessageBuffer,
+    unpacker: &mut Unpacker,
+) -> Next
+    requires opened { IsTrue (is_opened (inner_of input.now)) }
+    requires totals { SegmentHasTotals message.now }
+    ensures fits { IsTrue (may_follow result (inner_of input.now)) }
+    ensures stops { unpacker.old.latest.wanted.keep_going ≡ false
+        → EndsWith W.state E.state writers.old writers.new (on_report (fault_text fault.now)) 3
+        result }
+    ensures gives { (start : Devices R W E) (history : List ℕ) (before : Unpacked)
+        (offset : ℕ) (order : OrderFault)
+        → HasCome (looks R.state W.state E.state) start before offset None (inner_of input.now)
+        writers.old unpacker.old message.now history
+        → IsJoinerAt unpacker.old.joiner before.taken
+        → unpacker.old.latest.wanted.keep_going ≡ true
+        → refusal before.taken (event_of (message_of message.now)) ≡ Some order
+        → fault.now ≡ Fault.Order offset order
+        → StandsNext (looks R.state W.state E.state) start unpacker.old.latest.wanted
+        (inner_of input.now) writers.new unpacker.new history result }
+    ensures writes { WritesNext W.state E.state writers.old writers.new result }
+    ensures wanted { unpacker.new.latest.wanted ≡ unpacker.old.latest.wanted }
+{
+    let reported = writers.report_fault(fault);
+    if !unpacker.latest.keeps_going() {
+        return Next::Ended(reported);
+    }
+    unpacker.good = false;
+    if let Err(fault) = reported {
+        return Next::Ended(Err(fault));
+    }
+    let taken = unpacker.joiner.take(Event::of_fields(message.fields));
+    match taken.turn {
+        Some(turn) => follow(turn, input, writers, message, unpacker),
+        None => Next::Stage(after_other(input)),
+    }
+}
+
+/// Does what comes of the head of a message, after the line of its fault, if it has one.
+#[inline(always)]
+fn follow<R: InDevice, W: OutDevice, E: OutDevice>(
+    turn: Turn,
+    input: &Input<Session<R>>,
+    writers: &mut Writers<W, E>,
+    message: &MessageBuffer,
+    unpacker: &mut Unpacker,
+) -> Next
+    requires opened { IsTrue (is_opened (inner_of input.now)) }
+    requires totals { SegmentHasTotals message.now }
+    ensures fits { IsTrue (may_follow result (inner_of input.now)) }
+    ensures gives { (start : Devices R W E) (history : List ℕ) (before : Unpacked)
+        (offset : ℕ) (line : Option OrderFault)
+        → HasCome (looks R.state W.state E.state) start before offset line (inner_of input.now)
+        writers.old unpacker.old message.now history
+        → IsTaken before line (Some turn) unpacker.old (message_of message.now)
+        → StandsNext (looks R.state W.state E.state) start unpacker.old.latest.wanted
+        (inner_of input.now) writers.new unpacker.new history result }
+    ensures writes { WritesNext W.state E.state writers.old writers.new result }
+    ensures wanted { unpacker.new.latest.wanted ≡ unpacker.old.latest.wanted }
+{
+    match turn {
+        Turn::Begin { abandoned, last } => {
             Next::of(begin(abandoned.is_some(), last, input, writers, message, unpacker))
         }
-        Ok(Turn::Continue { last }) => Next::of(go_on(last, input, writers, unpacker)),
-        Ok(Turn::Other) => Next::of(go_on(false, input, writers, unpacker)),
-        Err(fault) => Next::Ended(writers.report_fault(&Fault::Order(offset, fault))),
+        Turn::Continue { last } => Next::of(go_on(last, input, writers, unpacker)),
+        Turn::Other => Next::Stage(after_other(input)),
     }
+}
+
+/// What comes after the head of a message that belongs to no transfer, or after data of it. Only a
+/// stray segment has data.
+#[inline(always)]
+fn after_other<R: InDevice>(input: &Input<Session<R>>) -> Stage
+    requires { IsTrue (is_opened (inner_of input.now)) }
+    ensures fits { IsTrue (may_go_on result (inner_of input.now)) }
+    ensures some { 0 < left_of (inner_of input.now) → result ≡ Stage.Stray }
+    ensures none { left_of (inner_of input.now) ≡ 0 → result ≡ Stage.Message }
+{
+    if input.left() > 0 {
+        Stage::Stray
+    } else {
+        Stage::Message
+    }
+}
+
+/// Passes over a piece of a stray segment's data, of at most `piece` bytes.
+#[cold]
+#[inline(never)]
+fn pass_stray<R: InDevice, W: OutDevice, E: OutDevice>(
+    piece: usize,
+    input: &mut Input<Session<R>>,
+    writers: &mut Writers<W, E>,
+    unpacker: &Unpacker,
+) -> Next
+    requires opened { IsTrue (is_opened (inner_of input.old)) }
+    requires piece { 0 < piece }
+    ensures fits { IsTrue (may_follow result (inner_of input.new)) }
+    ensures gives { (start : Devices R W E) (history : List ℕ)
+        → Stands (looks R.state W.state E.state) (unpacking_of unpacker.now.latest.wanted) start true
+        (place_of (source_of (inner_of input.old)) writers.old) history
+        → Unpacks R.state Stage.Stray (inner_of input.old) unpacker.now history
+        → GivesNext (looks R.state W.state E.state) start unpacker.now.latest.wanted piece
+        Stage.Stray (inner_of input.old) (inner_of input.new) writers.new unpacker.now history result }
+    ensures handed { (history : List ℕ)
+        → Unpacks R.state Stage.Stray (inner_of input.old) unpacker.now history
+        → (result ≡ Next.Ended (Err IoFault.Write) → ⊥)
+        → HandedOn (looks R.state W.state E.state) W.handed E.handed
+        (HasEnough R.state (inner_of input.old))
+        (place_of (source_of (inner_of input.old)) writers.old)
+        (place_of (source_of (inner_of input.new)) writers.new) }
+{
+    let size = match input.load_data(writers) {
+        Ok(ready) => ready.min(piece),
+        Err(stop) => return Next::Ended(writers.end(stop)),
+    };
+    input.pass(size);
+    Next::Stage(after_other(input))
 }
 
 /// Begins a transfer with the segment whose head was read. A transfer that is still open is
 /// abandoned, and its line is written first.
+#[inline(always)]
 fn begin<R: InDevice, W: OutDevice, E: OutDevice>(
     abandoned: bool,
     last: bool,
@@ -234,8 +490,8 @@ fn begin<R: InDevice, W: OutDevice, E: OutDevice>(
     ensures gives { (start : Devices R W E) (history : List ℕ)
         → IsBeginning (looks R.state W.state E.state) start abandoned last (inner_of input.now)
         writers.old unpacker.old message.now history
-        → StandsAfter (looks R.state W.state E.state) start unpacker.old.latest.wanted
-        (inner_of input.now) writers.new unpacker.new history result }
+        → StandsNext (looks R.state W.state E.state) start unpacker.old.latest.wanted
+        (inner_of input.now) writers.new unpacker.new history (next_of result) }
     ensures writes { WritesSome W.state E.state writers.old writers.new result }
     ensures wanted { unpacker.new.latest.wanted ≡ unpacker.old.latest.wanted }
 {
@@ -261,20 +517,23 @@ fn begin_latest(latest: &mut TransferScan, message: &MessageBuffer)
     }
 }
 
-/// Reads a piece of a segment's data, and writes the selected bytes of it.
+/// Reads a piece of a segment's data, of at most `piece` bytes. Writes the selected bytes of it.
+#[inline(always)]
 fn take_data<R: InDevice, W: OutDevice, E: OutDevice>(
     last: bool,
+    piece: usize,
     input: &mut Input<Session<R>>,
     writers: &mut Writers<W, E>,
     unpacker: &mut Unpacker,
 ) -> Next
-    requires { IsTrue (is_opened (inner_of input.old)) }
+    requires opened { IsTrue (is_opened (inner_of input.old)) }
+    requires piece { 0 < piece }
     ensures fits { IsTrue (may_follow result (inner_of input.new)) }
     ensures gives { (start : Devices R W E) (history : List ℕ)
         → Stands (looks R.state W.state E.state) (unpacking_of unpacker.old.latest.wanted) start true
         (place_of (source_of (inner_of input.old)) writers.old) history
         → Unpacks R.state (Stage.Data last) (inner_of input.old) unpacker.old history
-        → GivesNext (looks R.state W.state E.state) start unpacker.old.latest.wanted
+        → GivesNext (looks R.state W.state E.state) start unpacker.old.latest.wanted piece
         (Stage.Data last) (inner_of input.old) (inner_of input.new) writers.new unpacker.new history
         result }
     ensures handed { (history : List ℕ)
@@ -286,10 +545,35 @@ fn take_data<R: InDevice, W: OutDevice, E: OutDevice>(
         (place_of (source_of (inner_of input.new)) writers.new) }
     ensures wanted { unpacker.new.latest.wanted ≡ unpacker.old.latest.wanted }
 {
-    let size = match input.load_data(writers) {
-        Ok(ready) => ready.min(PIECE),
-        Err(stop) => return Next::Ended(writers.end(stop)),
-    };
+    match input.load_data(writers) {
+        Ok(ready) => take_loaded(last, ready.min(piece), input, writers, unpacker),
+        Err(stop) => Next::Ended(writers.end(stop)),
+    }
+}
+
+/// Takes the next `size` bytes of a segment's data, which are in the window. Writes the selected
+/// bytes of them.
+#[inline(always)]
+fn take_loaded<R: InDevice, W: OutDevice, E: OutDevice>(
+    last: bool,
+    size: usize,
+    input: &mut Input<Session<R>>,
+    writers: &mut Writers<W, E>,
+    unpacker: &mut Unpacker,
+) -> Next
+    requires opened { IsTrue (is_opened (inner_of input.old)) }
+    requires size { size ≤ length (data_in (inner_of input.old)) }
+    ensures fits { IsTrue (may_follow result (inner_of input.new)) }
+    ensures gives { (start : Devices R W E) (history : List ℕ) → 0 < size
+        → Stands (looks R.state W.state E.state) (unpacking_of unpacker.old.latest.wanted) start true
+        (place_of (source_of (inner_of input.old)) writers.old) history
+        → Unpacks R.state (Stage.Data last) (inner_of input.old) unpacker.old history
+        → GivesNext (looks R.state W.state E.state) start unpacker.old.latest.wanted size
+        (Stage.Data last) (inner_of input.old) (inner_of input.new) writers.new unpacker.new history
+        result }
+    ensures writes { WritesNext W.state E.state writers.old writers.new result }
+    ensures wanted { unpacker.new.latest.wanted ≡ unpacker.old.latest.wanted }
+{
     let part = unpacker.latest.take(&input.loaded()[..size]);
     let written = writers.write_output(part);
     input.pass(size);
@@ -312,10 +596,8 @@ fn go_on<R: InDevice, W: OutDevice, E: OutDevice>(
     ensures gives { (start : Devices R W E) (history : List ℕ)
         → IsJoining (looks R.state W.state E.state) start last (inner_of input.now) writers.old
         unpacker.old history
-        → StandsAfter (looks R.state W.state E.state) start unpacker.old.latest.wanted
-        (inner_of input.now) writers.new unpacker.new history result }
-    ensures other { last ≡ false → left_of (inner_of input.now) ≡ 0
-        → (result ≡ Ok Stage.Message) × (writers.new ≡ writers.old) × (unpacker.new ≡ unpacker.old) }
+        → StandsNext (looks R.state W.state E.state) start unpacker.old.latest.wanted
+        (inner_of input.now) writers.new unpacker.new history (next_of result) }
     ensures writes { WritesSome W.state E.state writers.old writers.new result }
     ensures wanted { unpacker.new.latest.wanted ≡ unpacker.old.latest.wanted }
 {
@@ -362,11 +644,12 @@ fn abandon<W: OutDevice, E: OutDevice>(
     unpacker: &mut Unpacker,
 ) -> Result<(), IoFault>
     ensures gives { (transfers : List Transfer) → IsOpen abandoned unpacker.old.latest transfers
-        → GivesTexts W.state E.state writers.old writers.new (on_report (last_lines
+        → GivesTexts W.state E.state writers.old writers.new (on_report (abandoned_line
         unpacker.old.latest.wanted transfers)) result }
-    ensures good { (transfers : List Transfer) → IsOpen abandoned unpacker.old.latest transfers
-        → unpacker.old.good ≡ are_good (settled transfers)
-        → unpacker.new.good ≡ are_good transfers }
+    ensures good { (transfers : List Transfer) (in_order : _)
+        → IsOpen abandoned unpacker.old.latest transfers
+        → unpacker.old.good ≡ (are_good (settled transfers) && in_order)
+        → unpacker.new.good ≡ (are_good transfers && in_order) }
     ensures writes { WritesSome W.state E.state writers.old writers.new result }
     ensures latest { unpacker.new.latest ≡ unpacker.old.latest }
     ensures joiner { unpacker.new.joiner ≡ unpacker.old.joiner }
@@ -384,10 +667,9 @@ fn finish<W: OutDevice, E: OutDevice>(
     unpacker: &mut Unpacker,
 ) -> Result<Status, IoFault>
     ensures latest { unpacker.new.latest ≡ unpacker.old.latest }
-    ensures gives { (transfers : List Transfer) (messages : List Message)
-        → IsJoinerAt unpacker.old.joiner messages
-        → IsOpen (is_some (open_of messages)) unpacker.old.latest transfers
-        → GivesFinish W.state E.state unpacker.old transfers writers.old writers.new result }
+    ensures gives { (unpacked : Unpacked) → IsJoinerAt unpacker.old.joiner unpacked.taken
+        → IsOpen (is_open_after unpacked) unpacker.old.latest unpacked.transfers
+        → GivesFinish W.state E.state unpacker.old unpacked writers.old writers.new result }
     ensures writes { WritesSome W.state E.state writers.old writers.new result }
 {
     let is_open = unpacker.joiner.open().is_some();
@@ -441,7 +723,10 @@ pub fn unpack_run<R: InDevice, W: OutDevice, E: OutDevice>(
 /// The output has the selected data of the transfers, one after another. The report has a line for
 /// each transfer. If a fault stops the stream, a transfer that is still open has no line. Then the
 /// report ends with the line of the fault, and the status is 3. Otherwise the status is 1 if a
-/// transfer is not good, and else 0.
+/// transfer is not good or a message was not in order, and else 0.
+///
+/// A message that is not in order stops the stream, unless [`Wanted::keep_going`] is set. Then the
+/// report has its line before the lines of the transfers that it abandons or closes.
 ///
 /// The answer is an error if a device failed, or the input has more than 2^63 - 1 bytes.
 #[inline(never)]

@@ -11,6 +11,7 @@ pub mod Steady
 pub mod Contacts
 pub mod Streams
 mod Rests
+mod Wholes
 mod Sessions
 mod Sound
 mod Complete

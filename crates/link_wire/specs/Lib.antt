@@ -18,3 +18,4 @@ pub mod Spelling
 pub mod Plain
 pub mod Here
 pub mod InSlice
+pub mod Whole

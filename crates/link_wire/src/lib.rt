@@ -27,6 +27,7 @@ mod list;
 mod message;
 mod parts;
 mod plain;
+mod quiet;
 mod session;
 mod slices;
 mod spelling;

@@ -162,6 +162,23 @@ pub enum Fields {
     },
 }
 
+impl Fields {
+    ghost use Rattle.std.specs.Prelude.{◌≡◌};
+    ghost use Rattle.link_wire.specs.Message.{data_length};
+    ghost use Rattle.link_wire.specs.MessageBuffer.{message_with};
+
+    /// The number of data bytes after the head of a message with these numbers.
+    #[inline(always)]
+    pub(crate) fn data_length(self) -> u64
+        ensures { (node : _) (items : _) → result ≡ data_length (message_with self node items) }
+    {
+        match self {
+            Fields::Segment { length, .. } => length,
+            _ => 0,
+        }
+    }
+}
+
 /// A buffer for one message after another, so that none is moved.
 ///
 /// It has the message's numbers, and beside them its node ID and its items. If the message has no
@@ -207,10 +224,7 @@ impl MessageBuffer {
     pub fn data_length(&self) -> u64
         ensures { result ≡ data_length (message_of self.now) }
     {
-        match self.fields {
-            Fields::Segment { length, .. } => length,
-            _ => 0,
-        }
+        self.fields.data_length()
     }
 
     /// Returns the message that the buffer holds.

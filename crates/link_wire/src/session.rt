@@ -6,6 +6,7 @@ use crate::head::{contact, fields, kind};
 use crate::here::{FRONT, has_contact, has_head};
 use crate::message::{Contact, Fields, Message, MessageBuffer};
 use crate::plain::plain;
+use crate::quiet::quiet;
 use link_io::{InDevice, Source, WINDOW};
 
 /// What may be read next.
@@ -275,6 +276,100 @@ impl<R: InDevice> Session<R> {
         let stop = halt.at(offset);
         self.phase = Phase::Stopped(stop);
         stop
+    }
+}
+
+/// The calls for messages that lie whole in the window.
+impl<R: InDevice> Session<R> {
+    ghost use Rattle.std.specs.Prelude.{◌≡◌, ◌+◌, ◌<◌, ◌≤◌, ℕ, List, length, IfSome, None, IsTrue};
+    ghost use Rattle.link_io.specs.Source.{reader_of, window_of};
+    ghost use Rattle.link_wire.specs.Message.{data_length};
+    ghost use Rattle.link_wire.specs.MessageBuffer.{message_of, message_with, SegmentHasTotals};
+    ghost use Rattle.link_wire.specs.Plain.{IsHead};
+    ghost use Rattle.link_wire.specs.Session.{source_of, may_read, is_opened, HasEndedBetween, HasNext, HasStopped, IsSessionAt};
+    ghost use Rattle.link_wire.specs.Whole.{ReadWhole, PassedQuiet};
+
+    /// Gives the next message with its data, if all of it is in the window and its head is
+    /// frequent.
+    ///
+    /// Without such a message, and after a stop, it returns `None` and gives nothing. It does not
+    /// read from the reader.
+    #[inline(always)]
+    pub fn next_whole(&mut self, message: &mut MessageBuffer) -> Option<u64>
+        requires { IsTrue (may_read self.old) }
+        ensures none { result ≡ None → (self.new ≡ self.old) × (message.new ≡ message.old) }
+        ensures reader { reader_of (source_of self.new) ≡ reader_of (source_of self.old) }
+        ensures may_read { IsTrue (may_read self.new) }
+        ensures gives { (history : List ℕ) → IsSessionAt R.state self.old history
+            → IfSome result (λ offset.
+            ReadWhole R.state self.old self.new history offset (message_of message.new)) }
+        ensures totals { IfSome result (λ offset. SegmentHasTotals message.new) }
+        ensures opened { IsTrue (is_opened self.new) }
+        ensures again { HasEndedBetween self.old → result ≡ None }
+        ensures stopped { (stop : _) → HasStopped self.old stop → result ≡ None }
+        ensures here { (history : List ℕ) → IsSessionAt R.state self.old history
+            → IfSome result (λ offset. HasNext R.state self.old) }
+        ensures shrinks { IfSome result (λ offset.
+            length (window_of (source_of self.new)) < length (window_of (source_of self.old))) }
+    {
+        let window = self.source.window();
+        match self.phase {
+            Phase::Stopped(_) => None,
+            _ => match plain(window) {
+                Some((fields, size)) if fields.data_length() <= (window.len() - size) as u64 => {
+                    Some(self.give_whole(fields, size, message))
+                }
+                _ => None,
+            },
+        }
+    }
+
+    /// Gives a message that lies whole in the window, and returns its offset.
+    #[inline(always)]
+    fn give_whole(&mut self, fields: Fields, size: usize, message: &mut MessageBuffer) -> u64
+        requires may_read { IsTrue (may_read self.old) }
+        requires head { IsHead (window_of self.old.source) fields size }
+        requires within { size + data_length (message_with fields message.old.node message.old.items)
+            ≤ length (window_of self.old.source) }
+        ensures reader { reader_of self.new.source ≡ reader_of self.old.source }
+        ensures may_read { IsTrue (may_read self.new) }
+        ensures opened { IsTrue (is_opened self.new) }
+        ensures shrinks { length (window_of self.new.source) < length (window_of self.old.source) }
+        ensures gives { (history : List ℕ) → IsSessionAt R.state self.old history
+            → ReadWhole R.state self.old self.new history result (message_of message.new) }
+        ensures totals { SegmentHasTotals message.new }
+    {
+        let offset = self.source.given();
+        self.source.give(size + fields.data_length() as usize);
+        message.set(fields);
+        offset
+    }
+
+    /// Passes over the quiet messages that lie whole in the window. Returns how many bytes they
+    /// have: 0 if the window begins with another message or with a part of one, or after a stop.
+    ///
+    /// A quiet message has no data, and it changes neither the order nor the transfers of its
+    /// sender. The call does not read from the reader.
+    #[inline(always)]
+    pub fn pass_quiet(&mut self) -> usize
+        requires { IsTrue (may_read self.old) }
+        ensures none { result ≡ 0 → self.new ≡ self.old }
+        ensures reader { reader_of (source_of self.new) ≡ reader_of (source_of self.old) }
+        ensures may_read { IsTrue (may_read self.new) }
+        ensures gives { (history : List ℕ) → IsSessionAt R.state self.old history
+            → PassedQuiet R.state self.old self.new history result }
+        ensures opened { IsTrue (is_opened self.new) }
+        ensures again { HasEndedBetween self.old → result ≡ 0 }
+        ensures stopped { (stop : _) → HasStopped self.old stop → result ≡ 0 }
+        ensures here { (history : List ℕ) → IsSessionAt R.state self.old history → 0 < result
+            → HasNext R.state self.old }
+    {
+        if let Phase::Stopped(_) = self.phase {
+            return 0;
+        }
+        let count = quiet(self.source.window());
+        self.source.give(count);
+        count
     }
 }
 

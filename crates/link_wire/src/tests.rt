@@ -4,8 +4,8 @@ ghost use Rattle.std.specs.Prelude.{◌≡◌};
 ghost use Rattle.arrayvec.specs.ArrayVec.{array_vec_len};
 
 use crate::{
-    Contact, END, HeadBuf, Item, Items, Message, NodeId, Reader, START, SegmentHead, Session,
-    Source, Stop, put_contact, put_segment_head, put_sess_init, put_sess_term,
+    Contact, END, HeadBuf, Item, Items, Message, MessageBuffer, NodeId, Reader, START, SegmentHead,
+    Session, Source, Stop, put_contact, put_segment_head, put_sess_init, put_sess_term,
 };
 use std::test::Fail;
 
@@ -222,6 +222,84 @@ fn data_that_is_waited_for(rt: HostRuntime) -> Result<(), Fail> {
         let _head = session.next()?;
         assert_eq!(rt; session.left(), 2);
         assert_eq!(rt; session.may_wait(), *waits);
+    }
+    Ok(())
+}
+
+/// Recordings, and how many bytes after the contact header are passed over as quiet messages.
+///
+/// XFER_ACK, XFER_REFUSE, KEEPALIVE and MSG_REJECT are quiet (RFC 9174 sections 5.1 and 5.2). The
+/// last byte of one is missing, or a segment, a SESS_TERM or an unknown type comes next.
+const QUIET: &[(&[u8], usize)] = &[
+    (b"dtn!\x04\x00", 0),
+    (b"dtn!\x04\x00\x04", 1),
+    (b"dtn!\x04\x00\x06\x03\x01", 3),
+    (b"dtn!\x04\x00\x06\x03", 0),
+    (b"dtn!\x04\x00\x03\x01\x00\x00\x00\x00\x00\x00\x00\x07", 10),
+    (b"dtn!\x04\x00\x03\x01\x00\x00\x00\x00\x00\x00\x00", 0),
+    (
+        b"dtn!\x04\x00\x02\x00\x00\x00\x00\x00\x00\x00\x00\x07\x00\x00\x00\x00\x00\x00\x00\x22",
+        18,
+    ),
+    (
+        b"dtn!\x04\x00\x02\x00\x00\x00\x00\x00\x00\x00\x00\x07\x00\x00\x00\x00\x00\x00\x00",
+        0,
+    ),
+    (b"dtn!\x04\x00\x04\x06\x03\x01\x04\x05\x00\x03\x04", 5),
+    (b"dtn!\x04\x00\x04\x04\x2a", 2),
+    (
+        b"dtn!\x04\x00\x04\x01\x01\x00\x00\x00\x00\x00\x00\x00\x00\x00\x00\x00\x00\x00\x00\x00\x00",
+        1,
+    ),
+];
+
+#[test]
+fn quiet_messages(rt: HostRuntime) -> Result<(), Fail> {
+    for (stream, count) in QUIET {
+        let mut session = Session::new(Source::new(Reader::new(*stream)));
+        session.open()?;
+        assert_eq!(rt; session.pass_quiet(), *count);
+        assert_eq!(rt; session.pass_quiet(), 0);
+        assert_eq!(rt; session.into_source().given(), 6 + *count as u64);
+    }
+    Ok(())
+}
+
+/// Recordings, and whether the message after the contact header is given with its data.
+///
+/// It is a KEEPALIVE, or a segment with two bytes of data. A byte of the head or of the data is
+/// missing, or an item is in the head.
+const WHOLE: &[(&[u8], bool)] = &[
+    (b"dtn!\x04\x00", false),
+    (b"dtn!\x04\x00\x04", true),
+    (
+        b"dtn!\x04\x00\x01\x01\x00\x00\x00\x00\x00\x00\x00\x00\x00\x00\x00\x00\x00\x00\x00\x02\x9f\xff",
+        true,
+    ),
+    (
+        b"dtn!\x04\x00\x01\x01\x00\x00\x00\x00\x00\x00\x00\x00\x00\x00\x00\x00\x00\x00\x00\x02\x9f",
+        false,
+    ),
+    (
+        b"dtn!\x04\x00\x01\x01\x00\x00\x00\x00\x00\x00\x00\x00\x00\x00\x00\x00\x00\x00\x00",
+        false,
+    ),
+    (
+        b"dtn!\x04\x00\x01\x02\x00\x00\x00\x00\x00\x00\x00\x00\x00\x00\x00\x05\x00\x00\x02\x00\x00\x00\x00\x00\x00\x00\x00\x00\x00",
+        false,
+    ),
+];
+
+#[test]
+fn whole_messages(rt: HostRuntime) -> Result<(), Fail> {
+    for (stream, whole) in WHOLE {
+        let mut session = Session::new(Source::new(Reader::new(*stream)));
+        session.open()?;
+        let mut message = MessageBuffer::new();
+        let offset = session.next_whole(&mut message);
+        assert_eq!(rt; offset, if *whole { Some(6) } else { None });
+        let given = if *whole { stream.len() as u64 } else { 6 };
+        assert_eq!(rt; session.into_source().given(), given);
     }
     Ok(())
 }

@@ -13,8 +13,8 @@ use Rattle.link_run.specs.declared.run.Status.{Status}
 use Rattle.tcpclkit.specs.declared.ending.Ending.{Ending}
 use Rattle.tcpclkit.specs.declared.ending.Ending.TheVariants.{Usage, NotText, NoInput, Answer}
 
--- The program's answer for the answer of a run. The first fault decides. If a fault of the input
--- (status 3) or a failure stopped the run, its answer stays, whether or not its texts were flushed.
+-- The program's answer for the answer of a run. What stopped the run first decides. If a fault of
+-- the input (status 3) or a failure did, its answer stays, whether or not its texts were flushed.
 -- After any other run, a failed flush is a failed write.
 abbrev pub answer_after_flush : Result Status IoFault → Bool → Result Status IoFault
 answer_after_flush (Ok status) false = if status.0 == 3 then Ok status else Err io.Write

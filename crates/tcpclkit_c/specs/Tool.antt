@@ -65,12 +65,13 @@ abbrev pub GivesTexts : Outcome → (old new : Slices) → Run → ℕ → Type 
 GivesTexts whole old new run status =
     TextsGiven whole old.output old.report new.output new.report run status
 
--- which data is wanted
+-- what is wanted of the recording
 abbrev pub wanted_of : UnpackOptions → Wanted
 wanted_of options =
     record {
       only = if options.only_one == 1 then Some options.transfer else None;
       payload = options.payload == 1;
+      keep_going = options.keep_going == 1;
     }
 
 -- the options and the length of the node ID are in their ranges

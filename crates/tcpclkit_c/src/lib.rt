@@ -23,12 +23,12 @@ mod text;
 mod tool;
 
 /// The version of the interface, `TCPCLKIT_ABI`.
-const ABI: u32 = 1;
+const ABI: u32 = 2;
 
 /// The version of the interface of the header that this library belongs to.
 #[unsafe(no_mangle)]
 pub extern "C" fn tcpclkit_abi() -> u32
-    ensures { result ≡ 1 }
+    ensures { result ≡ 2 }
 {
     ABI
 }

@@ -26,7 +26,7 @@ pub struct Run {
     pub report_length: u64,
 }
 
-/// `struct tcpclkit_unpack_options`: which data `unpack` writes.
+/// `struct tcpclkit_unpack_options`: which data `unpack` writes, and where it ends.
 #[repr(C)]
 #[derive(Clone, Copy, Debug, PartialEq, Eq)]
 pub struct UnpackOptions {
@@ -36,6 +36,8 @@ pub struct UnpackOptions {
     pub transfer: u64,
     /// 1 for the payloads alone, and else 0.
     pub payload: u64,
+    /// 1 if the run goes on after a fault of the order, and else 0.
+    pub keep_going: u64,
 }
 
 /// `struct tcpclkit_pack_options`: what the stream of `pack` says, without the node ID.
@@ -159,7 +161,7 @@ pub extern "C" fn tcpclkit_raw_list(
     )
 }
 
-/// Which data is wanted.
+/// What is wanted of the recording.
 fn wanted_of(options: &UnpackOptions) -> Wanted
     ensures { result ≡ wanted_of options.now }
 {
@@ -171,6 +173,7 @@ fn wanted_of(options: &UnpackOptions) -> Wanted
     Wanted {
         only,
         payload: options.payload == 1,
+        keep_going: options.keep_going == 1,
     }
 }
 
@@ -186,14 +189,15 @@ pub extern "C" fn tcpclkit_raw_unpack(
 ) -> u32
     ensures only_one { 1 < options.now.only_one → (result ≡ 6) × (answer.new ≡ answer.old) }
     ensures payload { 1 < options.now.payload → (result ≡ 6) × (answer.new ≡ answer.old) }
+    ensures keep_going { 1 < options.now.keep_going → (result ≡ 6) × (answer.new ≡ answer.old) }
     ensures run { options.now.only_one ≤ 1 → options.now.payload ≤ 1
-        → GivesTexts (whole_of (tool.Unpack (wanted_of options.now)) bytes.now)
+        → options.now.keep_going ≤ 1 → GivesTexts (whole_of (tool.Unpack (wanted_of options.now)) bytes.now)
         (record { output = output.old; report = report.old })
         (record { output = output.new; report = report.new })
         answer.new result }
     ensures unwritten { result ≡ 6 → (output.new ≡ output.old) × (report.new ≡ report.old) }
 {
-    if options.only_one > 1 || options.payload > 1 {
+    if options.only_one > 1 || options.payload > 1 || options.keep_going > 1 {
         return RANGE;
     }
     let wanted = wanted_of(options);

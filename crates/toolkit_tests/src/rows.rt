@@ -52,4 +52,5 @@ pub const TWO_BUNDLES_REPORT: &[&[u8]] = &[
 pub const ALL: Wanted = Wanted {
     only: None,
     payload: false,
+    keep_going: false,
 };

@@ -1,6 +1,10 @@
 //! Tests in which each device of `unpack` fails at each of its calls in turn.
 
-use crate::transfers::{ABANDONED, PAYLOAD};
+use crate::disorder::{
+    EARLY_TRANSFER, ENDED, LATE_TRANSFERS, REPEATED_START, SECOND_SESS_INIT, STRAY_SEGMENTS,
+};
+use crate::transfers::{ABANDONED, PAYLOAD, Row};
+use std::alloc::Global;
 use std::test::Fail;
 use toolkit_tests::failures::{each_fails_at_each_pace, reads_before_failure};
 use toolkit_tests::rows::{ALL, TRANSFER, TWO_BUNDLES};
@@ -31,6 +35,46 @@ fn abandoned_transfer(rt: HostRuntime) -> Result<(), Fail> {
     each_fails_at_each_pace(rt.alloc(), Tool::Unpack(ALL), &stream)?;
     stream.push(0x16)?;
     each_fails_at_each_pace(rt.alloc(), Tool::Unpack(ALL), &stream)
+}
+
+/// Checks runs over the stream of the row in which a device fails.
+fn row_fails(alloc: Global, row: &Row) -> Result<(), Fail> {
+    let stream = built(alloc, row.stream)?;
+    each_fails_at_each_pace(alloc, Tool::Unpack(row.wanted), &stream)
+}
+
+#[test]
+fn second_sess_init(rt: HostRuntime) -> Result<(), Fail> {
+    row_fails(rt.alloc(), &SECOND_SESS_INIT)
+}
+
+#[test]
+fn early_transfer(rt: HostRuntime) -> Result<(), Fail> {
+    row_fails(rt.alloc(), &EARLY_TRANSFER)
+}
+
+#[test]
+fn stray_segments(rt: HostRuntime) -> Result<(), Fail> {
+    row_fails(rt.alloc(), &STRAY_SEGMENTS)
+}
+
+#[test]
+fn repeated_start(rt: HostRuntime) -> Result<(), Fail> {
+    row_fails(rt.alloc(), &REPEATED_START)
+}
+
+#[test]
+fn late_transfers(rt: HostRuntime) -> Result<(), Fail> {
+    row_fails(rt.alloc(), &LATE_TRANSFERS)
+}
+
+/// A fault of the wire after one of the order.
+#[test]
+fn fault_of_the_wire(rt: HostRuntime) -> Result<(), Fail> {
+    for row in &ENDED {
+        row_fails(rt.alloc(), row)?;
+    }
+    Ok(())
 }
 
 /// A run writes what the bytes so far determine before it takes any byte after them.

@@ -2,7 +2,11 @@
 #![tactic(auto)]
 
 #[cfg(test)]
+mod disorder;
+#[cfg(test)]
 mod failures;
+#[cfg(test)]
+mod going_on;
 #[cfg(test)]
 mod transfers;
 #[cfg(test)]

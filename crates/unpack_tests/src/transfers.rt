@@ -11,18 +11,21 @@ use toolkit_tests::stream::{
 const ONLY_1: Wanted = Wanted {
     only: Some(1),
     payload: false,
+    keep_going: false,
 };
 
 /// The payloads of all transfers.
 pub const PAYLOAD: Wanted = Wanted {
     only: None,
     payload: true,
+    keep_going: false,
 };
 
 /// The payloads of transfers with ID 1.
 const PAYLOAD_OF_1: Wanted = Wanted {
     only: Some(1),
     payload: true,
+    keep_going: false,
 };
 
 /// A recorded stream, and the result of unpacking it.

@@ -2,7 +2,9 @@
 
 ghost use Rattle.std.specs.Prelude.{◌<◌};
 
-use crate::transfers::{ABANDONING, EMPTY_END, FAULTS, PARTS, PAYLOADS, Row, WHOLE, WHOLE_BUNDLES};
+use crate::transfers::{
+    ABANDONED, ABANDONING, EMPTY_END, FAULTS, PARTS, PAYLOADS, Row, WHOLE, WHOLE_BUNDLES,
+};
 use link_tools::Run;
 use std::alloc::Global;
 use std::test::Fail;
@@ -12,7 +14,7 @@ use toolkit_tests::stepping::{is_done, test_unpack_run, unpacks_on};
 use toolkit_tests::stream::{EDGE, PLAIN, SESSION, built, joined, put_segment};
 
 /// Checks that unpacking the stream gives the result of the row.
-fn row_gives(alloc: Global, row: &Row, stream: &[u8]) -> Result<(), Fail> {
+pub fn row_gives(alloc: Global, row: &Row, stream: &[u8]) -> Result<(), Fail> {
     let output = joined(alloc, row.output)?;
     let report = joined(alloc, row.report)?;
     let want = Expected {
@@ -25,7 +27,7 @@ fn row_gives(alloc: Global, row: &Row, stream: &[u8]) -> Result<(), Fail> {
 }
 
 /// Checks the result of unpacking for each row.
-fn all_given(alloc: Global, rows: &[Row]) -> Result<(), Fail> {
+pub fn all_given(alloc: Global, rows: &[Row]) -> Result<(), Fail> {
     for row in rows {
         row_gives(alloc, row, &built(alloc, row.stream)?)?;
     }
@@ -132,13 +134,17 @@ fn cut_data(rt: HostRuntime) -> Result<(), Fail> {
     Ok(())
 }
 
-/// Steps through a row's stream, and checks the texts after each step but the last.
+/// Steps through a stream with the texts of the row, and checks them after each step but the last.
 ///
 /// Each entry of `written` is for one step: how many pieces of the row's output, and how many of
 /// its report, are written after it.
-fn after_each_step(alloc: Global, row: &Row, written: &[(usize, usize)]) -> Result<(), Fail> {
-    let stream = built(alloc, row.stream)?;
-    let mut run = test_unpack_run(alloc, row.wanted, &stream);
+pub fn after_each_step(
+    alloc: Global,
+    row: &Row,
+    stream: &[u8],
+    written: &[(usize, usize)],
+) -> Result<(), Fail> {
+    let mut run = test_unpack_run(alloc, row.wanted, stream);
     for (of_output, of_report) in written {
         let output = row.output.get(..*of_output).ok_or("more than the output")?;
         let report = row.report.get(..*of_report).ok_or("more than the report")?;
@@ -151,14 +157,16 @@ fn after_each_step(alloc: Global, row: &Row, written: &[(usize, usize)]) -> Resu
 #[test]
 fn abandoned_step_by_step(rt: HostRuntime) -> Result<(), Fail> {
     let written = [(0, 0), (0, 0), (0, 0), (1, 0), (1, 1), (3, 3)];
-    after_each_step(rt.alloc(), &ABANDONING, &written)
+    let stream = built(rt.alloc(), ABANDONED)?;
+    after_each_step(rt.alloc(), &ABANDONING, &stream, &written)
 }
 
 /// A last segment without data closes its transfer in the step that takes its head.
 #[test]
 fn empty_end_step_by_step(rt: HostRuntime) -> Result<(), Fail> {
     let written = [(0, 0), (0, 0), (0, 0), (2, 0), (2, 2)];
-    after_each_step(rt.alloc(), &EMPTY_END, &written)
+    let stream = built(rt.alloc(), EMPTY_END.stream)?;
+    after_each_step(rt.alloc(), &EMPTY_END, &stream, &written)
 }
 
 /// A transfer of 100 segments of 1,000 zeros each, and the number of zeros written after each step.

@@ -1,6 +1,7 @@
 //! Check values compared with another implementation, in slices and byte by byte.
 
 use super::*;
+use std::process::Abort;
 
 /// Two blocks of sixteen bytes, and half a block.
 const BYTES: &[u8; 40] = b"Sixteen bytes at a time, then one by one";
@@ -72,26 +73,29 @@ fn first_tables_begin_right(rt: HostRuntime) {
     }
 }
 
-/// Slices of each length up to 40 are pushed at once, and cut in two at every position.
+/// Compares the bytes pushed at once, and cut in two at every position, with the bytes one by one.
+fn expect_slices(rt: &impl Abort, kind: CheckKind, bytes: &[u8]) {
+    let expected = bytewise(kind, bytes);
+    assert_eq!(rt;
+        in_slices(kind, &[bytes]),
+        expected,
+        "{kind:?} of {bytes:?}"
+    );
+    for cut in 0..=bytes.len() {
+        let pieces = [&bytes[..cut], &bytes[cut..]];
+        assert_eq!(rt;
+            in_slices(kind, &pieces),
+            expected,
+            "{kind:?} of {bytes:?} cut at {cut}"
+        );
+    }
+}
+
 #[test]
 fn slices_of_every_length(rt: HostRuntime) {
-    for kind in [CheckKind::Crc16, CheckKind::Crc32] {
-        for length in 0..=40 {
-            let bytes = &BYTES[..length];
-            let expected = bytewise(kind, bytes);
-            assert_eq!(rt;
-                in_slices(kind, &[bytes]),
-                expected,
-                "{kind:?} of {length} bytes"
-            );
-            for cut in 0..=length {
-                let pieces = [&bytes[..cut], &bytes[cut..]];
-                assert_eq!(rt;
-                    in_slices(kind, &pieces),
-                    expected,
-                    "{kind:?} cut at {cut} of {length}"
-                );
-            }
+    for length in 0..=40 {
+        for kind in [CheckKind::Crc16, CheckKind::Crc32] {
+            expect_slices(&rt, kind, &BYTES[..length]);
         }
     }
 }

@@ -1,6 +1,6 @@
 //! Bundles cut into chunks.
 
-ghost use Rattle.std.specs.Prelude.{◌≡◌, ◌≤◌, false, length, OnOk};
+ghost use Rattle.std.specs.Prelude.{◌≡◌, ◌<◌, ◌≤◌, false, length, IfOk, OnOk};
 ghost use Rattle.link_transfer.specs.Cutter.{cut_waits};
 
 use super::*;
@@ -55,12 +55,63 @@ fn take_all(alloc: Global, cutter: &mut Cutter, given: &mut Vec<Given>) -> Resul
     Ok(())
 }
 
+/// Takes bytes until a chunk is ready, or all, and returns how many.
+///
+/// A chunk that can be cut where it lies is taken, and the bytes are not pushed.
+fn place(
+    alloc: Global,
+    cutter: &mut Cutter,
+    piece: &[u8],
+    last: bool,
+    given: &mut Vec<Given>,
+) -> Result<usize, AllocError>
+    requires quiet { cut_waits cutter.old ≡ false }
+    requires some { 0 < length piece.now }
+    ensures { IfOk result (λ size. (0 < size) × (size ≤ length piece.now)) }
+{
+    let size = cutter.wanted().min(piece.len());
+    let part = &piece[..size];
+    let ends = last && size == piece.len();
+    match cutter.cut_slice(part, ends) {
+        Some(cut) => given.push(Given {
+            cut,
+            bytes: Vec::from_slice(alloc, part)?,
+        })?,
+        None => {
+            cutter.push_slice(part, ends);
+        }
+    }
+    Ok(size)
+}
+
+/// Takes bytes until a chunk is ready, or all, and returns how many.
+///
+/// With `in_place`, a chunk is cut where it lies if it can be.
+fn advance(
+    alloc: Global,
+    cutter: &mut Cutter,
+    piece: &[u8],
+    last: bool,
+    in_place: bool,
+    given: &mut Vec<Given>,
+) -> Result<usize, AllocError>
+    requires quiet { cut_waits cutter.old ≡ false }
+    requires some { 0 < length piece.now }
+    ensures { IfOk result (λ size. (0 < size) × (size ≤ length piece.now)) }
+{
+    if in_place {
+        return place(alloc, cutter, piece, last, given);
+    }
+    Ok(cutter.push_slice(piece, last))
+}
+
 /// Pushes a piece of a bundle, and takes each chunk as soon as it is ready.
 fn push_piece(
     alloc: Global,
     cutter: &mut Cutter,
     piece: &[u8],
     last: bool,
+    in_place: bool,
     given: &mut Vec<Given>,
 ) -> Result<(), AllocError>
     requires { cut_waits cutter.old ≡ false }
@@ -68,22 +119,42 @@ fn push_piece(
 {
     let mut at = 0;
     while at < piece.len() {
-        at += cutter.push_slice(&piece[at..], last);
+        at += advance(alloc, cutter, &piece[at..], last, in_place, given)?;
         take_all(alloc, cutter, given)?;
     }
     Ok(())
 }
 
 /// The chunks of the bundle and of the same bundle again, each pushed in two pieces.
-fn in_two(alloc: Global, hold: usize, bundle: &[u8], at: usize) -> Result<Vec<Given>, AllocError>
+fn in_two(
+    alloc: Global,
+    hold: usize,
+    bundle: &[u8],
+    at: usize,
+    in_place: bool,
+) -> Result<Vec<Given>, AllocError>
     requires hold { hold ≤ 1048576 }
     requires at { at ≤ length bundle.now }
 {
     let mut cutter = Cutter::new(alloc, SEGMENT, hold)?;
     let mut given = Vec::new(alloc);
     for _ in 0..2 {
-        push_piece(alloc, &mut cutter, &bundle[..at], false, &mut given)?;
-        push_piece(alloc, &mut cutter, &bundle[at..], true, &mut given)?;
+        push_piece(
+            alloc,
+            &mut cutter,
+            &bundle[..at],
+            false,
+            in_place,
+            &mut given,
+        )?;
+        push_piece(
+            alloc,
+            &mut cutter,
+            &bundle[at..],
+            true,
+            in_place,
+            &mut given,
+        )?;
     }
     Ok(given)
 }
@@ -122,7 +193,8 @@ fn in_bytes(rt: &(impl Abort + AllocGlobal), hold: usize, bundle: &[u8]) -> Resu
 
 /// Bundles with lengths around multiples of a segment, and holds around the segment and the length.
 ///
-/// Each is pushed byte by byte, whole, and in two pieces cut at every position.
+/// Each is pushed byte by byte, whole, and in two pieces cut at every position. The pieces are also
+/// cut where they lie.
 #[test]
 fn gives_the_chunks(rt: HostRuntime) -> Result<(), Fail> {
     for length in [1, 3, 4, 5, 7, 8, 9, 12, 13] {
@@ -136,12 +208,12 @@ fn gives_the_chunks(rt: HostRuntime) -> Result<(), Fail> {
                 want.as_slice(),
                 "{length} bytes, hold {hold}"
             );
-            for at in 0..length {
-                let pieces = in_two(rt.alloc(), hold, bundle, at)?;
+            for at in 0..2 * length {
+                let pieces = in_two(rt.alloc(), hold, bundle, at / 2, at % 2 == 1)?;
                 assert_eq!(rt;
                     pieces.as_slice(),
                     want.as_slice(),
-                    "{length} bytes at {at}, hold {hold}"
+                    "{length} bytes at {at} halves, hold {hold}"
                 );
             }
         }
@@ -153,8 +225,7 @@ fn gives_the_chunks(rt: HostRuntime) -> Result<(), Fail> {
 #[test]
 fn reports_want_of_memory(rt: HostRuntime) -> Result<(), Fail> {
     assert!(rt; Cutter::over(Err(AllocError), SEGMENT, 0).is_err());
-    let memory = vec![in rt.alloc(); 0; SEGMENT]?;
-    assert_eq!(rt; memory.len(), SEGMENT);
+    let memory = Vec::with_capacity(rt.alloc(), SEGMENT)?;
     assert!(rt; Cutter::over(Ok(memory), SEGMENT, 0).is_ok());
     Ok(())
 }

@@ -6,4 +6,5 @@ pub returns : goal.returns
 returns c =
     rw c.from.ensures
     (head_at-small c.args.major c.in_ok-information.information c.args.bytes.now c.args.place
-    c.in_ok-information.ensures.within (c.in_ok-information.ensures.first (omega arith)) (omega arith))
+    c.in_ok-information.ensures.within (c.in_ok-information.ensures.first (omega arith))
+    (omega arith))

@@ -1,28 +1,37 @@
 use Rattle.std.proofs.Common.{◌∙◌, Bool, sym, ap, rules}
 use Rattle.std.proofs.lemmas.Result.{err_from_is_err_and}
-use Rattle.link_bundle_rows.specs.Rows.{check_field}
+use Rattle.link_bundle_heads.specs.Rows.{check_field}
 use Rattle.link_bundle.specs.Reading.{Reading, stopped}
 use Rattle.link_bundle.specs.CheckField.{field_at}
-use Rattle.link_bundle.specs.Left.{field_left, stage_left, ends_of, with_known_payload, after_field}
-use Rattle.link_bundle.proofs.Heads.{row_at-refused, ends_of-stopped}
+use Rattle.link_bundle.specs.Left.{field_left, stage_left, read_alone, with_known_payload, after_field}
+use Rattle.link_bundle.proofs.Heads.{row_at-refused, read_alone-stopped}
 use Rattle.link_bundle.proofs.Fields.{field_at-accepted}
 use Rattle.link_bundle.proofs.Judgings.{as_judged}
 use Rattle.link_bundle.proofs.judging.judge.Goals as goal
 
 pub returns-in_err-check_field-in-Check : goal.returns-in_err-check_field-in-Check
 unfolding field_left stage_left field_at
-returns-in_err-check_field-in-Check c = as_judged (search rules) (search rules) (let exit = err_from_is_err_and c.from_residual.result c.from_residual.ensures.1 in
+returns-in_err-check_field-in-Check c =
+    as_judged (search rules) (search rules)
+    (let exit = err_from_is_err_and c.from_residual.result c.from_residual.ensures.1 in
     rw (c.in-Check.is, exit.1, exit.2)
     (λ bytes start outcome within.
-    rw (row_at-refused (check_field c.in-Check.kind) bytes c.args.cursor.now.place c.args.cursor.now.count c.args.head c.in_err-check_field-in-Check.field-0.0 outcome (sym c.check_field.ensures.judged ∙ c.in_err-check_field-in-Check.was))
-    (ends_of-stopped c.args.draft.now.payload bytes (stopped c.in_err-check_field-in-Check.field-0.0 c.args.cursor.now.place))))
+    rw (row_at-refused (check_field c.in-Check.kind) bytes c.args.cursor.now.place
+    c.args.cursor.now.count c.args.head c.in_err-check_field-in-Check.field-0.0 outcome
+    (sym c.check_field.ensures.judged ∙ c.in_err-check_field-in-Check.was))
+    (read_alone-stopped c.args.draft.now.payload bytes
+    (stopped c.in_err-check_field-in-Check.field-0.0 c.args.cursor.now.place))))
 
 pub returns-in_ok-check_field-in-Check : goal.returns-in_ok-check_field-in-Check
 unfolding field_left stage_left
-returns-in_ok-check_field-in-Check c = as_judged (search rules) (search rules) (let now = c.args.draft.now in
+returns-in_ok-check_field-in-Check c =
+    as_judged (search rules) (search rules) (let now = c.args.draft.now in
     let cursor = c.args.cursor.now in
     rw c.in-Check.is
     (λ bytes start outcome within.
-    ap (λ (field : Reading Bool). ends_of bytes (with_known_payload now.payload (after_field now bytes field)))
-    (field_at-accepted c.in-Check.kind bytes start cursor.place cursor.count c.check_width.result c.args.head c.in_ok-check_field-in-Check.field-0
-    outcome (sym c.check_field.ensures.judged ∙ c.in_ok-check_field-in-Check.was) c.check_width.ensures)))
+    ap (λ (field : Reading Bool). read_alone bytes
+    (with_known_payload now.payload (after_field now bytes field)))
+    (field_at-accepted c.in-Check.kind bytes start cursor.place cursor.count c.check_width.result
+    c.args.head c.in_ok-check_field-in-Check.field-0
+    outcome (sym c.check_field.ensures.judged ∙ c.in_ok-check_field-in-Check.was)
+    c.check_width.ensures)))

@@ -3,10 +3,11 @@ use Rattle.link_bundle.proofs.judging.take_head.Goals as goal
 
 pub returns-in-Ok-clause-seen : goal.returns-in-Ok-clause-seen
 returns-in-Ok-clause-seen c = λ seen come outcome.
-    went_on c.args.field c.args.cursor.now c.enter.new.self c.args.draft.now c.judge.new.draft c.args.head c.in-Ok.stage seen come outcome
-    c.in-Ok.ensures.judges c.in-Ok.ensures.keeps
-    (record { count = c.enter.ensures.count; place = c.enter.ensures.place; head = c.enter.ensures.head; checks = c.enter.ensures.checks })
+    went_on c.args.field c.args.cursor.now c.enter.new.self c.args.draft.now c.judge.new.draft
+    c.args.head c.in-Ok.stage seen come outcome
+    c.in-Ok.ensures.judges c.in-Ok.ensures.keeps c.enter.ensures
 
 pub returns-in-Err-clause-seen : goal.returns-in-Err-clause-seen
 returns-in-Err-clause-seen c = λ seen come outcome.
-    refused c.args.field c.args.cursor.now c.args.draft.now c.judge.new.draft c.args.head c.in-Err.fault seen come outcome c.in-Err.ensures.judges
+    refused c.args.field c.args.cursor.now c.args.draft.now c.judge.new.draft c.args.head
+    c.in-Err.fault seen come outcome c.in-Err.ensures.judges

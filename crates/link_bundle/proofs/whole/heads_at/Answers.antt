@@ -1,5 +1,5 @@
 use Rattle.std.proofs.Common.{◌∙◌, sym, refl}
-use Rattle.link_bundle_rows.specs.Rows.{block, block_number, block_check_type, byte_string}
+use Rattle.link_bundle_heads.specs.Rows.{block, block_number, block_check_type, byte_string}
 use Rattle.link_bundle.specs.Bundle.{blocks_at}
 use Rattle.link_bundle.proofs.Heads.{row_at-accepted}
 use Rattle.link_bundle.proofs.whole.heads_at.Goals as goal
@@ -9,14 +9,19 @@ unfolding blocks_at
 returns c = λ left primary.
     let bytes = c.args.bytes.now in
     rw (
-      row_at-accepted block bytes c.args.place c.in_ok-head.place c.in_ok-head.head c.in_ok-count.count
+      row_at-accepted block bytes c.args.place c.in_ok-head.place c.in_ok-head.head
+          c.in_ok-count.count
           c.in_ok-head.ensures (sym c.block.ensures.judged ∙ c.in_ok-count.was),
       c.in_ok-block_type.ensures,
-      row_at-accepted (block_number c.in_ok-block_type.block_type c.args.numbers.now) bytes c.in_ok-block_type.place c.in_ok-number_head.place c.in_ok-number_head.number_head c.in_ok-number.number
+      row_at-accepted (block_number c.in_ok-block_type.block_type c.args.numbers.now) bytes
+          c.in_ok-block_type.place c.in_ok-number_head.place c.in_ok-number_head.number_head
+          c.in_ok-number.number
           c.in_ok-number_head.ensures (sym c.block_number.ensures.judged ∙ c.in_ok-number.was),
       c.in_ok-place.ensures,
-      row_at-accepted (block_check_type c.in_ok-count.count) bytes c.in_ok-place.place c.in_ok-head-2.place c.in_ok-head-2.head c.in_ok-check.check
+      row_at-accepted (block_check_type c.in_ok-count.count) bytes c.in_ok-place.place
+          c.in_ok-head-2.place c.in_ok-head-2.head c.in_ok-check.check
           c.in_ok-head-2.ensures (sym c.block_check_type.ensures.judged ∙ c.in_ok-check.was),
-      row_at-accepted byte_string bytes c.in_ok-head-2.place c.in_ok-head-3.place c.in_ok-head-3.head c.in_ok-size.size
+      row_at-accepted byte_string bytes c.in_ok-head-2.place c.in_ok-head-3.place
+          c.in_ok-head-3.head c.in_ok-size.size
           c.in_ok-head-3.ensures (sym c.byte_string.ensures.judged ∙ c.in_ok-size.was),
     ) refl

@@ -14,7 +14,8 @@ loop-byte-preserved c =
     let bytes = c.args.bytes.now in
     let index = c.loop-byte.byte-index in
     let byte = get_or bytes index 0 in
-    let next : 256 ^ (index + 1) ≡ 256 ^ index * 256 = ap (λ (power : ℕ). 256 ^ power) (omega arith) ∙ pow-suc 256 index in
+    let next : 256 ^ (index + 1) ≡ 256 ^ index * 256 =
+    ap (λ (power : ℕ). 256 ^ power) (omega arith) ∙ pow-suc 256 index in
     record {
       number = ap (λ (number : ℕ). number * 256 + c.from.result) c.loop-byte.invariant.number
           ∙ ap (λ (byte : ℕ). big_endian (take index bytes) * 256 + byte) c.from.ensures

@@ -5,5 +5,5 @@ use Rattle.link_command.proofs.command.unpack_command.Goals as goal
 pub returns : goal.returns
 unfolding unpack_words
 returns c = whole_tool c.tool-tool.ensures
-    (joined (one_more c.transfer.ensures c.in_ok-one.ensures)
-    (joined (one_more c.flag-payload.ensures c.in_ok-two.ensures) (one_more c.file.ensures c.in_ok-whole.ensures)))
+    (joined c.in_ok-one.ensures
+    (joined (one_more c.flag-keep_going.ensures c.in_ok-two.ensures) (one_more c.file.ensures c.in_ok-whole.ensures)))

@@ -1,5 +1,9 @@
 use Rattle.link_laws.proofs.Cut.{cuts}
+use Rattle.link_laws.proofs.ReportLines.{cuts_on}
 use Rattle.link_laws.proofs.laws.report_cuts_output.Goals as goal
 
-pub returns : goal.returns
-returns c = cuts
+pub returns-clause-stopping : goal.returns-clause-stopping
+returns-clause-stopping c = cuts
+
+pub returns-clause-going_on : goal.returns-clause-going_on
+returns-clause-going_on c = cuts_on

@@ -1,3 +1,4 @@
+use Rattle.link_list.proofs.Lists.{at_message}
 use Rattle.link_list.proofs.listing.advance.Goals as goal
 
 pub returns-in-Data-clause-gives : goal.returns-in-Data-clause-gives
@@ -5,3 +6,7 @@ returns-in-Data-clause-gives g c = λ start history. rw c.in-Data.is (c.pass_dat
 
 pub returns-in-Data-clause-handed : goal.returns-in-Data-clause-handed
 returns-in-Data-clause-handed g c = λ history. rw c.in-Data.is (c.pass_data.ensures.handed _ history)
+
+pub returns-in_default-clause-gives : goal.returns-in_default-clause-gives
+returns-in_default-clause-gives g c = λ start history.
+    rw (at_message c.args.stage c.in_default.not-Data c.requires.going) (c.read_message.ensures.gives start c.args.piece history)

@@ -33,7 +33,7 @@ returns-in-Ok-clause-handed g c = λ line history lists other.
 
 pub returns-in-Err-clause-gives : goal.returns-in-Err-clause-gives
 returns-in-Err-clause-gives g c = λ start line history at lists.
-    data_ended listing_by by_reading (inner_of c.args.input.now) (inner_of c.load_data.new.self) c.args.writers.now c.load_data.new.writers c.end.new.self at lists.session_at 4096 refl c.in-Err.stop _
+    data_ended listing_by by_reading (inner_of c.args.input.now) (inner_of c.load_data.new.self) c.args.writers.now c.load_data.new.writers c.end.new.self at lists.session_at c.args.piece refl c.in-Err.stop _
     (c.in-Err.ensures.gives history lists.session_at) c.end.ensures
 
 pub returns-in-Err-clause-handed : goal.returns-in-Err-clause-handed

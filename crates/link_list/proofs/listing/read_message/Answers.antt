@@ -12,10 +12,10 @@ use Rattle.link_list.proofs.Lists.{by_reading, same_texts, message_read, clean_e
 use Rattle.link_list.proofs.listing.read_message.Goals as goal
 
 pub returns-in-Ok-Some-clause-gives : goal.returns-in-Ok-Some-clause-gives
-returns-in-Ok-Some-clause-gives g c = λ start history at lists.
+returns-in-Ok-Some-clause-gives g c = λ start piece history at lists.
     let old = inner_of c.args.input.now in
     let got = rw c.in-Ok-Some.field-0-is at (c.in-Ok-Some.ensures.gives history lists.session_at) in
-    message_read old (inner_of c.next_message.new.self) c.next_message.new.writers (settled (source_of old) c.args.writers.now c.next_message.new.writers at got.0) c.in-Ok-Some.offset _ got.1 _ c.go_on.ensures.goes
+    message_read old (inner_of c.next_message.new.self) c.next_message.new.writers (settled (source_of old) c.args.writers.now c.next_message.new.writers at got.0) c.in-Ok-Some.offset _ got.1 piece _ c.go_on.ensures.goes
 
 pub returns-in-Ok-Some-clause-handed : goal.returns-in-Ok-Some-clause-handed
 returns-in-Ok-Some-clause-handed g c = λ history lists other.
@@ -26,7 +26,7 @@ returns-in-Ok-Some-clause-handed g c = λ history lists other.
     (enough_by look.input (inner_of c.args.input.now) (c.in-Ok-Some.ensures.handed (λ e. absurd (cc)) history lists.session_at)) (writes_none look.output look.report writers)
 
 pub returns-in-Ok-None-clause-gives : goal.returns-in-Ok-None-clause-gives
-returns-in-Ok-None-clause-gives g c = λ start history at lists.
+returns-in-Ok-None-clause-gives g c = λ start piece history at lists.
     let old = inner_of c.args.input.now in
     let got = rw c.in-Ok-None.field-0-is at (c.in-Ok-None.ensures.gives history lists.session_at) in
     clean_ended old (inner_of c.next_message.new.self) c.next_message.new.writers (settled (source_of old) c.args.writers.now c.next_message.new.writers at got.0) _ refl got.1
@@ -40,7 +40,7 @@ returns-in-Ok-None-clause-handed g c = λ history lists other.
     (enough_by look.input (inner_of c.args.input.now) (c.in-Ok-None.ensures.handed (λ e. absurd (cc)) history lists.session_at)) (writes_none look.output look.report writers)
 
 pub returns-in-Err-clause-gives : goal.returns-in-Err-clause-gives
-returns-in-Err-clause-gives g c = λ start history at lists.
+returns-in-Err-clause-gives g c = λ start piece history at lists.
     message_ended listing_by by_reading (inner_of c.args.input.now) (inner_of c.next_message.new.self) c.args.writers.now c.next_message.new.writers c.end.new.self at lists.session_at (same_texts _) c.in-Err.stop _
     (c.in-Err.ensures.gives history lists.session_at) c.end.ensures
 

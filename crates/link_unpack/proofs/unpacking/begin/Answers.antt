@@ -1,7 +1,7 @@
 use Rattle.std.proofs.Common.{◌≡◌, ◌+◌, length, ap, ◌∙◌, subst}
 use Rattle.link_run.specs.Reading.{inner_of}
 use Rattle.link_run.specs.Run.{looks}
-use Rattle.link_unpack.specs.UnpackRun.{StandsAfter}
+use Rattle.link_unpack.specs.UnpackRun.{next_of, StandsNext}
 use Rattle.link_unpack.specs.Unpacking.{parts_of}
 use Rattle.link_unpack.specs.declared.transfer.TransferScan.{TransferScan}
 use Rattle.link_unpack.specs.declared.unpacking.Unpacker.{Unpacker}
@@ -29,9 +29,9 @@ returns-clause-gives g c = λ start history at.
     let sum : latest.start + latest.written ≡ length (parts_of latest.wanted at.transfers) = rw kept at.sum in
     let v : Unpacker = record { joiner = c.abandon.new.unpacker.joiner; latest = c.begin_latest.new.latest; good = c.abandon.new.unpacker.good } in
     let joined = joining look start c.args.abandoned c.args.last s c.args.writers.now c.args.unpacker.now c.args.message.now history at
-    c.abandon.new.writers v (c.in_default.ensures.gives at.transfers at.before) (c.abandon.ensures.good at.transfers at.before at.good) c.abandon.ensures.joiner wanted total
+    c.abandon.new.writers v (c.in_default.ensures.gives at.transfers at.before) (c.abandon.ensures.good at.transfers _ at.before at.good) c.abandon.ensures.joiner wanted total
     (c.begin_latest.ensures.follows at.head _ at.transfers at.is at.begins sum) in
-    let P : Wanted → Type 0 = λ w. StandsAfter look start w s c.go_on.new.writers c.go_on.new.unpacker history c.go_on.result in
+    let P : Wanted → Type 0 = λ w. StandsNext look start w s c.go_on.new.writers c.go_on.new.unpacker history (next_of c.go_on.result) in
     subst P wanted (c.go_on.ensures.gives start history joined)
 
 pub returns-clause-writes : goal.returns-clause-writes

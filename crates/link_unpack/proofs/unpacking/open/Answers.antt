@@ -1,4 +1,4 @@
-use Rattle.std.proofs.Common.{[], inl, inr, ap}
+use Rattle.std.proofs.Common.{inl, inr, ap}
 use Rattle.link_wire.specs.Session.{source_of}
 use Rattle.link_run.specs.Reading.{inner_of}
 use Rattle.link_run.specs.Run.{looks, no_texts}
@@ -11,8 +11,8 @@ use Rattle.link_unpack.proofs.Texts.{by_reading, made_is}
 use Rattle.link_unpack.proofs.unpacking.open.Goals as goal
 
 pub returns-in-Ok-clause-gives : goal.returns-in-Ok-clause-gives
-returns-in-Ok-clause-gives g c = λ start history at begins.
-    rw begins.nothing (contact_step (inner_of c.args.input.now) (inner_of c.open.new.self) c.args.writers.now c.args.unpacker.now (rw (← begins.nothing) at) (rw (← begins.nothing) begins) c.in-Ok.field-0 c.in-Ok.ensures.gives)
+returns-in-Ok-clause-gives g c = λ start piece history at begins.
+    rw begins.nothing (contact_step (inner_of c.args.input.now) (inner_of c.open.new.self) c.args.writers.now c.args.unpacker.now (rw (← begins.nothing) at) (rw (← begins.nothing) begins) c.in-Ok.field-0 c.in-Ok.ensures.gives piece)
 
 pub returns-in-Ok-clause-handed : goal.returns-in-Ok-clause-handed
 returns-in-Ok-clause-handed g c = λ other.
@@ -22,7 +22,7 @@ returns-in-Ok-clause-handed g c = λ other.
     (writes_none look.output look.report writers) (inr (inl c.requires)) (writes_none look.output look.report writers)
 
 pub returns-in-Err-clause-gives : goal.returns-in-Err-clause-gives
-returns-in-Err-clause-gives g c = λ start history at begins.
+returns-in-Err-clause-gives g c = λ start piece history at begins.
     let wanted = c.args.unpacker.now.latest.wanted in
     rw begins.nothing (contact_ended (by_reading wanted) (made_is wanted) (inner_of c.args.input.now) (inner_of c.open.new.self) c.args.writers.now c.end.new.self (rw (← begins.nothing) at) (before_all wanted) c.in-Err.stop _ c.in-Err.ensures.gives c.end.ensures)
 

@@ -9,5 +9,6 @@ one_of (byte ∷ (other ∷ rest)) one = absurd (omega arith)
 
 pub returns-then-run-eq1 : goal.returns-then-run-eq1
 returns-then-run-eq1 c = λ covered covers.
-    subst (λ (run : List ℕ). Covers c.args.check c.push.new.self (covered ++ run)) (one_of c.args.run.now c.if-run-eq1.true)
+    subst (λ (run : List ℕ). Covers c.args.check c.push.new.self (covered ++ run))
+    (one_of c.args.run.now c.if-run-eq1.true)
     (c.push.ensures covered covers)

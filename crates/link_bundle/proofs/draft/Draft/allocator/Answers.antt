@@ -1,6 +1,6 @@
 use Rattle.std.proofs.Common.{◌∙◌, Some, sym, rules}
 use Rattle.link_bundle.specs.Left.{field_left, stage_left, allocator_left, node_left}
-use Rattle.link_bundle_rows.specs.Rows.{unsigned}
+use Rattle.link_bundle_heads.specs.Rows.{unsigned}
 use Rattle.link_bundle.proofs.Heads.{row_at-accepted}
 use Rattle.link_bundle.proofs.Names.{by_eid-numbered}
 use Rattle.link_bundle.proofs.Judgings.{as_judged}
@@ -11,5 +11,7 @@ unfolding field_left stage_left allocator_left
 returns c = as_judged (search rules) (search rules) (λ next place bytes start outcome within.
     let now = c.args.self.now in
     let allocator = Some c.in_ok-unsigned.field-0 in
-    rw (row_at-accepted unsigned bytes place next c.args.head c.in_ok-unsigned.field-0 outcome (sym c.unsigned.ensures.judged ∙ c.in_ok-unsigned.was))
-    (by_eid-numbered c.args.role now allocator now.node start bytes (node_left allocator bytes next)))
+    rw (row_at-accepted unsigned bytes place next c.args.head c.in_ok-unsigned.field-0 outcome
+    (sym c.unsigned.ensures.judged ∙ c.in_ok-unsigned.was))
+    (by_eid-numbered c.args.role now allocator now.node start bytes
+    (node_left allocator bytes next)))

@@ -1,7 +1,7 @@
 use Rattle.std.proofs.Common.{◌∙◌, sym, refl, rules}
 use Rattle.link_bundle.specs.Left.{field_left, stage_left, scheme_left}
 use Rattle.link_bundle.specs.EndpointId.{eid_at}
-use Rattle.link_bundle_rows.specs.Rows.{pair}
+use Rattle.link_bundle_heads.specs.Rows.{pair}
 use Rattle.link_bundle.proofs.Heads.{row_at-accepted}
 use Rattle.link_bundle.proofs.Judgings.{as_judged}
 use Rattle.link_bundle.proofs.draft.Draft.eid.Goals as goal
@@ -9,4 +9,5 @@ use Rattle.link_bundle.proofs.draft.Draft.eid.Goals as goal
 pub returns : goal.returns
 unfolding field_left stage_left eid_at scheme_left
 returns c = as_judged (search rules) (search rules) (λ next place bytes start outcome within.
-    rw (row_at-accepted pair bytes place next c.args.head c.in_ok-pair.field-0 outcome (sym c.pair.ensures.judged ∙ c.in_ok-pair.was)) refl)
+    rw (row_at-accepted pair bytes place next c.args.head c.in_ok-pair.field-0 outcome
+    (sym c.pair.ensures.judged ∙ c.in_ok-pair.was)) refl)

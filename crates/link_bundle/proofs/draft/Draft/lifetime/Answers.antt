@@ -1,7 +1,7 @@
 use Rattle.std.proofs.Common.{◌∙◌, sym, rules}
 use Rattle.link_bundle.specs.Left.{field_left, stage_left, lifetime_left, offset_left}
 use Rattle.link_bundle.specs.Primary.{fragment_at}
-use Rattle.link_bundle_rows.specs.Rows.{unsigned}
+use Rattle.link_bundle_heads.specs.Rows.{unsigned}
 use Rattle.link_bundle.proofs.Heads.{row_at-accepted}
 use Rattle.link_bundle.proofs.Judgings.{as_judged}
 use Rattle.link_bundle.proofs.draft.Draft.lifetime.Goals as goal
@@ -9,5 +9,6 @@ use Rattle.link_bundle.proofs.draft.Draft.lifetime.Goals as goal
 pub returns : goal.returns
 unfolding field_left stage_left lifetime_left offset_left fragment_at
 returns c = as_judged (search rules) (search rules) (λ next place bytes start outcome within.
-    rw (row_at-accepted unsigned bytes place next c.args.head c.in_ok-self.field-0 outcome (sym c.unsigned.ensures.judged ∙ c.in_ok-self.was))
+    rw (row_at-accepted unsigned bytes place next c.args.head c.in_ok-self.field-0 outcome
+    (sym c.unsigned.ensures.judged ∙ c.in_ok-self.was))
     (rw (← c.if-is_fragment.ensures) (c.after_fields.ensures.reads bytes start next)))

@@ -1,6 +1,6 @@
 use Rattle.std.proofs.Common.{◌∙◌, sym, refl, rules}
 use Rattle.link_bundle.specs.Left.{field_left, stage_left, scheme_left}
-use Rattle.link_bundle_rows.specs.Rows.{scheme}
+use Rattle.link_bundle_heads.specs.Rows.{scheme}
 use Rattle.link_bundle.proofs.Heads.{row_at-accepted}
 use Rattle.link_bundle.proofs.Judgings.{as_judged}
 use Rattle.link_bundle.proofs.draft.Draft.scheme.Goals as goal
@@ -8,4 +8,5 @@ use Rattle.link_bundle.proofs.draft.Draft.scheme.Goals as goal
 pub returns : goal.returns
 unfolding field_left stage_left scheme_left
 returns c = as_judged (search rules) (search rules) (λ next place bytes start outcome within.
-    rw (row_at-accepted scheme bytes place next c.args.head c.in_ok-scheme.scheme outcome (sym c.scheme.ensures.judged ∙ c.in_ok-scheme.was)) refl)
+    rw (row_at-accepted scheme bytes place next c.args.head c.in_ok-scheme.scheme outcome
+    (sym c.scheme.ensures.judged ∙ c.in_ok-scheme.was)) refl)

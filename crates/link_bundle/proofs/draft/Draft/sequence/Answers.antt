@@ -1,6 +1,6 @@
 use Rattle.std.proofs.Common.{◌∙◌, sym, refl, rules}
 use Rattle.link_bundle.specs.Left.{field_left, stage_left, sequence_left}
-use Rattle.link_bundle_rows.specs.Rows.{unsigned}
+use Rattle.link_bundle_heads.specs.Rows.{unsigned}
 use Rattle.link_bundle.proofs.Heads.{row_at-accepted}
 use Rattle.link_bundle.proofs.Judgings.{as_judged}
 use Rattle.link_bundle.proofs.draft.Draft.sequence.Goals as goal
@@ -8,4 +8,5 @@ use Rattle.link_bundle.proofs.draft.Draft.sequence.Goals as goal
 pub returns : goal.returns
 unfolding field_left stage_left sequence_left
 returns c = as_judged (search rules) (search rules) (λ next place bytes start outcome within.
-    rw (row_at-accepted unsigned bytes place next c.args.head c.in_ok-self.field-0 outcome (sym c.unsigned.ensures.judged ∙ c.in_ok-self.was)) refl)
+    rw (row_at-accepted unsigned bytes place next c.args.head c.in_ok-self.field-0 outcome
+    (sym c.unsigned.ensures.judged ∙ c.in_ok-self.was)) refl)

@@ -1,25 +1,41 @@
-use Rattle.std.proofs.Common.{ℕ, Option, Ok, ap, ◌∙◌, sym, rules}
-use Rattle.link_bundle.specs.Left.{field_left, stage_left, service_left, numbered}
-use Rattle.link_bundle_rows.specs.Rows.{unsigned}
+use Rattle.std.proofs.Common.{ℕ, ◌≡◌, Option, Ok, ap, ◌∙◌, sym, rules}
+use Rattle.link_bundle.specs.declared.draft.Draft.{Draft}
+use Rattle.link_bundle.specs.declared.stage.Field.TheVariants as field
+use Rattle.link_bundle.specs.declared.stage.Part.TheVariants as part
+use Rattle.link_bundle.specs.declared.stage.Stage.{Stage}
+use Rattle.link_bundle.specs.Left.{field_left, stage_left, service_left, numbered, AsReadFrom, EidEnds}
+use Rattle.link_bundle_heads.specs.Rows.{unsigned}
 use Rattle.link_bundle.proofs.Heads.{row_at-accepted}
 use Rattle.link_bundle.proofs.Names.{by_eid}
 use Rattle.link_bundle.proofs.Judgings.{as_judged}
 use Rattle.link_bundle.proofs.draft.Draft.service.Goals as goal
+use Rattle.link_bundle.proofs.draft.Draft.service.Goals.{In_ok-service}
+
+-- the endpoint ID ends with its service number, whether it has an allocator identifier or not
+ended : (c : In_ok-service) (allocator : Option ℕ) (stage : Stage) (new : Draft)
+    → c.args.self.now.allocator ≡ allocator
+    → EidEnds c.args.role (numbered allocator c.args.self.now.node c.in_ok-service.service)
+    c.args.self.now stage new
+    → (next place : ℕ)
+    → AsReadFrom place next (field.Endpoint c.args.role part.Service) c.args.self.now c.args.head
+    (Ok stage) new
+unfolding field_left stage_left service_left
+ended c allocator stage new is ends next place bytes start outcome within =
+    let now = c.args.self.now in
+    let service = c.in_ok-service.service in
+    rw (row_at-accepted unsigned bytes place next c.args.head service outcome
+    (sym c.unsigned.ensures.judged ∙ c.in_ok-service.was))
+    (ap (λ (allocator : Option ℕ). by_eid c.args.role now start bytes
+    (Ok (numbered allocator now.node service, next))) is
+    ∙ ends bytes start next)
 
 pub returns-in-None : goal.returns-in-None
-unfolding field_left stage_left service_left
-returns-in-None c = as_judged (search rules) (search rules) (λ next place bytes start outcome within.
-    let now = c.args.self.now in
-    let service = c.in_ok-service.service in
-    rw (row_at-accepted unsigned bytes place next c.args.head service outcome (sym c.unsigned.ensures.judged ∙ c.in_ok-service.was))
-    (ap (λ (allocator : Option ℕ). by_eid c.args.role now start bytes (Ok (numbered allocator now.node service, next))) c.in-None.is
-    ∙ c.after_eid.ensures.reads bytes start next))
+returns-in-None c =
+    as_judged (search rules) (search rules)
+    (ended (goal.at.returns-in-None c).In_ok-service _ _ _ c.in-None.is c.after_eid.ensures.reads)
 
 pub returns-in-Some : goal.returns-in-Some
-unfolding field_left stage_left service_left
-returns-in-Some c = as_judged (search rules) (search rules) (λ next place bytes start outcome within.
-    let now = c.args.self.now in
-    let service = c.in_ok-service.service in
-    rw (row_at-accepted unsigned bytes place next c.args.head service outcome (sym c.unsigned.ensures.judged ∙ c.in_ok-service.was))
-    (ap (λ (allocator : Option ℕ). by_eid c.args.role now start bytes (Ok (numbered allocator now.node service, next))) c.in-Some.is
-    ∙ c.after_eid-in-Some.ensures.reads bytes start next))
+returns-in-Some c =
+    as_judged (search rules) (search rules)
+    (ended (goal.at.returns-in-Some c).In_ok-service _ _ _ c.in-Some.is
+    c.after_eid-in-Some.ensures.reads)

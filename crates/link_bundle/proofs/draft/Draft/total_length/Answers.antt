@@ -1,6 +1,6 @@
 use Rattle.std.proofs.Common.{◌∙◌, sym, rules}
 use Rattle.link_bundle.specs.Left.{field_left, stage_left, total_left}
-use Rattle.link_bundle_rows.specs.Rows.{unsigned}
+use Rattle.link_bundle_heads.specs.Rows.{unsigned}
 use Rattle.link_bundle.proofs.Heads.{row_at-accepted}
 use Rattle.link_bundle.proofs.Judgings.{as_judged}
 use Rattle.link_bundle.proofs.draft.Draft.total_length.Goals as goal
@@ -8,4 +8,6 @@ use Rattle.link_bundle.proofs.draft.Draft.total_length.Goals as goal
 pub returns : goal.returns
 unfolding field_left stage_left total_left
 returns c = as_judged (search rules) (search rules) (λ next place bytes start outcome within.
-    rw (row_at-accepted unsigned bytes place next c.args.head c.in_ok-total_length.total_length outcome (sym c.unsigned.ensures.judged ∙ c.in_ok-total_length.was)) (c.after_fields.ensures.reads bytes start next))
+    rw (row_at-accepted unsigned bytes place next c.args.head c.in_ok-total_length.total_length
+    outcome (sym c.unsigned.ensures.judged ∙ c.in_ok-total_length.was))
+    (c.after_fields.ensures.reads bytes start next))

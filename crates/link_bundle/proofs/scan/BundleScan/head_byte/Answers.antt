@@ -1,36 +1,60 @@
-use Rattle.std.proofs.Common.{◌∷◌, [], ◌++◌, drop, sym, subst, arith}
+use Rattle.std.proofs.Common.{List, ℕ, ◌∷◌, [], ◌++◌, drop, sym, subst, arith, rules}
+use Rattle.link_cbor.specs.HeadScan.{HasScanned as HasScannedHead}
 use Rattle.link_bundle.specs.declared.stage.Stage.{Stage}
-use Rattle.link_bundle.specs.Scan.{HasCome}
-use Rattle.link_bundle.proofs.Steps.{one_byte, grown_head, grown_bytes, more_head, bad_head}
+use Rattle.link_bundle.specs.Scan.{HasCome, HasScanned, HeadCame}
+use Rattle.link_bundle.proofs.Steps.{at_stage, one_byte, grown_head, grown_bytes, more_head, bad_head}
 use Rattle.link_bundle.proofs.scan.BundleScan.head_byte.Goals as goal
+use Rattle.link_bundle.proofs.scan.BundleScan.head_byte.Goals.{After-head_byte}
 
-pub returns-in-More-clause-seen : goal.returns-in-More-clause-seen
-returns-in-More-clause-seen c = λ seen come.
+-- the head with the byte
+grown : (c : After-head_byte) (seen : List ℕ) → HasScanned c.args.self.now seen
+    → HeadCame c.args.field c.head_byte.new.self c.args.self.now.draft (seen ++ c.args.byte ∷ [])
+grown c seen come =
     let now = c.args.self.now in
-    let here = subst (λ (stage : Stage). HasCome stage now.cursor now.draft seen) c.requires.stage come in
-    let grown = grown_head c.args.field now.cursor c.head_byte.new.self now.draft seen (c.args.byte ∷ []) here (one_byte c.args.byte (omega arith))
-    c.head_byte.ensures.count c.head_byte.ensures.place c.head_byte.ensures.checks in
-    let head = grown_bytes c.args.field now.cursor c.head_byte.new.self now.draft seen c.args.byte here c.head_byte.ensures.place c.head_byte.ensures.head in
-    subst (λ (stage : Stage). HasCome stage c.head_byte.new.self now.draft (seen ++ c.args.byte ∷ [])) (sym c.requires.stage)
-    (more_head c.args.field c.head_byte.new.self now.draft (seen ++ c.args.byte ∷ []) grown head
-    (c.in-More.ensures.front (drop c.head_byte.new.self.place (seen ++ c.args.byte ∷ [])) head))
+    grown_head c.args.field now.cursor c.head_byte.new.self now.draft seen (c.args.byte ∷ [])
+    (at_stage now _ seen c.requires.stage come) (one_byte c.args.byte (omega arith))
+    c.head_byte.ensures.takes
 
-pub returns-in-Bad-clause-seen : goal.returns-in-Bad-clause-seen
-returns-in-Bad-clause-seen c = λ seen come.
+scanned : (c : After-head_byte) (seen : List ℕ) → HasScanned c.args.self.now seen
+    → HasScannedHead c.head_byte.new.self.head
+    (drop c.head_byte.new.self.place (seen ++ c.args.byte ∷ []))
+scanned c seen come =
     let now = c.args.self.now in
-    let here = subst (λ (stage : Stage). HasCome stage now.cursor now.draft seen) c.requires.stage come in
-    let grown = grown_head c.args.field now.cursor c.head_byte.new.self now.draft seen (c.args.byte ∷ []) here (one_byte c.args.byte (omega arith))
-    c.head_byte.ensures.count c.head_byte.ensures.place c.head_byte.ensures.checks in
-    let head = grown_bytes c.args.field now.cursor c.head_byte.new.self now.draft seen c.args.byte here c.head_byte.ensures.place c.head_byte.ensures.head in
-    bad_head c.args.field c.head_byte.new.self now.draft (seen ++ c.args.byte ∷ []) grown
-    (c.in-Bad.ensures.front (drop c.head_byte.new.self.place (seen ++ c.args.byte ∷ [])) head)
+    grown_bytes c.args.field now.cursor c.head_byte.new.self now.draft seen c.args.byte
+    (at_stage now _ seen c.requires.stage come) c.head_byte.ensures.takes.place
+    c.head_byte.ensures.head
 
-pub returns-in-Done-clause-seen : goal.returns-in-Done-clause-seen
-returns-in-Done-clause-seen c = λ seen come.
-    let now = c.args.self.now in
-    let here = subst (λ (stage : Stage). HasCome stage now.cursor now.draft seen) c.requires.stage come in
-    let grown = grown_head c.args.field now.cursor c.head_byte.new.self now.draft seen (c.args.byte ∷ []) here (one_byte c.args.byte (omega arith))
-    c.head_byte.ensures.count c.head_byte.ensures.place c.head_byte.ensures.checks in
-    let head = grown_bytes c.args.field now.cursor c.head_byte.new.self now.draft seen c.args.byte here c.head_byte.ensures.place c.head_byte.ensures.head in
-    c.take_head-self.ensures.seen (seen ++ c.args.byte ∷ []) grown
-    (c.in-Done.ensures.front (drop c.head_byte.new.self.place (seen ++ c.args.byte ∷ [])) head)
+pub returns-in-More : goal.returns-in-More
+returns-in-More c = record {
+  size = search rules;
+  seen = λ seen come.
+      let after = (goal.at.returns-in-More c).After-head_byte in
+      let new = c.head_byte.new.self in
+      let bytes = seen ++ c.args.byte ∷ [] in
+      let head = scanned after seen come in
+      subst (λ (stage : Stage). HasCome stage new c.args.self.now.draft bytes)
+      (sym c.requires.stage)
+      (more_head c.args.field new c.args.self.now.draft bytes (grown after seen come) head
+      (c.in-More.ensures.front (drop new.place bytes) head));
+}
+
+pub returns-in-Bad : goal.returns-in-Bad
+returns-in-Bad c = record {
+  size = search rules;
+  seen = λ seen come.
+      let after = (goal.at.returns-in-Bad c).After-head_byte in
+      let new = c.head_byte.new.self in
+      let bytes = seen ++ c.args.byte ∷ [] in
+      bad_head c.args.field new c.args.self.now.draft bytes (grown after seen come)
+      (c.in-Bad.ensures.front (drop new.place bytes) (scanned after seen come));
+}
+
+pub returns-in-Done : goal.returns-in-Done
+returns-in-Done c = record {
+  size = search rules;
+  seen = λ seen come.
+      let after = (goal.at.returns-in-Done c).After-head_byte in
+      let bytes = seen ++ c.args.byte ∷ [] in
+      c.take_head-self.ensures.seen bytes (grown after seen come)
+      (c.in-Done.ensures.front (drop c.head_byte.new.self.place bytes) (scanned after seen come));
+}

@@ -18,6 +18,7 @@ returns-clause-seen c = record {
   reads = λ more. refl;
   stands = record {
     nothing = refl;
-    checks = subst (λ (check : CheckType). Covers check c.new.result.checks []) (sym c.new-2.ensures.check) c.new.ensures.checks;
+    checks = subst (λ (check : CheckType). Covers check c.new.result.checks [])
+        (sym c.new-2.ensures.check) c.new.ensures.checks;
   };
 }

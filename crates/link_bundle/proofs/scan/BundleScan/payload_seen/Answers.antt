@@ -6,11 +6,15 @@ pub returns-in_err-place : goal.returns-in_err-place
 returns-in_err-place c = λ seen come.
     let now = c.args.self.now in
     c.from_residual.ensures
-    ∙ sym (seen_of-none seen now.draft.payload (payload_of-seen now.stage now.cursor now.draft seen come now.fits) c.in_err-place.was)
+    ∙ sym (seen_of-none seen now.draft.payload
+    (payload_of-seen now.stage now.cursor now.draft seen come now.fits) c.in_err-place.was)
 
 pub returns : goal.returns
 returns c = λ seen come.
     let now = c.args.self.now in
-    ap (λ (count : ℕ). Some (c.in_ok-place.place, count)) (c.min.ensures ∙ ap (λ (left : ℕ). min c.in_ok-place.size left) c.saturating_sub.ensures)
-    ∙ sym (seen_of-some seen now.draft.payload c.in_ok-place.place c.in_ok-place.size now.cursor.count
-    (payload_of-seen now.stage now.cursor now.draft seen come now.fits) c.in_ok-place.was come.count)
+    ap (λ (count : ℕ). Some (c.in_ok-place.place, count))
+    (c.min.ensures ∙ ap (λ (left : ℕ). min c.in_ok-place.size left) c.saturating_sub.ensures)
+    ∙ sym (seen_of-some seen now.draft.payload c.in_ok-place.place c.in_ok-place.size
+    now.cursor.count
+    (payload_of-seen now.stage now.cursor now.draft seen come now.fits) c.in_ok-place.was
+    come.count)

@@ -15,6 +15,7 @@ returns-clause-seen c = record {
   reads = λ more. refl;
   stands = record {
     nothing = refl;
-    checks = subst (λ (check : CheckType). Covers check c.new-self.result.checks []) (sym c.restart.ensures.check) c.new-self.ensures.checks;
+    checks = subst (λ (check : CheckType). Covers check c.new-self.result.checks [])
+        (sym c.restart.ensures.check) c.new-self.ensures.checks;
   };
 }

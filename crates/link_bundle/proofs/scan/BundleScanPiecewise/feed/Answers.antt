@@ -13,10 +13,13 @@ loop-taken-preserved c =
       size = omega arith;
       seen = λ seen related.
           rw (the_rest bytes taken, joined_run seen bytes taken c.advance-taken.result) at
-          (c.advance-taken.ensures.seen (seen ++ take taken bytes) (c.loop-taken.invariant.seen seen related));
+          (c.advance-taken.ensures.seen (seen ++ take taken bytes)
+          (c.loop-taken.invariant.seen seen related));
       split = λ seen related.
-          taken_more seen bytes taken c.advance-taken.result (omega (arith, length-drop taken bytes))
-          (rw (the_rest bytes taken) at (c.advance-taken.ensures.goes (seen ++ take taken bytes) (c.loop-taken.invariant.seen seen related)))
+          taken_more seen bytes taken c.advance-taken.result
+          (omega (arith, length-drop taken bytes))
+          (rw (the_rest bytes taken) at (c.advance-taken.ensures.goes (seen ++ take taken bytes)
+          (c.loop-taken.invariant.seen seen related)))
           (c.loop-taken.invariant.split seen related);
     }
 
@@ -25,11 +28,13 @@ stopped : (c : Else-going) (seen : List ℕ) → HasScanned c.args.self.now seen
     → TakenInAll seen c.args.bytes.now c.loop-taken.taken
 stopped c seen related =
     taken_stop seen c.args.bytes.now c.loop-taken.taken c.loop-taken.invariant.within
-    (sym (c.going.ensures.seen (seen ++ take c.loop-taken.taken c.args.bytes.now) (c.loop-taken.invariant.seen seen related)) ∙ c.if-going.false)
+    (sym (c.going.ensures.seen (seen ++ take c.loop-taken.taken c.args.bytes.now)
+    (c.loop-taken.invariant.seen seen related)) ∙ c.if-going.false)
     (c.loop-taken.invariant.split seen related)
 
 pub returns-else-going-clause-seen : goal.returns-else-going-clause-seen
-returns-else-going-clause-seen c = λ seen related. rw (stopped c seen related).prefix (c.loop-taken.invariant.seen seen related)
+returns-else-going-clause-seen c =
+    λ seen related. rw (stopped c seen related).prefix (c.loop-taken.invariant.seen seen related)
 
 pub returns-else-going-clause-count : goal.returns-else-going-clause-count
 returns-else-going-clause-count c = λ seen related. (stopped c seen related).size
@@ -38,10 +43,12 @@ returns-else-going-clause-count c = λ seen related. (stopped c seen related).si
 ended : (c : After-loop-taken) (seen : List ℕ) → HasScanned c.args.self.now seen
     → TakenInAll seen c.args.bytes.now c.loop-taken.taken
 ended c seen related =
-    taken_all seen c.args.bytes.now c.loop-taken.taken (omega arith) (c.loop-taken.invariant.split seen related)
+    taken_all seen c.args.bytes.now c.loop-taken.taken (omega arith)
+    (c.loop-taken.invariant.split seen related)
 
 pub returns-after-loop-taken-clause-seen : goal.returns-after-loop-taken-clause-seen
-returns-after-loop-taken-clause-seen c = λ seen related. rw (ended c seen related).prefix (c.loop-taken.invariant.seen seen related)
+returns-after-loop-taken-clause-seen c =
+    λ seen related. rw (ended c seen related).prefix (c.loop-taken.invariant.seen seen related)
 
 pub returns-after-loop-taken-clause-count : goal.returns-after-loop-taken-clause-count
 returns-after-loop-taken-clause-count c = λ seen related. (ended c seen related).size

@@ -25,7 +25,8 @@ loop-byte-preserved c kind before pushed =
     let rest = c.as_chunks.result.1.now in
     let start = before ++ take (length c.args.bytes.now / 16 * 16) c.args.bytes.now in
     rw (joined_more start rest c.loop-byte.byte-index c.loop-byte-test.true) at
-    (c.push.ensures kind (start ++ take c.loop-byte.byte-index rest) (c.loop-byte.invariant kind before pushed))
+    (c.push.ensures kind (start ++ take c.loop-byte.byte-index rest)
+    (c.loop-byte.invariant kind before pushed))
 
 pub returns : goal.returns
 returns c kind before pushed =

@@ -11,4 +11,5 @@ pub returns-else-position-lt-REGISTER_BYTES : goal.returns-else-position-lt-REGI
 returns-else-position-lt-REGISTER_BYTES c =
     let bits : 32 ≤ 8 * c.args.position = omega arith in
     let high : 2 ^ 32 ≤ 2 ^ (8 * c.args.position) = pow_mono bits in
-    ap (λ part. part % 256) (sym (div-eq_of_lt {n = c.args.register} {m = 2 ^ (8 * c.args.position)} (omega arith)))
+    ap (λ part. part % 256) (sym (div-eq_of_lt {n = c.args.register} {m = 2 ^ (8 * c.args.position)}
+    (omega arith)))

@@ -12,5 +12,6 @@ returns c kind rule =
     ap₂ (λ index left. bit_xor (get_or (get_or c.args.tables.now 0 []) index 0) left)
     (c.from.ensures ∙ ap (λ low. bit_xor low c.args.byte) (c.byte_of.ensures ∙ lowest))
     (sym (register_after-nil kind (register / 256)))
-    ∙ sym (looked_up kind c.args.tables.now register c.args.byte [] rule (omega arith) (All-nil (λ byte. byte < 256))
+    ∙ sym (looked_up kind c.args.tables.now register c.args.byte [] rule (omega arith)
+    (All-nil (λ byte. byte < 256))
     (omega arith))

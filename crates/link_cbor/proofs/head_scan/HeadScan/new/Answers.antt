@@ -7,4 +7,5 @@ pub invariant_of-result : goal.invariant_of-result
 invariant_of-result c = record { fits = scanned_none.fits }
 
 pub returns-clause-seen : goal.returns-clause-seen
-returns-clause-seen c = record { bytes = All-nil (λ byte. byte < 256); count = refl; stands = scanned_none }
+returns-clause-seen c =
+    record { bytes = All-nil (λ byte. byte < 256); count = refl; stands = scanned_none }

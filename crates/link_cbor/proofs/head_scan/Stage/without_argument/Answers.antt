@@ -6,7 +6,8 @@ use Rattle.link_cbor.proofs.head_scan.Stage.without_argument.Goals as goal
 pub returns-then-major-eq6 : goal.returns-then-major-eq6
 returns-then-major-eq6 c =
     stands-wrong c.args.major
-    (⊎_elim (λ low. rw (lt-ltb c.args.major 2 low) refl) (λ (_, six). rw six refl) c.if-major-eq6.either)
+    (⊎_elim (λ low. rw (lt-ltb c.args.major 2 low) refl)
+    (λ (_, six). rw six refl) c.if-major-eq6.either)
 
 pub returns-else-major-eq6 : goal.returns-else-major-eq6
 returns-else-major-eq6 c =

@@ -18,8 +18,10 @@ stopped : (g : Over) (c : Then-not-going g) (seen : List ℕ)
     → g.Self.Piecewise.has_seen c.args.self.now seen
     → TakenInAll g.Self.Piecewise.goes seen c.args.bytes.now c.loop-taken.taken
 stopped g c seen related =
-    taken_stop g.Self.Piecewise.goes seen c.args.bytes.now c.loop-taken.taken c.loop-taken.auto.taken-end
-    (sym (c.going.ensures.seen (seen ++ take c.loop-taken.taken c.args.bytes.now) (c.loop-taken.invariant.seen seen related))
+    taken_stop g.Self.Piecewise.goes seen c.args.bytes.now c.loop-taken.taken
+    c.loop-taken.auto.taken-end
+    (sym (c.going.ensures.seen (seen ++ take c.loop-taken.taken c.args.bytes.now)
+    (c.loop-taken.invariant.seen seen related))
     ∙ c.if-not-going.true)
     (c.loop-taken.invariant.split seen related)
 
@@ -35,10 +37,13 @@ loop-taken-preserved g c = record {
   size = omega arith;
   seen = λ seen related.
       rw (joined_more seen c.args.bytes.now c.loop-taken.taken c.loop-taken-test.true) at
-      (c.step.ensures.seen (seen ++ take c.loop-taken.taken c.args.bytes.now) (c.loop-taken.invariant.seen seen related));
+      (c.step.ensures.seen (seen ++ take c.loop-taken.taken c.args.bytes.now)
+      (c.loop-taken.invariant.seen seen related));
   split = λ seen related.
-      taken_more g.Self.Piecewise.goes seen c.args.bytes.now c.loop-taken.taken c.loop-taken-test.true
-      (sym (c.going.ensures.seen (seen ++ take c.loop-taken.taken c.args.bytes.now) (c.loop-taken.invariant.seen seen related))
+      taken_more g.Self.Piecewise.goes seen c.args.bytes.now c.loop-taken.taken
+      c.loop-taken-test.true
+      (sym (c.going.ensures.seen (seen ++ take c.loop-taken.taken c.args.bytes.now)
+      (c.loop-taken.invariant.seen seen related))
       ∙ c.if-not-going.false)
       (c.loop-taken.invariant.split seen related);
 }
@@ -48,10 +53,12 @@ ended : (g : Over) (c : After-loop-taken g) (seen : List ℕ)
     → g.Self.Piecewise.has_seen c.args.self.now seen
     → TakenInAll g.Self.Piecewise.goes seen c.args.bytes.now c.loop-taken.taken
 ended g c seen related =
-    taken_all g.Self.Piecewise.goes seen c.args.bytes.now c.loop-taken.taken (omega arith) (c.loop-taken.invariant.split seen related)
+    taken_all g.Self.Piecewise.goes seen c.args.bytes.now c.loop-taken.taken (omega arith)
+    (c.loop-taken.invariant.split seen related)
 
 pub returns-clause-seen : goal.returns-clause-seen
-returns-clause-seen g c seen related = rw (ended g c seen related).front (c.loop-taken.invariant.seen seen related)
+returns-clause-seen g c seen related =
+    rw (ended g c seen related).front (c.loop-taken.invariant.seen seen related)
 
 pub returns-clause-count : goal.returns-clause-count
 returns-clause-count g c seen related = omega (arith, (ended g c seen related).size)

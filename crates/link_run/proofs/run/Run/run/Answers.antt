@@ -3,10 +3,10 @@ use Rattle.link_run.specs.Run.{looks}
 use Rattle.link_run.proofs.Runs.{handed_back}
 use Rattle.link_run.proofs.run.Run.run.Goals as goal
 
-pub steps-init : goal.steps-init
-steps-init g c = (refl, ([], c.requires))
+pub strides-init : goal.strides-init
+strides-init g c = (refl, ([], c.requires))
 
--- The measure of the loop falls. Each step is given a byte, except that the first may be given
+-- The measure of the loop falls. Each stride is given a byte, except that the first may be given
 -- none.
 falls : (limit before after size most next : ℕ) → after ≡ before + size → after < limit
     → (0 < most → 0 < size) → (next ≡ 0 → ⊥)
@@ -15,28 +15,31 @@ falls limit before after size most zero count within some goes_on = absurd (goes
 falls limit before after size zero (suc next) count within some goes_on = omega arith
 falls limit before after size (suc most) (suc next) count within some goes_on = let given = some (omega arith) in omega arith
 
-pub steps-smaller : goal.steps-smaller
-steps-smaller g c =
-    let stood = c.steps.invariant.1 in
-    let went = rw c.in-Ok-More.field-0-is at (c.in-Ok-More.ensures.gives _ stood.0 stood.1) in
-    let within = (g.Self.Run.place c.step.new.self).source.within in
-    falls (2 ^ 63) _ _ (length went.given) _ _ went.count (omega arith) went.some
+pub strides-smaller : goal.strides-smaller
+strides-smaller g c =
+    let stood = c.strides.invariant.1 in
+    let strode = rw c.in-Ok-More.field-0-is at (c.in-Ok-More.ensures.gives _ stood.0 stood.1) in
+    let went = strode.2 in
+    let within = (g.Self.Run.place c.stride.new.self).source.within in
+    falls (2 ^ 63) _ _ (length went.given) _ _ went.count (omega arith) (λ most. went.some (strode.1 most))
     (λ none. rw c.in-Ok-More.field-0-is at (c.in-Ok-More.ensures.goes_on none))
 
-pub steps-preserved : goal.steps-preserved
-steps-preserved g c =
-    let stood = c.steps.invariant.1 in
-    let went = rw c.in-Ok-More.field-0-is at (c.in-Ok-More.ensures.gives _ stood.0 stood.1) in
-    (c.in-Ok-More.ensures.tool ∙ c.steps.invariant.0, (stood.0 ++ went.given, went.at))
+pub strides-preserved : goal.strides-preserved
+strides-preserved g c =
+    let stood = c.strides.invariant.1 in
+    let strode = rw c.in-Ok-More.field-0-is at (c.in-Ok-More.ensures.gives _ stood.0 stood.1) in
+    let went = strode.2 in
+    (c.in-Ok-More.ensures.tool ∙ c.strides.invariant.0, (stood.0 ++ went.given, went.at))
 
 pub returns-in-Ok-Done : goal.returns-in-Ok-Done
 returns-in-Ok-Done g c =
-    let stood = c.steps.invariant.1 in
-    let ended = rw c.in-Ok-Done.field-0-is at (c.in-Ok-Done.ensures.gives _ stood.0 stood.1) in
-    handed_back (looks g.R.InDevice.state g.W.OutDevice.state g.E.OutDevice.state) _ _ _ _ _ (stood.0 ++ ended.given) (Ok c.in-Ok-Done.status) _ ended.gave c.steps.invariant.0 c.end.ensures.devices c.end.ensures.answer
+    let stood = c.strides.invariant.1 in
+    let strode = rw c.in-Ok-Done.field-0-is at (c.in-Ok-Done.ensures.gives _ stood.0 stood.1) in
+    let ended = strode.2 in
+    handed_back (looks g.R.InDevice.state g.W.OutDevice.state g.E.OutDevice.state) _ _ _ _ _ (stood.0 ++ ended.given) (Ok c.in-Ok-Done.status) _ ended.gave c.strides.invariant.0 c.end.ensures.devices c.end.ensures.answer
 
 pub returns-in-Err : goal.returns-in-Err
 returns-in-Err g c =
-    let stood = c.steps.invariant.1 in
-    let ended = c.in-Err.ensures.gives _ stood.0 stood.1 in
-    handed_back (looks g.R.InDevice.state g.W.OutDevice.state g.E.OutDevice.state) _ _ _ _ _ (stood.0 ++ ended.given) (Err c.in-Err.fault) _ ended.gave c.steps.invariant.0 c.end-in-Err.ensures.devices c.end-in-Err.ensures.answer
+    let stood = c.strides.invariant.1 in
+    let ended = (c.in-Err.ensures.gives _ stood.0 stood.1).2 in
+    handed_back (looks g.R.InDevice.state g.W.OutDevice.state g.E.OutDevice.state) _ _ _ _ _ (stood.0 ++ ended.given) (Err c.in-Err.fault) _ ended.gave c.strides.invariant.0 c.end-in-Err.ensures.devices c.end-in-Err.ensures.answer

@@ -1,16 +1,17 @@
-use Rattle.std.proofs.Common.{◌++◌, ap, ◌∙◌}
+use Rattle.std.proofs.Common.{◌++◌, drop, ap, ◌∙◌}
+use Rattle.std.proofs.lemmas.List.{drop-append-le}
 use Rattle.link_transfer.specs.Held.{HeldBytes}
-use Rattle.link_transfer.proofs.Holding.{same_held, range_empty, range_append}
+use Rattle.link_transfer.proofs.Holding.{same_held, range_empty}
 use Rattle.link_transfer.proofs.held.Held.append.Goals as goal
 
 pub returns : goal.returns
 returns c =
     let bytes = c.args.bytes.now in
     let made = c.with_room-start in
-    let start = made.result.0 in
+    let start = made.result in
     same_held _ _ _ _ _ _
-    (c.copy_at.ensures.size ∙ made.ensures.size ∙ ap (λ (h : HeldBytes). h.room) c.self.view_is)
-    (range_empty c.copy_at.new.buffer.items start)
-    (range_append made.new.buffer.items c.copy_at.new.buffer.items bytes start made.result.1 made.ensures.order
-    c.copy_at.ensures.before c.copy_at.ensures.bytes
+    (ap (λ (h : HeldBytes). h.room) c.self.view_is)
+    (range_empty c.put_after.new.buffer.items start)
+    (ap (drop start) c.put_after.ensures.items
+    ∙ drop-append-le start made.new.buffer.items bytes made.ensures.order
     ∙ ap (λ held. held ++ bytes) (made.ensures.bytes ∙ ap (λ (h : HeldBytes). h.bytes) c.self.view_is))

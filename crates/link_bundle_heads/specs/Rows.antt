@@ -1,0 +1,160 @@
+-- The judgement of each head of a bundle: a value, or the first fault in the order given (RFC 9171
+-- section 4).
+
+use Rattle.std.specs.Prelude.{ℕ, ◌+◌, Bool, true, false, not, ◌&&◌, ◌||◌, ◌==◌, nat_le, List, Option, Some, None, Result, Ok, Err, if◌then◌else◌, bit_and}
+use Rattle.std.specs.List.{list_any}
+use Rattle.link_cbor.specs.declared.head.Head.{Head}
+use Rattle.link_cbor.specs.declared.check.CheckKind.{CheckKind}
+use Rattle.link_cbor.specs.declared.check.CheckKind.TheVariants.{Crc16, Crc32}
+use Rattle.link_bundle_types.specs.declared.fault.BundleFault.{BundleFault}
+use Rattle.link_bundle_types.specs.declared.fault.BundleFault.TheVariants.{WrongKind, BadCount, BadVersion, BadCheckType, BadScheme, BadSpecificPart, EidTooLong, BadCheckLength, BadBlockNumber, RepeatedBlockNumber, TooManyBlocks, NoPayloadLast}
+use Rattle.link_bundle_heads.specs.declared.endpoint.Scheme.{Scheme}
+use Rattle.link_bundle_heads.specs.declared.endpoint.Scheme.TheVariants.{Dtn, Ipn}
+
+-- the first fault, or the result of the next part
+infixl 10 ◌>>=◌
+abbrev pub ◌>>=◌ : {A B E : Type 0} → Result A E → (A → Result B E) → Result B E
+(Ok value) >>= next = next value
+(Err fault) >>= next = Err fault
+
+-- the value, if it passes a test
+abbrev pub wanted : {A : Type 0} → Bool → A → BundleFault → Result A BundleFault
+wanted passes value fault = if passes then Ok value else Err fault
+
+-- the value of an item that has the right major type and a value (RFC 8949 section 3.1)
+abbrev pub valued : Bool → Option ℕ → Result ℕ BundleFault
+valued true (Some value) = Ok value
+valued true None = Err WrongKind
+valued false value = Err WrongKind
+
+abbrev pub of_major : ℕ → Head → Result ℕ BundleFault
+of_major major head = valued (head.major == major) head.value
+
+unfoldable pub unsigned : Head → Result ℕ BundleFault
+unsigned head = of_major 0 head
+
+unfoldable pub byte_string : Head → Result ℕ BundleFault
+byte_string head = of_major 2 head
+
+unfoldable pub array : Head → Result ℕ BundleFault
+array head = of_major 4 head
+
+-- an array that has to have two elements
+unfoldable pub pair : Head → Result ℕ BundleFault
+pair head = do
+  count ← array head
+  wanted (count == 2) count BadCount
+
+-- the break (RFC 8949 section 3.2.1): major type 7 without a value
+abbrev pub is_absent : Option ℕ → Bool
+is_absent None = true
+is_absent (Some value) = false
+
+unfoldable pub is_break : Head → Bool
+is_break head = (head.major == 7) && is_absent head.value
+
+-- the primary block (section 4.3.1) has eight elements, two more in a fragment, and one more with a
+-- check field
+unfoldable pub primary_block : Head → Result ℕ BundleFault
+primary_block head = do
+  count ← array head
+  wanted (nat_le 8 count && nat_le count 11) count BadCount
+
+unfoldable pub version : Head → Result ℕ BundleFault
+version head = do
+  number ← unsigned head
+  wanted (number == 7) number BadVersion
+
+-- bundle processing control flag 01 (section 4.2.3)
+unfoldable pub is_fragment : ℕ → Bool
+is_fragment flags = bit_and flags 1 == 1
+
+-- the check types by their numbers (section 4.2.1)
+abbrev pub kind_of_type : ℕ → Result (Option CheckKind) BundleFault
+kind_of_type number =
+    if number == 0 then Ok None else
+    (if number == 1 then Ok (Some Crc16) else
+    (if number == 2 then Ok (Some Crc32) else Err BadCheckType))
+
+unfoldable pub check_type : Head → Result (Option CheckKind) BundleFault
+check_type head = do
+  number ← unsigned head
+  kind_of_type number
+
+-- the number of elements that a check field adds to its block
+abbrev pub check_elements : Option CheckKind → ℕ
+check_elements None = 0
+check_elements (Some kind) = 1
+
+unfoldable pub primary_check_type : ℕ → ℕ → Head → Result (Option CheckKind) BundleFault
+primary_check_type count flags head = do
+  kind ← check_type head
+  wanted (count == 8 + (if is_fragment flags then 2 else 0) + check_elements kind) kind BadCount
+
+-- an endpoint ID (section 4.2.5.1) is an array of a scheme and a specific part
+unfoldable pub scheme : Head → Result Scheme BundleFault
+scheme head = do
+  number ← unsigned head
+  if number == 1 then Ok Dtn else (if number == 2 then Ok Ipn else Err BadScheme)
+
+-- the specific part of scheme dtn: the length of its name in bytes, or `None` for dtn:none
+abbrev pub dtn_by : ℕ → Option ℕ → Result (Option ℕ) BundleFault
+dtn_by major None = Err BadSpecificPart
+dtn_by major (Some value) =
+    if (major == 0) && (value == 0) then Ok None else
+    (if major == 3 then wanted (nat_le value 1024) (Some value) EidTooLong else Err BadSpecificPart)
+
+unfoldable pub dtn_part : Head → Result (Option ℕ) BundleFault
+dtn_part head = dtn_by head.major head.value
+
+-- the specific part of scheme ipn: an array of two or three numbers
+abbrev pub ipn_count : Result ℕ BundleFault → Result ℕ BundleFault
+ipn_count (Ok count) = wanted ((count == 2) || (count == 3)) count BadCount
+ipn_count (Err fault) = Err BadSpecificPart
+
+unfoldable pub ipn_part : Head → Result ℕ BundleFault
+ipn_part head = ipn_count (array head)
+
+-- The array of a canonical block (section 4.3.2), while the payload block is still to come. It has
+-- five elements, and one more with a check field.
+unfoldable pub block : Head → Result ℕ BundleFault
+block head =
+    if is_break head then Err NoPayloadLast else do
+      count ← array head
+      wanted (nat_le 5 count && nat_le count 6) count BadCount
+
+-- the same after 64 blocks, where another block is a fault
+unfoldable pub block_too_many : Head → Result ℕ BundleFault
+block_too_many head = do
+  count ← block head
+  Err TooManyBlocks
+
+-- the payload block (type 1) has number 1 and no other block has it; 0 is that of the primary block
+-- (section 4.1)
+abbrev pub fits_type : ℕ → ℕ → Bool
+fits_type type number = not (number == 0) && (if type == 1 then number == 1 else not (number == 1))
+
+unfoldable pub block_number : ℕ → List ℕ → Head → Result ℕ BundleFault
+block_number type numbers head = do
+  number ← unsigned head
+  fitting ← wanted (fits_type type number) number BadBlockNumber
+  wanted (not (list_any (λ earlier. earlier == number) numbers)) number RepeatedBlockNumber
+
+unfoldable pub block_check_type : ℕ → Head → Result (Option CheckKind) BundleFault
+block_check_type count head = do
+  kind ← check_type head
+  wanted (count == 5 + check_elements kind) kind BadCount
+
+-- the length of a check value in bytes (section 4.2.1)
+abbrev pub check_width : CheckKind → ℕ
+check_width Crc16 = 2
+check_width Crc32 = 4
+
+unfoldable pub check_field : CheckKind → Head → Result ℕ BundleFault
+check_field kind head = do
+  count ← byte_string head
+  wanted (count == check_width kind) count BadCheckLength
+
+-- the break after the payload block
+unfoldable pub closing : Head → Result Bool BundleFault
+closing head = wanted (is_break head) true NoPayloadLast

@@ -1,0 +1,73 @@
+use Rattle.std.proofs.Common.{◌≡◌, refl, ◌++◌, [], Ok, Err, Result, sym, ◌∙◌, subst}
+use Rattle.std.proofs.lemmas.Bool.{false≢true}
+use Rattle.link_wire.specs.declared.IoFault.{IoFault}
+use Rattle.link_run.specs.Reading.{inner_of}
+use Rattle.link_run.specs.Writers.{on_output, GivesTexts}
+use Rattle.link_run.proofs.Runs.{writes_none, outputs_then}
+use Rattle.link_list.specs.ListRun.{latest_line}
+use Rattle.link_list.proofs.Lists.{listed_none, listed_more}
+use Rattle.link_list.proofs.listing.write_lines.Goals as goal
+
+pub lines-init : goal.lines-init
+lines-init g c = record {
+  fits = c.requires;
+  near = λ is. refl;
+  lines = [];
+  writes = writes_none g.W.OutDevice.state g.E.OutDevice.state c.args.writers.now;
+  listed = λ first history is. listed_none g.R.InDevice.state first (inner_of c.args.input.now) (latest_line c.args.latest.now) is;
+}
+
+pub returns-in-Err : goal.returns-in-Err
+returns-in-Err g c =
+    let kept = c.lines.invariant in
+    let line = latest_line c.lines.latest in
+    let P : Result (Unit {0}) IoFault → Type 0 = λ result. GivesTexts g.W.OutDevice.state g.E.OutDevice.state c.lines.writers c.write_line.new.writers (on_output line) result in
+    let part = outputs_then g.W.OutDevice.state g.E.OutDevice.state c.args.writers.now c.lines.writers c.write_line.new.writers kept.lines line (Err c.in-Err.fault) kept.writes (subst P c.in-Err.is c.write_line.ensures.line) in
+    record {
+      fits = kept.fits;
+      near = kept.near;
+      gives = λ first history is. (kept.lines ++ line, part, kept.listed first history is);
+      wrote = part.kind;
+    }
+
+pub returns-then-not-far : goal.returns-then-not-far
+returns-then-not-far g c =
+    let kept = c.lines.invariant in
+    let line = latest_line c.lines.latest in
+    let P : Result (Unit {0}) IoFault → Type 0 = λ result. GivesTexts g.W.OutDevice.state g.E.OutDevice.state c.lines.writers c.write_line.new.writers (on_output line) result in
+    let writes = outputs_then g.W.OutDevice.state g.E.OutDevice.state c.args.writers.now c.lines.writers c.write_line.new.writers kept.lines line (Ok tt) kept.writes (subst P c.in-Ok.is c.write_line.ensures.line) in
+    record {
+      fits = kept.fits;
+      near = kept.near;
+      gives = λ first history is. (kept.lines ++ line, writes, kept.listed first history is);
+      wrote = (on_output (kept.lines ++ line), writes);
+    }
+
+pub returns-in-None : goal.returns-in-None
+returns-in-None g c =
+    let kept = c.lines.invariant in
+    let line = latest_line c.lines.latest in
+    let P : Result (Unit {0}) IoFault → Type 0 = λ result. GivesTexts g.W.OutDevice.state g.E.OutDevice.state c.lines.writers c.write_line.new.writers (on_output line) result in
+    let writes = outputs_then g.W.OutDevice.state g.E.OutDevice.state c.args.writers.now c.lines.writers c.write_line.new.writers kept.lines line (Ok tt) kept.writes (subst P c.in-Ok.is c.write_line.ensures.line) in
+    rw (c.in-None.ensures.none refl).0 (record {
+      fits = kept.fits;
+      near = kept.near;
+      gives = λ first history is. (kept.lines ++ line, writes, kept.listed first history is);
+      wrote = (on_output (kept.lines ++ line), writes);
+    })
+
+pub lines-preserved : goal.lines-preserved
+lines-preserved g c =
+    let kept = c.lines.invariant in
+    let line = latest_line c.lines.latest in
+    let P : Result (Unit {0}) IoFault → Type 0 = λ result. GivesTexts g.W.OutDevice.state g.E.OutDevice.state c.lines.writers c.write_line.new.writers (on_output line) result in
+    let writes = outputs_then g.W.OutDevice.state g.E.OutDevice.state c.args.writers.now c.lines.writers c.write_line.new.writers kept.lines line (Ok tt) kept.writes (subst P c.in-Ok.is c.write_line.ensures.line) in
+    record {
+      fits = c.in-Some.ensures.may_read;
+      near = λ is. absurd (false≢true (sym is ∙ c.if-not-far.false));
+      lines = kept.lines ++ line;
+      writes = writes;
+      listed = λ first history is.
+          let on = kept.listed first history is in
+          listed_more g.R.InDevice.state first (inner_of c.args.input.now) (inner_of c.lines.input) (inner_of c.next_whole.new.self) (kept.lines ++ line) c.in-Some.offset _ on (c.in-Some.ensures.gives _ on.listed.session_at);
+    }

@@ -1,0 +1,26 @@
+use Rattle.std.proofs.Common.{◌≡◌, List, ℕ, length, ◌++◌}
+use Rattle.std.specs.Prelude.{IsTrue, false}
+use Rattle.link_wire.specs.Session.{source_of, may_read}
+use Rattle.link_wire.specs.Source.{window_of}
+use Rattle.link_run.specs.Reading.{inner_of}
+use Rattle.link_run.specs.Run.{Texts}
+use Rattle.link_run.specs.Writers.{on_output, Writes}
+use Rattle.link_list.specs.ListRun.{latest_line, IsListedTo, ListedOn}
+use Rattle.link_list.proofs.listing.write_lines.Given as goal
+
+-- the lines of some whole messages were written; that of the latest is due
+abbrev pub invariant-lines : goal.invariant-lines
+invariant-lines g l =
+    let look = g.R.InDevice.state in
+    record {
+      fits : IsTrue (may_read (inner_of l.input));
+      near : l.far ≡ false → l.input ≡ l.fn.input;
+      lines : List ℕ;
+      writes : Writes g.W.OutDevice.state g.E.OutDevice.state l.fn.writers l.writers (on_output lines);
+      listed : (first : Texts) (history : List ℕ)
+          → IsListedTo look first (inner_of l.fn.input) (latest_line l.fn.latest) history
+          → ListedOn look first (inner_of l.fn.input) (inner_of l.input) (lines ++ latest_line l.latest) history;
+    }
+
+abbrev pub decreases-lines : goal.decreases-lines
+decreases-lines g l = length (window_of (source_of (inner_of l.input)))

@@ -1,0 +1,92 @@
+-- Steps, one after another, make a stride.
+use Rattle.std.proofs.Common.{◌≡◌, ℕ, ◌+◌, ◌≤◌, Bool, List, ◌++◌, length, Option, None, Result, Ok, Err, ⊎_elim, sym, subst, append_assoc, length-append, arith}
+use Rattle.std.proofs.lemmas.Bool.{cases_lt}
+use Rattle.link_wire.specs.declared.IoFault.{IoFault}
+use Rattle.link_wire.specs.declared.Source.{Source}
+use Rattle.link_run.specs.Made.{Made, tool_of}
+use Rattle.link_run.specs.Run.{Tool, Looks, Devices, Place, EndedRun, WentOn, LastStep, GivesStep, GivesStride}
+use Rattle.link_run.specs.Stages.{Stands, GivesStage, IsMore}
+use Rattle.link_run.specs.declared.run.Progress.{Progress}
+use Rattle.link_run.specs.declared.run.Progress.TheVariants.{More, Done}
+use Rattle.link_run.specs.declared.run.Status.{Status}
+
+-- a step that went on, and then one that goes on too
+went_later : {R : Type 0} {old mid new : Source R} {between stands : List ℕ → Type 0}
+    {first second : ℕ} {history : List ℕ} → (went : WentOn old mid between first history)
+    → WentOn mid new stands second (history ++ went.given)
+    → WentOn old new stands (first + second) history
+went_later {stands} {first} {history} went more =
+    let one = went.count in
+    let two = more.count in
+    let fits = went.size in
+    let fits_later = more.size in
+    record {
+      given = went.given ++ more.given;
+      some = λ some. ⊎_elim
+          (λ is. let given = went.some is in omega (arith, length-append went.given more.given))
+          (λ none. let given = more.some (omega arith) in omega (arith, length-append went.given more.given))
+          (cases_lt 0 first);
+      size = omega (arith, length-append went.given more.given);
+      count = omega (arith, length-append went.given more.given);
+      window = more.window;
+      at = subst stands (append_assoc history went.given more.given) more.at;
+    }
+
+module _ {R W E : Type 0} (look : Looks R W E) (tool : Tool) (start : Devices R W E) where
+  -- a step that went on, and then the last one
+  last_later : {now : Devices R W E} {first second : ℕ} {history : List ℕ}
+      {answer : Result Status IoFault} (bytes : List ℕ) → length bytes ≤ first
+      → LastStep look tool start now second (history ++ bytes) answer
+      → LastStep look tool start now (first + second) history answer
+  last_later {now} {history} {answer} bytes size last =
+      let size_later = last.size in
+      let P : List ℕ → Type 0 = λ given. EndedRun look tool start now given answer in
+      record {
+        given = bytes ++ last.given;
+        size = omega (arith, length-append bytes last.given);
+        gave = subst P (append_assoc history bytes last.given) last.gave;
+      }
+
+  module _ (old mid new : Place R W E) (between stands : List ℕ → Type 0) (history : List ℕ) where
+    -- a step that went on, and then another step
+    pub step_then : (first second : ℕ) (result : Result Progress IoFault)
+        → (went : WentOn old.source mid.source between first history)
+        → GivesStep look tool start mid new stands second (history ++ went.given) result
+        → GivesStep look tool start old new stands (first + second) history result
+    step_then first second (Ok More) went gives = went_later went gives
+    step_then first second (Ok (Done status)) went gives = last_later went.given went.size gives
+    step_then first second (Err fault) went gives = last_later went.given went.size gives
+
+    -- A stride that went on, and then another, are one stride. A step is a stride, too: its size is
+    -- its bound.
+    pub stride_then : (most later : ℕ) (result : Result Progress IoFault)
+        → (strode : GivesStride look tool start old mid between most history (Ok More))
+        → GivesStride look tool start mid new stands later (history ++ strode.2.given) result
+        → GivesStride look tool start old new stands most history result
+    stride_then most later result strode more = (
+      strode.0 + more.0,
+      λ some. let first = strode.1 some in omega arith,
+      step_then strode.0 more.0 result strode.2 more.2,
+    )
+
+-- what holds after a step of its tool holds of a run, which has no answer if it goes on
+pub stage_kept : {R W E : Type 0} (look : Looks R W E) (made later : List ℕ → Made)
+    (start : Devices R W E) (begun : Bool) (old new : Place R W E) (knows : List ℕ → Type 0)
+    (most : ℕ) (history : List ℕ) (answer : Option (Result Status IoFault))
+    (result : Result Progress IoFault) → later ≡ made → (IsMore result → answer ≡ None)
+    → GivesStage look made start begun old new knows most history result
+    → GivesStep look (tool_of made) start old new
+    (λ bytes. (answer ≡ None) × (Stands look later start begun new bytes × knows bytes))
+    most history result
+stage_kept look made later start begun old new knows most history answer (Ok More) same none went =
+    let P : (List ℕ → Made) → Type 0 = λ m. Stands look m start begun new (history ++ went.given) in
+    record {
+      given = went.given;
+      some = went.some;
+      size = went.size;
+      count = went.count;
+      window = went.window;
+      at = (none tt, (subst P (sym same) went.at.0, went.at.1));
+    }
+stage_kept look made later start begun old new knows most history answer (Ok (Done status)) same none last = last
+stage_kept look made later start begun old new knows most history answer (Err fault) same none last = last

@@ -1,0 +1,21 @@
+use Rattle.std.proofs.Common.{◌<◌, ◌∙◌, Option, Result, subst}
+use Rattle.link_wire.specs.declared.IoFault.{IoFault}
+use Rattle.link_run.specs.Reading.{inner_of}
+use Rattle.link_run.specs.Stages.{most_by}
+use Rattle.link_run.specs.Writers.{place_of}
+use Rattle.link_run.specs.declared.run.Status.{Status}
+use Rattle.link_run.proofs.Strides.{stage_kept}
+use Rattle.link_run.proofs.stages.ToolRunRunReader.stride.Goals as goal
+
+pub returns-clause-gives : goal.returns-clause-gives
+returns-clause-gives g c = λ start history at.
+    let strode = c.stride-progress.ensures.gives start history at.1.0 at.1.1 in
+    let P : Option (Result Status IoFault) → Type 0 = λ answer. 0 < most_by answer (g.T.Stages.most c.args.self.now.tool) in
+    let S = g.S.Feed.source in
+    let next = c.stride-progress.new in (
+      strode.0,
+      λ some. strode.1 (subst P at.0 some),
+      stage_kept _ _ _ start _ (place_of (S (inner_of c.args.self.now.input)) c.args.self.now.writers)
+          (place_of (S (inner_of next.input)) next.writers) (g.T.Stages.knows next.self (inner_of next.input))
+          strode.0 history _ _ c.stride-progress.ensures.made (λ more. c.keep.ensures.more more ∙ at.0) strode.2,
+    )

@@ -1,0 +1,74 @@
+-- Data was made ready in the window, and then a step takes it.
+use Rattle.std.proofs.Common.{ℕ, ◌<◌, ◌≤◌, true, Bool, List, [], ◌∙◌, subst, append-nil, arith}
+use Rattle.std.specs.Io.KnownBytes.{Consumes}
+use Rattle.std.proofs.KnownBytes.{Consumes-trans}
+use Rattle.link_wire.specs.Session.{source_of, LoadedData}
+use Rattle.link_wire.specs.Source.{ahead}
+use Rattle.link_wire.specs.declared.session.Session.{Session}
+use Rattle.link_run.specs.Made.{Made}
+use Rattle.link_run.specs.Run.{Looks, Devices}
+use Rattle.link_run.specs.Stages.{Stands}
+use Rattle.link_run.specs.Writers.{place_of}
+use Rattle.link_run.specs.declared.writers.Writers.{Writers}
+use Rattle.link_unpack.specs.UnpackRun.{Unpacks, GivesNext}
+use Rattle.link_unpack.specs.declared.unpacking.Next.{Next}
+use Rattle.link_unpack.specs.declared.unpacking.Next.TheVariants as next
+use Rattle.link_unpack.specs.declared.unpacking.Stage.TheVariants as stage
+use Rattle.link_unpack.specs.declared.unpacking.Unpacker.{Unpacker}
+use Rattle.link_unpack.specs.declared.wanted.Wanted.{Wanted}
+
+module _ {R W E : Type 0} (look : Looks R W E) (start : Devices R W E) (old mid : Session R)
+    (history : List ℕ) (n : ℕ) (ready : LoadedData look.input old mid history n) where
+  pub stands_ready : (made : List ℕ → Made) (w : Writers W E)
+      → Stands look made start true (place_of (source_of old) w) history
+      → Stands look made start true (place_of (source_of mid) w) history
+  stands_ready made w at =
+      let P : List ℕ → Type 0 = λ bytes. Consumes (look.input start.reader).left (ahead look.input (source_of mid)) bytes in
+      record {
+        written = record {
+          takes = subst P (append-nil history) (Consumes-trans (look.input start.reader).left (ahead look.input (source_of old)) (ahead look.input (source_of mid)) history [] at.written.takes ready.readies.next);
+          count = ready.readies.count ∙ at.written.count;
+          writes = at.written.writes;
+          reports = at.written.reports;
+        };
+        sound = record {
+          reader = ready.readies.device ∙ at.sound.reader;
+          output = at.sound.output;
+          report = at.sound.report;
+        };
+        unshown = at.unshown;
+      }
+
+  pub unpacks_ready : (last : Bool) (u : Unpacker)
+      → Unpacks look.input (stage.Data last) old u history
+      → Unpacks look.input (stage.Data last) mid u history
+  unpacks_ready last u at = record {
+    session = ready.at;
+    taken = at.taken;
+    joiner = at.joiner;
+    sum = at.sum;
+    total = at.total;
+    good = at.good;
+    waits = at.waits;
+  }
+
+  -- the step that takes it is the step that made it ready
+  pub given_ready : (wanted : Wanted) (size piece : ℕ) (last : Bool) (new : Session R)
+      (after : Writers W E) (u : Unpacker) (result : Next) → 0 < size → size ≤ piece
+      → GivesNext look start wanted size (stage.Data last) mid new after u history result
+      → GivesNext look start wanted piece (stage.Data last) old new after u history result
+  given_ready wanted size piece last new after u (next.Stage now) some within went =
+      let count = ready.readies.count in
+      let later = went.count in
+      let fits = went.size in
+      record {
+        given = went.given;
+        some = λ may. went.some some;
+        size = omega arith;
+        count = omega arith;
+        window = went.window;
+        at = went.at;
+      }
+  given_ready wanted size piece last new after u (next.Ended answer) some within end =
+      let fits = end.size in
+      record { given = end.given; size = omega arith; gave = end.gave }

@@ -1,0 +1,64 @@
+use Rattle.std.proofs.Common.{◌≡◌, ◌<◌, ◌++◌, true, length, Err, sym, ◌∙◌, subst, arith}
+use Rattle.link_wire.specs.Limits.{longest_head}
+use Rattle.link_wire.specs.Session.{source_of}
+use Rattle.link_wire.specs.declared.IoFault.TheVariants as io
+use Rattle.link_run.specs.Reading.{inner_of}
+use Rattle.link_run.specs.Run.{looks, no_texts}
+use Rattle.link_run.specs.Stages.{Stands}
+use Rattle.link_run.specs.Writers.{place_of}
+use Rattle.link_run.proofs.Runs.{writes_none}
+use Rattle.link_unpack.specs.Unpacking.{unpacking_of}
+use Rattle.link_unpack.specs.UnpackRun.{GivesNext}
+use Rattle.link_unpack.specs.declared.unpacking.Next.TheVariants as next
+use Rattle.link_unpack.specs.declared.unpacking.Stage.TheVariants as stage
+use Rattle.link_unpack.specs.declared.wanted.Wanted.{Wanted}
+use Rattle.link_unpack.proofs.Strides.{far_step, far_later, far_quiet, handed_more}
+use Rattle.link_unpack.proofs.unpacking.stride_message.Goals as goal
+
+pub returns-in-Some-clause-gives : goal.returns-in-Some-clause-gives
+returns-in-Some-clause-gives g c = λ start history at knows.
+    let look = looks g.R.InDevice.state g.W.OutDevice.state g.E.OutDevice.state in
+    let old = inner_of c.args.input.now in
+    let read = inner_of c.take_message-next.new.input in
+    let new = inner_of c.take_loaded.new.input in
+    let writers = c.args.writers.now in
+    let between = c.take_message-next.new.writers in
+    let after = c.take_loaded.new.writers in
+    let wanted = c.args.unpacker.now.latest.wanted in
+    let v = c.take_loaded.new.unpacker in
+    let result = c.take_loaded.result in
+    let ready = length c.loaded-ready.result.now in
+    let now = stage.Data c.in-Some.last in
+    let went = rw c.in-Some.ensures.0 at (c.take_message-next.ensures.gives start 4096 history at knows) in
+    let some : 0 < ready = c.in-Some.ensures.1 in
+    let P : Wanted → Type 0 = λ w. Stands look (unpacking_of w) start true (place_of (source_of read) between) (history ++ went.given) in
+    let Q : Wanted → Type 0 = λ w. GivesNext look start w ready now read new after v (history ++ went.given) result in
+    let gives = subst Q c.take_message-next.ensures.wanted (c.take_loaded.ensures.gives start (history ++ went.given) some (subst P (sym c.take_message-next.ensures.wanted) went.at.0.0) went.at.0.1) in
+    far_later look start wanted old read new writers between after v _ longest_head history result went
+    (far_step look start wanted ready now read new between after v (history ++ went.given) result some gives)
+
+pub returns-in-Some-clause-handed : goal.returns-in-Some-clause-handed
+returns-in-Some-clause-handed g c = λ history knows other.
+    let look = looks g.R.InDevice.state g.W.OutDevice.state g.E.OutDevice.state in
+    let read = inner_of c.take_message-next.new.input in
+    handed_more look (source_of (inner_of c.args.input.now)) (source_of read) (source_of (inner_of c.take_loaded.new.input)) c.args.writers.now c.take_message-next.new.writers c.take_loaded.new.writers c.take_loaded.result
+    (c.take_message-next.ensures.handed history knows (λ e.
+    let no : next.Stage (stage.Data c.in-Some.last) ≡ next.Ended (Err io.Write) = sym c.in-Some.ensures.0 ∙ e in
+    absurd (cc)))
+    c.take_loaded.ensures.writes other
+
+pub returns-in-None-clause-gives : goal.returns-in-None-clause-gives
+returns-in-None-clause-gives g c = λ start history at knows.
+    let look = looks g.R.InDevice.state g.W.OutDevice.state g.E.OutDevice.state in
+    rw c.pass_quiet.ensures.same
+    (far_quiet look start c.args.unpacker.now.latest.wanted 4096 stage.Message (inner_of c.args.input.now) (inner_of c.take_message-next.new.input) (inner_of c.pass_quiet.new.input)
+    c.args.writers.now c.take_message-next.new.writers c.take_message-next.new.unpacker history c.take_message-next.result (omega arith)
+    c.take_message-next.ensures.wanted c.pass_quiet.ensures.other c.pass_quiet.ensures.passed (c.take_message-next.ensures.gives start 4096 history at knows))
+
+pub returns-in-None-clause-handed : goal.returns-in-None-clause-handed
+returns-in-None-clause-handed g c = λ history knows other.
+    let look = looks g.R.InDevice.state g.W.OutDevice.state g.E.OutDevice.state in
+    let after = c.take_message-next.new.writers in
+    handed_more look (source_of (inner_of c.args.input.now)) (source_of (inner_of c.take_message-next.new.input)) (source_of (inner_of c.pass_quiet.new.input)) c.args.writers.now after after (next.Stage stage.Message)
+    (c.take_message-next.ensures.handed history knows (λ e. other (c.pass_quiet.ensures.same ∙ e)))
+    (no_texts, writes_none look.output look.report after) (λ e. absurd (cc))

@@ -1,0 +1,35 @@
+use Rattle.std.proofs.Common.{ℕ, List, length, take, ap, subst, arith, length-take}
+use Rattle.link_io.proofs.Sources.{ended_window}
+use Rattle.link_io.specs.Source.{window_of}
+use Rattle.link_wire.specs.Here.{IsHere}
+use Rattle.link_wire.specs.Message.{message_at}
+use Rattle.link_wire.specs.Whole.{AreQuiet}
+use Rattle.link_wire.proofs.Sessions.{none_left, passed}
+use Rattle.link_wire.proofs.Steady.{window_has_head}
+use Rattle.link_wire.proofs.session.Session.pass_quiet.Goals as goal
+
+pub returns-clause-gives : goal.returns-clause-gives
+returns-clause-gives g c = λ history at.
+    let old = c.args.self.now in
+    let window = window_of old.source in
+    let P : List ℕ → Type 0 = λ bytes. AreQuiet (length history) (take c.quiet-count.result bytes) in
+    let quiet = subst P c.window.ensures.window (c.quiet-count.ensures.quiet (length history)) in
+    record {
+      given = take c.quiet-count.result window;
+      entries = quiet.entries;
+      size = omega (arith, length-take c.quiet-count.result window, c.quiet-count.ensures.within, ap length c.window.ensures.window);
+      quiet = quiet.quiet;
+      passed = passed old history at (none_left old at.going c.requires) _ _ c.give.ensures.takes (c.give.ensures.live at.live) (none_left old at.going c.requires) at.going quiet.entries quiet.are;
+    }
+
+-- after the end the window is empty, so it has no message
+pub returns-clause-again : goal.returns-clause-again
+returns-clause-again g c = λ ended.
+    let none = ended_window c.args.self.now.source ended.1 in
+    omega (arith, c.quiet-count.ensures.within, none, ap length c.window.ensures.window)
+
+pub returns-clause-here : goal.returns-clause-here
+returns-clause-here g c = λ history at some.
+    let s = c.args.self.now in
+    let P : List ℕ → Type 0 = λ window. IsHere 0 (message_at window) in
+    window_has_head g.R.InDevice.state s (none_left s at.going c.requires) (subst P c.window.ensures.window (c.quiet-count.ensures.here some))
