@@ -1,13 +1,15 @@
 -- The bytes of successive calls of a source, joined, are the bytes given by all these calls.
-use Rattle.std.proofs.Common.{◌≡◌, ℕ, zero, suc, ◌+◌, ◌<◌, ◌≤◌, List, [], ◌∷◌, ◌++◌, length, take, drop, Option, Some, None, ap, sym, ◌∙◌, Bool, true, false, ◌&&◌, eqb, eqb-true, add_assoc, length-append, append_assoc, append-nil, add-zero, refl, arith, length-take, length-drop, take-append-drop}
+use Rattle.std.proofs.Common.{◌≡◌, ℕ, zero, suc, ◌+◌, ◌-◌, ◌<◌, ◌≤◌, nat_lt, List, [], ◌∷◌, ◌++◌, length, take, drop, Option, Some, None, ap, sym, ◌∙◌, Bool, true, false, ◌&&◌, eqb, eqb-true, add_assoc, length-append, append_assoc, append-nil, add-zero, refl, arith, length-take, length-drop, take-append-drop}
 use Rattle.std.specs.Io.KnownBytes.{Consumes, prepend_known}
 use Rattle.std.proofs.KnownBytes.{Consumes-nil, Consumes-trans}
 use Rattle.std.proofs.lemmas.List.Elements.{All-nil, All-append}
+use Rattle.std.proofs.Math.Seq.{take-take}
+use Rattle.std.proofs.lemmas.Bool.Decides.{nat_tests}
 use Rattle.std.proofs.lemmas.Grind.{common_steps}
 use Rattle.link_io.specs.Bytes.{IsByte}
 use Rattle.link_io.specs.Device.{Input}
-use Rattle.link_io.specs.Limits.{window_size}
-use Rattle.link_io.specs.Source.{is_open, is_fresh, IsSourceAt, IsLiveBy, IsLive, HasEnded, IsOver, given_by, window_of, ahead, WindowAfter, Takes, Readies, StopsAfter}
+use Rattle.link_io.specs.Limits.{longest_input, window_size}
+use Rattle.link_io.specs.Source.{is_open, is_fresh, IsSourceAt, IsLiveBy, IsLive, HasEnded, IsOver, given_by, window_of, held_from, front_of, ahead, WindowAfter, Takes, Readies, StopsAfter}
 use Rattle.link_io.specs.declared.fault.IoFault.{IoFault}
 use Rattle.link_io.proofs.Windows.{range_none}
 use Rattle.link_io.specs.declared.source.Flow.{Flow}
@@ -48,6 +50,75 @@ live_open : (now : Flow) (left : Option (List ℕ)) (start end : ℕ) → is_ope
 live_open flow.Open left start end is = tt
 live_open flow.Ended left start end is = absurd (cc)
 live_open (flow.Failed fault) left start end is = absurd (cc)
+
+-- the first `count` bytes of what a reader holds, if the source may give them
+pub record HeldPart (now : Flow) (most : ℕ) (held : List ℕ) (count : ℕ) : Type 0 where
+  pub same : take count (held_from now most held) ≡ take count held
+  pub here : count ≤ length held
+  pub room : count ≤ most
+  pub live : (left : Option (List ℕ)) (start end : ℕ) → IsLiveBy now left start end
+
+pub held_part : (now : Flow) (most : ℕ) (held : List ℕ) (count : ℕ) → 0 < count
+    → count ≤ length (held_from now most held) → HeldPart now most held count
+held_part flow.Open most held count some within =
+    let parts = length-take most held in
+    record {
+      same = take-take count most held (omega (arith, parts, within));
+      here = omega (arith, parts, within);
+      room = omega (arith, parts, within);
+      live = λ left start end. tt;
+    }
+held_part flow.Ended most held count some within = absurd (omega (arith, some, within))
+held_part (flow.Failed fault) most held count some within = absurd (omega (arith, some, within))
+
+-- an open source may give what is held, up to the limit
+pub held_open : (now : Flow) (most : ℕ) (held : List ℕ) → now ≡ flow.Open
+    → held_from now most held ≡ take most held
+held_open flow.Open most held is = refl
+held_open flow.Ended most held is = absurd (cc)
+held_open (flow.Failed fault) most held is = absurd (cc)
+
+-- a source that has ended or failed gives nothing more
+pub held_closed : (now : Flow) (most : ℕ) (held : List ℕ) → (now ≡ flow.Open → ⊥)
+    → held_from now most held ≡ []
+held_closed flow.Open most held closed = absurd (closed refl)
+held_closed flow.Ended most held closed = refl
+held_closed (flow.Failed fault) most held closed = refl
+
+none_held : (now : Flow) (most : ℕ) → held_from now most [] ≡ []
+none_held flow.Open most = grind (arith, common_steps)
+none_held flow.Ended most = refl
+none_held (flow.Failed fault) most = refl
+
+-- bytes that come after an empty window
+pub Consumes-behind : (old new : Option (List ℕ)) (bytes : List ℕ) → Consumes old new bytes
+    → Consumes (prepend_known [] old) (prepend_known [] new) bytes
+Consumes-behind None new bytes read = tt
+Consumes-behind (Some xs) None bytes read = absurd read
+Consumes-behind (Some xs) (Some ys) bytes read = read
+
+module _ {R : Type 0} (look : R → Input) (s : Source R) where
+  -- a window that is not empty is all that is at hand
+  pub front_open : s.start < s.end → front_of look s ≡ window_of s
+  unfolding front_of
+  front_open some =
+      let full : nat_lt s.start s.end ≡ true = grind (arith, nat_tests, some) in
+      rw full refl
+
+  pub front_window : 0 < length (window_of s) → front_of look s ≡ window_of s
+  front_window some = front_open (omega (arith, some, length-take (s.end - s.start) (drop s.start s.window)))
+
+  -- with an empty window, what the reader holds is at hand
+  pub front_held : s.end ≤ s.start
+      → front_of look s ≡ held_from s.flow (longest_input - s.given) (look s.reader).held
+  unfolding front_of
+  front_held none =
+      let empty : nat_lt s.start s.end ≡ false = grind (arith, nat_tests, none) in
+      rw empty refl
+
+  -- nothing is at hand if the window is empty and the reader holds nothing
+  pub front_none : s.end ≤ s.start → (look s.reader).held ≡ [] → front_of look s ≡ []
+  front_none none held = front_held none ∙ rw held (none_held s.flow (longest_input - s.given))
 
 module _ {R : Type 0} (s : Source R) (fresh : is_fresh s ≡ true) where
   -- a fresh source has given nothing

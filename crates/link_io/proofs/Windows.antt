@@ -19,6 +19,17 @@ range_rest window start end count within =
     ∙ sym (drop-take count rest (drop start window))
     ∙ ap (λ n. drop count (take n (drop start window))) (sym parts)
 
+-- the window is the next of the input
+pub begins_window : (left : Option (List ℕ)) (window : List ℕ)
+    → BeginsWith (prepend_known window left) window
+begins_window None window = tt
+begins_window (Some all) window = (all, refl)
+
+-- no byte comes next in any input
+pub begins_nothing : (left : Option (List ℕ)) → BeginsWith left []
+begins_nothing None = tt
+begins_nothing (Some all) = (all, refl)
+
 -- the bytes of the window are the next of the input
 pub window_next : (left : Option (List ℕ)) (window : List ℕ) (count : ℕ)
     → BeginsWith (prepend_known window left) (take count window)

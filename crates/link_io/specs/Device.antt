@@ -1,10 +1,12 @@
 -- The state of a device, as contracts see it.
 use Rattle.std.specs.Prelude.{◌≡◌, ℕ, ◌<◌, Bool, List, ◌++◌, length, Option, None, Some, ⊤}
 
--- an input device: the bytes left, `None` if they are not known, and whether it has failed
+-- an input device: the bytes left, `None` if they are not known, whether it has failed, and the next
+-- bytes, as many as it already holds
 pub record Input : Type 0 where
   pub left : Option (List ℕ)
   pub failed : Bool
+  pub held : List ℕ
 
 -- an output device: the bytes written, `None` if they are not known, and whether it has failed
 pub record Output : Type 0 where

@@ -1,6 +1,6 @@
 -- Which bytes of its reader a `Source` has given. It reads ahead: the bytes that were taken and not
 -- given are its window.
-use Rattle.std.specs.Prelude.{◌≡◌, ℕ, ◌+◌, ◌-◌, ◌<◌, ◌≤◌, Bool, true, false, ◌&&◌, ◌==◌, List, [], ◌∷◌, ◌++◌, length, take, slice_range, Option, Result, Ok, Err}
+use Rattle.std.specs.Prelude.{◌≡◌, ℕ, ◌+◌, ◌-◌, ◌<◌, ◌≤◌, Bool, true, false, ◌&&◌, ◌==◌, nat_lt, if◌then◌else◌, List, [], ◌∷◌, ◌++◌, length, take, slice_range, Option, Result, Ok, Err}
 use Rattle.std.specs.Io.KnownBytes.{Consumes, IsAtEnd, prepend_known}
 use Rattle.link_io.specs.Bytes.{AreBytes}
 use Rattle.link_io.specs.Device.{Input}
@@ -28,6 +28,13 @@ IsLiveBy flow.Open left start end = Unit {0}
 IsLiveBy flow.Ended left start end = IsAtEnd left × (start ≡ end)
 IsLiveBy (flow.Failed fault) left start end = ⊥
 
+-- The next bytes, if the window is empty: those that the reader holds, up to the limit of an input.
+-- None comes after the end or a fault.
+abbrev pub held_from : Flow → (most : ℕ) → List ℕ → List ℕ
+held_from flow.Open most held = take most held
+held_from flow.Ended most held = []
+held_from (flow.Failed fault) most held = []
+
 module _ {R : Type 0} where
   -- the reader, in its present state
   abbrev pub reader_of : Source R → R
@@ -48,6 +55,14 @@ module _ {R : Type 0} where
   -- the bytes still to be given, if they are known: the window, and then what the reader has left
   abbrev pub ahead : (R → Input) → Source R → Option (List ℕ)
   ahead look s = prepend_known (window_of s) (look s.reader).left
+
+  -- The bytes at hand: those of the window, or those that the reader holds if it is empty. What the
+  -- reader holds is not taken yet.
+  unfoldable pub front_of : (R → Input) → Source R → List ℕ
+  front_of look s =
+      if nat_lt s.start s.end
+      then window_of s
+      else held_from s.flow (longest_input - s.given) (look s.reader).held
 
   -- the source has given exactly these bytes since it was made
   pub record IsSourceAt (s : Source R) (history : List ℕ) : Type 0 where

@@ -1,13 +1,13 @@
 //! Input and output devices: two traits, and devices made of std's readers and writers.
 
-ghost use Rattle.std.specs.Prelude.{◌≡◌, ℕ, ◌<◌, ◌≤◌, true, false, List, length, Option, OnOk, IfOk, IfErr, MatchResult};
-ghost use Rattle.std.specs.Io.KnownBytes.{Keeps, ReadConsumes, WriteAppends};
+ghost use Rattle.std.specs.Prelude.{◌≡◌, ℕ, ◌<◌, ◌≤◌, true, false, List, [], length, take, drop, Option, OnOk, IfOk, IfErr, MatchResult};
+ghost use Rattle.std.specs.Io.KnownBytes.{Consumes, Keeps, ReadConsumes, WriteAppends};
 ghost use Rattle.link_io.specs.Device.{Input, Output, BeginsWith};
 ghost use Rattle.link_io.specs.Writing.{WritesWhole, WritesFront};
 
 use crate::fault::IoFault;
 use crate::text::{TEXT_MAX, Text};
-use std::io::{BufReader, Read, Write};
+use std::io::{BufRead, BufReader, Read, Write};
 use thiserror::Error;
 
 /// The failure of a device.
@@ -19,7 +19,7 @@ pub struct DeviceFault;
 
 /// A device that bytes are read from.
 pub trait InDevice {
-    /// The bytes left, if they are known, and whether the device has failed.
+    /// The bytes left, if they are known, whether the device has failed, and what it holds.
     ghost state: { Self → Input };
 
     /// Reads the next bytes into the start of the buffer, and returns how many.
@@ -41,10 +41,15 @@ pub trait InDevice {
     ///
     /// If there are some, the next read gives some of them, and does not have to wait.
     fn held(&self) -> &[u8]
-        ensures { BeginsWith (state self.now).left result.now }
-    {
-        &[]
-    }
+        ensures held { result.now ≡ (state self.now).held }
+        ensures next { BeginsWith (state self.now).left result.now };
+
+    /// Passes over the first `count` of the bytes held, as if a read had given them.
+    fn pass_held(&mut self, count: usize)
+        requires { count ≤ length (state self.old).held }
+        ensures bytes { Consumes (state self.old).left (state self.new).left
+            (take count (state self.old).held) }
+        ensures failed { (state self.new).failed ≡ (state self.old).failed };
 }
 
 /// A device that bytes are written to.
@@ -117,7 +122,7 @@ impl<R: Read> Reader<R> {
     /// Makes a device that has not failed.
     pub fn new(inner: R) -> Self
         ensures { ⟦<Reader<R> as InDevice>⟧.state result
-            ≡ record { left = R.remaining inner; failed = false } }
+            ≡ record { left = R.remaining inner; failed = false; held = [] } }
     {
         Reader {
             inner,
@@ -135,7 +140,8 @@ impl<R: Read> Reader<R> {
 }
 
 impl<R: Read> InDevice for Reader<R> {
-    ghost state = { λ r. record { left = R.remaining r.inner; failed = r.failed } };
+    ghost state = { λ r.
+        record { left = R.remaining r.inner; failed = r.failed; held = [] } };
 
     fn read(&mut self, buffer: &mut [u8]) -> Result<usize, DeviceFault> {
         match self.inner.read(buffer) {
@@ -150,6 +156,15 @@ impl<R: Read> InDevice for Reader<R> {
     fn failed(&self) -> bool {
         self.failed
     }
+
+    fn held(&self) -> &[u8] {
+        &[]
+    }
+
+    /// Nothing is held, so there is nothing to do.
+    fn pass_held(&mut self, count: usize) {
+        let _ = count;
+    }
 }
 
 /// A device made of a buffered reader of std, as [`Reader`] makes it. While the buffer has bytes, a read does not wait.
@@ -160,21 +175,34 @@ pub struct BufferedReader<R: Read> {
 
 impl<R: Read> BufferedReader<R> {
     ghost use Rattle.link_io.specs.Device.{Input};
-    ghost use Rattle.std.specs.Io.Buffered.{reader_remaining};
+    ghost use Rattle.std.specs.Io.Buffered.{reader_remaining, reader_buffer};
 
     /// Makes a device that has not failed.
     pub fn new(inner: BufReader<R>) -> Self
         ensures { ⟦<BufferedReader<R> as InDevice>⟧.state result
-            ≡ record { left = reader_remaining R.remaining inner; failed = false } }
+            ≡ record {
+              left = reader_remaining R.remaining inner;
+              failed = false;
+              held = reader_buffer inner;
+            } }
     {
         BufferedReader {
-            buffered: Reader::new(inner),
+            buffered: Reader {
+                inner,
+                failed: false,
+            },
         }
     }
 }
 
 impl<R: Read> InDevice for BufferedReader<R> {
-    ghost state = { λ r. ⟦<Reader<BufReader<R>> as InDevice>⟧.state r.buffered };
+    ghost use Rattle.std.specs.Io.Buffered.{reader_remaining, reader_buffer};
+
+    ghost state = { λ r. record {
+      left = reader_remaining R.remaining r.buffered.inner;
+      failed = r.buffered.failed;
+      held = reader_buffer r.buffered.inner;
+    } };
 
     fn read(&mut self, buffer: &mut [u8]) -> Result<usize, DeviceFault> {
         self.buffered.read(buffer)
@@ -187,6 +215,10 @@ impl<R: Read> InDevice for BufferedReader<R> {
     #[inline(always)]
     fn held(&self) -> &[u8] {
         self.buffered.inner.buffer()
+    }
+
+    fn pass_held(&mut self, count: usize) {
+        self.buffered.inner.consume(count);
     }
 }
 

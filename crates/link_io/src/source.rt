@@ -57,7 +57,7 @@ pub struct Source<R> {
 impl<R: InDevice> Source<R> {
     ghost use Rattle.std.specs.Prelude.{◌≡◌, ◌+◌, ◌-◌, ◌<◌, ◌≤◌, ◌==◌, true, false, [], length, take, drop, IfOk, IfErr, OnOk, MatchResult, IsTrue};
     ghost use Rattle.link_io.specs.Limits.{window_size};
-    ghost use Rattle.link_io.specs.Source.{IsSourceAt, is_fresh, reader_of, given_by, taken_by, window_of, ahead, IsLive, IsOver, HasEnded, HasFailed, Takes, StopsAfter, GivesReady, GivesSome, GivesFill, filled_at_end};
+    ghost use Rattle.link_io.specs.Source.{IsSourceAt, is_fresh, reader_of, given_by, taken_by, window_of, front_of, ahead, IsLive, IsOver, HasEnded, HasFailed, Takes, StopsAfter, GivesReady, GivesSome, GivesFill, filled_at_end};
 
     /// Makes a source that has taken nothing.
     pub fn new(reader: R) -> Source<R>
@@ -113,6 +113,7 @@ impl<R: InDevice> Source<R> {
     #[inline(always)]
     pub fn may_wait(&self) -> bool
         ensures few { IsTrue result → length (window_of self.now) < window_size }
+        ensures none { IsTrue result → (R.state (reader_of self.now)).held ≡ [] }
         // If a read need not wait, the reader has bytes left.
         ensures held { result ≡ false → length (window_of self.now) < window_size
             → HasBytes (R.state (reader_of self.now)).left }
@@ -147,6 +148,54 @@ impl<R: InDevice> Source<R> {
         ensures bytes { AreBytes result.now }
     {
         part(&self.window, self.start, self.end)
+    }
+
+    /// The bytes at hand: those of the window, or those that the reader holds if it is empty.
+    ///
+    /// They come next. What the reader holds is not taken yet.
+    #[inline(always)]
+    pub fn front(&self) -> &[u8]
+        ensures front { result.now ≡ front_of R.state self.now }
+        ensures bytes { AreBytes result.now }
+        ensures next { BeginsWith (ahead R.state self.now) result.now }
+    {
+        if self.start < self.end {
+            return self.window();
+        }
+        match self.flow {
+            Flow::Open => up_to(self.reader.held(), INPUT_LIMIT - self.given),
+            _ => &[],
+        }
+    }
+
+    /// Gives the first `count` bytes of [`Source::front`].
+    #[inline(always)]
+    pub fn give_front(&mut self, count: usize)
+        requires { count ≤ length (front_of R.state self.old) }
+        ensures takes { Takes R.state self.old self.new (take count (front_of R.state self.old)) }
+        ensures live { IsLive R.state self.old → IsLive R.state self.new }
+        ensures none { count ≡ 0 → self.new ≡ self.old }
+    {
+        if self.start < self.end {
+            return self.give(count);
+        }
+        if count > 0 {
+            self.give_held(count);
+        }
+    }
+
+    /// Gives the first `count` of the bytes that the reader holds.
+    fn give_held(&mut self, count: usize)
+        requires empty { self.old.start ≡ self.old.end }
+        requires some { 0 < count }
+        requires held { count ≤ length (front_of R.state self.old) }
+        ensures takes { Takes R.state self.old self.new (take count (front_of R.state self.old)) }
+        ensures live { IsLive R.state self.old → IsLive R.state self.new }
+    {
+        // This call is for the proof: by its contract, the elements of the front are bytes.
+        let _front = self.front();
+        self.reader.pass_held(count);
+        self.given += count as u64;
     }
 
     /// Gives the first `count` bytes of the window, which the caller has looked at in place.
@@ -353,6 +402,15 @@ fn part(window: &[u8], start: usize, end: usize) -> &[u8]
     ensures bytes { AreBytes result.now }
 {
     &window[start..end]
+}
+
+/// The first bytes of a slice, at most `most` of them.
+#[inline(always)]
+fn up_to(bytes: &[u8], most: u64) -> &[u8]
+    ensures first { result.now ≡ take most bytes.now }
+    ensures bytes { AreBytes result.now }
+{
+    part(bytes, 0, most.min(bytes.len() as u64) as usize)
 }
 
 /// One read that asks for a whole window.

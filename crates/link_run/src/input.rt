@@ -224,9 +224,9 @@ impl<R: InDevice> Input<Session<R>> {
         &mut self,
         writers: &mut Writers<W, E>,
     ) -> Result<usize, Stop>
-        ensures size { IfOk result (λ n. n ≡ length (data_in (inner_of self.new))) }
+        ensures size { IfOk result (λ n. n ≡ length (data_in R.state (inner_of self.new))) }
         // If the window already has data, nothing is handed on.
-        ensures here { 0 < length (data_in (inner_of self.old)) → writers.new ≡ writers.old }
+        ensures here { 0 < length (data_in R.state (inner_of self.old)) → writers.new ≡ writers.old }
         ensures opened { IsTrue (is_opened (inner_of self.old))
             → IsTrue (is_opened (inner_of self.new)) }
         ensures gives { (history : List ℕ) → IsSessionAt R.state (inner_of self.old) history
@@ -249,7 +249,7 @@ impl<R: InDevice> Input<Session<R>> {
     /// The segment's data in the window.
     #[inline(always)]
     pub fn loaded(&self) -> &[u8]
-        ensures { result.now ≡ data_in (inner_of self.now) }
+        ensures { result.now ≡ data_in R.state (inner_of self.now) }
     {
         self.inner.loaded()
     }
@@ -257,11 +257,11 @@ impl<R: InDevice> Input<Session<R>> {
     /// Gives the first `count` bytes of [`Input::loaded`].
     #[inline(always)]
     pub fn pass(&mut self, count: usize)
-        requires { count ≤ length (data_in (inner_of self.old)) }
+        requires { count ≤ length (data_in R.state (inner_of self.old)) }
         ensures opened { is_opened (inner_of self.new) ≡ is_opened (inner_of self.old) }
         ensures gives { (history : List ℕ) → IsSessionAt R.state (inner_of self.old) history
             → PassedBytes R.state (inner_of self.old) (inner_of self.new) history
-            (take count (data_in (inner_of self.old))) }
+            (take count (data_in R.state (inner_of self.old))) }
         ensures none { count ≡ 0 → self.new ≡ self.old }
         ensures stopped { (stop : _) → HasStopped (inner_of self.old) stop
             → HasStopped (inner_of self.new) stop }

@@ -2,7 +2,7 @@
 use Rattle.std.proofs.Common.{◌≡◌, ℕ, zero, suc, ◌<◌, List, ◌++◌, length, take, Option, Some, None, Ok, Err, refl, ap, sym, ◌∙◌, subst, length-append, length-take, arith}
 use Rattle.std.specs.Io.KnownBytes.{prepend_known}
 use Rattle.link_io.specs.Device.{Input, BeginsWith}
-use Rattle.link_io.specs.Source.{ahead, window_of}
+use Rattle.link_io.specs.Source.{ahead, window_of, front_of}
 use Rattle.link_wire.specs.Here.{IsHere}
 use Rattle.link_wire.specs.Message.{contact_at, message_at}
 use Rattle.link_wire.specs.Part.{Part}
@@ -50,17 +50,18 @@ module _ {R : Type 0} (look : R → Input) (s : Session R) (between : s.left ≡
   pub window_has_head : IsHere 0 (message_at (window_of s.source)) → HasNext look s
   window_has_head here = head_next (window_of s.source) (begins_window (look s.source.reader).left (window_of s.source)) here
 
-enough_data : (left : ℕ) (rest : Option (List ℕ)) (window : List ℕ) → 0 < length (take left window)
-    → IsEnough left (prepend_known window rest)
-enough_data zero None window some = tt
-enough_data (suc left) None window some = tt
-enough_data zero (Some all) window some = absurd (omega arith)
-enough_data (suc left) (Some all) window some = omega (arith, length-take (suc left) window, length-append window all)
+enough_data : (left : ℕ) (rest : Option (List ℕ)) (front : List ℕ) → BeginsWith rest front
+    → 0 < length (take left front) → IsEnough left rest
+enough_data zero None front next some = tt
+enough_data (suc left) None front next some = tt
+enough_data zero (Some all) front next some = absurd (omega arith)
+enough_data (suc left) (Some all) front next some = omega (arith, length-take (suc left) front, length-append front next.0, ap length next.1)
 
--- if data is in the window, the input has enough for what comes next
+-- if data is at hand, the input has enough for what comes next
 pub data_next : {R : Type 0} (look : R → Input) (s : Session R)
-    → 0 < length (data_in s) → HasNext look s
-data_next look s some = enough_data s.left (look s.source.reader).left (window_of s.source) some
+    → BeginsWith (ahead look s.source) (front_of look s.source) → 0 < length (data_in look s)
+    → HasNext look s
+data_next look s next some = enough_data s.left (ahead look s.source) (front_of look s.source) next some
 
 -- if a contact header is here, the input has enough for it
 pub contact_next : {R : Type 0} (look : R → Input) (s : Session R) (bytes : List ℕ)

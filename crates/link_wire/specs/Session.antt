@@ -5,7 +5,7 @@ use Rattle.link_wire.specs.Getting.{MayFollow}
 use Rattle.link_wire.specs.Limits.{longest_head, window_size}
 use Rattle.link_wire.specs.Message.{data_length, contact_at, message_at}
 use Rattle.link_wire.specs.Part.{Part}
-use Rattle.link_io.specs.Source.{IsSourceAt, IsLive, IsOver, HasEnded, Takes, Readies, StopsAfter, is_fresh, window_of, ahead}
+use Rattle.link_io.specs.Source.{IsSourceAt, IsLive, IsOver, HasEnded, Takes, Readies, StopsAfter, is_fresh, window_of, front_of, ahead}
 use Rattle.link_wire.specs.Stream.{End, Clean, Cut, Fault, Stream, ended, with_entry, stream_at, Reading, reading_of}
 use Rattle.link_io.specs.declared.fault.IoFault.{IoFault}
 use Rattle.link_wire.specs.declared.fault.Stop.{Stop}
@@ -144,9 +144,9 @@ module _ {R : Type 0} where
   abbrev pub HasEndedBetween : Session R → Type 0
   HasEndedBetween s = (s.phase ≡ phase.Reading) × HasEnded s.source
 
-  -- the data of the open segment that is in the window
-  abbrev pub data_in : Session R → List ℕ
-  data_in s = take s.left (window_of s.source)
+  -- the data of the open segment that is at hand
+  abbrev pub data_in : (R → Input) → Session R → List ℕ
+  data_in look s = take s.left (front_of look s.source)
 
   -- The session was given exactly these bytes, and met no fault. It is at the end of their reading:
   -- whatever bytes follow, they are read from there. If no data is to come, the window is not full.
@@ -290,14 +290,14 @@ module _ {R : Type 0} where
     pub gave : PassedBytes look old new history (take n buffer)
     pub some : 0 < left_of old → 0 < length buffer → 0 < n
 
-  -- `n` bytes of the open segment's data are in the window, at least one if some are to come;
+  -- `n` bytes of the open segment's data are at hand, at least one if some are to come;
   -- nothing was given
   pub record LoadedData (look : R → Input) (old new : Session R)
       (history : List ℕ) (n : ℕ) : Type 0 where
     pub readies : Readies look old.source new.source
     pub left : left_of new ≡ left_of old
     pub at : IsSessionAt look new history
-    pub size : n ≡ length (data_in new)
+    pub size : n ≡ length (data_in look new)
     pub some : 0 < left_of old → 0 < n
 
   -- the input has ended inside the data of the segment at the offset

@@ -87,7 +87,7 @@ impl<R: InDevice> Session<R> {
     /// After a stop nothing is read.
     pub fn may_wait(&self) -> bool
         ensures few { IsTrue result → length (window_of (source_of self.now)) < window_size }
-        ensures data { IsTrue result → 0 < left_of self.now → data_in self.now ≡ [] }
+        ensures data { IsTrue result → 0 < left_of self.now → data_in R.state self.now ≡ [] }
         ensures stopped { (stop : _) → HasStopped self.now stop → result ≡ false }
         // If it need not wait, the input has enough left for what comes next.
         ensures contact { IsTrue (may_open self.now) → result ≡ false
@@ -375,8 +375,8 @@ impl<R: InDevice> Session<R> {
 
 /// The calls for the data of segments.
 impl<R: InDevice> Session<R> {
-    ghost use Rattle.std.specs.Prelude.{◌≡◌, ◌≤◌, ℕ, List, length, take, drop, IfOk, IfErr, Ok, Err, IsTrue};
-    ghost use Rattle.link_wire.specs.Session.{is_opened, IsSessionAt, HasStopped, left_of, data_in, PassedBytes, GivesData, GivesLoad};
+    ghost use Rattle.std.specs.Prelude.{◌≡◌, ◌<◌, ◌≤◌, ℕ, List, length, take, drop, IfOk, IfErr, Ok, Err, IsTrue};
+    ghost use Rattle.link_wire.specs.Session.{is_opened, IsSessionAt, HasNext, HasStopped, left_of, data_in, PassedBytes, GivesData, GivesLoad};
     ghost use Rattle.link_wire.specs.declared.session.Phase.TheVariants as phase;
 
     /// Copies the next bytes of the segment's data, after at most one read, and returns how many.
@@ -425,7 +425,7 @@ impl<R: InDevice> Session<R> {
 
     /// Fills the slice with the next data in the window, and gives it.
     fn copy(&mut self, part: &mut [u8])
-        requires { length part.old ≤ length (data_in self.old) }
+        requires { length part.old ≤ length (data_in R.state self.old) }
         ensures opened { is_opened self.new ≡ is_opened self.old }
         ensures gives { (history : List ℕ) → IsSessionAt R.state self.old history
             → PassedBytes R.state self.old self.new history part.new }
@@ -442,7 +442,7 @@ impl<R: InDevice> Session<R> {
     /// data, the fault is [`WireFault::Truncated`], at the offset of the segment.
     #[inline(always)]
     pub fn load(&mut self) -> Result<usize, Stop>
-        ensures size { IfOk result (λ n. n ≡ length (data_in self.new)) }
+        ensures size { IfOk result (λ n. n ≡ length (data_in R.state self.new)) }
         ensures settles { IfErr result (HasStopped self.new) }
         ensures left { IfErr result (λ _. left_of self.new ≡ left_of self.old) }
         ensures gives { (history : List ℕ) → IsSessionAt R.state self.old history
@@ -464,7 +464,7 @@ impl<R: InDevice> Session<R> {
     #[cold]
     #[inline(never)]
     fn load_on(&mut self) -> Result<usize, Stop>
-        ensures size { IfOk result (λ n. n ≡ length (data_in self.new)) }
+        ensures size { IfOk result (λ n. n ≡ length (data_in R.state self.new)) }
         ensures settles { IfErr result (HasStopped self.new) }
         ensures left { IfErr result (λ _. left_of self.new ≡ left_of self.old) }
         ensures gives { (history : List ℕ) → IsSessionAt R.state self.old history
@@ -488,13 +488,14 @@ impl<R: InDevice> Session<R> {
         }
     }
 
-    /// The segment's data that is in the window.
+    /// The segment's data that is at hand.
     #[inline(always)]
     pub fn loaded(&self) -> &[u8]
-        ensures { result.now ≡ data_in self.now }
+        ensures data { result.now ≡ data_in R.state self.now }
+        ensures here { 0 < length result.now → HasNext R.state self.now }
     {
-        let window = self.source.window();
-        &window[..self.left.min(window.len() as u64) as usize]
+        let front = self.source.front();
+        &front[..self.left.min(front.len() as u64) as usize]
     }
 
     /// Gives the next `count` bytes of the segment's data, which the caller has looked at in place.
@@ -502,14 +503,14 @@ impl<R: InDevice> Session<R> {
     /// [`Session::loaded`] shows them.
     #[inline(always)]
     pub fn pass(&mut self, count: usize)
-        requires { count ≤ length (data_in self.old) }
+        requires { count ≤ length (data_in R.state self.old) }
         ensures opened { is_opened self.new ≡ is_opened self.old }
         ensures gives { (history : List ℕ) → IsSessionAt R.state self.old history
-            → PassedBytes R.state self.old self.new history (take count (data_in self.old)) }
+            → PassedBytes R.state self.old self.new history (take count (data_in R.state self.old)) }
         ensures none { count ≡ 0 → self.new ≡ self.old }
         ensures stopped { (stop : _) → HasStopped self.old stop → HasStopped self.new stop }
     {
-        self.source.give(count);
+        self.source.give_front(count);
         self.left -= count as u64;
     }
 }

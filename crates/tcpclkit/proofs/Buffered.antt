@@ -12,7 +12,7 @@ nothing_before None = refl
 nothing_before (Some bytes) = refl
 
 abbrev known_input : Option (List ℕ) → Input
-known_input left = record { left = left; failed = false }
+known_input left = record { left = left; failed = false; held = [] }
 
 -- a buffered reader with an empty buffer has the bytes left that its input has left
 pub read_input : (capacity : ℕ) (buffer : List ℕ) (rest known : Option (List ℕ))

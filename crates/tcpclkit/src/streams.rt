@@ -53,7 +53,7 @@ pub fn buffered<R: Read + Drop, W: Write + Drop, E: Write + Drop>(
         ⟦<TextWriter<Writer<E>> as OutDevice>⟧.state)
         (record { reader = streams.input; output = streams.output; report = streams.report })) }
     ensures input { IfOk result (λ streams. ⟦<BufferedReader<R> as InDevice>⟧.state streams.input
-        ≡ record { left = R.remaining input; failed = false }) }
+        ≡ record { left = R.remaining input; failed = false; held = [] }) }
     ensures output { IfOk result
         (λ streams. ⟦<TextWriter<Writer<W>> as OutDevice>⟧.state streams.output
         ≡ record { written = W.contents output; failed = false }) }

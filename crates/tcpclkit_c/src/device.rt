@@ -15,14 +15,14 @@ impl<'a> SliceReader<'a> {
     /// A reader of these bytes.
     pub fn new(bytes: &'a [u8]) -> SliceReader<'a>
         ensures { ⟦<SliceReader<'a> as InDevice>⟧.state result
-            ≡ record { left = Some bytes.now; failed = false } }
+            ≡ record { left = Some bytes.now; failed = false; held = bytes.now } }
     {
         SliceReader { left: bytes }
     }
 }
 
 impl InDevice for SliceReader<'_> {
-    ghost state = { λ r. record { left = Some r.left.now; failed = false } };
+    ghost state = { λ r. record { left = Some r.left.now; failed = false; held = r.left.now } };
 
     fn read(&mut self, buffer: &mut [u8]) -> Result<usize, DeviceFault> {
         let count = self.left.len().min(buffer.len());
@@ -38,6 +38,10 @@ impl InDevice for SliceReader<'_> {
 
     fn held(&self) -> &[u8] {
         self.left
+    }
+
+    fn pass_held(&mut self, count: usize) {
+        self.left = &self.left[count..];
     }
 }
 

@@ -20,7 +20,7 @@ impl<'a> TestReader<'a> {
     pub fn new(bytes: &'a [u8], per_call: usize, failing: Failing) -> TestReader<'a>
         requires { 0 < per_call }
         ensures state { ⟦<TestReader<'a> as InDevice>⟧.state result
-            ≡ record { left = Some bytes.now; failed = false } }
+            ≡ record { left = Some bytes.now; failed = false; held = [] } }
         ensures pace { (result.pace.per_call ≡ per_call) × (result.pace.failing ≡ failing) }
     {
         TestReader {
@@ -45,7 +45,7 @@ impl<'a> TestReader<'a> {
 }
 
 impl InDevice for TestReader<'_> {
-    ghost state = { λ r. record { left = Some r.left.now; failed = r.pace.failed } };
+    ghost state = { λ r. record { left = Some r.left.now; failed = r.pace.failed; held = [] } };
 
     fn read(&mut self, buffer: &mut [u8]) -> Result<usize, DeviceFault> {
         let count = self.pace.turn(buffer.len().min(self.left.len()))?;
@@ -57,6 +57,14 @@ impl InDevice for TestReader<'_> {
 
     fn failed(&self) -> bool {
         self.pace.failed()
+    }
+
+    fn held(&self) -> &[u8] {
+        &[]
+    }
+
+    fn pass_held(&mut self, count: usize) {
+        let _ = count;
     }
 }
 

@@ -9,7 +9,7 @@ use Rattle.tcpclkit_c.proofs.Runs.{job_ran}
 use Rattle.tcpclkit_c.proofs.tool.run_job.Goals as goal
 
 abbrev reader_look : SliceReader → Input
-reader_look reader = record { left = Some reader.left.now; failed = false }
+reader_look reader = record { left = Some reader.left.now; failed = false; held = reader.left.now }
 
 abbrev text_look : KeptText → Output
 text_look writer = record { written = Some writer.text.items; failed = writer.failed }

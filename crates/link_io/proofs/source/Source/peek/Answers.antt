@@ -8,7 +8,7 @@ returns-then-window-bytes-clause-next g c =
 
 pub returns-clause-next : goal.returns-clause-next
 returns-clause-next g c =
-    rw (c.copy_into-2.ensures.text, c.copy_into-at.ensures.text, c.window-window.ensures.window) (held_next _ _ _ _ c.held-held.ensures)
+    rw (c.copy_into-2.ensures.text, c.copy_into-at.ensures.text, c.window-window.ensures.window) (held_next _ _ _ _ c.held-held.ensures.next)
 
 pub returns-clause-rest : goal.returns-clause-rest
 returns-clause-rest g c =

@@ -1,0 +1,50 @@
+use Rattle.std.proofs.Common.{◌≡◌, ◌-◌, ◌≤◌, [], length, take, refl, arith, ap, ◌∙◌, length-take}
+use Rattle.std.proofs.lemmas.List.Elements.{All-take}
+use Rattle.link_io.specs.Bytes.{IsByte}
+use Rattle.link_io.specs.Limits.{longest_input}
+use Rattle.link_io.specs.Source.{window_of, front_of, held_from}
+use Rattle.link_io.proofs.Sources.{HeldPart, front_held, held_part, Consumes-behind}
+use Rattle.link_io.proofs.Windows.{range_none}
+use Rattle.link_io.proofs.source.Source.give_held.Goals as goal
+
+pub pass_held-requires : goal.pass_held-requires
+pass_held-requires g c =
+    let s = c.args.self.now in
+    let look = g.R.InDevice.state in
+    let whole = front_held look s (omega (arith, c.requires.empty)) in
+    (held_part s.flow (longest_input - s.given) (look s.reader).held c.args.count c.requires.some (rw whole at c.requires.held)).here
+
+pub invariant_of-self : goal.invariant_of-self
+invariant_of-self g c =
+    let s = c.args.self.now in
+    let look = g.R.InDevice.state in
+    let whole = front_held look s (omega (arith, c.requires.empty)) in
+    let room = (held_part s.flow (longest_input - s.given) (look s.reader).held c.args.count c.requires.some (rw whole at c.requires.held)).room in
+    record {
+      ordered = s.ordered;
+      room = s.room;
+      within = let within = s.within in omega (arith, within, room, c.requires.empty);
+    }
+
+pub returns-clause-takes : goal.returns-clause-takes
+returns-clause-takes g c =
+    let s = c.args.self.now in
+    let look = g.R.InDevice.state in
+    let whole = front_held look s (omega (arith, c.requires.empty)) in
+    let part = held_part s.flow (longest_input - s.given) (look s.reader).held c.args.count c.requires.some (rw whole at c.requires.held) in
+    let none : window_of s ≡ [] = range_none s.window s.start s.end c.requires.empty in
+    let same : take c.args.count (front_of look s) ≡ take c.args.count (look s.reader).held = ap (take c.args.count) whole ∙ part.same in
+    record {
+      bytes_fit = All-take IsByte _ _ (rw c.front-front.ensures.front at c.front-front.ensures.bytes);
+      next = rw (same, none) (Consumes-behind _ _ _ c.pass_held.ensures.bytes);
+      count = omega (arith, c.requires.held, length-take c.args.count (front_of look s));
+      device = c.pass_held.ensures.failed;
+      window = record { kept = λ empty. refl; less = λ some. rw none (omega arith) };
+    }
+
+pub returns-clause-live : goal.returns-clause-live
+returns-clause-live g c = λ live.
+    let s = c.args.self.now in
+    let look = g.R.InDevice.state in
+    let whole = front_held look s (omega (arith, c.requires.empty)) in
+    (held_part s.flow (longest_input - s.given) (look s.reader).held c.args.count c.requires.some (rw whole at c.requires.held)).live _ s.start s.end
