@@ -1,15 +1,17 @@
 -- The bytes of successive calls of a source, joined, are the bytes given by all these calls.
-use Rattle.std.proofs.Common.{◌≡◌, ℕ, zero, suc, ◌+◌, ◌-◌, ◌<◌, ◌≤◌, nat_lt, List, [], ◌∷◌, ◌++◌, length, take, drop, Option, Some, None, ap, sym, ◌∙◌, Bool, true, false, ◌&&◌, eqb, eqb-true, add_assoc, length-append, append_assoc, append-nil, add-zero, refl, arith, length-take, length-drop, take-append-drop}
+use Rattle.std.proofs.Common.{⊎_elim, ◌≡◌, ℕ, zero, suc, ◌+◌, ◌-◌, ◌^◌, ◌<◌, ◌≤◌, nat_lt, List, [], ◌∷◌, ◌++◌, length, take, drop, Option, Some, None, ap, sym, ◌∙◌, Bool, true, false, ◌&&◌, eqb, eqb-true, add_assoc, length-append, append_assoc, append-nil, add-zero, refl, arith, length-take, length-drop, take-append-drop}
 use Rattle.std.specs.Io.KnownBytes.{Consumes, prepend_known}
 use Rattle.std.proofs.KnownBytes.{Consumes-nil, Consumes-trans}
 use Rattle.std.proofs.lemmas.List.Elements.{All-nil, All-append}
 use Rattle.std.proofs.Math.Seq.{take-take}
+use Rattle.std.proofs.lemmas.Bool.{cases_lt}
 use Rattle.std.proofs.lemmas.Bool.Decides.{nat_tests}
+use Rattle.std.proofs.lemmas.List.{nil_from_length}
 use Rattle.std.proofs.lemmas.Grind.{common_steps}
 use Rattle.link_io.specs.Bytes.{IsByte}
 use Rattle.link_io.specs.Device.{Input}
 use Rattle.link_io.specs.Limits.{longest_input, window_size}
-use Rattle.link_io.specs.Source.{is_open, is_fresh, IsSourceAt, IsLiveBy, IsLive, HasEnded, IsOver, given_by, window_of, held_from, front_of, ahead, WindowAfter, Takes, Readies, StopsAfter}
+use Rattle.link_io.specs.Source.{is_open, is_fresh, IsSourceAt, IsLiveBy, IsLive, HasEnded, HasFailed, IsOver, given_by, window_of, held_from, front_of, ahead, WindowAfter, Takes, Readies, StopsAfter}
 use Rattle.link_io.specs.declared.fault.IoFault.{IoFault}
 use Rattle.link_io.proofs.Windows.{range_none}
 use Rattle.link_io.specs.declared.source.Flow.{Flow}
@@ -90,6 +92,11 @@ none_held flow.Open most = grind (arith, common_steps)
 none_held flow.Ended most = refl
 none_held (flow.Failed fault) most = refl
 
+held_room : (now : Flow) (most : ℕ) (held : List ℕ) → length (held_from now most held) ≤ most
+held_room flow.Open most held = omega (arith, length-take most held)
+held_room flow.Ended most held = omega arith
+held_room (flow.Failed fault) most held = omega arith
+
 -- bytes that come after an empty window
 pub Consumes-behind : (old new : Option (List ℕ)) (bytes : List ℕ) → Consumes old new bytes
     → Consumes (prepend_known [] old) (prepend_known [] new) bytes
@@ -119,6 +126,47 @@ module _ {R : Type 0} (look : R → Input) (s : Source R) where
   -- nothing is at hand if the window is empty and the reader holds nothing
   pub front_none : s.end ≤ s.start → (look s.reader).held ≡ [] → front_of look s ≡ []
   front_none none held = front_held none ∙ rw held (none_held s.flow (longest_input - s.given))
+
+  pub nothing_ahead : length (window_of s) ≡ 0 → (look s.reader).held ≡ [] → front_of look s ≡ []
+  nothing_ahead none held =
+      ⊎_elim
+      (λ some. front_open some ∙ nil_from_length (window_of s) none)
+      (λ less. front_none less held)
+      (cases_lt s.start s.end)
+
+  -- all bytes at hand are within the limit
+  pub front_room : s.given + length (front_of look s) < 2 ^ 63
+  front_room =
+      let within = s.within in
+      ⊎_elim
+      (λ some. omega (arith, within, ap length (front_open some), length-take (s.end - s.start) (drop s.start s.window)))
+      (λ less. omega (arith, within, ap length (front_held less), held_room s.flow (longest_input - s.given) (look s.reader).held))
+      (cases_lt s.start s.end)
+
+  pub none_ahead : length (front_of look s) ≡ 0 → length (window_of s) ≡ 0
+  none_ahead none =
+      ⊎_elim
+      (λ less. omega arith)
+      (λ some. absurd (omega (arith, none, ap length (front_window some))))
+      (cases_lt (length (window_of s)) 1)
+
+  -- if nothing is at hand, the window is empty
+  pub front_empty : s.start ≤ s.end → s.end ≤ length s.window → length (front_of look s) ≡ 0
+      → s.start ≡ s.end
+  front_empty ordered room none =
+      ⊎_elim
+      (λ some. absurd (omega (arith, none, some, ordered, room, ap length (front_open some), length-take (s.end - s.start) (drop s.start s.window), length-drop s.start s.window)))
+      (λ less. omega (arith, less, ordered))
+      (cases_lt s.start s.end)
+
+  -- after the end or a fault, nothing is at hand
+  pub front_ended : HasEnded s → front_of look s ≡ []
+  front_ended ended =
+      front_held (omega (arith, ended.1)) ∙ held_closed s.flow _ _ (λ open. let never = sym ended.0 ∙ open in absurd (cc))
+
+  pub front_failed : (fault : IoFault) → HasFailed s fault → front_of look s ≡ []
+  front_failed fault failed =
+      front_held (omega (arith, failed.1)) ∙ held_closed s.flow _ _ (λ open. let never = sym failed.0 ∙ open in absurd (cc))
 
 module _ {R : Type 0} (s : Source R) (fresh : is_fresh s ≡ true) where
   -- a fresh source has given nothing
@@ -193,6 +241,15 @@ module _ {R : Type 0} (look : R → Input) where
     count = more_given (given_by old) (given_by mid) (given_by new) xs ys p.count q.count;
     device = q.device ∙ p.device;
     window = WindowAfter-then old mid new xs ys p.window q.window;
+  }
+
+  -- nothing was read
+  pub Readies-none : (s : Source R) → Readies look s s
+  Readies-none s = record {
+    next = Consumes-nil (ahead look s);
+    count = refl;
+    device = refl;
+    kept = λ some. refl;
   }
 
   -- the window was made ready, and then some of its bytes were given

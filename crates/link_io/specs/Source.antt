@@ -145,6 +145,17 @@ module _ {R : Type 0} where
   GivesReady look old new (Ok n) = ReadyWindow look old new n
   GivesReady look old new (Err fault) = StopsAfter look old new [] fault
 
+  -- The result of `ready_front`: some bytes are at hand, or the input is over.
+  pub record ReadyFront (look : R → Input) (old new : Source R) (n : ℕ) : Type 0 where
+    pub readies : Readies look old new
+    pub live : IsLive look new
+    pub size : n ≡ length (front_of look new)
+    pub over : n ≡ 0 → IsOver look new
+
+  abbrev pub GivesFront : (R → Input) → Source R → Source R → Result ℕ IoFault → Type 0
+  GivesFront look old new (Ok n) = ReadyFront look old new n
+  GivesFront look old new (Err fault) = StopsAfter look old new [] fault
+
   -- The result of one call of `some`.
   pub record SomeBytes (look : R → Input) (old new : Source R)
       (buffer : List ℕ) (n : ℕ) : Type 0 where

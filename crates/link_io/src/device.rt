@@ -33,6 +33,18 @@ pub trait InDevice {
             (λ _. (state self.new).failed ≡ (state self.old).failed)
             (λ _. (state self.new).failed ≡ true) };
 
+    /// Reads as [`InDevice::read`] does. A device that holds bytes may give one of them, and hold
+    /// the others, which a caller then sees in place.
+    fn read_first(&mut self, buffer: &mut [u8]) -> Result<usize, DeviceFault>
+        ensures bound { IfOk result (λ n. n ≤ length buffer.new) }
+        ensures bytes { ReadConsumes (state self.old).left (state self.new).left result buffer.new }
+        ensures failed { MatchResult result
+            (λ _. (state self.new).failed ≡ (state self.old).failed)
+            (λ _. (state self.new).failed ≡ true) }
+    {
+        self.read(buffer)
+    }
+
     /// Whether a read has failed.
     fn failed(&self) -> bool
         ensures { result ≡ (state self.now).failed };
@@ -206,6 +218,11 @@ impl<R: Read> InDevice for BufferedReader<R> {
 
     fn read(&mut self, buffer: &mut [u8]) -> Result<usize, DeviceFault> {
         self.buffered.read(buffer)
+    }
+
+    fn read_first(&mut self, buffer: &mut [u8]) -> Result<usize, DeviceFault> {
+        let count = buffer.len().min(1);
+        self.buffered.read(&mut buffer[..count])
     }
 
     fn failed(&self) -> bool {

@@ -57,7 +57,7 @@ pub struct Source<R> {
 impl<R: InDevice> Source<R> {
     ghost use Rattle.std.specs.Prelude.{◌≡◌, ◌+◌, ◌-◌, ◌<◌, ◌≤◌, ◌==◌, true, false, [], length, take, drop, IfOk, IfErr, OnOk, MatchResult, IsTrue};
     ghost use Rattle.link_io.specs.Limits.{window_size};
-    ghost use Rattle.link_io.specs.Source.{IsSourceAt, is_fresh, reader_of, given_by, taken_by, window_of, front_of, ahead, IsLive, IsOver, HasEnded, HasFailed, Takes, StopsAfter, GivesReady, GivesSome, GivesFill, filled_at_end};
+    ghost use Rattle.link_io.specs.Source.{IsSourceAt, is_fresh, reader_of, given_by, taken_by, window_of, front_of, ahead, IsLive, IsOver, HasEnded, HasFailed, Takes, StopsAfter, GivesReady, GivesFront, GivesSome, GivesFill, filled_at_end};
 
     /// Makes a source that has taken nothing.
     pub fn new(reader: R) -> Source<R>
@@ -162,6 +162,18 @@ impl<R: InDevice> Source<R> {
         if self.start < self.end {
             return self.window();
         }
+        self.held_front()
+    }
+
+    /// `front` for an empty window.
+    #[cold]
+    #[inline(never)]
+    fn held_front(&self) -> &[u8]
+        requires { self.now.start ≡ self.now.end }
+        ensures front { result.now ≡ front_of R.state self.now }
+        ensures bytes { AreBytes result.now }
+        ensures next { BeginsWith (ahead R.state self.now) result.now }
+    {
         match self.flow {
             Flow::Open => up_to(self.reader.held(), INPUT_LIMIT - self.given),
             _ => &[],
@@ -184,7 +196,9 @@ impl<R: InDevice> Source<R> {
         }
     }
 
-    /// Gives the first `count` of the bytes that the reader holds.
+    /// `give_front` for an empty window.
+    #[cold]
+    #[inline(never)]
     fn give_held(&mut self, count: usize)
         requires empty { self.old.start ≡ self.old.end }
         requires some { 0 < count }
@@ -231,29 +245,51 @@ impl<R: InDevice> Source<R> {
         if self.start < self.end {
             return Ok(self.end - self.start);
         }
-        self.read_on()
+        self.read_on(false)
     }
 
-    /// `ready` for an empty window.
+    /// Reads once if nothing is at hand, and returns how many bytes then are.
+    ///
+    /// This is [`Source::ready`] for a caller that looks at [`Source::front`]. From a reader that
+    /// holds bytes, it takes only the first.
+    #[inline(always)]
+    pub fn ready_front(&mut self) -> Result<usize, IoFault>
+        ensures size { IfOk result (λ n. n ≡ length (front_of R.state self.new)) }
+        ensures gives { IsLive R.state self.old → GivesFront R.state self.old self.new result }
+        ensures kept { 0 < length (front_of R.state self.old)
+            → (self.new ≡ self.old) × (result ≡ Ok (length (front_of R.state self.old))) }
+        ensures ended { HasEnded self.old → (self.new ≡ self.old) × (result ≡ Ok 0) }
+        ensures failed { (fault : _) → HasFailed self.old fault
+            → (self.new ≡ self.old) × (result ≡ Err fault) }
+    {
+        let ready = self.front().len();
+        if ready > 0 {
+            return Ok(ready);
+        }
+        self.read_on(true)
+    }
+
+    /// `ready` for an empty window, or `ready_front` (`first`) if nothing is at hand.
     #[cold]
     #[inline(never)]
-    fn read_on(&mut self) -> Result<usize, IoFault>
+    fn read_on(&mut self, first: bool) -> Result<usize, IoFault>
         requires { self.old.start ≡ self.old.end }
         ensures size { IfOk result (λ n. n ≡ length (window_of self.new)) }
         ensures gives { IsLive R.state self.old → GivesReady R.state self.old self.new result }
         ensures ended { HasEnded self.old → (self.new ≡ self.old) × (result ≡ Ok 0) }
         ensures failed { (fault : _) → HasFailed self.old fault
             → (self.new ≡ self.old) × (result ≡ Err fault) }
+        ensures over { IfOk result (λ n. n ≡ 0 → HasEnded self.new) }
     {
         match self.flow {
-            Flow::Open => self.read(),
+            Flow::Open => self.read(first),
             Flow::Ended => Ok(0),
             Flow::Failed(fault) => Err(fault),
         }
     }
 
-    /// Reads once, into an empty window.
-    fn read(&mut self) -> Result<usize, IoFault>
+    /// Reads once, into an empty window. With `first`, a reader that holds bytes may give only one.
+    fn read(&mut self, first: bool) -> Result<usize, IoFault>
         requires open { self.old.flow ≡ Flow.Open }
         requires empty { self.old.start ≡ self.old.end }
         ensures gives { GivesReady R.state self.old self.new result }
@@ -261,7 +297,7 @@ impl<R: InDevice> Source<R> {
     {
         self.start = 0;
         self.end = 0;
-        match read_ahead(&mut self.reader, &mut self.window) {
+        match read_ahead(&mut self.reader, &mut self.window, first) {
             Ok(0) => {
                 self.flow = Flow::Ended;
                 Ok(0)
@@ -405,7 +441,6 @@ fn part(window: &[u8], start: usize, end: usize) -> &[u8]
 }
 
 /// The first bytes of a slice, at most `most` of them.
-#[inline(always)]
 fn up_to(bytes: &[u8], most: u64) -> &[u8]
     ensures first { result.now ≡ take most bytes.now }
     ensures bytes { AreBytes result.now }
@@ -413,8 +448,12 @@ fn up_to(bytes: &[u8], most: u64) -> &[u8]
     part(bytes, 0, most.min(bytes.len() as u64) as usize)
 }
 
-/// One read that asks for a whole window.
-fn read_ahead<R: InDevice>(reader: &mut R, window: &mut [u8]) -> Result<usize, DeviceFault>
+/// One read that asks for a whole window. With `first`, it may give only the first byte.
+fn read_ahead<R: InDevice>(
+    reader: &mut R,
+    window: &mut [u8],
+    first: bool,
+) -> Result<usize, DeviceFault>
     requires { length window.old ≡ 8192 }
     ensures bound { IfOk result (λ n. n ≤ length window.new) }
     ensures bytes { ReadConsumes (R.state reader.old).left
@@ -423,5 +462,9 @@ fn read_ahead<R: InDevice>(reader: &mut R, window: &mut [u8]) -> Result<usize, D
         (λ _. (R.state reader.new).failed ≡ (R.state reader.old).failed)
         (λ _. (R.state reader.new).failed ≡ true) }
 {
-    reader.read(window)
+    if first {
+        reader.read_first(window)
+    } else {
+        reader.read(window)
+    }
 }

@@ -11,7 +11,7 @@ ghost use Rattle.link_list.specs.ListRun.{may_go_on, may_follow, latest_line, Is
 
 use link_report::{KeptDigits, MessageText, contact_line};
 use link_run::{Input, Progress, Run, RunEnd, Stages, Status, ToolRun, Writers};
-use link_wire::{InDevice, IoFault, MessageBuffer, OutDevice, Session, Source, WINDOW};
+use link_wire::{InDevice, IoFault, MessageBuffer, OutDevice, Session, Source};
 
 /// The most bytes of a segment's data that one step is given.
 const PIECE: usize = 4096;
@@ -82,14 +82,14 @@ impl<R: InDevice, W: OutDevice, E: OutDevice> Stages<Session<R>, W, E> for Listi
         step(self, PIECE, false, input, writers)
     }
 
-    /// A stride is given all data in the window, and the messages that lie whole in it after that.
+    /// A stride is given all data at hand, and then the messages that lie whole in the window.
     #[inline(always)]
     fn stride(
         &mut self,
         input: &mut Input<Session<R>>,
         writers: &mut Writers<W, E>,
     ) -> Result<Progress, IoFault> {
-        step(self, WINDOW, true, input, writers)
+        step(self, usize::MAX, true, input, writers)
     }
 }
 

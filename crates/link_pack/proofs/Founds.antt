@@ -2,10 +2,10 @@
 use Rattle.std.proofs.Common.{◌≡◌, ℕ, ◌+◌, ◌-◌, ◌^◌, ◌<◌, ◌≤◌, inl, inr, true, false, List, [], ◌∷◌, ◌++◌, length, take, drop, OnOk, Option, Some, None, Result, Ok, Err, refl, ap, sym, ◌∙◌, subst, append-nil, append_assoc, length-append, length-take, arith}
 use Rattle.std.proofs.lemmas.List.{take-take}
 use Rattle.link_wire.specs.Device.{Input}
-use Rattle.link_wire.specs.Source.{window_of, IsLive, IsOver, Takes, Readies}
+use Rattle.link_wire.specs.Source.{front_of as at_hand, IsLive, IsOver, Takes, Readies}
 use Rattle.link_wire.specs.declared.IoFault.{IoFault}
 use Rattle.link_wire.specs.declared.Source.{Source}
-use Rattle.link_io.proofs.Sources.{IsSourceAt-then, Takes-none}
+use Rattle.link_io.proofs.Sources.{IsSourceAt-then, Takes-none, front_room}
 use Rattle.link_bundle.specs.Bundle.{verdict, bundle_goes}
 use Rattle.link_bundle_types.specs.declared.info.BundleInfo.{BundleInfo}
 use Rattle.link_report.specs.Fault.{fault_text}
@@ -214,7 +214,7 @@ module _ {R W E : Type 0} {look : Looks R W E} {start : Devices R W E} (most : �
         → LastStep look (pack_tool options) start (devices_at (place_of new after)) most history answer
     finished gives = ended_short gives.short gives.why gives.gave
 
--- ---- the bytes that the packer takes of the window
+-- ---- the bytes that the packer takes of those at hand
 
 -- a packer with the same cutter and options has cut the same
 pub cut_at : (old new : Packer) (begun : List ℕ) → new.cutter ≡ old.cutter
@@ -222,29 +222,28 @@ pub cut_at : (old new : Packer) (begun : List ℕ) → new.cutter ≡ old.cutter
     → IsCutterAt new.cutter (cutting new.options begun)
 cut_at old new begun cutter options at = rw (cutter, options) at
 
--- the run is the first `count` bytes of the window
-pub record IsRun (most : ℕ) (window run : List ℕ) (count : ℕ) : Type 0 where
+-- the run is the first `count` bytes at hand
+pub record IsRun (most : ℕ) (front run : List ℕ) (count : ℕ) : Type 0 where
   pub some : 0 < length run
   pub size : length run ≤ most
-  pub same : take count window ≡ run
+  pub same : take count front ≡ run
 
--- the bytes of the bundle and those of the window are fewer than 2 ^ 63
-pub window_bound : {R : Type 0} {look : R → Input} (packer : Packer) (old mid : Source R) {history : List ℕ}
+-- the bytes of the bundle and those at hand are fewer than 2 ^ 63
+pub front_bound : {R : Type 0} {look : R → Input} (packer : Packer) (old mid : Source R) {history : List ℕ}
     (at : Packs look packer old history) → Readies look old mid → (shown : List ℕ) (most : ℕ)
-    → shown ≡ window_of mid → length at.begun + length (take most shown) < 2 ^ 63
-window_bound packer old mid at ready shown most is =
+    → shown ≡ at_hand look mid → length at.begun + length (take most shown) < 2 ^ 63
+front_bound {look = look} packer old mid at ready shown most is =
     let few = at.few in
-    let room = mid.within in
+    let room = front_room look mid in
     let given = ready.count in
     let before = at.source.given in
-    let ahead = length-take (mid.end - mid.start) (drop mid.start mid.window) in
-    let size : length shown ≡ length (window_of mid) = ap length is in
-    omega (arith, size, length-take most shown, ahead)
+    let size : length shown ≡ length (at_hand look mid) = ap length is in
+    omega (arith, size, length-take most shown)
 
-pub window_run : (most : ℕ) (window shown : List ℕ) (ready count : ℕ)
-    → shown ≡ window → ready ≤ most → count ≤ length (take ready shown) → 0 < count
-    → IsRun most window (take count (take ready shown)) count
-window_run most window shown ready count is size within some =
+pub front_run : (most : ℕ) (front shown : List ℕ) (ready count : ℕ)
+    → shown ≡ front → ready ≤ most → count ≤ length (take ready shown) → 0 < count
+    → IsRun most front (take count (take ready shown)) count
+front_run most front shown ready count is size within some =
     let sizes = length-take ready shown in
     record {
       some = omega (arith, sizes, length-take count (take ready shown));

@@ -22,8 +22,7 @@ use crate::segments::write_run;
 use link_run::{Input, Progress, Run, RunEnd, Stages, Status, ToolRun, Writers};
 use link_transfer::Cutter;
 use link_wire::{
-    HeadBuf, InDevice, IoFault, OutDevice, Source, WINDOW, put_contact, put_sess_init,
-    put_sess_term,
+    HeadBuf, InDevice, IoFault, OutDevice, Source, put_contact, put_sess_init, put_sess_term,
 };
 use std::alloc::AllocError;
 
@@ -84,7 +83,7 @@ impl<R: InDevice, W: OutDevice, E: OutDevice> Stages<Source<R>, W, E> for Packin
     }
 
     /// Does the step that writes the beginning of the stream, or a step that is given as many bytes
-    /// as the window has.
+    /// as are at hand.
     #[inline(always)]
     fn stride(
         &mut self,
@@ -94,7 +93,7 @@ impl<R: InDevice, W: OutDevice, E: OutDevice> Stages<Source<R>, W, E> for Packin
         match self.stage {
             Stage::Prelude => self.stage(input, writers),
             Stage::Bundles => {
-                take_bundles(WINDOW, input, writers, &mut self.packer, &mut self.head)
+                take_bundles(usize::MAX, input, writers, &mut self.packer, &mut self.head)
             }
         }
     }
@@ -164,7 +163,7 @@ fn take_bundles<R: InDevice, W: OutDevice, E: OutDevice>(
         Ok(ready) => ready.min(most),
         Err(fault) => return Err(fault),
     };
-    let piece = &input.window()[..ready];
+    let piece = &input.front()[..ready];
     let (count, found) = packer.judge(piece);
     let progress = go_on(found, &piece[..count], writers, packer);
     input.give(count);

@@ -3,7 +3,7 @@ use Rattle.std.specs.Prelude.{◌≡◌, ℕ, ◌<◌, ◌⊎◌, true, List, []
 use Rattle.link_wire.specs.Device.{Input as Seen, HasBytes}
 use Rattle.link_wire.specs.Limits.{window_size}
 use Rattle.link_wire.specs.Session.{source_of, may_open, IsSessionAt, HasNext, GivesNext, GivesLoad}
-use Rattle.link_wire.specs.Source.{window_of, ahead, GivesReady}
+use Rattle.link_wire.specs.Source.{window_of, ahead, GivesFront}
 use Rattle.link_wire.specs.declared.IoFault.{IoFault}
 use Rattle.link_wire.specs.declared.Source.{Source}
 use Rattle.link_wire.specs.declared.fault.Stop.{Stop}
@@ -59,9 +59,9 @@ module _ {R W E : Type 0} (look : Looks R W E)
 -- hand on what was written, and nothing was read.
 abbrev pub ReadsBytes : {R W E : Type 0} → Looks R W E → (old new : Source R) → (before after : Writers W E) → Result ℕ IoFault → Type 0
 ReadsBytes look old new before after (Ok n) =
-    Writes look.output look.report before after (on_output []) × GivesReady look.input old new (Ok n)
+    Writes look.output look.report before after (on_output []) × GivesFront look.input old new (Ok n)
 ReadsBytes look old new before after (Err fault) =
-    (Writes look.output look.report before after (on_output []) × GivesReady look.input old new (Err fault))
+    (Writes look.output look.report before after (on_output []) × GivesFront look.input old new (Err fault))
     ⊎ ((new ≡ old) × (length (window_of old) < window_size)
     × Unsettled look.output look.report before after fault)
 

@@ -213,11 +213,11 @@ impl<R: InDevice> Input<Session<R>> {
         self.inner.read_next(message)
     }
 
-    /// Makes data of the segment ready in the window, as [`Session::load`] does. Returns how many
-    /// bytes are ready.
+    /// Makes data of the segment ready, as [`Session::load`] does, and returns how many bytes of it
+    /// are at hand.
     ///
-    /// If the window has no data yet and the read may have to wait, the call first hands on what
-    /// was written. If that fails, it reads nothing and returns the failure as a stop, although the
+    /// If no data is at hand yet and the read may have to wait, the call first hands on what was
+    /// written. If that fails, it reads nothing and returns the failure as a stop, although the
     /// session has not stopped. A session that has stopped returns its stop again.
     #[inline(always)]
     pub fn load_data<W: OutDevice, E: OutDevice>(
@@ -225,7 +225,7 @@ impl<R: InDevice> Input<Session<R>> {
         writers: &mut Writers<W, E>,
     ) -> Result<usize, Stop>
         ensures size { IfOk result (λ n. n ≡ length (data_in R.state (inner_of self.new))) }
-        // If the window already has data, nothing is handed on.
+        // If data is at hand already, nothing is handed on.
         ensures here { 0 < length (data_in R.state (inner_of self.old)) → writers.new ≡ writers.old }
         ensures opened { IsTrue (is_opened (inner_of self.old))
             → IsTrue (is_opened (inner_of self.new)) }
@@ -246,7 +246,7 @@ impl<R: InDevice> Input<Session<R>> {
         self.inner.load()
     }
 
-    /// The segment's data in the window.
+    /// The segment's data that is at hand.
     #[inline(always)]
     pub fn loaded(&self) -> &[u8]
         ensures { result.now ≡ data_in R.state (inner_of self.now) }
@@ -284,28 +284,28 @@ impl<R: InDevice> Input<Session<R>> {
 impl<R: InDevice> Input<Source<R>> {
     ghost use Rattle.std.specs.Prelude.{◌≤◌, Ok, take};
     ghost use Rattle.link_wire.specs.Bytes.{AreBytes};
-    ghost use Rattle.link_wire.specs.Source.{Takes};
+    ghost use Rattle.link_wire.specs.Source.{front_of, Takes};
     ghost use Rattle.link_run.specs.Reading.{inner_of};
 
-    /// Makes bytes ready in the window, as [`Source::ready`] does. Returns how many: 0 at the end
-    /// of the input.
+    /// Makes bytes ready, as [`Source::ready_front`] does, and returns how many are at hand: 0 at
+    /// the end of the input.
     ///
-    /// If the window is empty and the read may have to wait, the call first hands on what was
-    /// written. If that fails, it reads nothing and returns [`IoFault::Write`]. Otherwise, after
-    /// the end or a fault of the source, it reads nothing and returns the same result again.
+    /// If none is at hand and the read may have to wait, the call first hands on what was written.
+    /// If that fails, it reads nothing and returns [`IoFault::Write`]. Otherwise, after the end or
+    /// a fault of the source, it reads nothing and returns the same result again.
     #[inline(always)]
     pub fn ready_bytes<W: OutDevice, E: OutDevice>(
         &mut self,
         writers: &mut Writers<W, E>,
     ) -> Result<usize, IoFault>
-        ensures size { IfOk result (λ n. n ≡ length (window_of (inner_of self.new))) }
+        ensures size { IfOk result (λ n. n ≡ length (front_of R.state (inner_of self.new))) }
         ensures gives { IsLive R.state (inner_of self.old)
             → ReadsBytes (looks R.state W.state E.state) (inner_of self.old) (inner_of self.new)
             writers.old writers.new result }
-        // If the window has bytes, nothing is handed on or read.
-        ensures here { 0 < length (window_of (inner_of self.old)) → (self.new ≡ self.old)
+        // If bytes are at hand, nothing is handed on or read.
+        ensures here { 0 < length (front_of R.state (inner_of self.old)) → (self.new ≡ self.old)
             × (writers.new ≡ writers.old)
-            × (result ≡ Ok (length (window_of (inner_of self.old)))) }
+            × (result ≡ Ok (length (front_of R.state (inner_of self.old)))) }
         ensures handed { (result ≡ Err IoFault.Write → ⊥)
             → HoldsNoBytesBack (looks R.state W.state E.state) W.handed E.handed
             (inner_of self.old) writers.new }
@@ -319,31 +319,31 @@ impl<R: InDevice> Input<Source<R>> {
             ⊎ (result ≡ Err IoFault.Write)
             × Unsettled W.state E.state writers.old writers.new IoFault.Write) }
     {
-        if self.inner.window().is_empty() {
+        if self.inner.front().is_empty() {
             settle_before_bytes(&self.inner, writers)?;
         }
-        self.inner.ready()
+        self.inner.ready_front()
     }
 
-    /// The bytes in the window.
+    /// The bytes at hand, as [`Source::front`] shows them.
     #[inline(always)]
-    pub fn window(&self) -> &[u8]
-        ensures window { result.now ≡ window_of (inner_of self.now) }
+    pub fn front(&self) -> &[u8]
+        ensures front { result.now ≡ front_of R.state (inner_of self.now) }
         ensures bytes { AreBytes result.now }
     {
-        self.inner.window()
+        self.inner.front()
     }
 
-    /// Gives the first `count` bytes of the window.
+    /// Gives the first `count` bytes at hand.
     #[inline(always)]
     pub fn give(&mut self, count: usize)
-        requires { count ≤ length (window_of (inner_of self.old)) }
+        requires { count ≤ length (front_of R.state (inner_of self.old)) }
         ensures takes { Takes R.state (inner_of self.old) (inner_of self.new)
-            (take count (window_of (inner_of self.old))) }
+            (take count (front_of R.state (inner_of self.old))) }
         ensures live { IsLive R.state (inner_of self.old) → IsLive R.state (inner_of self.new) }
         ensures none { count ≡ 0 → self.new ≡ self.old }
     {
-        self.inner.give(count);
+        self.inner.give_front(count);
     }
 }
 

@@ -25,7 +25,7 @@ use crate::wanted::Wanted;
 use link_report::Fault;
 use link_run::{Input, Progress, Run, RunEnd, Stages, Status, ToolRun, Writers};
 use link_transfer::{Event, Joiner, Turn, announced};
-use link_wire::{Fields, InDevice, IoFault, MessageBuffer, OutDevice, Session, Source, WINDOW};
+use link_wire::{Fields, InDevice, IoFault, MessageBuffer, OutDevice, Session, Source};
 
 /// The most bytes of a segment's data that one step is given.
 const PIECE: usize = 4096;
@@ -179,10 +179,10 @@ fn stride_from<R: InDevice, W: OutDevice, E: OutDevice>(
     if let Stage::Message = stage {
         return stride_message(input, writers, message, unpacker);
     }
-    advance(stage, WINDOW, input, writers, message, unpacker)
+    advance(stage, usize::MAX, input, writers, message, unpacker)
 }
 
-/// Takes a message. If it is a segment with data in the window, this data is taken too. Otherwise
+/// Takes a message. If it is a segment with data at hand, this data is taken too. Otherwise
 /// the quiet messages after it are passed over, if it has no data to come.
 #[inline(always)]
 fn stride_message<R: InDevice, W: OutDevice, E: OutDevice>(
@@ -234,8 +234,8 @@ fn pass_quiet<R: InDevice>(next: Next, input: &mut Input<Session<R>>) -> Next
     next
 }
 
-/// If data of a segment comes next, and `ready` bytes of it are in the window: whether the segment
-/// is the last of its transfer.
+/// If data of a segment comes next, and `ready` bytes of it are at hand: whether the segment is the
+/// last of its transfer.
 #[inline(always)]
 fn at_hand(next: Next, ready: usize) -> Option<bool>
     ensures { IfSome result (λ last. (next ≡ Next.Stage (Stage.Data last)) × (0 < ready)) }
@@ -551,8 +551,8 @@ fn take_data<R: InDevice, W: OutDevice, E: OutDevice>(
     }
 }
 
-/// Takes the next `size` bytes of a segment's data, which are in the window. Writes the selected
-/// bytes of them.
+/// Takes the next `size` bytes of a segment's data, which are at hand. Writes the selected bytes of
+/// them.
 #[inline(always)]
 fn take_loaded<R: InDevice, W: OutDevice, E: OutDevice>(
     last: bool,
@@ -562,7 +562,7 @@ fn take_loaded<R: InDevice, W: OutDevice, E: OutDevice>(
     unpacker: &mut Unpacker,
 ) -> Next
     requires opened { IsTrue (is_opened (inner_of input.old)) }
-    requires size { size ≤ length (data_in (inner_of input.old)) }
+    requires size { size ≤ length (data_in R.state (inner_of input.old)) }
     ensures fits { IsTrue (may_follow result (inner_of input.new)) }
     ensures gives { (start : Devices R W E) (history : List ℕ) → 0 < size
         → Stands (looks R.state W.state E.state) (unpacking_of unpacker.old.latest.wanted) start true

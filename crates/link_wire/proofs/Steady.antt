@@ -1,7 +1,7 @@
 -- The reading of bytes does not change when more bytes follow, unless a field is missing.
 use Rattle.std.proofs.Common.{◌≡◌, ℕ, zero, suc, ◌<◌, List, ◌++◌, length, take, Option, Some, None, Ok, Err, refl, ap, sym, ◌∙◌, subst, length-append, length-take, arith}
-use Rattle.std.specs.Io.KnownBytes.{prepend_known}
 use Rattle.link_io.specs.Device.{Input, BeginsWith}
+use Rattle.link_io.proofs.Windows.{begins_window}
 use Rattle.link_io.specs.Source.{ahead, window_of, front_of}
 use Rattle.link_wire.specs.Here.{IsHere}
 use Rattle.link_wire.specs.Message.{contact_at, message_at}
@@ -34,11 +34,6 @@ module _ {A : Type 0} (part : List ℕ → Part A) (steady : Steady part) where
   enough_here None bytes next here = tt
   enough_here (Some all) bytes next here = λ cut.
       stays_whole part steady bytes next.0 (part bytes) refl here.whole (ap part (sym next.1) ∙ cut)
-
-begins_window : (left : Option (List ℕ)) (window : List ℕ)
-    → BeginsWith (prepend_known window left) window
-begins_window None window = tt
-begins_window (Some all) window = (all, refl)
 
 module _ {R : Type 0} (look : R → Input) (s : Session R) (between : s.left ≡ 0) where
   pub head_next : (bytes : List ℕ) → BeginsWith (ahead look s.source) bytes

@@ -35,7 +35,7 @@ impl<R: InDevice> Session<R> {
     ghost use Rattle.std.specs.Prelude.{◌≡◌, ◌<◌, true, false, [], ℕ, List, length, IfOk, IfErr, IfSome, Some, None, Ok, Err, IsTrue};
     ghost use Rattle.link_wire.specs.Halt.{stop_at};
     ghost use Rattle.link_io.specs.Limits.{window_size};
-    ghost use Rattle.link_io.specs.Source.{is_fresh, reader_of, window_of};
+    ghost use Rattle.link_io.specs.Source.{is_fresh, reader_of, window_of, front_of};
     ghost use Rattle.link_wire.specs.Plain.{IsHead};
     ghost use Rattle.link_wire.specs.Message.{MessageHasTotals};
     ghost use Rattle.link_wire.specs.MessageBuffer.{message_of, SegmentHasTotals};
@@ -176,7 +176,10 @@ impl<R: InDevice> Session<R> {
         ensures stopped { (stop : _) → HasStopped self.old stop
             → (self.new ≡ self.old) × (result ≡ Err stop) }
     {
-        match self.next_here(message) {
+        if let Some(offset) = self.next_here(message) {
+            return Ok(Some(offset));
+        }
+        match self.next_ahead(message) {
             Some(offset) => Ok(Some(offset)),
             None => self.read_fields(message),
         }
@@ -208,6 +211,51 @@ impl<R: InDevice> Session<R> {
             Some((fields, size)) => Some(self.give_head(fields, size, message)),
             None => None,
         }
+    }
+
+    /// Gives the next message if its head is frequent and at hand, and has more data than a window.
+    ///
+    /// The reader may hold that head and data. Then the data is not copied into the window with the
+    /// head, as in [`Session::read_fields`].
+    #[cold]
+    #[inline(never)]
+    fn next_ahead(&mut self, message: &mut MessageBuffer) -> Option<u64>
+        requires { IsTrue (may_read self.old) }
+        ensures none { result ≡ None → (self.new ≡ self.old) × (message.new ≡ message.old) }
+        ensures gives { (history : List ℕ) → IsSessionAt R.state self.old history
+            → IfSome result (λ offset.
+            ReadMessage R.state self.old self.new history offset (message_of message.new)) }
+        ensures totals { IfSome result (λ offset. SegmentHasTotals message.new) }
+        ensures opened { IsTrue (is_opened self.new) }
+        ensures again { HasEndedBetween self.old → result ≡ None }
+        ensures stopped { (stop : _) → HasStopped self.old stop → result ≡ None }
+    {
+        if let Phase::Stopped(_) = self.phase {
+            return None;
+        }
+        match plain(self.source.front()) {
+            Some((fields, size)) if fields.data_length() > WINDOW as u64 => {
+                Some(self.give_ahead(fields, size, message))
+            }
+            _ => None,
+        }
+    }
+
+    /// [`Session::give_head`] for a head that is at hand.
+    fn give_ahead(&mut self, fields: Fields, size: usize, message: &mut MessageBuffer) -> u64
+        requires may_read { IsTrue (may_read self.old) }
+        requires head { IsHead (front_of R.state self.old.source) fields size }
+        ensures opened { IsTrue (is_opened self.new) }
+        ensures gives { (history : List ℕ) → IsSessionAt R.state self.old history
+            → ReadMessage R.state self.old self.new history result (message_of message.new) }
+        ensures totals { SegmentHasTotals message.new }
+    {
+        let offset = self.source.given();
+        self.source.give_front(size);
+        message.set(fields);
+        self.offset = offset;
+        self.left = message.data_length();
+        offset
     }
 
     /// Gives a head that is whole in the window, and returns its offset.
@@ -423,7 +471,7 @@ impl<R: InDevice> Session<R> {
         }
     }
 
-    /// Fills the slice with the next data in the window, and gives it.
+    /// Fills the slice with the next data at hand, and gives it.
     fn copy(&mut self, part: &mut [u8])
         requires { length part.old ≤ length (data_in R.state self.old) }
         ensures opened { is_opened self.new ≡ is_opened self.old }
@@ -435,9 +483,9 @@ impl<R: InDevice> Session<R> {
         self.pass(count);
     }
 
-    /// Makes data of the segment ready in the window, and returns how many bytes of it are there.
+    /// Makes data of the segment ready, and returns how many bytes of it are at hand.
     ///
-    /// It reads once if data is left and the window is empty. It returns 0 only if no data is left.
+    /// It reads once if data is left and none is at hand. It returns 0 only if no data is left.
     /// After a stop it returns that stop again, and reads nothing. If the input ends inside the
     /// data, the fault is [`WireFault::Truncated`], at the offset of the segment.
     #[inline(always)]
@@ -460,7 +508,7 @@ impl<R: InDevice> Session<R> {
         }
     }
 
-    /// `load` if no data is in the window, or after a stop.
+    /// `load` if no data is at hand, or after a stop.
     #[cold]
     #[inline(never)]
     fn load_on(&mut self) -> Result<usize, Stop>
@@ -481,7 +529,7 @@ impl<R: InDevice> Session<R> {
         if self.left == 0 {
             return Ok(0);
         }
-        match self.source.ready() {
+        match self.source.ready_front() {
             Ok(0) => Err(self.stop_at(self.offset, Halt::Wire(WireFault::Truncated))),
             Ok(ready) => Ok(self.left.min(ready as u64) as usize),
             Err(fault) => Err(self.stop_at(self.offset, Halt::Io(fault))),

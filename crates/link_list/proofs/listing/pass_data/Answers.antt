@@ -13,13 +13,14 @@ use Rattle.link_list.proofs.listing.pass_data.Goals as goal
 
 pub returns-in-Ok-clause-gives : goal.returns-in-Ok-clause-gives
 returns-in-Ok-clause-gives g c = λ start line history at lists.
+    let look = g.R.InDevice.state in
     let old = inner_of c.args.input.now in
     let mid = inner_of c.load_data.new.self in
     let got = c.in-Ok.ensures.gives history lists.session_at in
     let within = inside old line history lists in
     let some = got.1.some within.some in
-    let size : length (take c.min.result (data_in mid)) ≡ c.min.result = omega (arith, got.1.size, c.min.ensures, length-take c.min.result (data_in mid)) in
-    data_read old mid (inner_of c.pass.new.self) c.load_data.new.writers (take c.min.result (data_in mid)) (settled (source_of old) c.args.writers.now c.load_data.new.writers at got.0) within got.1.readies (c.pass.ensures.gives history got.1.at)
+    let size : length (take c.min.result (data_in look mid)) ≡ c.min.result = omega (arith, got.1.size, c.min.ensures, length-take c.min.result (data_in look mid)) in
+    data_read old mid (inner_of c.pass.new.self) c.load_data.new.writers (take c.min.result (data_in look mid)) (settled (source_of old) c.args.writers.now c.load_data.new.writers at got.0) within got.1.readies (c.pass.ensures.gives history got.1.at)
     (omega (arith, size, c.min.ensures)) (omega (arith, size, c.min.ensures)) _ c.go_on.ensures.goes
 
 pub returns-in-Ok-clause-handed : goal.returns-in-Ok-clause-handed

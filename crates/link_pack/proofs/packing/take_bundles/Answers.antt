@@ -1,6 +1,6 @@
 use Rattle.std.proofs.Common.{ℕ, List, [], Err, take, length-take, ⊎_elim, append-nil, ap, sym, ◌∙◌, refl, subst, arith}
 use Rattle.std.proofs.lemmas.Bool.Decides.{nat_tests}
-use Rattle.link_wire.specs.Source.{window_of, Takes}
+use Rattle.link_wire.specs.Source.{front_of, Takes}
 use Rattle.link_io.proofs.Sources.{Readies-takes, Readies-over}
 use Rattle.link_run.specs.Made.{is_shown}
 use Rattle.link_run.specs.Reading.{inner_of}
@@ -11,7 +11,7 @@ use Rattle.link_run.proofs.Runs.{writes_none}
 use Rattle.link_run.proofs.Stands.{settled, not_handed_on, read_fails, last_step}
 use Rattle.link_transfer.specs.Cutter.{wanted_by}
 use Rattle.link_pack.specs.Packing.{packing_of}
-use Rattle.link_pack.proofs.Founds.{came, finished, cut_at, window_bound, window_run}
+use Rattle.link_pack.proofs.Founds.{came, finished, cut_at, front_bound, front_run}
 use Rattle.link_pack.proofs.Goings.{found_handed, finish_handed}
 use Rattle.link_pack.proofs.packing.take_bundles.Goals as goal
 
@@ -68,11 +68,11 @@ returns-clause-gives g c = λ start history stood at.
     let packer = c.args.packer.now in
     let judged = c.judge-count.new.self in
     let count = c.judge-count.result.0 in
-    let shown = c.window.result.now in
+    let shown = c.front.result.now in
     let read = c.in-Ok.ensures.gives at.live in
     let ready = read.1 in
-    let bound = window_bound packer old mid at ready.readies shown c.min-ready.result c.window.ensures.window in
-    let taken = window_run c.args.most (window_of mid) shown c.min-ready.result count c.window.ensures.window (omega (arith, c.min-ready.ensures)) c.judge-count.ensures.within
+    let bound = front_bound packer old mid at ready.readies shown c.min-ready.result c.front.ensures.front in
+    let taken = front_run c.args.most (front_of g.R.InDevice.state mid) shown c.min-ready.result count c.front.ensures.front (omega (arith, c.min-ready.ensures)) c.judge-count.ensures.within
     (c.judge-count.ensures.some at.bundles at.begun at.holds bound) in
     let run = take count (take c.min-ready.result shown) in
     let took = c.judge-count.ensures.took at.bundles at.begun at.holds bound in
@@ -93,10 +93,10 @@ returns-clause-handed g c = λ history at other.
     let packer = c.args.packer.now in
     let judged = c.judge-count.new.self in
     let count = c.judge-count.result.0 in
-    let shown = c.window.result.now in
+    let shown = c.front.result.now in
     let read = c.in-Ok.ensures.gives at.live in
-    let bound = window_bound packer old mid at read.1.readies shown c.min-ready.result c.window.ensures.window in
-    let taken = window_run c.args.most (window_of mid) shown c.min-ready.result count c.window.ensures.window (omega (arith, c.min-ready.ensures)) c.judge-count.ensures.within
+    let bound = front_bound packer old mid at read.1.readies shown c.min-ready.result c.front.ensures.front in
+    let taken = front_run c.args.most (front_of g.R.InDevice.state mid) shown c.min-ready.result count c.front.ensures.front (omega (arith, c.min-ready.ensures)) c.judge-count.ensures.within
     (c.judge-count.ensures.some at.bundles at.begun at.holds bound) in
     let run = take count (take c.min-ready.result shown) in
     let took = c.judge-count.ensures.took at.bundles at.begun at.holds bound in

@@ -1,7 +1,6 @@
-use Rattle.std.proofs.Common.{◌<◌, [], inr, length, subst, arith}
+use Rattle.std.proofs.Common.{◌<◌, [], inr, length, arith}
 use Rattle.link_run.specs.Run.{looks}
 use Rattle.std.proofs.lemmas.Bool.Decides.{nat_tests}
-use Rattle.link_wire.proofs.Steady.{data_next}
 use Rattle.link_run.specs.Writers.{on_output, Writes}
 use Rattle.link_run.proofs.Readings.{data_given}
 use Rattle.link_run.proofs.Runs.{writes_none}
@@ -21,5 +20,5 @@ returns-clause-handed g c = elim c.if-is_empty.branch [
   | then-is_empty+in_ok-settle_before w ↦ λ other. rw w.writers-is w.in_ok-settle_before.ensures.handed
   | else-is_empty w ↦ λ other history at.
       let some : 0 < length c.loaded.result.now = grind (arith, nat_tests) in
-      inr (data_next g.R.InDevice.state c.args.self.now.inner (subst (λ d. 0 < length d) c.loaded.ensures some))
+      inr (c.loaded.ensures.here some)
 ]

@@ -1,8 +1,19 @@
-use Rattle.std.proofs.Common.{◌≡◌, false, not, ap, sym, ◌∙◌, arith}
+use Rattle.std.proofs.Common.{◌≡◌, [], false, length, not, ap, sym, ◌∙◌, arith}
 use Rattle.std.proofs.lemmas.Bool.{false≢true}
+use Rattle.std.proofs.lemmas.Bool.Decides.{nat_tests}
+use Rattle.std.proofs.lemmas.Grind.{common_steps}
+use Rattle.link_io.proofs.Sources.{nothing_ahead}
+use Rattle.link_io.specs.Source.{window_of, front_of}
 use Rattle.link_wire.proofs.Sessions.{opens_unopened}
 use Rattle.link_wire.proofs.Steady.{contact_next, head_next}
 use Rattle.link_wire.proofs.session.Session.may_wait.Goals as goal
+
+pub returns-then-is_empty-clause-data : goal.returns-then-is_empty-clause-data
+returns-then-is_empty-clause-data g c = λ waits some.
+    let s = c.args.self.now.source in
+    let empty : length (window_of s) ≡ 0 = grind (arith, nat_tests, ap length c.window.ensures.window) in
+    let none : front_of g.R.InDevice.state s ≡ [] = nothing_ahead g.R.InDevice.state s empty (c.may_wait.ensures.none waits) in
+    rw none (grind (arith, common_steps))
 
 pub returns-else-not-has_contact : goal.returns-else-not-has_contact
 returns-else-not-has_contact g c =
