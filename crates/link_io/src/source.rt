@@ -199,17 +199,17 @@ impl<R: InDevice> Source<R> {
     /// `give_front` for an empty window.
     #[cold]
     #[inline(never)]
-    fn give_held(&mut self, count: usize)
+    fn give_held(&mut self, size: usize)
         requires empty { self.old.start ≡ self.old.end }
-        requires some { 0 < count }
-        requires held { count ≤ length (front_of R.state self.old) }
-        ensures takes { Takes R.state self.old self.new (take count (front_of R.state self.old)) }
+        requires some { 0 < size }
+        requires held { size ≤ length (front_of R.state self.old) }
+        ensures takes { Takes R.state self.old self.new (take size (front_of R.state self.old)) }
         ensures live { IsLive R.state self.old → IsLive R.state self.new }
     {
         // This call is for the proof: by its contract, the elements of the front are bytes.
         let _front = self.front();
-        self.reader.pass_held(count);
-        self.given += count as u64;
+        self.reader.pass_held(size);
+        self.given += size as u64;
     }
 
     /// Gives the first `count` bytes of the window, which the caller has looked at in place.

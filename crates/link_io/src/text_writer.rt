@@ -11,17 +11,21 @@ use std::alloc::{AllocError, Global};
 /// The size of the page of a [`TextWriter`], in bytes.
 const PAGE: usize = 64 << 10;
 
+/// A [`TextWriter`] does not copy as many bytes as these into its page.
+const LARGE: usize = 16 << 10;
+
 /// An output device that makes texts in a page of its own, without copying them.
 ///
 /// A text is copied only if the page has less room than [`TEXT_MAX`]. When the page has no room for
 /// more, it is handed on to the device below. Bytes that wait in the page count as written. So a
-/// writer cannot be dropped: [`TextWriter::into_device`] hands on what waits.
+/// writer cannot be dropped: [`TextWriter::into_device`] hands on what waits. A large slice is
+/// written to the device below from where it lies, after what waits.
 pub struct TextWriter<D> {
     device: D,
     page: Vec<u8>,
     /// The number of bytes of the page that wait to be handed on.
     end: usize,
-    ghost room: { 9216 ≤ length page.items },
+    ghost room: { 16384 ≤ length page.items },
     ghost within: { end ≤ length page.items },
 }
 
@@ -42,7 +46,7 @@ impl<D: OutDevice + Drop> TextWriter<D> {
 impl<D: OutDevice> TextWriter<D> {
     /// Makes a writer over the device, with this page.
     fn over(device: D, page: Vec<u8>) -> TextWriter<D>
-        requires { TEXT_MAX ≤ length page.items }
+        requires { LARGE ≤ length page.items }
         ensures { output_of D.state result ≡ D.state device }
     {
         TextWriter {
@@ -106,7 +110,7 @@ impl<D: OutDevice> TextWriter<D> {
         answer
     }
 
-    /// `write` for bytes that the page has no room for.
+    /// `write` for many bytes, or for some that the page has no room for.
     #[cold]
     #[inline(never)]
     fn write_on(&mut self, bytes: &[u8]) -> Result<usize, DeviceFault>
@@ -119,7 +123,7 @@ impl<D: OutDevice> TextWriter<D> {
             (λ _. (D.state self.new.device).failed ≡ true) }
     {
         self.pass()?;
-        if bytes.len() >= self.page.len() {
+        if bytes.len() >= LARGE {
             return self.device.write(bytes);
         }
         self.append(bytes);
@@ -158,7 +162,7 @@ impl<D: OutDevice> OutDevice for TextWriter<D> {
 
     #[inline(always)]
     fn write(&mut self, bytes: &[u8]) -> Result<usize, DeviceFault> {
-        if bytes.len() <= self.page.len() - self.end {
+        if bytes.len() < LARGE && bytes.len() <= self.page.len() - self.end {
             self.append(bytes);
             return Ok(bytes.len());
         }

@@ -230,14 +230,15 @@ impl<R: InDevice> Session<R> {
         ensures again { HasEndedBetween self.old → result ≡ None }
         ensures stopped { (stop : _) → HasStopped self.old stop → result ≡ None }
     {
-        if let Phase::Stopped(_) = self.phase {
-            return None;
-        }
-        match plain(self.source.front()) {
-            Some((fields, size)) if fields.data_length() > WINDOW as u64 => {
-                Some(self.give_ahead(fields, size, message))
-            }
-            _ => None,
+        let front = self.source.front();
+        match self.phase {
+            Phase::Stopped(_) => None,
+            _ => match plain(front) {
+                Some((fields, size)) if fields.data_length() > WINDOW as u64 => {
+                    Some(self.give_ahead(fields, size, message))
+                }
+                _ => None,
+            },
         }
     }
 
@@ -253,8 +254,9 @@ impl<R: InDevice> Session<R> {
         let offset = self.source.given();
         self.source.give_front(size);
         message.set(fields);
+        let left = message.data_length();
         self.offset = offset;
-        self.left = message.data_length();
+        self.left = left;
         offset
     }
 

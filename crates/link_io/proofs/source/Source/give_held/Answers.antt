@@ -12,14 +12,14 @@ pass_held-requires g c =
     let s = c.args.self.now in
     let look = g.R.InDevice.state in
     let whole = front_held look s (omega (arith, c.requires.empty)) in
-    (held_part s.flow (longest_input - s.given) (look s.reader).held c.args.count c.requires.some (rw whole at c.requires.held)).here
+    (held_part s.flow (longest_input - s.given) (look s.reader).held c.args.size c.requires.some (rw whole at c.requires.held)).here
 
 pub invariant_of-self : goal.invariant_of-self
 invariant_of-self g c =
     let s = c.args.self.now in
     let look = g.R.InDevice.state in
     let whole = front_held look s (omega (arith, c.requires.empty)) in
-    let room = (held_part s.flow (longest_input - s.given) (look s.reader).held c.args.count c.requires.some (rw whole at c.requires.held)).room in
+    let room = (held_part s.flow (longest_input - s.given) (look s.reader).held c.args.size c.requires.some (rw whole at c.requires.held)).room in
     record {
       ordered = s.ordered;
       room = s.room;
@@ -31,13 +31,13 @@ returns-clause-takes g c =
     let s = c.args.self.now in
     let look = g.R.InDevice.state in
     let whole = front_held look s (omega (arith, c.requires.empty)) in
-    let part = held_part s.flow (longest_input - s.given) (look s.reader).held c.args.count c.requires.some (rw whole at c.requires.held) in
+    let part = held_part s.flow (longest_input - s.given) (look s.reader).held c.args.size c.requires.some (rw whole at c.requires.held) in
     let none : window_of s ≡ [] = range_none s.window s.start s.end c.requires.empty in
-    let same : take c.args.count (front_of look s) ≡ take c.args.count (look s.reader).held = ap (take c.args.count) whole ∙ part.same in
+    let same : take c.args.size (front_of look s) ≡ take c.args.size (look s.reader).held = ap (take c.args.size) whole ∙ part.same in
     record {
       bytes_fit = All-take IsByte _ _ (rw c.front-front.ensures.front at c.front-front.ensures.bytes);
       next = rw (same, none) (Consumes-behind _ _ _ c.pass_held.ensures.bytes);
-      count = omega (arith, c.requires.held, length-take c.args.count (front_of look s));
+      count = omega (arith, c.requires.held, length-take c.args.size (front_of look s));
       device = c.pass_held.ensures.failed;
       window = record { kept = λ empty. refl; less = λ some. rw none (omega arith) };
     }
@@ -47,4 +47,4 @@ returns-clause-live g c = λ live.
     let s = c.args.self.now in
     let look = g.R.InDevice.state in
     let whole = front_held look s (omega (arith, c.requires.empty)) in
-    (held_part s.flow (longest_input - s.given) (look s.reader).held c.args.count c.requires.some (rw whole at c.requires.held)).live _ s.start s.end
+    (held_part s.flow (longest_input - s.given) (look s.reader).held c.args.size c.requires.some (rw whole at c.requires.held)).live _ s.start s.end

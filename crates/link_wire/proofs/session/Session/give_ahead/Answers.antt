@@ -20,4 +20,4 @@ returns-clause-gives g c = λ history at.
       live = c.give_front.ensures.live at.live;
       is = subst P (sym c.set.ensures.message) (c.requires.head.is c.args.message.now.node);
     } in
-    rw here (came old history at (none_left old at.going c.requires.may_read) _ _ got refl c.data_length-self.ensures at.going)
+    rw here (came old history at (none_left old at.going c.requires.may_read) _ _ got refl c.data_length-left.ensures at.going)
