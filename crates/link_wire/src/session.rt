@@ -230,15 +230,12 @@ impl<R: InDevice> Session<R> {
         ensures again { HasEndedBetween self.old → result ≡ None }
         ensures stopped { (stop : _) → HasStopped self.old stop → result ≡ None }
     {
-        let front = self.source.front();
-        match self.phase {
-            Phase::Stopped(_) => None,
-            _ => match plain(front) {
-                Some((fields, size)) if fields.data_length() > WINDOW as u64 => {
-                    Some(self.give_ahead(fields, size, message))
-                }
-                _ => None,
-            },
+        let going = matches!(self.phase, Phase::Reading);
+        match plain(self.source.front()) {
+            Some((fields, size)) if going && fields.data_length() > WINDOW as u64 => {
+                Some(self.give_ahead(fields, size, message))
+            }
+            _ => None,
         }
     }
 

@@ -7,4 +7,4 @@ pub returns-in-Some-clause-again : goal.returns-in-Some-clause-again
 returns-in-Some-clause-again g c = λ ended.
     let none = front_ended g.R.InDevice.state c.args.self.now.source ended.1 in
     let head = c.in-Some.ensures in
-    absurd (omega (arith, head.some, head.within, ap length none, ap length c.front-front.ensures.front))
+    absurd (omega (arith, head.some, head.within, ap length none, ap length c.front.ensures.front))
