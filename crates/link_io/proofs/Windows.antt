@@ -1,8 +1,8 @@
 -- The window of a source: the part of an array between two indices, and the bytes after it.
-use Rattle.std.proofs.Common.{◌≡◌, ℕ, ◌+◌, ◌-◌, ◌≤◌, List, [], ◌++◌, take, drop, slice_range, Option, None, Some, arith, refl, ap, sym, ◌∙◌, append_assoc}
+use Rattle.std.proofs.Common.{◌≡◌, ℕ, ◌+◌, ◌-◌, ◌<◌, ◌≤◌, List, [], ◌++◌, length, take, drop, slice_range, Option, None, Some, arith, refl, ap, sym, ◌∙◌, append_assoc, length-append}
 use Rattle.std.proofs.lemmas.List.{drop-drop, drop-take, take-append-drop}
 use Rattle.std.specs.Io.KnownBytes.{prepend_known}
-use Rattle.link_io.specs.Device.{BeginsWith}
+use Rattle.link_io.specs.Device.{BeginsWith, HasBytes}
 
 pub range_none : (window : List ℕ) (start end : ℕ) → start ≡ end → slice_range window start end ≡ []
 range_none window start end same =
@@ -29,6 +29,12 @@ begins_window (Some all) window = (all, refl)
 pub begins_nothing : (left : Option (List ℕ)) → BeginsWith left []
 begins_nothing None = tt
 begins_nothing (Some all) = (all, refl)
+
+-- if some bytes come next, the input has bytes
+pub begins_some : (left : Option (List ℕ)) (bytes : List ℕ) → BeginsWith left bytes
+    → 0 < length bytes → HasBytes left
+begins_some None bytes next some = tt
+begins_some (Some all) bytes next some = omega (arith, some, ap length next.1, length-append bytes next.0)
 
 -- the bytes of the window are the next of the input
 pub window_next : (left : Option (List ℕ)) (window : List ℕ) (count : ℕ)
