@@ -199,3 +199,14 @@ goes_in_head which cursor draft seen run head count come begins whole before =
     (stopped Cut (length bytes))
     (head_at-cut bytes cursor.place cut))
     ∙ read_alone-stopped draft.payload bytes (stopped Cut (length bytes)))
+
+-- inside data, a piece that is shorter than what is left of it is taken whole
+pub content_taken : (left : ℕ) (cursor : Cursor) (draft : Draft) (seen run : List ℕ)
+    → HasCome (Content left) cursor draft seen → length run < left
+    → TakenInAll seen run (length run)
+content_taken left cursor draft seen run come inside =
+    taken_all seen run (length run) refl
+    (taken_more seen run 0 (length run) (omega arith)
+    (λ size below. ap (λ (front : List ℕ). bundle_goes (front ++ take size run)) (append-nil seen)
+    ∙ goes_in_content left cursor draft seen (take size run) come (omega (arith, length-take size run)))
+    (none_taken seen run))

@@ -234,7 +234,27 @@ impl BundleScan {
 }
 
 impl BundleScan {
-    ghost use Rattle.link_bundle.specs.Scan.{may_scan, MayTake, Takes};
+    ghost use Rattle.link_cbor.specs.Pieces.{taken};
+    ghost use Rattle.link_bundle.specs.Bundle.{bundle_goes};
+    ghost use Rattle.link_bundle.specs.Scan.{HasScanned, scan_size, may_scan, MayTake, Takes};
+
+    /// Takes the bytes of a piece while more are needed, and returns how many.
+    #[inline(always)]
+    fn feed_on(&mut self, bytes: &[u8]) -> usize
+        requires room { scan_size self.old + length bytes.now ≤ 2 ^ 63 - 1 }
+        ensures within { result ≤ length bytes.now }
+        ensures size { scan_size self.new ≡ scan_size self.old + result }
+        ensures seen { (seen : List ℕ) → HasScanned self.old seen
+            → HasScanned self.new (seen ++ taken bundle_goes seen bytes.now) }
+        ensures count { (seen : List ℕ) → HasScanned self.old seen
+            → result ≡ length (taken bundle_goes seen bytes.now) }
+    {
+        let mut taken = 0;
+        while taken < bytes.len() && self.going() {
+            taken += self.advance(&bytes[taken..]);
+        }
+        taken
+    }
 
     /// Takes the next bytes of a piece while more are needed, and returns how many, at least one.
     ///
@@ -343,11 +363,14 @@ impl Piecewise for BundleScan {
 
     #[inline(always)]
     fn feed(&mut self, bytes: &[u8]) -> usize {
-        let mut taken = 0;
-        while taken < bytes.len() && self.going() {
-            taken += self.advance(&bytes[taken..]);
+        match self.stage {
+            // Most short pieces lie inside a block's data.
+            Stage::Content(left) if left > bytes.len() as u64 => {
+                self.content_run(left, bytes);
+                bytes.len()
+            }
+            _ => self.feed_on(bytes),
         }
-        taken
     }
 
     fn step(&mut self, byte: u8) {

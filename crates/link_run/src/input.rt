@@ -396,3 +396,5 @@ fn settle_before_bytes<R: InDevice, W: OutDevice, E: OutDevice>(
     }
     writers.settle()
 }
+
+mod inner;

@@ -1,4 +1,5 @@
 pub mod Joining
+pub mod Continuing
 pub mod Announcing
 pub mod Holding
 pub mod Due

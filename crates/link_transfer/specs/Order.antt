@@ -64,6 +64,11 @@ open_after Other = None
 unfoldable pub open_of : List Message → Option ℕ
 open_of before = option_and_then open_after (find is_segment (reverse (events_of before)))
 
+-- The ID of the open transfer, if a SESS_INIT was accepted. Then its next segment may come. A run
+-- that goes on after faults has open transfers before a SESS_INIT, too.
+abbrev pub continuable : List Message → Option ℕ
+continuable before = if has_sess_init before then open_of before else None
+
 -- whether the event is a segment of this transfer
 abbrev pub is_of : Option ℕ → Event → Bool
 is_of transfer SessInit = false

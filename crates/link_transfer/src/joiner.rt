@@ -57,7 +57,7 @@ pub struct Joiner {
 impl Joiner {
     ghost use Rattle.std.specs.Option.{option_eq};
     ghost use Rattle.link_transfer.specs.Event.{event_of};
-    ghost use Rattle.link_transfer.specs.Order.{judged, open_of, refusal, refusal_by, turn_by, is_stray_by, effect_of, with_taken};
+    ghost use Rattle.link_transfer.specs.Order.{judged, open_of, continuable, refusal, refusal_by, turn_by, is_stray_by, effect_of, with_taken};
     ghost use Rattle.link_transfer.specs.Joiner.{IsJoinerAt, joiner_after};
 
     /// A joiner that has accepted no message.
@@ -78,6 +78,22 @@ impl Joiner {
         ensures { (before : List Message) → IsJoinerAt self.now before → result ≡ open_of before }
     {
         self.transfer
+    }
+
+    /// The ID of the open transfer, if its next segment may come.
+    ///
+    /// It may come if a SESS_INIT was accepted. An inner segment of this transfer, which has no
+    /// flags, changes nothing in the joiner.
+    #[inline(always)]
+    pub fn continuable(&self) -> Option<u64>
+        ensures { (before : List Message) → IsJoinerAt self.now before
+            → result ≡ continuable before }
+    {
+        if self.initiated {
+            self.transfer
+        } else {
+            None
+        }
     }
 
     /// The first reason why the event may not come now.

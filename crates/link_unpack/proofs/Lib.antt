@@ -19,4 +19,5 @@ mod Loads
 mod Writing
 mod Quiets
 mod Strides
+mod Inners
 pub mod GoingOn

@@ -3,3 +3,4 @@ pub mod Unpacking
 pub mod Pieces
 pub mod TransferScan
 pub mod UnpackRun
+pub mod InnerRun

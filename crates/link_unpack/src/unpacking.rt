@@ -20,6 +20,7 @@ ghost use Rattle.link_unpack.specs.Unpacking.{unpacking_of, unpack_tool, parts_o
 ghost use Rattle.link_unpack.specs.TransferScan.{Follows, begun};
 ghost use Rattle.link_unpack.specs.UnpackRun.{may_go_on, may_follow, next_of, is_open_after, IsUnpacking, Begins, Unpacks, HasCome, IsTaken, IsBeginning, IsJoining, IsOpen, GivesNext, GivesFar, PassesQuiet, StandsNext, GivesFinish, EndsWith, WritesNext};
 
+use self::inner::take_on;
 use crate::transfer::{TransferScan, is_bundle};
 use crate::wanted::Wanted;
 use link_report::Fault;
@@ -182,8 +183,9 @@ fn stride_from<R: InDevice, W: OutDevice, E: OutDevice>(
     advance(stage, usize::MAX, input, writers, message, unpacker)
 }
 
-/// Takes a message. If it is a segment with data at hand, this data is taken too. Otherwise
-/// the quiet messages after it are passed over, if it has no data to come.
+/// Takes a message. If it is a segment with data at hand, this data is taken too, and so are the
+/// inner segments after it. Otherwise the quiet messages after it are passed over, if it has no data
+/// to come.
 #[inline(always)]
 fn stride_message<R: InDevice, W: OutDevice, E: OutDevice>(
     input: &mut Input<Session<R>>,
@@ -212,7 +214,7 @@ fn stride_message<R: InDevice, W: OutDevice, E: OutDevice>(
     let next = take_message(input, writers, message, unpacker);
     let ready = input.loaded().len();
     match at_hand(next, ready) {
-        Some(last) => take_loaded(last, ready, input, writers, unpacker),
+        Some(last) => take_on(last, ready, input, writers, unpacker),
         None => pass_quiet(next, input),
     }
 }
@@ -746,3 +748,5 @@ pub fn unpack<R: InDevice, W: OutDevice, E: OutDevice>(
 {
     unpack_run(wanted, reader, output, report).run()
 }
+
+mod inner;

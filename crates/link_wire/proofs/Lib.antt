@@ -13,6 +13,7 @@ pub mod Streams
 mod Rests
 mod Wholes
 mod Sessions
+mod Inners
 mod Sound
 mod Complete
 mod OneReading

@@ -19,3 +19,4 @@ pub mod Plain
 pub mod Here
 pub mod InSlice
 pub mod Whole
+pub mod Inner

@@ -561,3 +561,5 @@ impl<R: InDevice> Session<R> {
         self.left -= count as u64;
     }
 }
+
+mod inner;

@@ -8,11 +8,11 @@ use Rattle.link_run.specs.Stages.{Stands}
 use Rattle.link_run.specs.Writers.{place_of}
 use Rattle.link_run.proofs.Runs.{writes_none}
 use Rattle.link_unpack.specs.Unpacking.{unpacking_of}
-use Rattle.link_unpack.specs.UnpackRun.{GivesNext}
+use Rattle.link_unpack.specs.UnpackRun.{GivesFar}
 use Rattle.link_unpack.specs.declared.unpacking.Next.TheVariants as next
 use Rattle.link_unpack.specs.declared.unpacking.Stage.TheVariants as stage
 use Rattle.link_unpack.specs.declared.wanted.Wanted.{Wanted}
-use Rattle.link_unpack.proofs.Strides.{far_step, far_later, far_quiet, handed_more}
+use Rattle.link_unpack.proofs.Strides.{far_later, far_quiet, handed_more}
 use Rattle.link_unpack.proofs.unpacking.stride_message.Goals as goal
 
 pub returns-in-Some-clause-gives : goal.returns-in-Some-clause-gives
@@ -20,32 +20,28 @@ returns-in-Some-clause-gives g c = λ start history at knows.
     let look = looks g.R.InDevice.state g.W.OutDevice.state g.E.OutDevice.state in
     let old = inner_of c.args.input.now in
     let read = inner_of c.take_message-next.new.input in
-    let new = inner_of c.take_loaded.new.input in
+    let new = inner_of c.take_on.new.input in
     let writers = c.args.writers.now in
     let between = c.take_message-next.new.writers in
-    let after = c.take_loaded.new.writers in
+    let after = c.take_on.new.writers in
     let wanted = c.args.unpacker.now.latest.wanted in
-    let v = c.take_loaded.new.unpacker in
-    let result = c.take_loaded.result in
-    let ready = length c.loaded-ready.result.now in
-    let now = stage.Data c.in-Some.last in
+    let v = c.take_on.new.unpacker in
+    let result = c.take_on.result in
     let went = rw c.in-Some.ensures.0 at (c.take_message-next.ensures.gives start 4096 history at knows) in
-    let some : 0 < ready = c.in-Some.ensures.1 in
     let P : Wanted → Type 0 = λ w. Stands look (unpacking_of w) start true (place_of (source_of read) between) (history ++ went.given) in
-    let Q : Wanted → Type 0 = λ w. GivesNext look start w ready now read new after v (history ++ went.given) result in
-    let gives = subst Q c.take_message-next.ensures.wanted (c.take_loaded.ensures.gives start (history ++ went.given) some (subst P (sym c.take_message-next.ensures.wanted) went.at.0.0) went.at.0.1) in
-    far_later look start wanted old read new writers between after v _ longest_head history result went
-    (far_step look start wanted ready now read new between after v (history ++ went.given) result some gives)
+    let Q : Wanted → Type 0 = λ w. GivesFar look start w read new between after v (history ++ went.given) result in
+    let far = subst Q c.take_message-next.ensures.wanted (c.take_on.ensures.gives start (history ++ went.given) c.in-Some.ensures.1 (subst P (sym c.take_message-next.ensures.wanted) went.at.0.0) went.at.0.1) in
+    far_later look start wanted old read new writers between after v _ longest_head history result went far
 
 pub returns-in-Some-clause-handed : goal.returns-in-Some-clause-handed
 returns-in-Some-clause-handed g c = λ history knows other.
     let look = looks g.R.InDevice.state g.W.OutDevice.state g.E.OutDevice.state in
     let read = inner_of c.take_message-next.new.input in
-    handed_more look (source_of (inner_of c.args.input.now)) (source_of read) (source_of (inner_of c.take_loaded.new.input)) c.args.writers.now c.take_message-next.new.writers c.take_loaded.new.writers c.take_loaded.result
+    handed_more look (source_of (inner_of c.args.input.now)) (source_of read) (source_of (inner_of c.take_on.new.input)) c.args.writers.now c.take_message-next.new.writers c.take_on.new.writers c.take_on.result
     (c.take_message-next.ensures.handed history knows (λ e.
     let no : next.Stage (stage.Data c.in-Some.last) ≡ next.Ended (Err io.Write) = sym c.in-Some.ensures.0 ∙ e in
     absurd (cc)))
-    c.take_loaded.ensures.writes other
+    c.take_on.ensures.writes other
 
 pub returns-in-None-clause-gives : goal.returns-in-None-clause-gives
 returns-in-None-clause-gives g c = λ start history at knows.

@@ -1,7 +1,7 @@
 use Rattle.std.proofs.Common.{◌≡◌, ℕ, ◌+◌, ◌-◌, ◌≤◌, List, ◌++◌, length, take}
 use Rattle.link_bundle.specs.Scan.{HasScanned, scan_size}
 use Rattle.link_bundle.proofs.Feeding.{TakenSoFar}
-use Rattle.link_bundle.proofs.scan.BundleScanPiecewise.feed.Given as goal
+use Rattle.link_bundle.proofs.scan.BundleScan.feed_on.Given as goal
 
 abbrev pub invariant-loop-taken : goal.invariant-loop-taken
 invariant-loop-taken l = record {

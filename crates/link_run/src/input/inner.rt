@@ -1,0 +1,44 @@
+//! Inner segments of the session that lie whole in the window.
+
+use super::Input;
+use link_wire::{InDevice, Session};
+
+impl<R: InDevice> Input<Session<R>> {
+    ghost use Rattle.std.specs.Prelude.{◌≡◌, ◌<◌, ℕ, List, length, IfSome, None, IsTrue};
+    ghost use Rattle.link_wire.specs.Inner.{IsInner, inner_bytes, PassedInner};
+    ghost use Rattle.link_wire.specs.Session.{source_of, may_read, is_opened, HasStopped, IsSessionAt};
+    ghost use Rattle.link_wire.specs.Source.{window_of};
+    ghost use Rattle.link_run.specs.Reading.{inner_of};
+
+    /// The data of the next message, if this is an inner segment of this transfer that has data, and
+    /// all of it is in the window, as [`Session::inner_data`] returns it.
+    #[inline(always)]
+    pub fn inner_data(&self, id: u64) -> Option<&[u8]>
+        ensures is { IfSome result (λ data.
+            IsInner id (window_of (source_of (inner_of self.now))) (length data.now)) }
+        ensures data { IfSome result (λ data.
+            data.now ≡ inner_bytes (window_of (source_of (inner_of self.now))) (length data.now)) }
+        ensures stopped { (stop : _) → HasStopped (inner_of self.now) stop → result ≡ None }
+    {
+        self.inner.inner_data(id)
+    }
+
+    /// Gives that inner segment, as [`Session::pass_inner`] does.
+    ///
+    /// It reads nothing, so it hands nothing on.
+    #[inline(always)]
+    pub fn pass_inner(&mut self, size: usize)
+        requires may_read { IsTrue (may_read (inner_of self.old)) }
+        requires inner { (id : ℕ) × IsInner id (window_of (source_of (inner_of self.old))) size }
+        ensures may_read { IsTrue (may_read (inner_of self.new)) }
+        ensures opened { IsTrue (is_opened (inner_of self.new)) }
+        ensures gives { (id : ℕ) (history : List ℕ) → IsSessionAt R.state (inner_of self.old) history
+            → IsInner id (window_of (source_of (inner_of self.old))) size
+            → PassedInner R.state (inner_of self.old) (inner_of self.new) history id
+            (inner_bytes (window_of (source_of (inner_of self.old))) size) }
+        ensures shrinks { length (window_of (source_of (inner_of self.new)))
+            < length (window_of (source_of (inner_of self.old))) }
+    {
+        self.inner.pass_inner(size);
+    }
+}

@@ -1,0 +1,35 @@
+-- Segments in the middle of a transfer that lie whole in a window, with their data.
+use Rattle.std.specs.Prelude.{◌≡◌, ℕ, ◌+◌, ◌<◌, ◌≤◌, List, [], ◌++◌, length, take, drop}
+use Rattle.link_io.specs.Device.{Input}
+use Rattle.link_wire.specs.Getting.{IsPart}
+use Rattle.link_wire.specs.Message.{message_at}
+use Rattle.link_wire.specs.Session.{left_of, ReadMessage, PassedBytes}
+use Rattle.link_wire.specs.declared.message.Message.{Message}
+use Rattle.link_wire.specs.declared.message.Message.TheVariants.{Segment}
+use Rattle.link_wire.specs.declared.session.Session.{Session}
+
+-- a segment without flags; without START it has no items (section 5.2.2)
+abbrev pub inner_segment : (id size : ℕ) → Message
+inner_segment id size =
+    Segment (record { flags = 0; id = id; items = record { items = [] }; length = size })
+
+-- The window begins with a segment of this transfer that has no flags and some data. All of its
+-- data, which has this size, is in the window.
+pub record IsInner (id : ℕ) (window : List ℕ) (size : ℕ) : Type 0 where
+  pub some : 0 < size
+  pub within : 18 + size ≤ length window
+  pub is : IsPart message_at (take 18 window) (inner_segment id size)
+
+-- the data of that segment, which comes after its head
+abbrev pub inner_bytes : (window : List ℕ) → (size : ℕ) → List ℕ
+inner_bytes window size = take size (drop 18 window)
+
+-- a segment of this transfer without flags was given: first its head, and then all of its data
+pub record PassedInner {R : Type 0} (look : R → Input) (old new : Session R) (history : List ℕ)
+    (id : ℕ) (data : List ℕ) : Type 0 where
+  pub mid : Session R
+  pub offset : ℕ
+  pub read : ReadMessage look old mid history offset (inner_segment id (length data))
+  pub some : 0 < length data
+  pub gave : PassedBytes look mid new (history ++ read.given) data
+  pub none : left_of new ≡ 0
