@@ -311,6 +311,26 @@ impl BundleScan {
     }
 }
 
+impl BundleScan {
+    ghost use Rattle.link_bundle.specs.Scan.{HasJudged, scan_size};
+
+    /// Scans the next piece of a bundle, until no further byte can change the verdict.
+    ///
+    /// If bytes follow a whole bundle, it scans the first of them, which makes the verdict a fault.
+    #[inline(always)]
+    pub fn judge_piece(&mut self, piece: &[u8])
+        requires room { scan_size self.old + length piece.now ≤ 2 ^ 63 - 1 }
+        ensures judged { (content : List ℕ) → HasJudged self.old content
+            → HasJudged self.new (content ++ piece.now) }
+        ensures size { scan_size self.new ≤ scan_size self.old + length piece.now }
+    {
+        let taken = self.feed(piece);
+        if taken < piece.len() && matches!(self.state(), State::Ended) {
+            self.step(piece[taken]);
+        }
+    }
+}
+
 /// Shows the state and the number of bytes seen, and nothing of the bundle.
 impl fmt::Debug for BundleScan {
     fn fmt<W: fmt::Write>(&self, f: &mut fmt::Formatter<W>) -> fmt::Result {

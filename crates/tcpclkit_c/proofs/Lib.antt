@@ -1,4 +1,3 @@
-pub mod Judging
 pub mod Runs
 mod Scanning
 mod Walks

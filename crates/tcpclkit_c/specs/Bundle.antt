@@ -1,5 +1,5 @@
 -- The verdict on a bundle as numbers.
-use Rattle.std.specs.Prelude.{◌≡◌, ℕ, ◌⊎◌, false, ◌&&◌, nat_le, List, [], ◌++◌, length, Option, Some, None, Result, Ok, Err, if◌then◌else◌}
+use Rattle.std.specs.Prelude.{◌≡◌, ℕ, ◌&&◌, nat_le, List, [], length, Option, Some, None, Result, Ok, Err, if◌then◌else◌}
 use Rattle.link_bundle_types.specs.declared.fault.BundleFault.{BundleFault}
 use Rattle.link_bundle_types.specs.declared.eid.Eid as whole
 use Rattle.link_bundle_types.specs.declared.eid.Eid.TheVariants.{DtnNone, Dtn, Ipn, Ipn3}
@@ -7,23 +7,12 @@ use Rattle.link_bundle_types.specs.declared.fault.State.{State}
 use Rattle.link_bundle_types.specs.declared.fault.State.TheVariants.{Going, Ended, Failed}
 use Rattle.link_bundle_types.specs.declared.info.BundleInfo.{BundleInfo}
 use Rattle.link_bundle.specs.Bundle.{verdict, payload_span, state_of}
-use Rattle.link_bundle.specs.Scan.{HasScanned, may_scan}
-use Rattle.link_bundle.specs.declared.scan.BundleScan.{BundleScan}
 use Rattle.tcpclkit_c.specs.Slice.{HoldsFront, KeepsRest}
 use Rattle.tcpclkit_c.specs.Fault.{no_fault, bundle_fault}
 use Rattle.tcpclkit_c.specs.declared.fault.Fault.{Fault}
 use Rattle.tcpclkit_c.specs.declared.bundle.Bundle.{Bundle}
 use Rattle.tcpclkit_c.specs.declared.bundle.Eid.{Eid}
 use Rattle.tcpclkit_c.specs.declared.bundle.Verdict.{Verdict}
-
--- The scan's verdict on these bytes is known: it has seen them, or enough of them that the others
--- change nothing.
-pub record IsJudged (scan : BundleScan) (bytes : List ℕ) : Type 0 where
-  pub seen : List ℕ
-  pub rest : List ℕ
-  pub parts : seen ++ rest ≡ bytes
-  pub scanned : HasScanned scan seen
-  pub enough : (rest ≡ []) ⊎ (may_scan scan ≡ false)
 
 -- TCPCLKIT_TRUNCATED, TCPCLKIT_OK or TCPCLKIT_FAULT
 abbrev pub state_status : State → ℕ
