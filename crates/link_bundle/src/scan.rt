@@ -85,10 +85,9 @@ impl BundleScan {
     pub fn finish(&self) -> Result<BundleInfo, (BundleFault, u64)>
         ensures { (seen : List ℕ) → HasScanned self.now seen → result ≡ verdict seen }
     {
-        match self.stage.state() {
-            State::Going => Err((BundleFault::Cut, self.cursor.count)),
-            State::Ended => Ok(self.draft.info()),
-            State::Failed(fault, place) => Err((fault, place)),
+        match self.view() {
+            Ok(view) => Ok(BundleInfo::of(view)),
+            Err(stop) => Err(stop),
         }
     }
 
