@@ -29,7 +29,7 @@ pub struct Verdict {
 /// `struct tcpclkit_eid`: an endpoint ID without the bytes of its name.
 #[repr(C)]
 #[derive(Clone, Copy, Debug, PartialEq, Eq)]
-pub struct Eid {
+pub struct EidNumbers {
     /// 0 for `dtn:none`, 1 for a name of dtn, 2 and 3 for ipn with two and three numbers.
     pub kind: u64,
     /// The allocator identifier of an ipn endpoint ID of three numbers.
@@ -51,9 +51,9 @@ pub struct Bundle {
     /// The bundle processing control flags.
     pub flags: u64,
     /// The endpoint ID of the destination.
-    pub destination: Eid,
+    pub destination: EidNumbers,
     /// The endpoint ID of the source node.
-    pub source: Eid,
+    pub source: EidNumbers,
     /// The creation time.
     pub time: u64,
     /// The sequence number of the creation timestamp.
@@ -149,10 +149,10 @@ pub extern "C" fn tcpclkit_raw_bundle_verdict(bytes: &[u8], answer: &mut Verdict
 }
 
 /// The kind and the numbers of an endpoint ID.
-fn eid_shown(eid: &EidView<'_>) -> Eid
+fn eid_shown(eid: &EidView<'_>) -> EidNumbers
     ensures { result ≡ eid_shown (viewed_eid eid.now) }
 {
-    let none = Eid {
+    let none = EidNumbers {
         kind: 0,
         allocator: 0,
         node: 0,
@@ -161,18 +161,18 @@ fn eid_shown(eid: &EidView<'_>) -> Eid
     };
     match *eid {
         EidView::DtnNone => none,
-        EidView::Dtn(name) => Eid {
+        EidView::Dtn(name) => EidNumbers {
             kind: 1,
             name_length: name.len() as u64,
             ..none
         },
-        EidView::Ipn(node, service) => Eid {
+        EidView::Ipn(node, service) => EidNumbers {
             kind: 2,
             node,
             service,
             ..none
         },
-        EidView::Ipn3(allocator, node, service) => Eid {
+        EidView::Ipn3(allocator, node, service) => EidNumbers {
             kind: 3,
             allocator,
             node,
