@@ -1,6 +1,6 @@
 //! The latest transfer of a stream: the bytes of it that are written, and its line.
 
-ghost use Rattle.std.specs.Prelude.{◌≡◌, ◌+◌, ◌^◌, ◌≤◌, ◌<◌, ◌++◌, length, List, ℕ};
+ghost use Rattle.std.specs.Prelude.{◌≡◌, ◌+◌, ◌^◌, ◌≤◌, ◌<◌, length};
 ghost use Rattle.link_bundle.specs.Scan.{scan_size};
 ghost use Rattle.link_report.specs.Judgement.{viewed_judgement};
 ghost use Rattle.link_unpack.specs.Pieces.{part_in};
