@@ -1,3 +1,4 @@
 pub mod Runs
 mod Scanning
 mod Walks
+mod Lending
