@@ -18,12 +18,23 @@ use Rattle.link_bundle.specs.Reading.{Stop, stopped}
 use Rattle.link_bundle.specs.Canonical.{content_at}
 use Rattle.link_bundle.specs.Bundle.{Bundle, judged, verdict_by, verdict, state_of, is_going, bundle_goes}
 use Rattle.link_bundle.specs.Left.{block_start, read_alone, with_known_payload, name_left, stage_left}
-use Rattle.link_bundle.specs.Scan.{HasCome}
+use Rattle.link_bundle.specs.Scan.{HasCome, HasScanned, Takes, scan_size}
+use Rattle.link_bundle.specs.declared.scan.BundleScan.{BundleScan}
 use Rattle.link_bundle.proofs.Heads.{read_alone-stopped}
 use Rattle.link_bundle.proofs.Runs.{bytes_at-cut}
 use Rattle.link_bundle.proofs.Steps.{after_seen}
 use Rattle.link_bundle.proofs.Stops.{field_left-stopped}
 use Rattle.link_bundle.proofs.Verdicts.{head_at-cut}
+
+-- the promise of a run that was taken, from its parts
+pub as_taken : {old new : BundleScan} {piece : List ℕ} {count : ℕ}
+    → 0 < count → count ≤ length piece → scan_size new ≡ scan_size old + count
+    → ((seen : List ℕ) → HasScanned old seen → HasScanned new (seen ++ take count piece))
+    → ((seen : List ℕ) → HasScanned old seen
+    → (fewer : ℕ) → fewer < count → bundle_goes (seen ++ take fewer piece) ≡ true)
+    → Takes old new piece count
+as_taken some within size seen goes =
+    record { some = some; within = within; size = size; seen = seen; goes = goes }
 
 -- a run is taken whole if more bytes were needed before each of its bytes
 runs-wanted : (seen run : List ℕ) (byte : ℕ)

@@ -17,3 +17,4 @@ pub mod Alone
 pub mod Items
 pub mod Readings
 pub mod Judgings
+pub mod Pieces

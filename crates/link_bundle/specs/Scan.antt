@@ -1,7 +1,7 @@
 -- The bytes that a scan of a bundle has seen. The promises need only two facts: `new` has seen
 -- nothing, and a step adds its byte.
 
-use Rattle.std.specs.Prelude.{◌≡◌, ℕ, ◌+◌, ◌-◌, ◌^◌, ◌<◌, ◌≤◌, Bool, true, List, [], ◌++◌, length, replicate, slice_range, take, drop}
+use Rattle.std.specs.Prelude.{◌≡◌, ℕ, ◌+◌, ◌-◌, ◌^◌, ◌<◌, ◌≤◌, ◌⊎◌, Bool, true, false, List, [], ◌++◌, length, replicate, slice_range, take, drop}
 use Rattle.link_cbor.specs.Head.{AreBytes, Cut, head_front}
 use Rattle.link_cbor.specs.HeadScan.{HasScanned as HasScannedHead}
 use Rattle.link_bundle.specs.declared.cursor.Cursor.{Cursor}
@@ -114,3 +114,12 @@ pub record Takes (old new : BundleScan) (piece : List ℕ) (count : ℕ) : Type 
   pub seen : (seen : List ℕ) → HasScanned old seen → HasScanned new (seen ++ take count piece)
   pub goes : (seen : List ℕ) → HasScanned old seen
       → (fewer : ℕ) → fewer < count → bundle_goes (seen ++ take fewer piece) ≡ true
+
+-- The scan's verdict is that on these bytes. It has seen all of them, or the bytes that it has not
+-- seen cannot change the verdict.
+pub record HasJudged (scan : BundleScan) (content : List ℕ) : Type 0 where
+  pub seen : List ℕ
+  pub rest : List ℕ
+  pub parts : seen ++ rest ≡ content
+  pub scanned : HasScanned scan seen
+  pub enough : (rest ≡ []) ⊎ (may_scan scan ≡ false)

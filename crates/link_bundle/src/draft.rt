@@ -3,7 +3,7 @@ ghost use Rattle.std.specs.Prelude.{◌≡◌, ◌≤◌, [], ◌++◌, IsTrue, 
 
 use crate::stage::{CanonicalField, CheckType, Field, Part, PrimaryField, Role, Stage};
 use link_bundle_heads::{Scheme, row};
-use link_bundle_types::{BlockNumbers, BundleFault, BundleInfo, BundleView, EidForm, KeptEid};
+use link_bundle_types::{BlockNumbers, BundleFault, BundleView, EidForm, KeptEid};
 use link_cbor::Head;
 
 /// The values of the heads so far.
@@ -77,26 +77,7 @@ impl Draft {
         self.payload = None;
     }
 
-    /// The fields of a complete bundle, by value.
-    pub fn info(&self) -> BundleInfo
-        ensures { result ≡ info_of (primary_of self.now) (length self.now.numbers)
-            (span_of self.now.payload).1 }
-    {
-        let (_, payload) = self.payload.unwrap_or((0, 0));
-        BundleInfo {
-            flags: self.flags,
-            destination: self.destination.copied(),
-            source: self.source.copied(),
-            time: self.time,
-            sequence: self.sequence,
-            lifetime: self.lifetime,
-            fragment: self.fragment,
-            blocks: self.numbers.as_slice().len() as u64,
-            payload,
-        }
-    }
-
-    /// The fields of a complete bundle, by reference.
+    /// The fields of a complete bundle.
     pub fn view(&self) -> BundleView<'_>
         ensures view { viewed_info result
             ≡ info_of (primary_of self.now) (length self.now.numbers) (span_of self.now.payload).1 }

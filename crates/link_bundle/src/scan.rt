@@ -85,10 +85,9 @@ impl BundleScan {
     pub fn finish(&self) -> Result<BundleInfo, (BundleFault, u64)>
         ensures { (seen : List ℕ) → HasScanned self.now seen → result ≡ verdict seen }
     {
-        match self.stage.state() {
-            State::Going => Err((BundleFault::Cut, self.cursor.count)),
-            State::Ended => Ok(self.draft.info()),
-            State::Failed(fault, place) => Err((fault, place)),
+        match self.view() {
+            Ok(view) => Ok(BundleInfo::of(view)),
+            Err(stop) => Err(stop),
         }
     }
 
@@ -327,6 +326,26 @@ impl BundleScan {
                 self.head_byte(field, piece[0]);
                 1
             }
+        }
+    }
+}
+
+impl BundleScan {
+    ghost use Rattle.link_bundle.specs.Scan.{HasJudged, scan_size};
+
+    /// Scans the next piece of a bundle, until no further byte can change the verdict.
+    ///
+    /// If bytes follow a whole bundle, it scans the first of them, which makes the verdict a fault.
+    #[inline(always)]
+    pub fn judge_piece(&mut self, piece: &[u8])
+        requires room { scan_size self.old + length piece.now ≤ 2 ^ 63 - 1 }
+        ensures judged { (content : List ℕ) → HasJudged self.old content
+            → HasJudged self.new (content ++ piece.now) }
+        ensures size { scan_size self.new ≤ scan_size self.old + length piece.now }
+    {
+        let taken = self.feed(piece);
+        if taken < piece.len() && matches!(self.state(), State::Ended) {
+            self.step(piece[taken]);
         }
     }
 }

@@ -26,6 +26,23 @@ pub enum Eid {
 }
 
 impl Eid {
+    /// The endpoint ID that a view shows, whose dtn name has at most 1,024 bytes.
+    pub fn of(view: EidView<'_>) -> Eid
+        requires { IsShort (viewed_eid view) }
+        ensures { result ≡ viewed_eid view.entry }
+    {
+        match view {
+            EidView::DtnNone => Eid::DtnNone,
+            EidView::Dtn(bytes) => {
+                let mut name = ArrayVec::new();
+                name.try_extend_from_slice(bytes).unwrap();
+                Eid::Dtn(name)
+            }
+            EidView::Ipn(node, service) => Eid::Ipn(node, service),
+            EidView::Ipn3(allocator, node, service) => Eid::Ipn3(allocator, node, service),
+        }
+    }
+
     /// The same endpoint ID by reference.
     pub fn view(&self) -> EidView<'_>
         ensures view { viewed_eid result ≡ self.now }

@@ -32,21 +32,51 @@ pub struct BundleInfo {
 }
 
 impl BundleInfo {
+    /// The bundle that a view shows, whose dtn names have at most 1,024 bytes each.
+    pub fn of(view: BundleView<'_>) -> BundleInfo
+        requires { HasShortNames (viewed_info view) }
+        ensures { result ≡ viewed_info view.entry }
+    {
+        BundleInfo {
+            flags: view.flags,
+            destination: Eid::of(view.destination),
+            source: Eid::of(view.source),
+            time: view.time,
+            sequence: view.sequence,
+            lifetime: view.lifetime,
+            fragment: view.fragment,
+            blocks: view.blocks,
+            payload: view.payload,
+        }
+    }
+
     /// The same bundle by reference.
     pub fn view(&self) -> BundleView<'_>
         ensures view { viewed_info result ≡ self.now }
         ensures short { HasShortNames self.now }
     {
+        // Each field is named, so that no new one is forgotten.
+        let BundleInfo {
+            flags,
+            destination,
+            source,
+            time,
+            sequence,
+            lifetime,
+            fragment,
+            blocks,
+            payload,
+        } = self;
         BundleView {
-            flags: self.flags,
-            destination: self.destination.view(),
-            source: self.source.view(),
-            time: self.time,
-            sequence: self.sequence,
-            lifetime: self.lifetime,
-            fragment: self.fragment,
-            blocks: self.blocks,
-            payload: self.payload,
+            flags: *flags,
+            destination: destination.view(),
+            source: source.view(),
+            time: *time,
+            sequence: *sequence,
+            lifetime: *lifetime,
+            fragment: *fragment,
+            blocks: *blocks,
+            payload: *payload,
         }
     }
 }

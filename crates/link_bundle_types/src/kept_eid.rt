@@ -1,8 +1,7 @@
 //! An endpoint ID of the bundle that is being scanned.
 ghost use Rattle.std.specs.Prelude.{◌≡◌, ◌+◌, ◌≤◌, [], ◌++◌, length, take, IsTrue};
 
-use crate::eid::{EID_LIMIT, Eid, EidView};
-use arrayvec::ArrayVec;
+use crate::eid::{EID_LIMIT, EidView};
 use std::marker::Model;
 
 /// The form of an endpoint ID: all of it except the bytes of a dtn name.
@@ -118,23 +117,6 @@ impl KeptEid {
             EidForm::Dtn => EidView::Dtn(&self.name[..self.length]),
             EidForm::Ipn(node, service) => EidView::Ipn(node, service),
             EidForm::Ipn3(allocator, node, service) => EidView::Ipn3(allocator, node, service),
-        }
-    }
-
-    /// The endpoint ID as a value.
-    pub fn copied(&self) -> Eid
-        ensures { result ≡ self.now }
-    {
-        match self.form {
-            EidForm::DtnNone => Eid::DtnNone,
-            EidForm::Dtn => {
-                let mut name = ArrayVec::new();
-                name.try_extend_from_slice(&self.name[..self.length])
-                    .unwrap();
-                Eid::Dtn(name)
-            }
-            EidForm::Ipn(node, service) => Eid::Ipn(node, service),
-            EidForm::Ipn3(allocator, node, service) => Eid::Ipn3(allocator, node, service),
         }
     }
 }

@@ -141,10 +141,7 @@ impl HeadScan {
                 Stage::in_argument(major, left - 1, value)
             }
             Stage::Simple if byte < LEAST_IN_NEXT_BYTE => Stage::IllFormed,
-            Stage::Simple => Stage::Whole(Head {
-                major: 7,
-                value: Some(u64::from(byte)),
-            }),
+            Stage::Simple => Stage::in_argument(7, 0, u64::from(byte)),
             ended => ended,
         }
     }

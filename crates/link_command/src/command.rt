@@ -9,9 +9,26 @@ use clap::builder::ValueParser;
 use clap::{Arg, ArgAction, Command, value_parser};
 use std::alloc::{AllocError, Global};
 
+/// A help text, with an example of `list` after it.
+macro_rules! with_listing {
+    ($text:literal) => {
+        concat!(
+            $text,
+            "
+
+Example:
+  $ tcpclkit list session.tcpcl
+  0 contact version=4 flags=00
+  6 sess-init keepalive=60 segment-mru=65536 transfer-mru=1048576 node=ipn:1.0 items=0
+  38 xfer-segment flags=03 id=0 items=0 length=34"
+        )
+    };
+}
+
 const ABOUT: &str = "Lists, unpacks and makes recorded sessions of TCPCLv4 (RFC 9174)";
 
-const HELP: &str = "Each command reads FILE, or standard input, and has its own --help.
+const HELP: &str = with_listing!(
+    "Each command reads FILE, or standard input, and has its own --help.
 
 A recording is what one side of a session sent: a contact header, and then messages.
 A capture (pcap, pcapng) or a compressed file (gzip, zstd) is no recording. The report
@@ -24,17 +41,12 @@ Exit status:
   2  the arguments are wrong; standard error says how
   3  a fault of the input stopped the run
   4  the file could not be opened, reading or writing failed, the input is too long,
-     or there was no memory
-
-Example:
-  $ tcpclkit list session.tcpcl
-  0 contact version=4 flags=00
-  6 sess-init keepalive=60 segment-mru=65536 transfer-mru=1048576 node=ipn:1.0 items=0
-  38 xfer-segment flags=03 id=0 items=0 length=34";
+     or there was no memory"
+);
 
 const LIST_ABOUT: &str = "Writes a line for the contact header and each message of a recording";
 
-const LIST_HELP: &str =
+const LIST_HELP: &str = with_listing!(
     "A recording is what one side of a session sent: a contact header, and then messages.
 A capture (pcap, pcapng) or a compressed file (gzip, zstd) is no recording. The report
 then says `byte 0: not a contact header`.
@@ -44,13 +56,8 @@ Exit status:
   2  the arguments are wrong; standard error says how
   3  a fault of the recording stopped the run
   4  the file could not be opened, reading or writing failed, the input is too long,
-     or there was no memory
-
-Example:
-  $ tcpclkit list session.tcpcl
-  0 contact version=4 flags=00
-  6 sess-init keepalive=60 segment-mru=65536 transfer-mru=1048576 node=ipn:1.0 items=0
-  38 xfer-segment flags=03 id=0 items=0 length=34";
+     or there was no memory"
+);
 
 const UNPACK_ABOUT: &str =
     "Writes the data of a recording's transfers, and a line for each on standard error";

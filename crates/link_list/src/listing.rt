@@ -10,11 +10,8 @@ ghost use Rattle.link_list.specs.Listing.{listing_of, list_tool};
 ghost use Rattle.link_list.specs.ListRun.{may_go_on, may_follow, latest_line, IsListing, Begins, Lists, IsListedTo, GivesRead, GivesLines, GivesFar, GoesOn};
 
 use link_report::{KeptDigits, MessageText, contact_line};
-use link_run::{Input, Progress, Run, RunEnd, Stages, Status, ToolRun, Writers};
+use link_run::{Input, PIECE, Progress, Run, RunEnd, Stages, Status, ToolRun, Writers};
 use link_wire::{InDevice, IoFault, MessageBuffer, OutDevice, Session, Source};
-
-/// The most bytes of a segment's data that one step is given.
-const PIECE: usize = 4096;
 
 /// What a step reads.
 #[derive(Clone, Copy, Debug, PartialEq, Eq)]

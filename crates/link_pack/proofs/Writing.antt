@@ -1,5 +1,5 @@
 -- Chunks written as segments, one after another.
-use Rattle.std.proofs.Common.{◌≡◌, ℕ, suc, ◌+◌, ◌-◌, ◌<◌, Bool, true, false, ltb, cond, ◌&&◌, ◌==◌, List, [], ◌∷◌, ◌++◌, length, take, OnOk, Option, Some, None, is_some, Result, Ok, Err, refl, ap, ap₂, subst, sym, ◌∙◌, append_assoc, append-nil, arith}
+use Rattle.std.proofs.Common.{◌≡◌, ℕ, suc, ◌+◌, ◌-◌, ◌<◌, ◌≤◌, Bool, true, false, ltb, cond, ◌&&◌, ◌==◌, List, [], ◌∷◌, ◌++◌, length, take, OnOk, Option, Some, None, is_some, Result, Ok, Err, refl, ap, ap₂, subst, sym, ◌∙◌, append_assoc, append-nil, arith}
 use Rattle.std.proofs.lemmas.Bool.{ltb-true, ltb-false, eqb-true, eq-eqb, and_parts, cond-false, false_from_ne_true}
 use Rattle.std.proofs.Math.Seq.{take-length}
 use Rattle.std.proofs.lemmas.List.{length_push}
@@ -10,7 +10,7 @@ use Rattle.link_wire.specs.Spelling.{total_bytes, announce_bytes, list_bytes, se
 use Rattle.link_wire.specs.declared.IoFault.{IoFault}
 use Rattle.link_transfer.specs.Chunks.{chunk_at, first_chunks}
 use Rattle.link_transfer.specs.Cutting.{Cutting, beginning, due, announcement, is_last, next_chunk, next_cut, after_cut, unshown, shown, with_bytes}
-use Rattle.link_transfer.specs.Cutter.{IsCutterAt, cut_waits}
+use Rattle.link_transfer.specs.Cutter.{IsCutterAt, cut_waits, wanted_by}
 use Rattle.link_transfer.specs.declared.cut.Cut.{Cut}
 use Rattle.link_transfer.specs.declared.cutter.Cutter.{Cutter}
 use Rattle.link_transfer.proofs.Chunking.{first_chunks-zero}
@@ -193,7 +193,7 @@ one_ends now cut after is at quiet =
     subst (IsCutterAt after) (ends ∙ cut_ends now cut is) at
 
 -- the cutter took a whole run
-pub all_pushed : (cutter : Cutter) (so_far : Cutting) (run : List ℕ) (count : ℕ) (last : Bool)
+all_pushed : (cutter : Cutter) (so_far : Cutting) (run : List ℕ) (count : ℕ) (last : Bool)
     → count ≡ length run
     → IsCutterAt cutter (with_bytes (take count run) (last && count == length run) so_far)
     → IsCutterAt cutter (with_bytes run last so_far)
@@ -206,6 +206,18 @@ all_pushed cutter so_far run count last counted pushed =
     and_true : (a : Bool) → (a && true) ≡ a
     and_true true = refl
     and_true false = refl
+
+-- the run was no chunk, so the cutter, which was as before, took it whole
+pub run_pushed : (old same new : Cutter) (so_far : Cutting) (run : List ℕ) (count : ℕ) (last : Bool)
+    → same ≡ old → (length run ≤ wanted_by same → count ≡ length run)
+    → ((so_far : Cutting) → IsCutterAt same so_far
+    → IsCutterAt new (with_bytes (take count run) (last && count == length run) so_far))
+    → IsCutterAt old so_far → length run ≤ wanted_by old
+    → IsCutterAt new (with_bytes run last so_far)
+run_pushed old same new so_far run count last is counts pushed at few =
+    all_pushed new so_far run count last
+    (counts (subst (λ (cutter : Cutter). length run ≤ wanted_by cutter) (sym is) few))
+    (pushed so_far (subst (λ (cutter : Cutter). IsCutterAt cutter so_far) (sym is) at))
 
 -- a fact that holds in any case
 pub any_result : {A E : Type 0} (result : Result A E) (P : Type 0) → P → OnOk result P

@@ -19,15 +19,12 @@ ghost use Rattle.link_pack.specs.PackRun.{Packs, GivesFound, GivesFinish, LacksM
 use crate::options::PackOptions;
 use crate::packer::{Found, Packer};
 use crate::segments::write_run;
-use link_run::{Input, Progress, Run, RunEnd, Stages, Status, ToolRun, Writers};
+use link_run::{Input, PIECE, Progress, Run, RunEnd, Stages, Status, ToolRun, Writers};
 use link_transfer::Cutter;
 use link_wire::{
     HeadBuf, InDevice, IoFault, OutDevice, Source, put_contact, put_sess_init, put_sess_term,
 };
 use std::alloc::AllocError;
-
-/// The most bytes that one step is given.
-const PIECE: usize = 4096;
 
 /// What a step does.
 #[derive(Clone, Copy, Debug, PartialEq, Eq)]

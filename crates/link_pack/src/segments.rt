@@ -25,24 +25,24 @@ fn write_segment<W: OutDevice, E: OutDevice>(
         (on_output (segment_bytes id cut chunk.now)) result }
 {
     if chunk.len() > CHUNK_MAX {
-        return write_long(id, cut, chunk, writers);
+        let size = chunk.len() as u64;
+        return write_long(&HeadText { id, cut, size }, chunk, writers);
     }
     writers.write_text(&SegmentText { id, cut, chunk })
 }
 
-/// Writes a chunk as a segment: its head, and then the chunk.
+/// Writes a chunk with this head: the head, and then the chunk.
 #[inline(never)]
 fn write_long<W: OutDevice, E: OutDevice>(
-    id: u64,
-    cut: Cut,
+    head: &HeadText,
     chunk: &[u8],
     writers: &mut Writers<W, E>,
 ) -> Result<(), IoFault>
+    requires size { head.now.size ≡ length chunk.now }
     ensures gives { GivesTexts W.state E.state writers.old writers.new
-        (on_output (segment_bytes id cut chunk.now)) result }
+        (on_output (segment_bytes head.now.id head.now.cut chunk.now)) result }
 {
-    let size = chunk.len() as u64;
-    writers.write_text(&HeadText { id, cut, size })?;
+    writers.write_text(head)?;
     writers.write_output(chunk)
 }
 
@@ -64,29 +64,6 @@ fn write_segments<W: OutDevice, E: OutDevice>(
         write_segment(id, cut, cutter.bytes(), writers)?;
     }
     Ok(())
-}
-
-/// Pushes a run of bytes to the cutter, and writes each chunk that is then ready.
-#[inline(never)]
-fn push_and_write<W: OutDevice, E: OutDevice>(
-    id: u64,
-    run: &[u8],
-    last: bool,
-    cutter: &mut Cutter,
-    writers: &mut Writers<W, E>,
-) -> Result<(), IoFault>
-    requires quiet { cut_waits cutter.old ≡ false }
-    ensures gives { (so_far : Cutting) → IsCutterAt cutter.old so_far
-        → length run.now ≤ wanted_by cutter.old
-        → GivesTexts W.state E.state writers.old writers.new
-        (on_output (segments_left id (with_bytes run.now last so_far))) result }
-    ensures after { (so_far : Cutting) → IsCutterAt cutter.old so_far
-        → length run.now ≤ wanted_by cutter.old
-        → OnOk result (IsCutterAt cutter.new (all_given (with_bytes run.now last so_far))) }
-    ensures quiet { OnOk result (cut_waits cutter.new ≡ false) }
-{
-    cutter.push_slice(run, last);
-    write_segments(id, cutter, writers)
 }
 
 /// Writes the segments that become due with a run of bytes. It has no more bytes than the next
@@ -113,6 +90,9 @@ pub fn write_run<W: OutDevice, E: OutDevice>(
 {
     match cutter.cut_slice(run, last) {
         Some(cut) => write_segment(id, cut, run, writers),
-        None => push_and_write(id, run, last, cutter, writers),
+        None => {
+            cutter.push_slice(run, last);
+            write_segments(id, cutter, writers)
+        }
     }
 }

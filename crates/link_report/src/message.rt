@@ -90,32 +90,8 @@ fn write_items(page: &mut [u8], at: usize, items: &[Item]) -> usize
     end
 }
 
-/// Writes the parameters of a SESS_INIT.
-///
-/// It takes 54 bytes, three numbers and the escaped node ID.
-#[tactic(auto, unfolding(crate::specs::Message::parameters_text))]
-fn write_parameters(
-    page: &mut [u8],
-    at: usize,
-    keepalive: u16,
-    segment_mru: u64,
-    transfer_mru: u64,
-    node: &[u8],
-) -> usize
-    requires { at + 114 + 4 * length node.now ≤ length page.old }
-    ensures text { take result page.new ≡ take at page.old
-        ++ parameters_text keepalive segment_mru transfer_mru node.now }
-    ensures fits { result ≤ at + 114 + 4 * length node.now }
-    ensures size { length page.new ≡ length page.old }
-{
-    let at = write_number(page, at, *b" sess-init keepalive=", u64::from(keepalive));
-    let at = write_number(page, at, *b" segment-mru=", segment_mru);
-    let at = write_number(page, at, *b" transfer-mru=", transfer_mru);
-    let at = write_bytes(page, at, *b" node=");
-    write_escaped(page, at, node)
-}
-
 /// Writes the part of a SESS_INIT's line between its offset and its newline.
+#[tactic(auto, unfolding(crate::specs::Message::parameters_text))]
 #[cold]
 #[inline(never)]
 fn write_session(
@@ -135,7 +111,11 @@ fn write_session(
     ensures fits { result ≤ at + BODY_MAX }
     ensures size { length page.new ≡ length page.old }
 {
-    let at = write_parameters(page, at, keepalive, segment_mru, transfer_mru, node);
+    let at = write_number(page, at, *b" sess-init keepalive=", u64::from(keepalive));
+    let at = write_number(page, at, *b" segment-mru=", segment_mru);
+    let at = write_number(page, at, *b" transfer-mru=", transfer_mru);
+    let at = write_bytes(page, at, *b" node=");
+    let at = write_escaped(page, at, node);
     write_items(page, at, items)
 }
 
@@ -352,6 +332,15 @@ fn put_fields(line: &mut Line, offset: u64, fields: &Fields, node: &[u8], items:
     put_bytes(line, &page[..end]);
 }
 
+/// Writes the line of a message without node ID and items into an empty line.
+fn put_plain(line: &mut Line, offset: u64, fields: Fields)
+    requires { line.old.items ≡ [] }
+    ensures { line.new.items ≡ message_text offset
+        (message_with fields (record { items = [] }) (record { items = [] })) }
+{
+    put_fields(line, offset, &fields, &[], &[]);
+}
+
 /// Writes the line of a message into an empty line; its type byte is at `offset`.
 #[tactic(auto, using(crate::proofs::Segments::text_of_segment), unfolding(crate::specs::Message::message_text, crate::specs::Message::body_text))]
 pub fn message_line(line: &mut Line, offset: u64, message: &Message)
@@ -382,23 +371,15 @@ pub fn message_line(line: &mut Line, offset: u64, message: &Message)
             put_fields(line, offset, &fields, &[], &head.items);
         }
         Message::Ack { flags, id, length } => {
-            put_fields(line, offset, &Fields::Ack { flags, id, length }, &[], &[]);
+            put_plain(line, offset, Fields::Ack { flags, id, length });
         }
-        Message::Refuse { reason, id } => {
-            put_fields(line, offset, &Fields::Refuse { reason, id }, &[], &[]);
-        }
-        Message::Keepalive => put_fields(line, offset, &Fields::Keepalive, &[], &[]),
+        Message::Refuse { reason, id } => put_plain(line, offset, Fields::Refuse { reason, id }),
+        Message::Keepalive => put_plain(line, offset, Fields::Keepalive),
         Message::SessTerm { flags, reason } => {
-            put_fields(line, offset, &Fields::SessTerm { flags, reason }, &[], &[]);
+            put_plain(line, offset, Fields::SessTerm { flags, reason });
         }
         Message::MsgReject { reason, header } => {
-            put_fields(
-                line,
-                offset,
-                &Fields::MsgReject { reason, header },
-                &[],
-                &[],
-            );
+            put_plain(line, offset, Fields::MsgReject { reason, header });
         }
     }
 }

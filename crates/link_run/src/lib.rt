@@ -21,5 +21,5 @@ mod writers;
 
 pub use input::{Feed, Input};
 pub use run::{Progress, Run, RunEnd, Status};
-pub use stages::{Stages, ToolRun};
+pub use stages::{PIECE, Stages, ToolRun};
 pub use writers::Writers;

@@ -13,6 +13,9 @@ use crate::run::{Progress, Run, Status};
 use crate::writers::Writers;
 use link_wire::{InDevice, IoFault, OutDevice};
 
+/// The most bytes of data that one step of a tool is given.
+pub const PIECE: usize = 4096;
+
 /// A tool, stage by stage: what it does in each step, and what it keeps between two steps.
 pub trait Stages<S: Feed, W: OutDevice, E: OutDevice>: Sized {
     /// What the tool makes of the bytes of an input.

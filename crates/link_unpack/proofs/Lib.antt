@@ -1,5 +1,5 @@
 pub mod Parts
-mod Judging
+mod Payloads
 mod Transfers
 pub mod Orders
 pub mod Heads

@@ -5,6 +5,7 @@ use Rattle.link_bundle_types.specs.declared.fault.BundleFault.{BundleFault}
 use Rattle.link_bundle_types.specs.declared.info.BundleInfo.{BundleInfo}
 use Rattle.link_bundle.specs.Bundle.{judged as judged_bytes, bundle_at, opening_at, verdict, payload_in}
 use Rattle.link_bundle.specs.Scan.{HasScanned}
+use Rattle.link_bundle.proofs.Pieces.{verdict_judged}
 use Rattle.link_report.specs.Judgement.{judged, viewed_judgement}
 use Rattle.link_report.specs.Transfer.{transfer_text}
 use Rattle.link_report.specs.declared.judgement.Judgement.{Judgement}
@@ -17,7 +18,6 @@ use Rattle.link_unpack.specs.TransferScan.{Follows, begun, grown}
 use Rattle.link_unpack.specs.Unpacking.{is_selected, part_of, parts_of, judgement_of, entry_of}
 use Rattle.link_unpack.specs.declared.transfer.TransferScan.{TransferScan}
 use Rattle.link_unpack.specs.declared.wanted.Wanted.{Wanted}
-use Rattle.link_unpack.proofs.Judging.{verdict-judged}
 
 -- ---- a transfer begins
 
@@ -67,7 +67,7 @@ module _ (now : TransferScan) (transfer : Transfer) (earlier : List Transfer)
       ∙ ap (λ announced. judged (not transfer.closed) announced now.size outcome) follows.announced
       ∙ ap (λ size. judged (not transfer.closed) (announced_of transfer.first.items.items) size outcome) follows.size
       ∙ ap (judged (not transfer.closed) (announced_of transfer.first.items.items) (length transfer.content))
-      (seen bytes follows.judged.scanned ∙ verdict-judged now.scan transfer.content follows.judged)
+      (seen bytes follows.judged.scanned ∙ verdict_judged now.scan transfer.content follows.judged)
 
   pub line_is : transfer_text
       (record {

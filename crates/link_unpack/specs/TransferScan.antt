@@ -1,8 +1,8 @@
 -- What is known about the latest transfer.
 use Rattle.std.specs.Prelude.{◌≡◌, ℕ, Bool, List, [], ◌++◌, length}
+use Rattle.link_bundle.specs.Scan.{HasJudged}
 use Rattle.link_transfer.specs.Announced.{announced_of}
 use Rattle.link_wire.specs.declared.message.SegmentHead.{SegmentHead}
-use Rattle.link_unpack.specs.Pieces.{HasJudged}
 use Rattle.link_unpack.specs.Transfers.{Transfer}
 use Rattle.link_unpack.specs.Unpacking.{part_of, parts_of}
 use Rattle.link_unpack.specs.declared.transfer.TransferScan.{TransferScan}

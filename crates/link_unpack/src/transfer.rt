@@ -1,20 +1,16 @@
 //! The latest transfer of a stream: the bytes of it that are written, and its line.
 
-ghost use Rattle.std.specs.Prelude.{◌≡◌, ◌+◌, ◌^◌, ◌≤◌, ◌<◌, ◌++◌, length, List, ℕ};
+ghost use Rattle.std.specs.Prelude.{◌≡◌, ◌+◌, ◌^◌, ◌≤◌, ◌<◌, length};
 ghost use Rattle.link_bundle.specs.Scan.{scan_size};
 ghost use Rattle.link_report.specs.Judgement.{viewed_judgement};
-ghost use Rattle.link_unpack.specs.Pieces.{HasJudged, part_in};
+ghost use Rattle.link_unpack.specs.Pieces.{part_in};
 ghost use Rattle.link_unpack.specs.Unpacking.{is_good};
 
 use crate::wanted::Wanted;
 use link_bundle::BundleScan;
-use link_bundle_types::State;
-use link_cbor::Piecewise;
 use link_report::{JudgementView, TransferText, TransferView, judge_view};
 use link_transfer::Announced;
-
-/// The most bytes that an input can have.
-const INPUT_LIMIT: u64 = (1 << 63) - 1;
+use link_wire::INPUT_LIMIT;
 
 /// Scans one transfer after another. It keeps the values for a transfer's line, but no data.
 #[derive(Drop)]
@@ -54,21 +50,6 @@ fn payload_part(piece: &[u8], before: u64, place: u64, count: u64) -> &[u8]
     &piece[start as usize..end as usize]
 }
 
-/// Scans the next piece of a bundle, until no further byte can change the verdict. If bytes follow
-/// a whole bundle, it scans the first of them, which makes the verdict a fault.
-#[inline(always)]
-fn scan_piece(scan: &mut BundleScan, piece: &[u8])
-    requires { scan_size scan.old + length piece.now < 2 ^ 63 }
-    ensures judged { (content : List ℕ) → HasJudged scan.old content → HasJudged scan.new (content
-        ++ piece.now) }
-    ensures size { scan_size scan.new ≤ scan_size scan.old + length piece.now }
-{
-    let taken = scan.feed(piece);
-    if taken < piece.len() && matches!(scan.state(), State::Ended) {
-        scan.step(piece[taken]);
-    }
-}
-
 /// Whether a bundle was judged good.
 #[inline(always)]
 pub fn is_bundle(judgement: &JudgementView<'_>) -> bool
@@ -83,7 +64,7 @@ impl TransferScan {
     ghost use Rattle.link_report.specs.Transfer.{transfer_text, viewed_transfer};
     ghost use Rattle.link_transfer.specs.Announced.{announced_of};
     ghost use Rattle.link_wire.specs.declared.message.SegmentHead.{SegmentHead};
-    ghost use Rattle.link_unpack.specs.Pieces.{HasJudged};
+    ghost use Rattle.link_bundle.specs.Scan.{HasJudged};
     ghost use Rattle.link_unpack.specs.Transfers.{Transfer};
     ghost use Rattle.link_unpack.specs.Unpacking.{is_selected, parts_of, part_of, entry_of, judgement_of, is_good};
     ghost use Rattle.link_unpack.specs.TransferScan.{Follows, begun, grown};
@@ -154,7 +135,7 @@ impl TransferScan {
         }
         self.size += piece.len() as u64;
         self.total += piece.len() as u64;
-        scan_piece(&mut self.scan, piece);
+        self.scan.judge_piece(piece);
         let part = self.part(piece);
         self.written += part.len() as u64;
         part

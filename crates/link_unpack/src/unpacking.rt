@@ -24,12 +24,9 @@ use self::inner::take_on;
 use crate::transfer::{TransferScan, is_bundle};
 use crate::wanted::Wanted;
 use link_report::Fault;
-use link_run::{Input, Progress, Run, RunEnd, Stages, Status, ToolRun, Writers};
+use link_run::{Input, PIECE, Progress, Run, RunEnd, Stages, Status, ToolRun, Writers};
 use link_transfer::{Event, Joiner, Turn, announced};
 use link_wire::{Fields, InDevice, IoFault, MessageBuffer, OutDevice, Session, Source};
-
-/// The most bytes of a segment's data that one step is given.
-const PIECE: usize = 4096;
 
 /// What a step reads.
 #[derive(Clone, Copy, Debug, PartialEq, Eq)]

@@ -1,4 +1,4 @@
-pub mod Judging
 pub mod Runs
 mod Scanning
 mod Walks
+mod Lending

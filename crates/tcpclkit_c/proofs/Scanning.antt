@@ -1,21 +1,12 @@
--- A scan of a bundle in pieces: what it has judged, and a piece that it has taken.
-use Rattle.std.proofs.Common.{◌≡◌, ℕ, inl, true, List, [], ◌++◌, length, refl, ap, ◌∙◌, append-nil}
+-- A scan of a bundle in pieces: a piece that it has taken.
+use Rattle.std.proofs.Common.{◌≡◌, ℕ, true, List, ◌++◌, length, ap, ◌∙◌}
 use Rattle.link_cbor.specs.Pieces.{taken}
 use Rattle.link_bundle_types.specs.declared.fault.State.{State}
 use Rattle.link_bundle.specs.Bundle.{verdict, state_of, bundle_goes}
 use Rattle.link_bundle.specs.Scan.{HasScanned}
 use Rattle.link_bundle.specs.declared.scan.BundleScan.{BundleScan}
-use Rattle.tcpclkit_c.specs.Bundle.{IsJudged, state_status}
+use Rattle.tcpclkit_c.specs.Bundle.{state_status}
 use Rattle.tcpclkit_c.specs.Scan.{has_room, Feeds}
-
-pub all_judged : (scan : BundleScan) (seen : List ℕ) → HasScanned scan seen → IsJudged scan seen
-all_judged scan seen has = record {
-  seen = seen;
-  rest = [];
-  parts = append-nil seen;
-  scanned = has;
-  enough = inl refl;
-}
 
 module _ (seen piece : List ℕ) (room : has_room seen piece ≡ true) where
   pub feeds : (scan : BundleScan) (count : ℕ) (state : State) (status : ℕ)

@@ -1,29 +1,18 @@
 -- The verdict on a bundle as numbers.
-use Rattle.std.specs.Prelude.{◌≡◌, ℕ, ◌⊎◌, false, ◌&&◌, nat_le, List, [], ◌++◌, length, Option, Some, None, Result, Ok, Err, if◌then◌else◌}
+use Rattle.std.specs.Prelude.{◌≡◌, ℕ, ◌&&◌, nat_le, List, [], length, Option, Some, None, Result, Ok, Err, if◌then◌else◌}
 use Rattle.link_bundle_types.specs.declared.fault.BundleFault.{BundleFault}
-use Rattle.link_bundle_types.specs.declared.eid.Eid as whole
+use Rattle.link_bundle_types.specs.declared.eid.Eid.{Eid}
 use Rattle.link_bundle_types.specs.declared.eid.Eid.TheVariants.{DtnNone, Dtn, Ipn, Ipn3}
 use Rattle.link_bundle_types.specs.declared.fault.State.{State}
 use Rattle.link_bundle_types.specs.declared.fault.State.TheVariants.{Going, Ended, Failed}
 use Rattle.link_bundle_types.specs.declared.info.BundleInfo.{BundleInfo}
 use Rattle.link_bundle.specs.Bundle.{verdict, payload_span, state_of}
-use Rattle.link_bundle.specs.Scan.{HasScanned, may_scan}
-use Rattle.link_bundle.specs.declared.scan.BundleScan.{BundleScan}
 use Rattle.tcpclkit_c.specs.Slice.{HoldsFront, KeepsRest}
 use Rattle.tcpclkit_c.specs.Fault.{no_fault, bundle_fault}
 use Rattle.tcpclkit_c.specs.declared.fault.Fault.{Fault}
 use Rattle.tcpclkit_c.specs.declared.bundle.Bundle.{Bundle}
-use Rattle.tcpclkit_c.specs.declared.bundle.Eid.{Eid}
+use Rattle.tcpclkit_c.specs.declared.bundle.EidNumbers.{EidNumbers}
 use Rattle.tcpclkit_c.specs.declared.bundle.Verdict.{Verdict}
-
--- The scan's verdict on these bytes is known: it has seen them, or enough of them that the others
--- change nothing.
-pub record IsJudged (scan : BundleScan) (bytes : List ℕ) : Type 0 where
-  pub seen : List ℕ
-  pub rest : List ℕ
-  pub parts : seen ++ rest ≡ bytes
-  pub scanned : HasScanned scan seen
-  pub enough : (rest ≡ []) ⊎ (may_scan scan ≡ false)
 
 -- TCPCLKIT_TRUNCATED, TCPCLKIT_OK or TCPCLKIT_FAULT
 abbrev pub state_status : State → ℕ
@@ -51,7 +40,7 @@ pub record GivesVerdict (bytes : List ℕ) (answer : Verdict) (status : ℕ) : T
   pub answers : status ≡ state_status (state_of (verdict bytes))
 
 -- an endpoint ID as its kind and numbers
-abbrev pub eid_shown : whole.Eid → Eid
+abbrev pub eid_shown : Eid → EidNumbers
 eid_shown DtnNone =
     record { kind = 0; allocator = 0; node = 0; service = 0; name_length = 0 }
 eid_shown (Dtn name) =
@@ -62,7 +51,7 @@ eid_shown (Ipn3 allocator node service) =
     record { kind = 3; allocator = allocator; node = node; service = service; name_length = 0 }
 
 -- the name of a dtn endpoint ID, which the others do not have
-abbrev pub name_of : whole.Eid → List ℕ
+abbrev pub name_of : Eid → List ℕ
 name_of DtnNone = []
 name_of (Dtn name) = name.items
 name_of (Ipn node service) = []

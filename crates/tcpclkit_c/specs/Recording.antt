@@ -29,7 +29,8 @@ pub record GivesContact (part : Part wire.Contact) (answer : Contact) (status : 
       → (status ≡ 0) × (answer.flags ≡ contact.flags)
   pub fault : (fault : WireFault) → part ≡ Err fault → GivesFault fault 0 answer.fault status
 
-abbrev nothing : Message
+-- a message of no kind
+abbrev pub nothing : Message
 nothing =
     record {
       fault = no_fault;

@@ -1,7 +1,7 @@
 -- The texts of faults and of endpoint IDs, by their numbers.
 use Rattle.std.specs.Prelude.{◌≡◌, ℕ, ◌==◌, ◌&&◌, nat_lt, nat_le, min, List, ◌++◌, length, codes, Option, Some, None, if◌then◌else◌}
 use Rattle.link_bundle_types.specs.EidView.{viewed_eid}
-use Rattle.link_bundle_types.specs.declared.eid.Eid as whole
+use Rattle.link_bundle_types.specs.declared.eid.Eid.{Eid}
 use Rattle.link_bundle_types.specs.declared.eid.Eid.TheVariants.{DtnNone, Dtn, Ipn, Ipn3}
 use Rattle.link_bundle_types.specs.declared.eid.EidView.{EidView}
 use Rattle.link_bundle_types.specs.declared.fault.BundleFault.{BundleFault}
@@ -14,7 +14,7 @@ use Rattle.link_transfer.specs.declared.fault.OrderFault.TheVariants as order
 use Rattle.link_wire.specs.declared.fault.WireFault.{WireFault}
 use Rattle.link_wire.specs.declared.fault.WireFault.TheVariants as wire
 use Rattle.tcpclkit_c.specs.Slice.{HoldsFront, KeepsRest}
-use Rattle.tcpclkit_c.specs.declared.bundle.Eid.{Eid}
+use Rattle.tcpclkit_c.specs.declared.bundle.EidNumbers.{EidNumbers}
 use Rattle.tcpclkit_c.specs.declared.text.Named.{Named}
 use Rattle.tcpclkit_c.specs.declared.text.Named.TheVariants as named
 
@@ -93,7 +93,7 @@ option_text None = None
 option_text (Some fault) = Some (named_text fault)
 
 -- the endpoint ID that has these numbers and this name
-abbrev pub eid_by : Eid → List ℕ → Option whole.Eid
+abbrev pub eid_by : EidNumbers → List ℕ → Option Eid
 eid_by eid name =
     if eid.kind == 0 then Some DtnNone
     else if eid.kind == 1 && nat_le (length name) 1024 then Some (Dtn (record { items = name }))
@@ -101,11 +101,11 @@ eid_by eid name =
     else if eid.kind == 3 then Some (Ipn3 eid.allocator eid.node eid.service)
     else None
 
-abbrev pub viewed_option : Option EidView → Option whole.Eid
+abbrev pub viewed_option : Option EidView → Option Eid
 viewed_option None = None
 viewed_option (Some view) = Some (viewed_eid view)
 
-abbrev pub option_eid_text : Option whole.Eid → Option (List ℕ)
+abbrev pub option_eid_text : Option Eid → Option (List ℕ)
 option_eid_text None = None
 option_eid_text (Some eid) = Some (eid_text eid)
 

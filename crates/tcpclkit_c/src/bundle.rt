@@ -4,14 +4,13 @@ ghost use Rattle.std.specs.Prelude.{◌≡◌, ℕ, List, [], length, Option};
 ghost use Rattle.link_bundle_types.specs.BundleView.{viewed_info, viewed_verdict};
 ghost use Rattle.link_bundle_types.specs.EidView.{viewed_eid};
 ghost use Rattle.link_bundle.specs.Bundle.{verdict, payload_span, state_of};
-ghost use Rattle.link_bundle.specs.Scan.{HasScanned, scan_size};
-ghost use Rattle.tcpclkit_c.specs.Bundle.{IsJudged, state_status, fault_of, with_span, verdict_shown, eid_shown, name_of, bundle_shown, GivesVerdict, GivesBundle, GivesInfo};
+ghost use Rattle.link_bundle.specs.Scan.{HasJudged};
+ghost use Rattle.tcpclkit_c.specs.Bundle.{state_status, fault_of, with_span, verdict_shown, eid_shown, name_of, bundle_shown, GivesVerdict, GivesBundle, GivesInfo};
 
 use crate::fault::Fault;
 use crate::slice::copy_front;
 use crate::status::{FAULT, OK, TOO_SMALL, TRUNCATED};
 use link_bundle::{BundleFault, BundleScan, BundleView, EidView, State};
-use link_cbor::Piecewise;
 
 /// `struct tcpclkit_verdict`: the verdict on bytes as one bundle, and where its payload is.
 #[repr(C)]
@@ -30,7 +29,7 @@ pub struct Verdict {
 /// `struct tcpclkit_eid`: an endpoint ID without the bytes of its name.
 #[repr(C)]
 #[derive(Clone, Copy, Debug, PartialEq, Eq)]
-pub struct Eid {
+pub struct EidNumbers {
     /// 0 for `dtn:none`, 1 for a name of dtn, 2 and 3 for ipn with two and three numbers.
     pub kind: u64,
     /// The allocator identifier of an ipn endpoint ID of three numbers.
@@ -52,9 +51,9 @@ pub struct Bundle {
     /// The bundle processing control flags.
     pub flags: u64,
     /// The endpoint ID of the destination.
-    pub destination: Eid,
+    pub destination: EidNumbers,
     /// The endpoint ID of the source node.
-    pub source: Eid,
+    pub source: EidNumbers,
     /// The creation time.
     pub time: u64,
     /// The sequence number of the creation timestamp.
@@ -73,16 +72,13 @@ pub struct Bundle {
     pub payload_length: u64,
 }
 
-/// Scans the bytes, as far as they change the verdict.
-fn judge(scan: &mut BundleScan, bytes: &[u8])
-    requires seen { HasScanned scan.old [] }
-    requires size { scan_size scan.old ≡ 0 }
-    ensures { IsJudged scan.new bytes.now }
+/// Makes a scan that has judged the bytes.
+fn judged_scan(bytes: &[u8]) -> BundleScan
+    ensures { HasJudged result bytes.now }
 {
-    let taken = scan.feed(bytes);
-    if taken < bytes.len() && matches!(scan.state(), State::Ended) {
-        scan.step(bytes[taken]);
-    }
+    let mut scan = BundleScan::new();
+    scan.judge_piece(bytes);
+    scan
 }
 
 /// The status of a state.
@@ -128,7 +124,7 @@ fn with_span(fault: Fault, span: Option<(u64, u64)>) -> Verdict
 
 /// What a scan has found of the bytes that it has judged.
 fn found(scan: &BundleScan) -> Verdict
-    ensures { (bytes : List ℕ) → IsJudged scan.now bytes
+    ensures { (bytes : List ℕ) → HasJudged scan.now bytes
         → result ≡ verdict_shown (verdict bytes) (payload_span bytes) }
 {
     with_span(fault_of(scan.view()), scan.payload_seen())
@@ -136,7 +132,7 @@ fn found(scan: &BundleScan) -> Verdict
 
 /// Gives the verdict on the bytes that a scan has judged.
 pub(crate) fn give_verdict(scan: &BundleScan, answer: &mut Verdict) -> u32
-    ensures { (bytes : List ℕ) → IsJudged scan.now bytes → GivesVerdict bytes answer.new result }
+    ensures { (bytes : List ℕ) → HasJudged scan.now bytes → GivesVerdict bytes answer.new result }
 {
     *answer = found(scan);
     state_status(scan.state())
@@ -148,16 +144,15 @@ pub extern "C" fn tcpclkit_raw_bundle_verdict(bytes: &[u8], answer: &mut Verdict
     ensures status { result ≡ state_status (state_of (verdict bytes.now)) }
     ensures answer { answer.new ≡ verdict_shown (verdict bytes.now) (payload_span bytes.now) }
 {
-    let mut scan = BundleScan::new();
-    judge(&mut scan, bytes);
+    let scan = judged_scan(bytes);
     give_verdict(&scan, answer)
 }
 
 /// The kind and the numbers of an endpoint ID.
-fn eid_shown(eid: &EidView<'_>) -> Eid
+fn eid_shown(eid: &EidView<'_>) -> EidNumbers
     ensures { result ≡ eid_shown (viewed_eid eid.now) }
 {
-    let none = Eid {
+    let none = EidNumbers {
         kind: 0,
         allocator: 0,
         node: 0,
@@ -166,18 +161,18 @@ fn eid_shown(eid: &EidView<'_>) -> Eid
     };
     match *eid {
         EidView::DtnNone => none,
-        EidView::Dtn(name) => Eid {
+        EidView::Dtn(name) => EidNumbers {
             kind: 1,
             name_length: name.len() as u64,
             ..none
         },
-        EidView::Ipn(node, service) => Eid {
+        EidView::Ipn(node, service) => EidNumbers {
             kind: 2,
             node,
             service,
             ..none
         },
-        EidView::Ipn3(allocator, node, service) => Eid {
+        EidView::Ipn3(allocator, node, service) => EidNumbers {
             kind: 3,
             allocator,
             node,
@@ -251,7 +246,7 @@ pub(crate) fn give_info(
     source_name: &mut [u8],
     answer: &mut Bundle,
 ) -> u32
-    ensures { (bytes : List ℕ) → IsJudged scan.now bytes
+    ensures { (bytes : List ℕ) → HasJudged scan.now bytes
         → GivesInfo (verdict bytes) (payload_span bytes)
         (record { destination = destination_name.old; source = source_name.old })
         (record { destination = destination_name.new; source = source_name.new })
@@ -280,7 +275,6 @@ pub extern "C" fn tcpclkit_raw_bundle_info(
         (record { destination = destination_name.new; source = source_name.new })
         answer.new result }
 {
-    let mut scan = BundleScan::new();
-    judge(&mut scan, bytes);
+    let scan = judged_scan(bytes);
     give_info(&scan, destination_name, source_name, answer)
 }

@@ -2,7 +2,7 @@
 
 ghost use Rattle.std.specs.Prelude.{◌≡◌, ◌-◌, ◌^◌, ◌<◌, ◌≤◌, length, drop};
 ghost use Rattle.link_wire.specs.Message.{contact_at, message_at};
-ghost use Rattle.tcpclkit_c.specs.Recording.{GivesContact, fields_shown, message_shown, data_status, GivesMessage, item_shown, item_part, GivesItem};
+ghost use Rattle.tcpclkit_c.specs.Recording.{nothing, GivesContact, fields_shown, message_shown, data_status, GivesMessage, item_shown, item_part, GivesItem};
 
 use crate::fault::{Fault, wire_status};
 use crate::status::{DATA_TRUNCATED, END, OK, RANGE};
@@ -99,11 +99,11 @@ pub extern "C" fn tcpclkit_raw_contact(bytes: &[u8], answer: &mut Contact) -> u3
     }
 }
 
-/// The kind and the numbers of a message, without its places.
-fn fields_shown(fields: Fields) -> Message
-    ensures { result ≡ fields_shown fields }
+/// A message of no kind, whose numbers are 0.
+fn nothing() -> Message
+    ensures { result ≡ nothing }
 {
-    let none = Message {
+    Message {
         fault: Fault::none(),
         kind: 0,
         flags: 0,
@@ -121,7 +121,36 @@ fn fields_shown(fields: Fields) -> Message
         data_offset: 0,
         data_length: 0,
         next: 0,
-    };
+    }
+}
+
+/// A message of this kind with flags and a transfer ID.
+fn of_transfer(kind: u64, flags: u8, id: u64) -> Message
+    ensures { result ≡ record nothing { kind = kind; flags = flags; id = id } }
+{
+    Message {
+        kind,
+        flags: u64::from(flags),
+        id,
+        ..nothing()
+    }
+}
+
+/// A message of this kind with a reason.
+fn of_reason(kind: u64, reason: u8) -> Message
+    ensures { result ≡ record nothing { kind = kind; reason = reason } }
+{
+    Message {
+        kind,
+        reason: u64::from(reason),
+        ..nothing()
+    }
+}
+
+/// The kind and the numbers of a message, without its places.
+fn fields_shown(fields: Fields) -> Message
+    ensures { result ≡ fields_shown fields }
+{
     match fields {
         Fields::SessInit {
             keepalive,
@@ -132,40 +161,31 @@ fn fields_shown(fields: Fields) -> Message
             keepalive: u64::from(keepalive),
             segment_mru,
             transfer_mru,
-            ..none
+            ..nothing()
         },
         Fields::Segment { flags, id, length } => Message {
-            kind: 1,
-            flags: u64::from(flags),
-            id,
             data_length: length,
-            ..none
+            ..of_transfer(1, flags, id)
         },
         Fields::Ack { flags, id, length } => Message {
-            kind: 2,
-            flags: u64::from(flags),
-            id,
             acknowledged: length,
-            ..none
+            ..of_transfer(2, flags, id)
         },
         Fields::Refuse { reason, id } => Message {
-            kind: 3,
-            reason: u64::from(reason),
             id,
-            ..none
+            ..of_reason(3, reason)
         },
-        Fields::Keepalive => Message { kind: 4, ..none },
+        Fields::Keepalive => Message {
+            kind: 4,
+            ..nothing()
+        },
         Fields::SessTerm { flags, reason } => Message {
-            kind: 5,
             flags: u64::from(flags),
-            reason: u64::from(reason),
-            ..none
+            ..of_reason(5, reason)
         },
         Fields::MsgReject { reason, header } => Message {
-            kind: 6,
-            reason: u64::from(reason),
             header: u64::from(header),
-            ..none
+            ..of_reason(6, reason)
         },
     }
 }

@@ -13,9 +13,7 @@ use crate::bundle::{Bundle, Verdict, give_info, give_verdict, state_status};
 use crate::status::{OK, RANGE};
 use link_bundle::BundleScan;
 use link_cbor::Piecewise;
-
-/// The most bytes that a scan takes.
-const LONGEST: u64 = (1 << 63) - 1;
+use link_wire::INPUT_LIMIT;
 
 /// The size of a scan in bytes.
 #[unsafe(no_mangle)]
@@ -49,7 +47,7 @@ fn feed(scan: &mut BundleScan, piece: &[u8], taken: &mut u64) -> u32
     ensures { (seen : List ℕ) → HasScanned scan.old seen
         → Feeds seen piece.now scan.new taken.new result }
 {
-    if scan.count().saturating_add(piece.len() as u64) > LONGEST {
+    if scan.count().saturating_add(piece.len() as u64) > INPUT_LIMIT {
         *taken = 0;
         return RANGE;
     }

@@ -5,7 +5,7 @@ ghost use Rattle.link_bundle_types.specs.EidView.{viewed_eid};
 ghost use Rattle.link_bundle_types.specs.ShortNames.{IsShort};
 ghost use Rattle.tcpclkit_c.specs.Text.{wire_by, order_by, bundle_by, named_by, named_text, option_text, eid_by, viewed_option, option_eid_text, HoldsText, GivesText};
 
-use crate::bundle::Eid;
+use crate::bundle::EidNumbers;
 use crate::slice::copy_front;
 use crate::status::{OK, RANGE, TOO_SMALL};
 use link_bundle::{BundleFault, EID_LIMIT, EidView};
@@ -145,7 +145,7 @@ pub extern "C" fn tcpclkit_raw_fault_text(
 }
 
 /// The endpoint ID that has these numbers and this name.
-fn eid_by<'a>(eid: &Eid, name: &'a [u8]) -> Option<EidView<'a>>
+fn eid_by<'a>(eid: &EidNumbers, name: &'a [u8]) -> Option<EidView<'a>>
     ensures view { viewed_option result ≡ eid_by eid.now name.now }
     ensures short { IfSome result (λ view. IsShort (viewed_eid view)) }
 {
@@ -161,7 +161,7 @@ fn eid_by<'a>(eid: &Eid, name: &'a [u8]) -> Option<EidView<'a>>
 /// Writes an endpoint ID.
 #[unsafe(no_mangle)]
 pub extern "C" fn tcpclkit_raw_eid_text(
-    eid: &Eid,
+    eid: &EidNumbers,
     name: &[u8],
     text: &mut [u8],
     written: &mut u64,

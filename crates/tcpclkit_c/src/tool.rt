@@ -103,8 +103,8 @@ fn give_texts(
 /// Each text has room for one byte more than its slice. So a text that does not fit is longer than
 /// its slice, and a run whose texts fit just does not fail.
 fn run_job(
-    job: Job,
     alloc: Global,
+    job: Job,
     bytes: &[u8],
     output: &mut [u8],
     report: &mut [u8],
@@ -152,8 +152,8 @@ pub extern "C" fn tcpclkit_raw_list(
         answer.new result }
 {
     run_job(
-        Job::new(alloc, Options::List),
         alloc,
+        Job::new(alloc, Options::List),
         bytes,
         output,
         report,
@@ -202,8 +202,8 @@ pub extern "C" fn tcpclkit_raw_unpack(
     }
     let wanted = wanted_of(options);
     run_job(
-        Job::new(alloc, Options::Unpack(wanted)),
         alloc,
+        Job::new(alloc, Options::Unpack(wanted)),
         bytes,
         output,
         report,
@@ -266,8 +266,8 @@ pub extern "C" fn tcpclkit_raw_pack(
     }
     let packing = packing_of(options, node);
     run_job(
-        Job::new(alloc, Options::Pack(packing)),
         alloc,
+        Job::new(alloc, Options::Pack(packing)),
         bytes,
         output,
         report,

@@ -11,9 +11,13 @@ use Rattle.link_run.proofs.Runs.{writes_none}
 use Rattle.link_run.proofs.Stands.{settled, not_handed_on, read_fails, last_step}
 use Rattle.link_transfer.specs.Cutter.{wanted_by}
 use Rattle.link_pack.specs.Packing.{packing_of}
-use Rattle.link_pack.proofs.Founds.{came, finished, cut_at, front_bound, front_run}
+use Rattle.link_pack.specs.Packer.{MakesOf}
+use Rattle.link_pack.specs.PackRun.{Packs, GivesFound}
+use Rattle.link_pack.proofs.Founds.{IsRun, came, finished, cut_at, front_bound, front_run}
 use Rattle.link_pack.proofs.Goings.{found_handed, finish_handed}
 use Rattle.link_pack.proofs.packing.take_bundles.Goals as goal
+use Rattle.link_pack.proofs.packing.take_bundles.Goals.{After-go_on-progress}
+use Rattle.link_pack.proofs.packing.take_bundles.Given.{Over}
 
 pub returns-in-Ok-eq0-clause-gives : goal.returns-in-Ok-eq0-clause-gives
 returns-in-Ok-eq0-clause-gives g c = λ start history stood at.
@@ -58,53 +62,77 @@ returns-in-Err-clause-handed g c = λ history at other.
     (λ lost. absurd (other (ap Err lost.2.kind)))
     (c.in-Err.ensures.gives at.live)
 
+-- the bytes that were judged, and that what they make due was written
+record IsWritten (g : Over) (c : After-go_on-progress g) {history : List ℕ}
+    (at : Packs g.R.InDevice.state c.args.packer.now (inner_of c.args.input.now) history) : Type 0 where
+  taken : IsRun c.args.most (front_of g.R.InDevice.state (inner_of c.ready_bytes.new.self))
+      (take c.judge-count.result.0 (take c.min-ready.result c.front.result.now)) c.judge-count.result.0
+  took : MakesOf c.judge-count.new.self at.begun
+      (take c.judge-count.result.0 (take c.min-ready.result c.front.result.now)) c.judge-count.result.1
+  gave : GivesFound g.W.OutDevice.state g.E.OutDevice.state c.ready_bytes.new.writers
+      c.go_on-progress.new.writers c.judge-count.new.self at.bundles at.begun
+      (take c.judge-count.result.0 (take c.min-ready.result c.front.result.now))
+      c.go_on-progress.new.packer c.judge-count.result.1 took c.go_on-progress.result
+
+written : (g : Over) (c : After-go_on-progress g) {history : List ℕ}
+    (at : Packs g.R.InDevice.state c.args.packer.now (inner_of c.args.input.now) history)
+    → IsWritten g c at
+written g c at =
+    let old = inner_of c.args.input.now in
+    let mid = inner_of c.ready_bytes.new.self in
+    let packer = c.args.packer.now in
+    let judged = c.judge-count.new.self in
+    let count = c.judge-count.result.0 in
+    let shown = c.front.result.now in
+    let ready = c.min-ready.result in
+    let bound = front_bound packer old mid at (c.in-Ok.ensures.gives at.live).1.readies shown ready
+    c.front.ensures.front in
+    let taken = front_run c.args.most (front_of g.R.InDevice.state mid) shown ready count c.front.ensures.front
+    (omega (arith, c.min-ready.ensures)) c.judge-count.ensures.within
+    (c.judge-count.ensures.some at.bundles at.begun at.holds bound) in
+    let took = c.judge-count.ensures.took at.bundles at.begun at.holds bound in
+    let few = at.few in
+    let before = at.source.given in
+    let fits = old.within in
+    record {
+      taken = taken;
+      took = took;
+      gave = c.go_on-progress.ensures.gives at.bundles at.begun
+          (c.judge-count.ensures.number ∙ at.holds.number) (omega arith) taken.some
+          (cut_at packer judged at.begun c.judge-count.ensures.cutter c.judge-count.ensures.options
+          at.holds.cut)
+          (omega (arith, c.judge-count.ensures.few, ap wanted_by c.judge-count.ensures.cutter,
+          length-take count (take ready shown))) took;
+    }
+
 pub returns-clause-gives : goal.returns-clause-gives
 returns-clause-gives g c = λ start history stood at.
-    let look = looks g.R.InDevice.state g.W.OutDevice.state g.E.OutDevice.state in
+    let look = g.R.InDevice.state in
     let old = inner_of c.args.input.now in
     let mid = inner_of c.ready_bytes.new.self in
     let new = inner_of c.give.new.self in
     let writers = c.ready_bytes.new.writers in
-    let packer = c.args.packer.now in
-    let judged = c.judge-count.new.self in
-    let count = c.judge-count.result.0 in
-    let shown = c.front.result.now in
     let read = c.in-Ok.ensures.gives at.live in
-    let ready = read.1 in
-    let bound = front_bound packer old mid at ready.readies shown c.min-ready.result c.front.ensures.front in
-    let taken = front_run c.args.most (front_of g.R.InDevice.state mid) shown c.min-ready.result count c.front.ensures.front (omega (arith, c.min-ready.ensures)) c.judge-count.ensures.within
-    (c.judge-count.ensures.some at.bundles at.begun at.holds bound) in
-    let run = take count (take c.min-ready.result shown) in
-    let took = c.judge-count.ensures.took at.bundles at.begun at.holds bound in
-    let few = at.few in
-    let before = at.source.given in
-    let fits = old.within in
-    came c.args.most old writers c.go_on-progress.new.writers packer (settled old c.args.writers.now writers stood read.0) at new run
-    (Readies-takes g.R.InDevice.state old mid new run ready.readies (subst (λ (bytes : List ℕ). Takes g.R.InDevice.state mid new bytes) taken.same c.give.ensures.takes) taken.some) (c.give.ensures.live ready.live) taken.some taken.size
-    judged c.judge-count.ensures.options c.judge-count.ensures.number c.go_on-progress.new.packer c.go_on-progress.ensures.options c.go_on-progress.result c.judge-count.result.1 took
-    (c.go_on-progress.ensures.gives at.bundles at.begun (c.judge-count.ensures.number ∙ at.holds.number) (omega arith) taken.some
-    (cut_at packer judged at.begun c.judge-count.ensures.cutter c.judge-count.ensures.options at.holds.cut)
-    (omega (arith, c.judge-count.ensures.few, ap wanted_by c.judge-count.ensures.cutter, length-take count (take c.min-ready.result shown))) took)
+    let wrote = written g (goal.at.returns-clause-gives g c).After-go_on-progress at in
+    let taken = wrote.taken in
+    came c.args.most old writers c.go_on-progress.new.writers c.args.packer.now
+    (settled old c.args.writers.now writers stood read.0) at new
+    (take c.judge-count.result.0 (take c.min-ready.result c.front.result.now))
+    (Readies-takes look old mid new _ read.1.readies
+    (subst (λ (bytes : List ℕ). Takes look mid new bytes) taken.same c.give.ensures.takes) taken.some)
+    (c.give.ensures.live read.1.live) taken.some taken.size
+    c.judge-count.new.self c.judge-count.ensures.options c.judge-count.ensures.number
+    c.go_on-progress.new.packer c.go_on-progress.ensures.options c.go_on-progress.result
+    c.judge-count.result.1 wrote.took wrote.gave
 
 pub returns-clause-handed : goal.returns-clause-handed
 returns-clause-handed g c = λ history at other.
-    let old = inner_of c.args.input.now in
-    let mid = inner_of c.ready_bytes.new.self in
-    let packer = c.args.packer.now in
-    let judged = c.judge-count.new.self in
-    let count = c.judge-count.result.0 in
-    let shown = c.front.result.now in
-    let read = c.in-Ok.ensures.gives at.live in
-    let bound = front_bound packer old mid at read.1.readies shown c.min-ready.result c.front.ensures.front in
-    let taken = front_run c.args.most (front_of g.R.InDevice.state mid) shown c.min-ready.result count c.front.ensures.front (omega (arith, c.min-ready.ensures)) c.judge-count.ensures.within
-    (c.judge-count.ensures.some at.bundles at.begun at.holds bound) in
-    let run = take count (take c.min-ready.result shown) in
-    let took = c.judge-count.ensures.took at.bundles at.begun at.holds bound in
-    let few = at.few in
-    let before = at.source.given in
-    let fits = old.within in
-    found_handed (looks g.R.InDevice.state g.W.OutDevice.state g.E.OutDevice.state) old (inner_of c.give.new.self) c.args.writers.now c.ready_bytes.new.writers c.go_on-progress.new.writers read.0 (c.in-Ok.ensures.handed (λ e. absurd (cc)))
-    judged at.bundles at.begun run c.go_on-progress.new.packer c.judge-count.result.1 took c.go_on-progress.result
-    (c.go_on-progress.ensures.gives at.bundles at.begun (c.judge-count.ensures.number ∙ at.holds.number) (omega arith) taken.some
-    (cut_at packer judged at.begun c.judge-count.ensures.cutter c.judge-count.ensures.options at.holds.cut)
-    (omega (arith, c.judge-count.ensures.few, ap wanted_by c.judge-count.ensures.cutter, length-take count (take c.min-ready.result shown))) took) other
+    let wrote = written g (goal.at.returns-clause-handed g c).After-go_on-progress at in
+    found_handed (looks g.R.InDevice.state g.W.OutDevice.state g.E.OutDevice.state)
+    (inner_of c.args.input.now) (inner_of c.give.new.self) c.args.writers.now
+    c.ready_bytes.new.writers c.go_on-progress.new.writers (c.in-Ok.ensures.gives at.live).0
+    (c.in-Ok.ensures.handed (λ e. absurd (cc)))
+    c.judge-count.new.self at.bundles at.begun
+    (take c.judge-count.result.0 (take c.min-ready.result c.front.result.now))
+    c.go_on-progress.new.packer c.judge-count.result.1 wrote.took c.go_on-progress.result
+    wrote.gave other

@@ -3,7 +3,7 @@ use Rattle.link_run.specs.Writers.{GivesTexts, on_output}
 use Rattle.link_transfer.specs.Cutter.{IsCutterAt}
 use Rattle.link_transfer.specs.Cutting.{with_bytes}
 use Rattle.link_pack.specs.Segments.{all_given}
-use Rattle.link_pack.proofs.Writing.{one_left, one_ends, any_result}
+use Rattle.link_pack.proofs.Writing.{run_pushed, one_left, one_ends, any_result}
 use Rattle.link_pack.proofs.segments.write_run.Goals as goal
 
 pub returns-in-Some-clause-gives : goal.returns-in-Some-clause-gives
@@ -18,3 +18,17 @@ returns-in-Some-clause-after g c = λ so_far at few.
     let now = with_bytes c.args.run.now c.args.last so_far in
     any_result c.write_segment.result (IsCutterAt c.cut_slice.new.self (all_given now))
     (one_ends now c.in-Some.cut c.cut_slice.new.self (c.in-Some.ensures.cut so_far at) (c.in-Some.ensures.after so_far at) c.in-Some.ensures.quiet)
+
+pub returns-in-None-clause-gives : goal.returns-in-None-clause-gives
+returns-in-None-clause-gives g c = λ so_far at few.
+    c.write_segments.ensures.gives (with_bytes c.args.run.now c.args.last so_far)
+    (run_pushed c.args.cutter.now c.cut_slice.new.self c.push_slice.new.self so_far c.args.run.now
+    c.push_slice.result c.args.last c.in-None.ensures.none c.push_slice.ensures.whole
+    c.push_slice.ensures.pushed at few)
+
+pub returns-in-None-clause-after : goal.returns-in-None-clause-after
+returns-in-None-clause-after g c = λ so_far at few.
+    c.write_segments.ensures.after (with_bytes c.args.run.now c.args.last so_far)
+    (run_pushed c.args.cutter.now c.cut_slice.new.self c.push_slice.new.self so_far c.args.run.now
+    c.push_slice.result c.args.last c.in-None.ensures.none c.push_slice.ensures.whole
+    c.push_slice.ensures.pushed at few)

@@ -6,7 +6,7 @@ use Rattle.link_bundle.specs.Bundle.{verdict, payload_span, state_of}
 use Rattle.tcpclkit_c.specs.Bundle.{Names, state_status, verdict_shown, GivesBundle, GivesInfo}
 use Rattle.tcpclkit_c.specs.declared.bundle.Bundle.{Bundle}
 use Rattle.tcpclkit_c.specs.declared.bundle.Verdict.{Verdict}
-use Rattle.tcpclkit_c.proofs.Judging.{verdict_judged}
+use Rattle.link_bundle.proofs.Pieces.{verdict_judged}
 use Rattle.tcpclkit_c.proofs.bundle.give_info.Goals as goal
 
 pub returns-in-Ok : goal.returns-in-Ok

@@ -1,7 +1,7 @@
 use Rattle.std.proofs.Common.{ap, ◌∙◌}
 use Rattle.link_bundle.specs.Bundle.{state_of}
 use Rattle.tcpclkit_c.specs.Bundle.{state_status}
-use Rattle.tcpclkit_c.proofs.Judging.{verdict_judged}
+use Rattle.link_bundle.proofs.Pieces.{verdict_judged}
 use Rattle.tcpclkit_c.proofs.bundle.give_verdict.Goals as goal
 
 pub returns : goal.returns

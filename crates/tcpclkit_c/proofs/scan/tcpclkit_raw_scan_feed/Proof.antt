@@ -1,5 +1,5 @@
 -- The memory is lent to `feed` as a scan, for a lifetime that ends with the call.
-use Rattle.tcpclkit_c.proofs.Walks.{◌≡◌, ℕ, List, [], ◌∷◌, ◌++◌, length, refl, w32, MutBor, proved, full_share, emp, id⊢, GName, ftrue, fsep, fex, flft, flent, named, vptr, fact, fact_i, tables, Body, lft_new, lft_end, ‵, raw, ◌⊛◌, some, later, prop, ◌$◌, ◌∵◌, !, qed, done, move, keep, drop, use0, use1, use2, use3, split, join, fsplit, fjoin, fpick, fpack, pick, await, regoal, suffices, group, enter, of_opd, addr, stop, no_more, and_then, returns, alloc_all, pass_all, free_all, look_at, get, through, sets, lands_as, u8, u32, u64, yes, shows, Is, lends_ref, ref_back, part_at, mem, uint_Lawful, Ptr, RawPtr, block_ptr, lies_at, in_a_block, rawptr_vals, rawptr_Tells, MutRef, mut_vals, mut_Tells, ShrSlice, slice_val, shr_slice_vals, shr_slice_Tells, plain, shr_slice_of, mut_ref_to, nothing, heard, peeks, calls_at, Lasts, lasts, triple_of, Stays, walk_of, stay_dropped, Goes-dropped, ends_at, framed, stay_passed, Goes-passed}
+use Rattle.tcpclkit_c.proofs.Walks.{◌≡◌, ℕ, List, [], ◌∷◌, ◌++◌, length, refl, w32, MutBor, proved, full_share, emp, id⊢, GName, ftrue, flft, flent, named, vptr, fact, fact_i, tables, Body, lft_new, lft_end, ‵, raw, ◌⊛◌, some, later, prop, ◌$◌, ◌∵◌, !, qed, done, move, keep, drop, use0, use1, use2, use3, split, join, fsplit, fpick, pick, await, regoal, suffices, group, enter, of_opd, addr, stop, no_more, and_then, returns, alloc_all, pass_all, free_all, look_at, get, through, sets, lands_as, u8, u32, u64, yes, shows, Is, lends_ref, ref_back, part_at, mem, uint_Lawful, Ptr, RawPtr, block_ptr, lies_at, in_a_block, rawptr_vals, rawptr_Tells, MutRef, mut_vals, mut_Tells, ShrSlice, slice_val, shr_slice_vals, shr_slice_Tells, plain, shr_slice_of, mut_ref_to, nothing, heard, peeks, calls_at, Lasts, lasts, triple_of, Stays, walk_of, stay_dropped, Goes-dropped, ends_at, framed, stay_passed, Goes-passed}
 use prog.Wp.{WpFn}
 use Rattle.link_bundle.specs.Scan.{HasScanned}
 use Rattle.link_bundle.specs.declared.scan.BundleScan.{BundleScan}
@@ -8,6 +8,7 @@ use Rattle.tcpclkit_c.specs.Scan.{HoldsScan, Feeds, fed, fed_status}
 use Rattle.tcpclkit_c.specs.contracts.scan.tcpclkit_raw_scan_feed as f
 use Rattle.tcpclkit_c.proofs.scan.tcpclkit_raw_scan_feed.Statement.{statement}
 use Rattle.tcpclkit_c.proofs.scan.tcpclkit_raw_scan_feed.Code as code
+use Rattle.tcpclkit_c.proofs.Lending.{held_scan}
 use Rattle.tcpclkit_c.specs.contracts.scan.feed as g
 use Rattle.tcpclkit_c.proofs.scan.feed.Met.{met}
 
@@ -61,8 +62,8 @@ tcpclkit_raw_scan_feed_spec 𝓤 𝓛 𝓜 𝓡 wired =
     returns ! (look_at ! 0 refl) $ free_all ! refl $ keep ! (0 ∷ 2 ∷ 3 ∷ 4 ∷ []) $
     -- [the scan; what is left of the parameters; the result; the tokens]
     let end = gives seen has in
-    nothing ! $ fpack ! (HasScanned ws.0 (seen ++ fed seen piece.now)) (λ _. ftrue) end.scanned $ move ! (1 ∷ 0 ∷ []) $ fjoin ! $
-    fpack ! BundleScan (λ x. fsep (lies_at R full_share (block_ptr b o) x) (fex (HasScanned x (seen ++ fed seen piece.now)) (λ _. ftrue))) ws.0 $
+    use1 𝓛 (‵ (HoldsScan (block_ptr b o) (seen ++ fed seen piece.now)))
+    (held_scan 𝓛 ws.0 b o (seen ++ fed seen piece.now) end.scanned) $
     move ! (1 ∷ []) $ nothing ! $ join ! $
     -- [what is left of the parameters; the scan; the result; the tokens]
     use0 𝓛 (raw (fact 𝓤 (r ≡ fed_status seen piece.now))) (fact_i 𝓤 (r ≡ fed_status seen piece.now) (emp 𝓤) end.answers) $

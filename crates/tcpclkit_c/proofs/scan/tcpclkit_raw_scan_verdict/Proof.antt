@@ -1,14 +1,14 @@
 -- The memory is lent to `give_verdict` as a scan to look at, for a lifetime that ends with the call.
-use Rattle.tcpclkit_c.proofs.Walks.{◌≡◌, ℕ, List, [], ◌∷◌, ◌++◌, refl, w32, Bor, proved, full_share, emp, id⊢, Incl-refl, ftrue, fsep, fex, flft, flent, named, vptr, fact, fact_i, tables, lft_new, lft_end, lent_back, ‵, raw, ◌⊛◌, some, later, prop, ◌$◌, ◌∵◌, !, qed, done, move, keep, drop, use0, use1, use2, split, join, fsplit, fjoin, fpick, fpack, pick, await, regoal, suffices, group, enter, of_opd, addr, stop, no_more, and_then, returns, alloc_all, pass_all, free_all, look_at, get, through, sets, lands_as, u32, yes, shows, Is, lends_shr, part_at, uint_Lawful, Ptr, RawPtr, block_ptr, lies_at, in_a_block, rawptr_vals, rawptr_Tells, MutRef, ShrRef, mut_vals, mut_Tells, plain, mut_ref_to, nothing, heard, peeks, calls_at, Lasts, lasts, triple_of, Stays, walk_of, stay_dropped, Goes-dropped, ends_at, framed, stay_passed, Goes-passed}
+use Rattle.tcpclkit_c.proofs.Walks.{◌≡◌, ℕ, List, [], ◌∷◌, ◌++◌, refl, w32, Bor, proved, full_share, emp, id⊢, ftrue, flft, named, vptr, fact, fact_i, tables, lft_new, lft_end, lent_back, ‵, raw, ◌⊛◌, some, later, prop, ◌$◌, ◌∵◌, !, qed, done, move, keep, drop, use0, use1, use2, split, join, fsplit, fpick, pick, await, regoal, suffices, group, enter, of_opd, addr, stop, no_more, and_then, returns, alloc_all, pass_all, free_all, look_at, get, through, sets, lands_as, u32, yes, shows, Is, uint_Lawful, Ptr, RawPtr, block_ptr, lies_at, in_a_block, rawptr_vals, rawptr_Tells, MutRef, mut_vals, mut_Tells, plain, mut_ref_to, nothing, heard, peeks, calls_at, Lasts, lasts, triple_of, Stays, walk_of, stay_dropped, Goes-dropped, ends_at, framed, stay_passed, Goes-passed}
 use prog.Wp.{WpFn}
-use Rattle.link_bundle.specs.Scan.{HasScanned}
+use Rattle.link_bundle.specs.Scan.{HasJudged}
 use Rattle.link_bundle.specs.declared.scan.BundleScan.{BundleScan}
 use Rattle.link_bundle.specs.contracts.scan.BundleScan.{the_row as R}
 use Rattle.link_bundle.specs.Bundle.{verdict, payload_span, state_of}
-use Rattle.link_bundle.proofs.scan.BundleScan.TheLaws.{the_row_laws, the_within}
-use Rattle.tcpclkit_c.specs.Bundle.{IsJudged, GivesVerdict, state_status, verdict_shown}
+use Rattle.link_bundle.proofs.Pieces.{all_judged}
+use Rattle.tcpclkit_c.specs.Bundle.{GivesVerdict, state_status, verdict_shown}
 use Rattle.tcpclkit_c.specs.Scan.{HoldsScan}
-use Rattle.tcpclkit_c.proofs.Scanning.{all_judged}
+use Rattle.tcpclkit_c.proofs.Lending.{lent_scan, lends_scan, held_scan}
 use Rattle.tcpclkit_c.specs.contracts.bundle.Verdict.{the_row as V}
 use Rattle.tcpclkit_c.specs.contracts.scan.tcpclkit_raw_scan_verdict as f
 use Rattle.tcpclkit_c.proofs.scan.tcpclkit_raw_scan_verdict.Statement.{statement}
@@ -42,10 +42,8 @@ tcpclkit_raw_scan_verdict_spec 𝓤 𝓛 𝓜 𝓡 wired =
     sets ! (of_opd ! (get ! refl)) refl (tt, tt) $
     sets ! (addr ! (through ! refl (stop !))) refl (tt, tt) $
     sets ! (addr ! (through ! refl (stop !))) refl (tt, tt) $
-    lft_new ! tt (λ α. let κ = α ∷ [] in
-    move ! (1 ∷ 0 ∷ []) $
-    use2 𝓛 (later ((‵ ((ShrRef (named 0) κ R).own_val (record { ref_ptr = (b, o); now = scan }) (vptr b o ∷ [])) ⊛ ‵ (flent κ (part_at R full_share scan b o))) ⊛ ‵ (flft κ full_share)))
-    (lends_shr 𝓛 R (named 0) κ full_share scan b o R.lives (the_row_laws.shares 𝓛 scan) ((κ, full_share) ∷ []) (the_within κ) (Incl-refl κ)) $ await ! tt $ split ! $ split ! $
+    lft_new ! tt (λ α. let κ = α ∷ [] in move ! (1 ∷ 0 ∷ []) $
+    use2 𝓛 (lent_scan 𝓛 scan b o κ) (lends_scan 𝓛 scan b o κ) $ await ! tt $ split ! $ split ! $
     -- [the loan; the lender's part; the loan's token; what the other parameters own; the tokens]
     let loan : Bor BundleScan = record { ref_ptr = (b, o); now = scan } in
     let G = triple_of 𝓛 g.signature (g.spec 𝓛 𝓜.mem 𝓡.returns) in
@@ -56,7 +54,7 @@ tcpclkit_raw_scan_verdict_spec 𝓤 𝓛 𝓜 𝓡 wired =
     (and_then ! (get ! refl) (and_then ! (get ! refl) (no_more !))) (λ v.
     use1 𝓛 (later (some (λ (r : ℕ). ((‵ (flft κ full_share) ⊛ Tokens) ⊛ ‵ (u32.own_val r (v ∷ []))) ⊛
     some (λ (ws : Lasts g.ended z.0.0 z.0.3). ‵ (lasts g.ended z.0.0 z.0.3 ws) ⊛
-    raw (fact 𝓤 ((bytes : List ℕ) → IsJudged scan bytes → GivesVerdict bytes ws.1.0 r)))))) (id⊢ 𝓤 _) $
+    raw (fact 𝓤 ((bytes : List ℕ) → HasJudged scan bytes → GivesVerdict bytes ws.1.0 r)))))) (id⊢ 𝓤 _) $
     await ! tt $ pick ! (λ r. split ! $ split ! $ split ! $ lft_end ! tt $
     move ! (2 ∷ []) $ peeks ! u32 (Is u32) (shows 𝓛 u32) r (v ∷ []) (λ is. lands_as ! refl refl ((uint_Lawful 𝓛 w32).typed r _ is).0 $
     move ! (3 ∷ []) $ pick ! (λ ws. split ! $ move ! (1 ∷ []) $ heard ! _ (λ gives. fsplit ! $
@@ -65,8 +63,7 @@ tcpclkit_raw_scan_verdict_spec 𝓤 𝓛 𝓜 𝓡 wired =
     returns ! (look_at ! 0 refl) $ free_all ! refl $ keep ! (0 ∷ 2 ∷ 3 ∷ 4 ∷ []) $
     -- [the scan; what is left of the parameters; the result; the tokens]
     let end = gives seen (all_judged scan seen has) in
-    nothing ! $ fpack ! (HasScanned scan seen) (λ _. ftrue) has $ move ! (1 ∷ 0 ∷ []) $ fjoin ! $
-    fpack ! BundleScan (λ x. fsep (lies_at R full_share (block_ptr b o) x) (fex (HasScanned x seen) (λ _. ftrue))) scan $
+    use1 𝓛 (‵ (HoldsScan (block_ptr b o) seen)) (held_scan 𝓛 scan b o seen has) $
     move ! (1 ∷ []) $ nothing ! $ join ! $
     -- [what is left of the parameters; the scan; the result; the tokens]
     use0 𝓛 (raw (fact 𝓤 (ws.1.0 ≡ verdict_shown (verdict seen) (payload_span seen)))) (fact_i 𝓤 (ws.1.0 ≡ verdict_shown (verdict seen) (payload_span seen)) (emp 𝓤) end.numbers) $

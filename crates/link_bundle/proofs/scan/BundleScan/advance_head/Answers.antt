@@ -3,7 +3,7 @@ use Rattle.std.proofs.lemmas.List.{length-take-le, take-take}
 use Rattle.link_cbor.specs.Head.{Whole, head_front}
 use Rattle.link_cbor.proofs.HeadLaws.{head_alone}
 use Rattle.link_bundle.specs.Bundle.{bundle_goes}
-use Rattle.link_bundle.proofs.Feeding.{goes_in_head}
+use Rattle.link_bundle.proofs.Feeding.{as_taken, goes_in_head}
 use Rattle.link_bundle.proofs.Steps.{at_stage}
 use Rattle.link_bundle.proofs.scan.BundleScan.advance_head.Goals as goal
 use Rattle.link_bundle.proofs.scan.BundleScan.advance_head.Goals.{In-Some}
@@ -20,20 +20,15 @@ pub head_run-requires-clause-whole : goal.head_run-requires-clause-whole
 head_run-requires-clause-whole c = whole (goal.at.head_run-requires-clause-whole c).In-Some
 
 pub returns-in-Some : goal.returns-in-Some
-returns-in-Some c = record {
-  some = search rules;
-  within = search rules;
-  size = search rules;
-  seen = search rules;
-  goes = λ seen come count below.
-      let now = c.args.self.now in
-      let piece = c.args.piece.now in
-      let size = c.in-Some.size in
-      ap (λ (bytes : List ℕ). bundle_goes (seen ++ bytes))
-      (sym (take-take count size piece (omega arith)))
-      ∙ goes_in_head c.args.field now.cursor now.draft seen (take size piece) c.in-Some.head count
-      (at_stage now _ seen c.requires.stage come)
-      c.requires.begins
-      (whole (goal.at.returns-in-Some c).In-Some)
-      (omega (arith, length-take-le size piece c.in-Some.ensures.within));
-}
+returns-in-Some c =
+    as_taken (search rules) (search rules) (search rules) (search rules) (λ seen come count below.
+    let now = c.args.self.now in
+    let piece = c.args.piece.now in
+    let size = c.in-Some.size in
+    ap (λ (bytes : List ℕ). bundle_goes (seen ++ bytes))
+    (sym (take-take count size piece (omega arith)))
+    ∙ goes_in_head c.args.field now.cursor now.draft seen (take size piece) c.in-Some.head count
+    (at_stage now _ seen c.requires.stage come)
+    c.requires.begins
+    (whole (goal.at.returns-in-Some c).In-Some)
+    (omega (arith, length-take-le size piece c.in-Some.ensures.within)))

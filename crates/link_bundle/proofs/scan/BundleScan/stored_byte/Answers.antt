@@ -1,30 +1,43 @@
-use Rattle.std.proofs.Common.{ℕ, ◌+◌, ◌*◌, ap, sym, ◌∙◌, arith, rules}
+use Rattle.std.proofs.Common.{ℕ, ◌≡◌, ◌+◌, ◌*◌, ◌<◌, Some, ap, sym, ◌∙◌, arith, rules}
 use Rattle.std.proofs.lemmas.Bool.{eq-eqb, ne_eqb}
+use Rattle.link_cbor.specs.declared.check.CheckKind.{CheckKind}
 use Rattle.link_bundle.specs.CheckKinds.{kind_of, is_kind}
-use Rattle.link_bundle.proofs.Fields.{same_check, has_room, room, before_and}
+use Rattle.link_bundle.specs.declared.scan.BundleScan.{BundleScan}
+use Rattle.link_bundle.specs.declared.stage.CheckType.{CheckType}
+use Rattle.link_bundle.specs.declared.stage.CheckType.TheVariants.{Is}
+use Rattle.link_bundle.specs.declared.stage.Stage.TheVariants.{Stored}
+use Rattle.link_bundle.proofs.Fields.{HasRoom, same_check, has_room, room, before_and}
 use Rattle.link_bundle.proofs.Contents.{grown_stored, equal_stored, other_stored}
 use Rattle.link_bundle.proofs.Steps.{at_stage, fits_at}
 use Rattle.link_bundle.proofs.scan.BundleScan.stored_byte.Goals as goal
 
+-- what is known of a scan in the content of a check field
+record IsStoring (left stored : ℕ) (kind : CheckKind) (check : CheckType) (byte : ℕ) : Type 0 where
+  more : HasRoom left stored byte
+  same : check ≡ Is (Some kind)
+
+storing : (scan : BundleScan) (place left stored : ℕ) (kind : CheckKind) (byte : ℕ)
+    → scan.stage ≡ Stored place left stored kind → byte < 256
+    → IsStoring left stored kind scan.draft.check byte
+storing scan place left stored kind byte is small =
+    let fits = fits_at scan _ is in
+    let same_kind = is_kind (kind_of scan.draft.check) kind in
+    record {
+      more = has_room same_kind left stored byte fits small;
+      same = same_check scan.draft.check kind (before_and same_kind (room left stored) fits);
+    }
+
 pub overflow_mul-stored : goal.overflow_mul-stored
-overflow_mul-stored c =
-    let now = c.args.self.now in
-    let fits = fits_at now _ c.requires.stage in
-    omega (
-      arith,
-      (has_room (is_kind (kind_of now.draft.check) c.args.kind) c.args.left
-          c.args.stored c.args.byte fits (omega arith)).scaled,
-    )
+overflow_mul-stored c = omega (
+  arith,
+  (storing c.args.self.now _ _ _ _ c.args.byte c.requires.stage (omega arith)).more.scaled,
+)
 
 pub overflow_add-stored : goal.overflow_add-stored
-overflow_add-stored c =
-    let now = c.args.self.now in
-    let fits = fits_at now _ c.requires.stage in
-    omega (
-      arith,
-      (has_room (is_kind (kind_of now.draft.check) c.args.kind) c.args.left
-          c.args.stored c.args.byte fits (omega arith)).scaled,
-    )
+overflow_add-stored c = omega (
+  arith,
+  (storing c.args.self.now _ _ _ _ c.args.byte c.requires.stage (omega arith)).more.scaled,
+)
 
 pub returns-then-left-gt1 : goal.returns-then-left-gt1
 returns-then-left-gt1 c = record {
@@ -44,23 +57,15 @@ returns-then-stored-value c = record {
   size = search rules;
   seen = λ seen come.
       let now = c.args.self.now in
-      let here = at_stage now _ seen c.requires.stage come in
-      let fits = fits_at now _ c.requires.stage in
-      let is_kind = is_kind (kind_of now.draft.check) c.args.kind in
-      let wants =
-      (has_room is_kind c.args.left c.args.stored c.args.byte fits (omega arith)).wants in
+      let at = storing now _ _ _ _ c.args.byte c.requires.stage (omega arith) in
       equal_stored c.args.place c.args.left c.args.stored c.value.result c.args.kind now.cursor
       c.content_run.new.self c.enter.new.self
-      now.draft c.after_block-stage.new.self c.after_block-stage.result seen c.args.byte here
-      (omega arith) (omega (arith, wants))
+      now.draft c.after_block-stage.new.self c.after_block-stage.result seen c.args.byte
+      (at_stage now _ seen c.requires.stage come)
+      (omega arith) (omega (arith, at.more.wants))
       (eq-eqb (c.args.stored * 256 + c.args.byte) c.value.result
       (ap (λ (byte : ℕ). c.args.stored * 256 + byte) (sym c.from.ensures) ∙ c.if-stored-value.true))
-      c.content_run.ensures
-      (record {
-        is = same_check now.draft.check c.args.kind
-            (before_and is_kind (room c.args.left c.args.stored) fits);
-        outcome = c.value.ensures;
-      })
+      c.content_run.ensures (record { is = at.same; outcome = c.value.ensures })
       c.after_block-stage.ensures.reads c.after_block-stage.ensures.keeps
       c.enter.ensures;
 }
@@ -70,21 +75,12 @@ returns-else-stored-value c = record {
   size = search rules;
   seen = λ seen come.
       let now = c.args.self.now in
-      let here = at_stage now _ seen c.requires.stage come in
-      let fits = fits_at now _ c.requires.stage in
-      let is_kind = is_kind (kind_of now.draft.check) c.args.kind in
-      let wants =
-      (has_room is_kind c.args.left c.args.stored c.args.byte fits (omega arith)).wants in
+      let at = storing now _ _ _ _ c.args.byte c.requires.stage (omega arith) in
       other_stored c.args.place c.args.left c.args.stored c.value.result c.args.kind now.cursor
       c.content_run.new.self now.draft seen c.args.byte
-      here (omega arith) (omega (arith, wants))
+      (at_stage now _ seen c.requires.stage come) (omega arith) (omega (arith, at.more.wants))
       (ne_eqb (c.args.stored * 256 + c.args.byte) c.value.result
       (λ same. c.if-stored-value.false
       (ap (λ (byte : ℕ). c.args.stored * 256 + byte) c.from.ensures ∙ same)))
-      c.content_run.ensures
-      (record {
-        is = same_check now.draft.check c.args.kind
-            (before_and is_kind (room c.args.left c.args.stored) fits);
-        outcome = c.value.ensures;
-      });
+      c.content_run.ensures (record { is = at.same; outcome = c.value.ensures });
 }

@@ -52,6 +52,6 @@ returns-in-Simple c =
 
 pub returns-in-Simple-2 : goal.returns-in-Simple-2
 returns-in-Simple-2 c =
-    rw (c.in-Simple.is, c.from-in-Simple-2.ensures)
+    rw (c.in-Simple.is, c.in_argument-in-Simple-2.ensures, c.from-in-Simple-2.ensures)
     (stands-high c.args.self.now.count c.args.byte
     (rw c.in-Simple.is at c.args.self.now.fits) c.if-byte-lt-LEAST_IN_NEXT_BYTE.false)

@@ -1,4 +1,5 @@
-use Rattle.std.proofs.Common.{[], length, inl, refl, sym, ap}
+use Rattle.std.proofs.Common.{[], length, refl, sym, ap}
+use Rattle.link_bundle.proofs.Pieces.{all_judged}
 use Rattle.link_unpack.proofs.Transfers.{part_of-begun}
 use Rattle.link_unpack.proofs.transfer.TransferScan.begin.Goals as goal
 
@@ -9,5 +10,5 @@ returns-clause-follows c = λ head closed earlier id announced start. record {
   start = start;
   written = ap length (sym (part_of-begun c.args.self.now.wanted head closed));
   size = refl;
-  judged = record { seen = []; rest = []; parts = refl; scanned = c.restart.ensures.seen; enough = inl refl };
+  judged = all_judged c.restart.new.self [] c.restart.ensures.seen;
 }

@@ -2,7 +2,7 @@ use Rattle.std.proofs.Common.{◌≡◌, ◌<◌, ◌-◌, ◌^◌, ◌++◌, tr
 use Rattle.link_bundle.specs.Bundle.{payload_in}
 use Rattle.link_unpack.specs.Pieces.{part_in}
 use Rattle.link_unpack.specs.Unpacking.{is_selected}
-use Rattle.link_unpack.proofs.Judging.{part_some, part_none}
+use Rattle.link_unpack.proofs.Payloads.{part_some, part_none}
 use Rattle.link_unpack.proofs.Transfers.{part_of-payload}
 use Rattle.link_unpack.proofs.transfer.TransferScan.part.Goals as goal
 

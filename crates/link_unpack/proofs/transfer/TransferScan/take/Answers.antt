@@ -3,7 +3,7 @@ use Rattle.link_unpack.proofs.transfer.TransferScan.take.Goals as goal
 
 pub returns-clause-follows : goal.returns-clause-follows
 returns-clause-follows c = λ transfer closed earlier room follows.
-    let judged = c.scan_piece.ensures.judged transfer.content follows.judged in
+    let judged = c.judge_piece.ensures.judged transfer.content follows.judged in
     let size = ap (λ n. n + length c.args.piece.now) follows.size in
     let part = c.part-part.ensures.part transfer closed follows.id size judged in
     record {
@@ -18,4 +18,4 @@ returns-clause-follows c = λ transfer closed earlier room follows.
 pub returns-clause-part : goal.returns-clause-part
 returns-clause-part c = λ transfer closed earlier room follows.
     c.part-part.ensures.part transfer closed follows.id (ap (λ n. n + length c.args.piece.now) follows.size)
-    (c.scan_piece.ensures.judged transfer.content follows.judged)
+    (c.judge_piece.ensures.judged transfer.content follows.judged)

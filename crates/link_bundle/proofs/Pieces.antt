@@ -1,0 +1,268 @@
+-- The judging of a bundle in pieces, until no further byte can change the verdict.
+
+use Rattle.std.proofs.Common.{◌≡◌, ℕ, ◌+◌, ◌<◌, ◌≤◌, inl, inr, Bool, true, false, List, [], ◌∷◌, ◌++◌, length, take, drop, get_or, Result, Ok, Err, refl, sym, ap, ◌∙◌, subst, ⊎_elim, append-nil, append_assoc, arith}
+use Rattle.std.specs.Prelude.{if◌then◌else◌}
+use Rattle.std.proofs.lemmas.Bool.{cases_lt, false≢true}
+use Rattle.std.proofs.lemmas.List.{take-append-drop, drop_all, drop_more}
+use Rattle.link_cbor.specs.Pieces.{taken, IsShortestFront}
+use Rattle.link_cbor.specs.PieceLaws.{takes_shortest, taken-idle}
+use Rattle.link_bundle_types.specs.declared.fault.BundleFault.{BundleFault}
+use Rattle.link_bundle_types.specs.declared.fault.State.{State}
+use Rattle.link_bundle_types.specs.declared.fault.State.TheVariants as state
+use Rattle.link_bundle_types.specs.declared.info.BundleInfo.{BundleInfo}
+use Rattle.link_bundle_types.specs.Faults.{lasts}
+use Rattle.link_bundle.specs.Bundle.{Bundle, judged, verdict_by, verdict, payload_of, payload_in, spanned, payload_span, state_of, is_going, bundle_goes}
+use Rattle.link_bundle.specs.Left.{stage_left}
+use Rattle.link_bundle.specs.Reading.{Stop}
+use Rattle.link_bundle.specs.Scan.{HasCome, HasScanned, HasJudged, may_scan}
+use Rattle.link_bundle.specs.Stages.{stage_state, takes_bytes}
+use Rattle.link_bundle.specs.declared.cursor.Cursor.{Cursor}
+use Rattle.link_bundle.specs.declared.draft.Draft.{Draft}
+use Rattle.link_bundle.specs.declared.scan.BundleScan.{BundleScan}
+use Rattle.link_bundle.specs.declared.stage.Stage.{Stage}
+use Rattle.link_bundle.specs.declared.stage.Stage.TheVariants.{Start, Head, Name, Content, Stored, Ended, Failed}
+use Rattle.link_bundle.proofs.Lengths.{TrailingLasts-holds}
+use Rattle.link_bundle.proofs.Payloads.{PayloadEnds-holds}
+use Rattle.link_bundle.proofs.Verdicts.{state_of-seen}
+
+-- ---- the state
+
+-- a scan may take a step exactly if another byte can change its verdict
+may_scan-seen : (scan : BundleScan) (seen : List ℕ) → HasScanned scan seen
+    → may_scan scan ≡ takes_bytes (state_of (verdict seen))
+may_scan-seen scan seen come =
+    ap takes_bytes (state_of-seen scan.stage scan.cursor scan.draft seen come scan.fits)
+
+stuck_idle : (now : State) → takes_bytes now ≡ false → is_going now ≡ false
+stuck_idle state.Going stuck = absurd (false≢true (sym stuck))
+stuck_idle state.Ended stuck = refl
+stuck_idle (state.Failed fault place) stuck = refl
+
+-- no more bytes are needed after these
+stuck_stops : (scan : BundleScan) (seen : List ℕ) → HasScanned scan seen → may_scan scan ≡ false
+    → bundle_goes seen ≡ false
+stuck_stops scan seen come stuck =
+    stuck_idle (state_of (verdict seen)) (sym (may_scan-seen scan seen come) ∙ stuck)
+
+idle_stuck : (now : State) → is_going now ≡ false → (now ≡ state.Ended → ⊥)
+    → takes_bytes now ≡ false
+idle_stuck state.Going idle other = absurd (false≢true (sym idle))
+idle_stuck state.Ended idle other = absurd (other refl)
+idle_stuck (state.Failed fault place) idle other = refl
+
+-- the verdict is a bundle
+record HasEnded (outcome : Result BundleInfo (BundleFault × ℕ)) : Type 0 where
+  info : BundleInfo
+  is : outcome ≡ Ok info
+
+ended_fault : (fault : BundleFault) (place : ℕ) (test : Bool)
+    → (if test then state.Failed fault place else state.Going) ≡ state.Ended → ⊥
+ended_fault fault place true is = cc
+ended_fault fault place false is = cc
+
+has_ended : (outcome : Result BundleInfo (BundleFault × ℕ))
+    → state_of outcome ≡ state.Ended → HasEnded outcome
+has_ended (Ok info) is = record { info = info; is = refl }
+has_ended (Err (fault, place)) is = absurd (ended_fault fault place (lasts fault) is)
+
+-- ---- one more piece
+
+-- the content so far was judged, and one more piece was fed
+module _ (scan later : BundleScan) (content piece : List ℕ) (count : ℕ)
+    (before : HasJudged scan content)
+    (fed : (seen : List ℕ) → HasScanned scan seen
+    → HasScanned later (seen ++ taken bundle_goes seen piece))
+    (size : (seen : List ℕ) → HasScanned scan seen
+    → count ≡ length (taken bundle_goes seen piece)) where
+  -- nothing was taken, since no byte can change the verdict
+  fed_stuck : may_scan scan ≡ false → (count ≡ 0) × HasScanned later before.seen
+  fed_stuck stuck =
+      let none = taken-idle bundle_goes before.seen piece
+      (stuck_stops scan before.seen before.scanned stuck) in (
+        size before.seen before.scanned ∙ ap length none,
+        subst (HasScanned later) (append-nil before.seen)
+            (subst (λ (run : List ℕ). HasScanned later (before.seen ++ run)) none
+            (fed before.seen before.scanned)),
+      )
+
+  judged_stuck : may_scan scan ≡ false → HasJudged later (content ++ piece)
+  judged_stuck stuck =
+      let come = (fed_stuck stuck).1 in
+      record {
+        seen = before.seen;
+        rest = before.rest ++ piece;
+        parts = sym (append_assoc before.seen before.rest piece)
+            ∙ ap (λ xs. xs ++ piece) before.parts;
+        scanned = come;
+        enough = inr (may_scan-seen later before.seen come
+            ∙ sym (may_scan-seen scan before.seen before.scanned) ∙ stuck);
+      }
+
+  -- the scan had seen all of the content before the piece
+  module _ (all : before.rest ≡ []) where
+    whole : before.seen ≡ content
+    whole = sym (append-nil before.seen) ∙ ap (λ xs. before.seen ++ xs) (sym all) ∙ before.parts
+
+    front : List ℕ
+    front = taken bundle_goes before.seen piece
+
+    shortest : IsShortestFront bundle_goes before.seen piece front
+    unfolding front
+    shortest = (takes_shortest bundle_goes before.seen piece front).1 refl
+
+    seen_front : (before.seen ++ front) ++ drop count piece ≡ content ++ piece
+    unfolding front
+    seen_front =
+        let taken_is : front ≡ take count piece =
+        shortest.is_front ∙ ap (λ n. take n piece) (sym (size before.seen before.scanned)) in
+        append_assoc before.seen front (drop count piece)
+        ∙ ap (λ xs. xs ++ (front ++ drop count piece)) whole
+        ∙ ap (λ xs. content ++ (xs ++ drop count piece)) taken_is
+        ∙ ap (λ xs. content ++ xs) (take-append-drop count piece)
+
+    -- the scan took the whole piece
+    judged_whole : length piece ≤ count → HasJudged later (content ++ piece)
+    unfolding front
+    judged_whole enough = record {
+      seen = before.seen ++ front;
+      rest = drop count piece;
+      parts = seen_front;
+      scanned = fed before.seen before.scanned;
+      enough = inl (drop_all count piece enough);
+    }
+
+    -- the scan stopped before the end of the piece
+    front_stops : count < length piece → bundle_goes (before.seen ++ front) ≡ false
+    unfolding front
+    front_stops short = ⊎_elim (λ stops. stops)
+        (λ (all : front ≡ piece).
+        absurd (omega (arith, ap length all, size before.seen before.scanned))) shortest.stops
+
+    judged_front : count < length piece
+        → (state_of (verdict (before.seen ++ front)) ≡ state.Ended → ⊥)
+        → HasJudged later (content ++ piece)
+    unfolding front
+    judged_front short other =
+        let come = fed before.seen before.scanned in
+        record {
+          seen = before.seen ++ front;
+          rest = drop count piece;
+          parts = seen_front;
+          scanned = come;
+          enough = inr (may_scan-seen later (before.seen ++ front) come
+              ∙ idle_stuck (state_of (verdict (before.seen ++ front))) (front_stops short) other);
+        }
+
+    -- after a byte that follows the bundle, no byte can change the verdict
+    trailing_stuck : (byte : ℕ) → state_of (verdict (before.seen ++ front)) ≡ state.Ended
+        → takes_bytes (state_of (verdict ((before.seen ++ front) ++ byte ∷ []))) ≡ false
+    trailing_stuck byte is =
+        let ended = has_ended (verdict (before.seen ++ front)) is in
+        ap (λ outcome. takes_bytes (state_of outcome))
+        (TrailingLasts-holds (before.seen ++ front) [] byte ended.info ended.is)
+
+    judged_trailing : (last : BundleScan) (byte : ℕ) → count < length piece
+        → byte ≡ get_or piece count 0
+        → state_of (verdict (before.seen ++ front)) ≡ state.Ended
+        → HasScanned last ((before.seen ++ front) ++ byte ∷ []) → HasJudged last (content ++ piece)
+    judged_trailing last byte short is ended come = record {
+      seen = (before.seen ++ front) ++ byte ∷ [];
+      rest = drop (count + 1) piece;
+      parts = append_assoc (before.seen ++ front) (byte ∷ []) (drop (count + 1) piece)
+          ∙ ap (λ b. (before.seen ++ front) ++ (b ∷ drop (count + 1) piece)) is
+          ∙ ap (λ xs. (before.seen ++ front) ++ xs) (sym (drop_more piece count 0 short))
+          ∙ seen_front;
+      scanned = come;
+      enough = inr (may_scan-seen last ((before.seen ++ front) ++ byte ∷ []) come
+          ∙ trailing_stuck byte ended);
+    }
+
+  -- the piece was fed, and the scan is not at the bundle's end with bytes left over
+  pub judged_fed : ((seen : List ℕ) → HasScanned later seen → count < length piece
+      → state_of (verdict seen) ≡ state.Ended → ⊥)
+      → HasJudged later (content ++ piece)
+  unfolding front
+  judged_fed other = ⊎_elim
+      (λ (all : before.rest ≡ []). ⊎_elim
+      (λ (short : count < length piece). judged_front all short
+      (other (before.seen ++ front all) (fed before.seen before.scanned) short))
+      (λ (enough : length piece ≤ count). judged_whole all enough)
+      (cases_lt count (length piece)))
+      (λ stuck. judged_stuck stuck)
+      before.enough
+
+  -- the scan was at the bundle's end with bytes left over, and took the next byte
+  pub judged_stepped : (last : BundleScan) (byte : ℕ) → count < length piece
+      → byte ≡ get_or piece count 0
+      → ((seen : List ℕ) → HasScanned later seen → state_of (verdict seen) ≡ state.Ended)
+      → ((seen : List ℕ) → HasScanned later seen → HasScanned last (seen ++ byte ∷ []))
+      → HasJudged last (content ++ piece)
+  unfolding front
+  judged_stepped last byte short is ended step = ⊎_elim
+      (λ (all : before.rest ≡ []).
+      let come = fed before.seen before.scanned in
+      judged_trailing all last byte short is (ended (before.seen ++ front all) come)
+      (step (before.seen ++ front all) come))
+      (λ stuck. absurd (false≢true
+      (sym stuck ∙ may_scan-seen scan before.seen before.scanned
+      ∙ ap takes_bytes (ended before.seen (fed_stuck stuck).1))))
+      before.enough
+
+-- ---- what is judged
+
+-- what it has seen determines the reading of all bytes
+stuck_reading : (stage : Stage) (cursor : Cursor) (draft : Draft) (seen more : List ℕ)
+    → HasCome stage cursor draft seen → takes_bytes (stage_state stage) ≡ false
+    → judged (seen ++ more) ≡ judged seen
+unfolding stage_left
+stuck_reading Start cursor draft seen more come stuck = absurd (false≢true (sym stuck))
+stuck_reading (Head field) cursor draft seen more come stuck = absurd (false≢true (sym stuck))
+stuck_reading (Name role left) cursor draft seen more come stuck = absurd (false≢true (sym stuck))
+stuck_reading (Content left) cursor draft seen more come stuck = absurd (false≢true (sym stuck))
+stuck_reading (Stored place left stored kind) cursor draft seen more come stuck =
+    absurd (false≢true (sym stuck))
+stuck_reading Ended cursor draft seen more come stuck = absurd (false≢true (sym stuck))
+stuck_reading (Failed fault place) cursor draft seen more come stuck =
+    come.reads more ∙ sym (come.reads []) ∙ ap judged (append-nil seen)
+
+pub all_judged : (scan : BundleScan) (seen : List ℕ) → HasScanned scan seen → HasJudged scan seen
+all_judged scan seen come = record {
+  seen = seen;
+  rest = [];
+  parts = append-nil seen;
+  scanned = come;
+  enough = inl refl;
+}
+
+-- what is found in the bytes seen is found in all of the content
+module _ (scan : BundleScan) (content : List ℕ) (now : HasJudged scan content) where
+  all_seen : now.rest ≡ [] → now.seen ≡ content
+  all_seen all =
+      sym (append-nil now.seen) ∙ ap (λ (rest : List ℕ). now.seen ++ rest) (sym all) ∙ now.parts
+
+  reading_judged : judged now.seen ≡ judged content
+  reading_judged = ⊎_elim
+      (λ (all : now.rest ≡ []). ap judged (all_seen all))
+      (λ stuck. sym (stuck_reading scan.stage scan.cursor scan.draft now.seen now.rest now.scanned
+      stuck)
+      ∙ ap judged now.parts)
+      now.enough
+
+  pub verdict_judged : verdict now.seen ≡ verdict content
+  unfolding verdict
+  verdict_judged = ap verdict_by reading_judged
+
+  pub payload_judged : payload_in now.seen ≡ payload_in content
+  payload_judged = ⊎_elim
+      (λ (all : now.rest ≡ []). ap payload_in (all_seen all))
+      (λ stuck. sym (PayloadEnds-holds now.seen now.rest
+      (stuck_stops scan now.seen now.scanned stuck))
+      ∙ ap payload_in now.parts)
+      now.enough
+
+  pub span_judged : payload_span now.seen ≡ payload_span content
+  unfolding payload_span
+  span_judged =
+      ap (λ (reading : Result Bundle Stop). spanned (payload_of reading)
+      (length (payload_in now.seen))) reading_judged
+      ∙ ap (λ (there : List ℕ). spanned (payload_of (judged content)) (length there)) payload_judged
