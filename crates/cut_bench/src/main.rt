@@ -4,7 +4,8 @@
 //! - `copy` copies the pieces into a buffer of 65,536 bytes.
 #![tactic(auto)]
 
-ghost use Rattle.std.specs.Prelude.{◌≡◌, length};
+ghost use Rattle.std.specs.Prelude.{◌≡◌, false, length};
+ghost use Rattle.link_transfer.specs.Cutter.{cut_waits};
 
 use link_transfer::Cutter;
 use std::alloc::{AllocError, Global};
@@ -18,6 +19,9 @@ const PIECES: usize = 16;
 
 /// The number of segments: those of 64 MiB, sixteen times.
 const SEGMENTS: u32 = 16_384;
+
+/// The number of pieces of all segments.
+const ALL_PIECES: u32 = 262_144;
 
 /// The sum of a chunk's length and of one of its bytes, whose offset depends on the first byte.
 fn sample(chunk: &[u8]) -> u64 {
@@ -43,18 +47,26 @@ fn next(piece: &mut [u8; PIECE]) {
     piece[0] = piece[0].wrapping_add(1);
 }
 
+/// Takes the chunks that are ready, and returns the sum of their samples.
+#[inline(always)]
+fn take_chunks(cutter: &mut Cutter) -> u64
+    ensures { cut_waits cutter.new ≡ false }
+{
+    let mut answer = 0u64;
+    while let Some(_cut) = cutter.cut() {
+        answer = answer.wrapping_add(sample(cutter.bytes()));
+    }
+    answer
+}
+
 #[inline(never)]
 fn cut(alloc: Global, piece: &mut [u8; PIECE]) -> Result<u64, AllocError> {
     let mut answer = 0u64;
     let mut cutter = Cutter::new(alloc, PIECE * PIECES, 0)?;
-    for _segment in 0..SEGMENTS {
-        for _piece in 0..PIECES {
-            next(piece);
-            cutter.push_slice(piece, false);
-            while let Some(_cut) = cutter.cut() {
-                answer = answer.wrapping_add(sample(cutter.bytes()));
-            }
-        }
+    for _piece in 0..ALL_PIECES {
+        next(piece);
+        cutter.push_slice(piece, false);
+        answer = answer.wrapping_add(take_chunks(&mut cutter));
     }
     Ok(answer)
 }

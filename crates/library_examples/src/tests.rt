@@ -7,6 +7,7 @@ use link_bundle::{BundleFault, BundleScan};
 use link_transfer::Cutter;
 use link_wire::{Stop, WireFault};
 use std::io::Read;
+use std::process::Abort;
 use std::test::Fail;
 
 /// A bundle of 34 bytes.
@@ -90,22 +91,26 @@ const RECORDED: [Recorded; 5] = [
     (b"dtn?\x04\x00", Err(Stop::Wire(0, WireFault::BadMagic)), 0),
 ];
 
-/// Each stream is read in two pieces, cut at every offset.
-#[test]
-fn sessions_in_two_pieces(rt: HostRuntime) -> Result<(), Fail> {
-    for (stream, copied, size) in RECORDED {
-        for cut in 0..=stream.len() {
-            let (front, back) = stream.split_at(cut);
-            let mut output = Vec::new(rt.alloc());
-            assert_eq!(rt;
-                copy_data(front.chain(back), &mut output),
-                copied,
-                "cut at {cut}"
-            );
-            assert_eq!(rt; Some(output.as_slice()), BUNDLE.get(..size), "cut at {cut}");
-        }
+/// Reads a stream in two pieces, cut at every offset.
+fn expect_copied(rt: &(impl Abort + AllocGlobal), recorded: Recorded) {
+    let (stream, copied, size) = recorded;
+    for cut in 0..=stream.len() {
+        let (front, back) = stream.split_at(cut);
+        let mut output = Vec::new(rt.alloc());
+        assert_eq!(rt;
+            copy_data(front.chain(back), &mut output),
+            copied,
+            "cut at {cut}"
+        );
+        assert_eq!(rt; Some(output.as_slice()), BUNDLE.get(..size), "cut at {cut}");
     }
-    Ok(())
+}
+
+#[test]
+fn sessions_in_two_pieces(rt: HostRuntime) {
+    for recorded in RECORDED {
+        expect_copied(&rt, recorded);
+    }
 }
 
 /// A bundle, and its segments of at most 20 bytes.

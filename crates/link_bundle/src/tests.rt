@@ -383,14 +383,18 @@ fn faults(rt: HostRuntime) {
     }
 }
 
+fn expect_payload(rt: &impl Abort, bytes: &[u8], payload: Option<(u64, u64)>) {
+    assert!(rt; bytes.len() < 1_000);
+    assert_eq!(rt; by_bytes(bytes).payload_seen(), payload);
+    for cut in 0..bytes.len() {
+        assert_eq!(rt; in_two(bytes, cut).payload_seen(), payload, "cut at {cut}");
+    }
+}
+
 #[test]
 fn payloads(rt: HostRuntime) {
     for (bytes, payload) in PAYLOADS {
-        assert!(rt; bytes.len() < 1_000);
-        assert_eq!(rt; by_bytes(bytes).payload_seen(), payload);
-        for cut in 0..bytes.len() {
-            assert_eq!(rt; in_two(bytes, cut).payload_seen(), payload, "cut at {cut}");
-        }
+        expect_payload(&rt, bytes, payload);
     }
 }
 
@@ -430,15 +434,19 @@ fn expect_info(rt: &impl Abort, info: &BundleView, expected: &Expected) {
     assert_eq!(rt; info.fragment, expected.fragment);
 }
 
+fn expect_view(rt: &impl Abort, scan: &BundleScan, expected: &Expected) {
+    match scan.view() {
+        Ok(view) => expect_info(rt, &view, expected),
+        Err(_) => assert!(rt; false),
+    }
+}
+
 fn expect_bundles(rt: &impl Abort, bundles: &[Expected]) {
     for expected in bundles {
         expect_fault(rt, expected.bytes, None);
         assert!(rt; expected.bytes.len() < 10_000);
         let scan = by_bytes(expected.bytes);
-        match scan.view() {
-            Ok(view) => expect_info(rt, &view, expected),
-            Err(_) => assert!(rt; false),
-        }
+        expect_view(rt, &scan, expected);
         match scan.finish() {
             Ok(info) => expect_info(rt, &info.view(), expected),
             Err(_) => assert!(rt; false),
@@ -460,22 +468,24 @@ fn in_pieces(scan: &mut BundleScan, bytes: &[u8], size: usize)
     }
 }
 
-/// Pieces of 1 to 40 bytes, fed to one scan that is restarted for each size.
+/// Feeds the scan the bundle in pieces of 1 to 40 bytes, and restarts it for each size.
+fn expect_pieces(rt: &impl Abort, scan: &mut BundleScan, expected: &Expected) {
+    assert!(rt; expected.bytes.len() < 1_000);
+    let payload = by_bytes(expected.bytes).payload_seen();
+    for size in 1..41 {
+        in_pieces(scan, expected.bytes, size);
+        assert_eq!(rt; scan.finish().err(), None, "pieces of {size}");
+        assert_eq!(rt; scan.payload_seen(), payload, "pieces of {size}");
+        expect_view(rt, scan, expected);
+    }
+}
+
+/// One scan is fed all bundles in pieces.
 #[test]
 fn bundles_in_pieces(rt: HostRuntime) {
     let mut scan = BundleScan::new();
     for expected in &BUNDLES {
-        assert!(rt; expected.bytes.len() < 1_000);
-        let payload = by_bytes(expected.bytes).payload_seen();
-        for size in 1..41 {
-            in_pieces(&mut scan, expected.bytes, size);
-            assert_eq!(rt; scan.finish().err(), None, "pieces of {size}");
-            assert_eq!(rt; scan.payload_seen(), payload, "pieces of {size}");
-            match scan.view() {
-                Ok(view) => expect_info(&rt, &view, expected),
-                Err(_) => assert!(rt; false),
-            }
-        }
+        expect_pieces(&rt, &mut scan, expected);
     }
 }
 

@@ -131,31 +131,11 @@ fn announced_total(rt: HostRuntime) {
 
 #[test]
 fn terminations(rt: HostRuntime) -> Result<(), Fail> {
-    for number in [0, 1, 255] {
+    for (flags, reason) in [(0, 3), (1, 3), (255, 3), (1, 0), (1, 1), (1, 255)] {
         let mut buffer = opened();
-        put_sess_term(&mut buffer, number, 3);
-        assert_eq!(rt;
-            read_again(buffer.as_slice())?,
-            Some((
-                6,
-                Message::SessTerm {
-                    flags: number,
-                    reason: 3
-                }
-            ))
-        );
-        let mut other = opened();
-        put_sess_term(&mut other, 1, number);
-        assert_eq!(rt;
-            read_again(other.as_slice())?,
-            Some((
-                6,
-                Message::SessTerm {
-                    flags: 1,
-                    reason: number
-                }
-            ))
-        );
+        put_sess_term(&mut buffer, flags, reason);
+        let expected = Message::SessTerm { flags, reason };
+        assert_eq!(rt; read_again(buffer.as_slice())?, Some((6, expected)));
     }
     Ok(())
 }

@@ -28,6 +28,16 @@ fn all_given(alloc: Global, rows: &[Row]) -> Result<(), Fail> {
     Ok(())
 }
 
+/// The result of listing a stream with these lines. The report is a fault line, or empty.
+pub fn listing<'a>(output: &'a [u8], report: &'a [u8]) -> Expected<'a> {
+    Expected {
+        tool: Tool::List,
+        output,
+        report,
+        status: if report.is_empty() { 0 } else { 3 },
+    }
+}
+
 #[test]
 fn sessions(rt: HostRuntime) -> Result<(), Fail> {
     all_given(rt.alloc(), &SESSIONS)
@@ -57,13 +67,7 @@ fn longest_node(rt: HostRuntime) -> Result<(), Fail> {
     }
     output.extend_from_slice(b" items=0\n")?;
     assert_eq!(rt; output.len(), CONTACT_LINE.len() + 4174);
-    let want = Expected {
-        tool: Tool::List,
-        output: &output,
-        report: b"",
-        status: 0,
-    };
-    gives_at_each_pace(rt.alloc(), "the longest node ID", &stream, &want)
+    gives_at_each_pace(rt.alloc(), "the longest node ID", &stream, &listing(&output, b""))
 }
 
 /// An item that fills an extension list of 4,096 bytes.
@@ -73,13 +77,7 @@ fn long_item(rt: HostRuntime) -> Result<(), Fail> {
     let stream = joined(rt.alloc(), &[CONTACT, PARAMETERS, NODE, list, &[0; 4091]])?;
     let line = b" node=ipn:1.0 items=1 item=00:abcd:4091\n";
     let output = joined(rt.alloc(), &[CONTACT_LINE, SESSION_WORDS, line])?;
-    let want = Expected {
-        tool: Tool::List,
-        output: &output,
-        report: b"",
-        status: 0,
-    };
-    gives_at_each_pace(rt.alloc(), "a long item", &stream, &want)
+    gives_at_each_pace(rt.alloc(), "a long item", &stream, &listing(&output, b""))
 }
 
 /// The offset of the fault at the end of a prefix of the stream with the longest list.
@@ -103,25 +101,15 @@ fn longest_list(rt: HostRuntime) -> Result<(), Fail> {
     stream.resize(65_574, 0)?;
     let line = b" node=ipn:1.0 items=1 item=00:abcd:65531\n";
     let output = joined(rt.alloc(), &[CONTACT_LINE, SESSION_WORDS, line])?;
-    let want = Expected {
-        tool: Tool::List,
-        output: &output,
-        report: b"",
-        status: 0,
-    };
-    gives_at_each_pace(rt.alloc(), "the longest list", &stream, &want)?;
+    gives_at_each_pace(rt.alloc(), "the longest list", &stream, &listing(&output, b""))?;
     for size in (0..=100).chain([65_573]) {
         let prefix = stream.get(..size).ok_or("more than the stream")?;
         let report = match cut_at(size) {
             Some(offset) => format!(in rt.alloc(); "tcpclkit: byte {offset}: truncated\n")?,
             None => String::new(rt.alloc()),
         };
-        let want = Expected {
-            tool: Tool::List,
-            output: if size < 6 { b"" } else { CONTACT_LINE },
-            report: report.as_bytes(),
-            status: if report.is_empty() { 0 } else { 3 },
-        };
+        let output: &[u8] = if size < 6 { b"" } else { CONTACT_LINE };
+        let want = listing(output, report.as_bytes());
         gives_at_each_pace(rt.alloc(), "a prefix of the longest list", prefix, &want)?;
     }
     Ok(())
@@ -140,17 +128,24 @@ fn long_segment(rt: HostRuntime) -> Result<(), Fail> {
         rt.alloc(),
         &[CONTACT_LINE, SESSION_LINE, line, b"9060 keepalive\n"],
     )?;
-    let want = Expected {
-        tool: Tool::List,
-        output: &output,
-        report: b"",
-        status: 0,
-    };
-    gives_at_each_pace(rt.alloc(), "a long segment", &stream, &want)
+    gives_at_each_pace(rt.alloc(), "a long segment", &stream, &listing(&output, b""))
 }
 
 /// The offsets at which the contact header and each of the messages end.
 const ENDS: [usize; 8] = [6, 38, 56, 66, 67, 70, 73, 76];
+
+/// The lines of the whole messages in a prefix of `MESSAGES`, and the offset at which they end.
+fn whole_lines(alloc: Global, size: usize) -> Result<(Vec<u8>, usize), Fail> {
+    let mut lines = Vec::new(alloc);
+    let mut end = 0;
+    for (message_end, line) in ENDS.iter().zip(MESSAGE_LINES) {
+        if *message_end <= size {
+            lines.extend_from_slice(line)?;
+            end = *message_end;
+        }
+    }
+    Ok((lines, end))
+}
 
 /// The lines of the whole messages are listed, and a fault line if a message is cut.
 #[test]
@@ -158,22 +153,11 @@ fn every_prefix(rt: HostRuntime) -> Result<(), Fail> {
     let stream = joined(rt.alloc(), MESSAGES)?;
     assert_eq!(rt; stream.len(), 76);
     for size in 0..=76 {
-        let mut output = Vec::new(rt.alloc());
-        let mut start = 0;
-        for (end, line) in ENDS.iter().zip(MESSAGE_LINES) {
-            if *end <= size {
-                output.extend_from_slice(line)?;
-                start = *end;
-            }
-        }
+        let (output, start) = whole_lines(rt.alloc(), size)?;
         let is_whole = size > 0 && start == size;
         let fault = format!(in rt.alloc(); "tcpclkit: byte {start}: truncated\n")?;
-        let want = Expected {
-            tool: Tool::List,
-            output: &output,
-            report: if is_whole { b"" } else { fault.as_bytes() },
-            status: if is_whole { 0 } else { 3 },
-        };
+        let report: &[u8] = if is_whole { b"" } else { fault.as_bytes() };
+        let want = listing(&output, report);
         gives(
             rt.alloc(),
             "a prefix of every message",

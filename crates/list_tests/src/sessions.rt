@@ -2,7 +2,9 @@
 
 ghost use Rattle.std.specs.Prelude.{◌<◌};
 
-use link_wire::{Contact, Message, Session, Source, Stop, WireFault};
+use link_wire::{
+    Contact, Items, Message, NodeId, SegmentHead, Session, Source, Stop, WireFault,
+};
 use std::test::Fail;
 use toolkit_tests::rows::TRANSFER;
 use toolkit_tests::stream::{BACK, FRONT, joined};
@@ -14,31 +16,22 @@ fn message_by_message(rt: HostRuntime) -> Result<(), Fail> {
     let reader = TestReader::new(&stream, usize::MAX, Failing::Never);
     let mut session = Session::new(Source::new(reader));
     assert_eq!(rt; session.open(), Ok(Contact { flags: 0 }));
-    match session.next() {
-        Ok(
-            Some(
-                (
-                    6,
-                    Message::SessInit {
-                        keepalive,
-                        node,
-                        ..
-                    },
-                ),
-            ),
-        ) => {
-            assert_eq!(rt; keepalive, 60);
-            assert_eq!(rt; node.as_slice(), b"ipn:1.0".as_slice());
-        }
-        _ => assert!(rt; false),
-    }
+    let sess_init = Message::SessInit {
+        keepalive: 60,
+        segment_mru: 65_536,
+        transfer_mru: 1_048_576,
+        node: NodeId::try_from(b"ipn:1.0".as_slice())?,
+        items: Items::new(),
+    };
+    assert_eq!(rt; session.next(), Ok(Some((6, sess_init))));
     assert_eq!(rt; session.left(), 0);
-    match session.next() {
-        Ok(Some((38, Message::Segment(head)))) => {
-            assert_eq!(rt; (head.flags, head.id, head.length), (3, 0, 34));
-        }
-        _ => assert!(rt; false),
-    }
+    let segment = Message::Segment(SegmentHead {
+        flags: 3,
+        id: 0,
+        items: Items::new(),
+        length: 34,
+    });
+    assert_eq!(rt; session.next(), Ok(Some((38, segment))));
     assert_eq!(rt; session.left(), 34);
     let mut data = [0; 34];
     assert_eq!(rt; session.data(&mut data), Ok(34));

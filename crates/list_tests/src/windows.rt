@@ -2,9 +2,10 @@
 //!
 //! A source reads 8,192 bytes at a time.
 
+use crate::listings::listing;
 use std::alloc::Global;
 use std::test::Fail;
-use toolkit_tests::running::{Expected, Tool, gives, gives_at_each_pace};
+use toolkit_tests::running::{gives, gives_at_each_pace};
 use toolkit_tests::stream::{
     BACK, CONTACT, CONTACT_LINE, EDGE, FIRST_SEGMENT, FRONT, LAST_SEGMENT, LENGTH_17, NODE,
     PARAMETERS, WHOLE_TRANSFER, joined,
@@ -84,20 +85,9 @@ impl Listed {
             let offset = format!(in alloc; "{}", stream.len())?;
             lines.extend_from_slice(offset.as_bytes())?;
             lines.extend_from_slice(part.words)?;
-            for piece in part.bytes {
-                stream.extend_from_slice(piece)?;
-            }
+            stream.extend_from_slice(&joined(alloc, part.bytes)?)?;
         }
         Ok(Listed { stream, lines })
-    }
-
-    fn listing(&self) -> Expected<'_> {
-        Expected {
-            tool: Tool::List,
-            output: &self.lines,
-            report: b"",
-            status: 0,
-        }
     }
 }
 
@@ -117,7 +107,7 @@ fn segment_of(alloc: Global, size: u64) -> Result<Listed, Fail> {
 fn after_data(rt: HostRuntime) -> Result<(), Fail> {
     for size in 7996..=8164 {
         let whole = segment_of(rt.alloc(), size)?.with_parts(rt.alloc())?;
-        let want = whole.listing();
+        let want = listing(&whole.lines, b"");
         gives_at_each_pace(rt.alloc(), "parts after data", &whole.stream, &want)?;
     }
     Ok(())
@@ -133,7 +123,7 @@ fn after_keepalives(rt: HostRuntime) -> Result<(), Fail> {
         if offset >= EDGE - PARTS_SIZE {
             let whole = before.with_parts(rt.alloc())?;
             assert_eq!(rt; whole.stream.len(), offset + PARTS_SIZE);
-            let want = whole.listing();
+            let want = listing(&whole.lines, b"");
             gives(
                 rt.alloc(),
                 "parts after keepalives",

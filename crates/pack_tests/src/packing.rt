@@ -7,7 +7,7 @@ use std::test::Fail;
 use toolkit_tests::packing::{DEFAULTS, Packing};
 use toolkit_tests::rows::{ALL, BUNDLE_REPORT, TWO_BUNDLES_REPORT};
 use toolkit_tests::running::{Expected, Tool, ended_over, gives_at_each_pace, steps_alike};
-use toolkit_tests::stepping::{is_done, packs_on, test_pack_run};
+use toolkit_tests::stepping::{TestPackRun, is_done, packs_on, test_pack_run};
 use toolkit_tests::stream::{
     CONTACT_LINE, PLAIN, SESSION, SESSION_LINE, built, joined, put_segment,
 };
@@ -72,6 +72,19 @@ fn every_prefix(rt: HostRuntime) -> Result<(), Fail> {
     Ok(())
 }
 
+/// Steps a run that goes on this often, and checks what it has written after each step.
+fn packs_on_for(
+    run: &mut TestPackRun<'_>,
+    steps: usize,
+    output: &[u8],
+    report: &[u8],
+) -> Result<(), Fail> {
+    for _ in 0..steps {
+        packs_on(run, output, report)?;
+    }
+    Ok(())
+}
+
 /// Packs a row's input in steps, over a reader of one byte a call.
 ///
 /// Each entry of `written` is a number of steps, and how many bytes of the output and lines of the
@@ -83,10 +96,7 @@ fn byte_by_byte(alloc: Global, row: &Row, written: &[(usize, usize, usize)]) -> 
     for (steps, size, lines) in written {
         let output = output.get(..*size).ok_or("more than the output")?;
         let report = row.report.get(..*lines).ok_or("more than the report")?;
-        let report = joined(alloc, report)?;
-        for _ in 0..*steps {
-            packs_on(&mut run, output, &report)?;
-        }
+        packs_on_for(&mut run, *steps, output, &joined(alloc, report)?)?;
     }
     is_done(run.step(), row.status)
 }

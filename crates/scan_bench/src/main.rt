@@ -63,13 +63,19 @@ fn bundles() -> u64 {
     whole
 }
 
+/// Pushes the bytes of a piece one by one.
+#[inline(always)]
+fn push_bytes(check: &mut Check, piece: &[u8]) {
+    for byte in piece {
+        check.push(*byte);
+    }
+}
+
 fn checked(kind: CheckKind) -> u64 {
     let piece = [0xa5; 4096];
     let mut check = Check::new(kind);
     for _ in 0..PIECES {
-        for byte in &piece {
-            check.push(*byte);
-        }
+        push_bytes(&mut check, &piece);
     }
     u64::from(check.value())
 }

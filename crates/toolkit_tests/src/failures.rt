@@ -93,8 +93,8 @@ impl<'a> Trial<'a> {
 
 /// Whether the device fails in this trial; `whole` is the run in which no device fails.
 ///
-/// If it fails, each later step returns the same and does no I/O. The run in one call stops where the
-/// steps did.
+/// If it fails, each later step returns the same and does no I/O. The run in one call stops where
+/// the steps did.
 fn fails(alloc: Global, trial: &Trial<'_>, whole: &End<'_>) -> Result<bool, Fail> {
     let end = trial.step_through(alloc)?;
     if end.answer.is_ok() {

@@ -78,14 +78,12 @@ impl Write for Narrow {
                 Hitch::KeepsBack => Err(io::Error::from(ErrorKind::Other)),
             };
         }
-        match bytes.first() {
-            Some(byte) => {
-                if self.written.push(*byte).is_err() {
-                    return Err(io::Error::from(ErrorKind::OutOfMemory));
-                }
-                Ok(1)
-            }
-            None => Ok(0),
+        let Some(byte) = bytes.first() else {
+            return Ok(0);
+        };
+        match self.written.push(*byte) {
+            Ok(()) => Ok(1),
+            Err(_) => Err(io::Error::from(ErrorKind::OutOfMemory)),
         }
     }
 
@@ -187,52 +185,58 @@ fn interrupted_reader(rt: HostRuntime) -> Result<(), Fail> {
     Ok(())
 }
 
-/// The output has a hitch at each of its calls in turn.
-#[test]
-fn hitching_output(rt: HostRuntime) -> Result<(), Fail> {
+/// The output has this hitch at each of its calls in turn.
+fn output_stops(rt: &(impl Abort + AllocGlobal), hitch: Hitch) -> Result<(), Fail> {
     let stream = joined(rt.alloc(), TRANSFER)?;
     let lines = joined(rt.alloc(), TRANSFER_LINES)?;
-    for hitch in [Hitch::Interrupted, Hitch::TakesNone] {
-        for count in 0..lines.len() {
-            let (_, output, report) = listed(
-                &rt,
-                reader(&stream, NEVER),
-                writer(rt.alloc(), hitch, count + 1),
-                with_memory(rt.alloc()),
-                (4, "tcpclkit: write failed"),
-            )?;
-            let output = output.into_inner();
-            assert_eq!(rt; output.calls, count + 1);
-            assert_eq!(rt; text(&output.written)?, text(&lines[..count])?);
-            assert!(rt; report.into_inner().is_empty());
-        }
+    for count in 0..lines.len() {
+        let (_, output, report) = listed(
+            rt,
+            reader(&stream, NEVER),
+            writer(rt.alloc(), hitch, count + 1),
+            with_memory(rt.alloc()),
+            (4, "tcpclkit: write failed"),
+        )?;
+        let output = output.into_inner();
+        assert_eq!(rt; output.calls, count + 1);
+        assert_eq!(rt; text(&output.written)?, text(&lines[..count])?);
+        assert!(rt; report.into_inner().is_empty());
     }
     Ok(())
 }
 
-/// The report has a hitch at each of its calls in turn.
 #[test]
-fn hitching_report(rt: HostRuntime) -> Result<(), Fail> {
+fn hitching_output(rt: HostRuntime) -> Result<(), Fail> {
+    output_stops(&rt, Hitch::Interrupted)?;
+    output_stops(&rt, Hitch::TakesNone)
+}
+
+/// The report has this hitch at each of its calls in turn.
+fn report_stops(rt: &(impl Abort + AllocGlobal), hitch: Hitch) -> Result<(), Fail> {
     let line = b"tcpclkit: byte 6: truncated\n";
     let stream = joined(rt.alloc(), TRANSFER)?;
     let prefix = stream.get(..7).ok_or("more than the stream")?;
-    for hitch in [Hitch::Interrupted, Hitch::TakesNone] {
-        for count in 0..line.len() {
-            let (_, output, report) = listed(
-                &rt,
-                reader(prefix, NEVER),
-                with_memory(rt.alloc()),
-                writer(rt.alloc(), hitch, count + 1),
-                (4, "tcpclkit: write failed"),
-            )?;
-            let report = report.into_inner();
-            assert_eq!(rt; report.calls, count + 1);
-            assert_eq!(rt; text(&report.written)?, text(&line[..count])?);
-            let output = output.into_inner();
-            assert_eq!(rt; text(&output)?, text(CONTACT_LINE)?);
-        }
+    for count in 0..line.len() {
+        let (_, output, report) = listed(
+            rt,
+            reader(prefix, NEVER),
+            with_memory(rt.alloc()),
+            writer(rt.alloc(), hitch, count + 1),
+            (4, "tcpclkit: write failed"),
+        )?;
+        let report = report.into_inner();
+        assert_eq!(rt; report.calls, count + 1);
+        assert_eq!(rt; text(&report.written)?, text(&line[..count])?);
+        let output = output.into_inner();
+        assert_eq!(rt; text(&output)?, text(CONTACT_LINE)?);
     }
     Ok(())
+}
+
+#[test]
+fn hitching_report(rt: HostRuntime) -> Result<(), Fail> {
+    report_stops(&rt, Hitch::Interrupted)?;
+    report_stops(&rt, Hitch::TakesNone)
 }
 
 /// After an interrupt inside a `fill`, the bytes before it are at the start of the slice.

@@ -210,6 +210,10 @@ fn reads_single_heads(rt: HostRuntime) {
         let head = Head { major, value };
         compare(&rt, bytes, bytes.len(), HeadStep::Done(head));
     }
+}
+
+#[test]
+fn reads_ill_formed_heads(rt: HostRuntime) {
     for bytes in ILL_FORMED {
         compare(&rt, bytes, bytes.len(), BAD);
     }
