@@ -1,3 +1,3 @@
-mod Windows
+pub mod Windows
 pub mod Sources
 mod Writes

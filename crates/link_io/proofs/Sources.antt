@@ -162,11 +162,11 @@ module _ {R : Type 0} (look : R → Input) (s : Source R) where
   -- after the end or a fault, nothing is at hand
   pub front_ended : HasEnded s → front_of look s ≡ []
   front_ended ended =
-      front_held (omega (arith, ended.1)) ∙ held_closed s.flow _ _ (λ open. let never = sym ended.0 ∙ open in absurd (cc))
+      front_held (omega (arith, ended.1)) ∙ held_closed s.flow _ _ (λ still. let never = sym ended.0 ∙ still in absurd (cc))
 
   pub front_failed : (fault : IoFault) → HasFailed s fault → front_of look s ≡ []
   front_failed fault failed =
-      front_held (omega (arith, failed.1)) ∙ held_closed s.flow _ _ (λ open. let never = sym failed.0 ∙ open in absurd (cc))
+      front_held (omega (arith, failed.1)) ∙ held_closed s.flow _ _ (λ still. let never = sym failed.0 ∙ still in absurd (cc))
 
 module _ {R : Type 0} (s : Source R) (fresh : is_fresh s ≡ true) where
   -- a fresh source has given nothing

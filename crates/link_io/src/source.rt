@@ -166,8 +166,7 @@ impl<R: InDevice> Source<R> {
     }
 
     /// `front` for an empty window.
-    #[cold]
-    #[inline(never)]
+    #[inline(always)]
     fn held_front(&self) -> &[u8]
         requires { self.now.start ≡ self.now.end }
         ensures front { result.now ≡ front_of R.state self.now }
@@ -197,8 +196,7 @@ impl<R: InDevice> Source<R> {
     }
 
     /// `give_front` for an empty window.
-    #[cold]
-    #[inline(never)]
+    #[inline(always)]
     fn give_held(&mut self, size: usize)
         requires empty { self.old.start ≡ self.old.end }
         requires some { 0 < size }
@@ -441,6 +439,7 @@ fn part(window: &[u8], start: usize, end: usize) -> &[u8]
 }
 
 /// The first bytes of a slice, at most `most` of them.
+#[inline(always)]
 fn up_to(bytes: &[u8], most: u64) -> &[u8]
     ensures first { result.now ≡ take most bytes.now }
     ensures bytes { AreBytes result.now }

@@ -6,12 +6,12 @@ use Rattle.std.proofs.lemmas.List.{nil_from_length}
 use Rattle.link_io.specs.Device.{Input}
 use Rattle.link_wire.specs.Part.{number_at}
 use Rattle.link_wire.specs.Message.{contact_at, message_at, fields_at, data_length}
-use Rattle.link_io.specs.Source.{window_of, is_fresh, IsSourceAt, IsLive, Takes, Readies}
+use Rattle.link_io.specs.Source.{window_of, is_fresh, IsSourceAt, IsLive, IsOver, Takes, Readies}
 use Rattle.link_wire.specs.Limits.{window_size}
 use Rattle.link_wire.specs.Getting.{Needs, IsPart, IsFault, WholePart, Gets, OneKind}
 use Rattle.link_wire.specs.Stream.{Entry, End, Clean, Cut, Fault, Stream, ended, stream_at, Reading, reading_of}
 use Rattle.link_wire.specs.Session.{joined, data_after, with_data, rest_after, IsLeft, IsUndecided, SameMessages, ShownLast, is_unopened, reads_next, may_open, may_read, left_of, HasStopped, IsSessionAt, ReadContact, GivesContact, ReadMessage, GivesNext, PassedBytes, LoadedData, GivesLoad, GivesData}
-use Rattle.link_io.proofs.Sources.{and_true, fresh_at, fresh_live, IsSourceAt-then, Takes-then, Readies-takes, StopsAfter-then}
+use Rattle.link_io.proofs.Sources.{and_true, fresh_at, fresh_live, IsSourceAt-then, Takes-then, Readies-takes, Readies-over, StopsAfter-then}
 use Rattle.link_wire.proofs.Gettings.{after, IsFault-then, cut_then}
 use Rattle.link_wire.proofs.FieldReads.{IsPart-byte}
 use Rattle.link_wire.proofs.Shrinks.{shrinks_message}
@@ -354,6 +354,14 @@ module _ {R : Type 0} {look : R → Input} where
     pub data_given : PassedBytes look old new history bytes
     data_given = let stood = data_stands in record { takes = takes; left = left; reading = stood.0; at = stood.1 }
 
+-- inside a segment, the reading ends in its data
+is_cut : (offset left : ℕ) (end : End) → IsLeft offset left end → 0 < left
+    → (message : Message) × (content : List ℕ) × (end ≡ Cut offset message content)
+is_cut offset left Clean is some = absurd (omega (arith, is, some))
+is_cut offset left (Cut from message content) is some =
+    (message, content, ap (λ o. Cut o message content) is.1)
+is_cut offset left (Fault from fault) is some = absurd is
+
 module _ {R : Type 0} {look : R → Input} where
   -- making data ready does not change the reading
   pub loaded_stands : (old new : Session R) (history : List ℕ) → IsSessionAt look old history
@@ -370,6 +378,25 @@ module _ {R : Type 0} {look : R → Input} where
     few = λ none. absurd (omega (arith, left, none, some));
     goes_on = λ more. rw left (at.goes_on more);
   }
+
+  -- the input has ended inside the data of the segment
+  pub data_cut : (old new : Session R) (mid : Source R) (history : List ℕ) (why : Stop)
+      → IsSessionAt look old history → Readies look old.source mid → IsOver look mid → 0 < old.left
+      → new.source ≡ mid → HasStopped new why
+      → why ≡ stop_at old.offset (halt.Wire wire.Truncated) → GivesLoad look old new history (Err why)
+  data_cut old new mid history why at ready over some same stopped is =
+      let P : Source R → Type 0 = λ s. Takes look old.source s [] × IsOver look s in
+      let ended = subst P (sym same) (Readies-over look old.source mid ready over, over) in
+      let cut = is_cut old.offset old.left (reading_of history).end at.left some in
+      rw is (record {
+        kind = refl;
+        takes = ended.0;
+        over = ended.1;
+        message = cut.0;
+        content = cut.1;
+        cut = cut.2;
+        stopped = stopped ∙ ap phase.Stopped is;
+      })
 
   -- data was made ready, and then some of it was given
   pub gave_then : (old mid new : Session R) (history bytes : List ℕ) (n : ℕ)

@@ -32,24 +32,24 @@ pub returns-then-ready-gt0-clause-gives : goal.returns-then-ready-gt0-clause-giv
 returns-then-ready-gt0-clause-gives g c = λ live. record {
   readies = Readies-none g.R.InDevice.state c.args.self.now;
   live = live;
-  size = ap length c.front.ensures.front;
+  size = ap length c.front-ready.ensures.front;
   over = λ none. absurd (omega (arith, c.if-ready-gt0.true, none));
 }
 
 pub returns-then-ready-gt0-clause-ended : goal.returns-then-ready-gt0-clause-ended
 returns-then-ready-gt0-clause-ended g c = λ ended.
-    absurd (omega (arith, c.if-ready-gt0.true, ap length c.front.ensures.front, ap length (front_ended g.R.InDevice.state c.args.self.now ended)))
+    absurd (omega (arith, c.if-ready-gt0.true, ap length c.front-ready.ensures.front, ap length (front_ended g.R.InDevice.state c.args.self.now ended)))
 
 pub returns-then-ready-gt0-clause-failed : goal.returns-then-ready-gt0-clause-failed
 returns-then-ready-gt0-clause-failed g c = λ fault failed.
-    absurd (omega (arith, c.if-ready-gt0.true, ap length c.front.ensures.front, ap length (front_failed g.R.InDevice.state c.args.self.now fault failed)))
+    absurd (omega (arith, c.if-ready-gt0.true, ap length c.front-ready.ensures.front, ap length (front_failed g.R.InDevice.state c.args.self.now fault failed)))
 
 pub read_on-requires : goal.read_on-requires
 read_on-requires g c =
     let s = c.args.self.now in
     let order = s.ordered in
     let room = s.room in
-    front_empty g.R.InDevice.state s order (omega (arith, room)) (omega (arith, c.if-ready-gt0.false, ap length c.front.ensures.front))
+    front_empty g.R.InDevice.state s order (omega (arith, room)) (omega (arith, c.if-ready-gt0.false, ap length c.front-ready.ensures.front))
 
 pub returns-clause-size : goal.returns-clause-size
 returns-clause-size g c = size_by g.R.InDevice.state c.read_on.new.self c.read_on.result c.read_on.ensures.size c.read_on.ensures.over
@@ -58,4 +58,4 @@ pub returns-clause-gives : goal.returns-clause-gives
 returns-clause-gives g c = λ live. by_window g.R.InDevice.state c.args.self.now c.read_on.new.self c.read_on.result (c.read_on.ensures.gives live)
 
 pub returns-clause-kept : goal.returns-clause-kept
-returns-clause-kept g c = λ some. absurd (omega (arith, some, c.if-ready-gt0.false, ap length c.front.ensures.front))
+returns-clause-kept g c = λ some. absurd (omega (arith, some, c.if-ready-gt0.false, ap length c.front-ready.ensures.front))
