@@ -200,20 +200,20 @@ module _ {R W E : Type 0} (look : Looks R W E) where
     pub turn_taken : Writes look.output look.report before after (on_output part)
         → HasTaken first new begun after t after_turn (next.Stage stage.Message)
     turn_taken writes = λ start history stood at.
-        let here = here start history stood at in
-        let stands = inner_taken look start old new before u here (stood_here start history stood at) (at_here start history stood at) id data
+        let bytes = here start history stood at in
+        let stands = inner_taken look start old new before u bytes (stood_here start history stood at) (at_here start history stood at) id data
         (is_continued start history stood at) (got start history stood at) latest part taken after writes in
-        let P : Wanted → Type 0 = λ w. StandsAt look start w stage.Message new after after_turn ((here ++ (got start history stood at).read.given) ++ data) in
+        let P : Wanted → Type 0 = λ w. StandsAt look start w stage.Message new after after_turn ((bytes ++ (got start history stood at).read.given) ++ data) in
         then_turn start history stood at (next.Stage stage.Message) (subst P same stands)
 
     pub turn_lost : (fault : IoFault)
         → WritesPart look.output look.report before after (on_output part) fault
         → HasTaken first new begun after t after_turn (next.Ended (Err fault))
     turn_lost fault lost = λ start history stood at.
-        let here = here start history stood at in
-        let ended = inner_lost look start old new before u here (stood_here start history stood at) (at_here start history stood at) id data
+        let bytes = here start history stood at in
+        let ended = inner_lost look start old new before u bytes (stood_here start history stood at) (at_here start history stood at) id data
         (is_continued start history stood at) (got start history stood at) latest part taken after fault lost in
-        let P : Wanted → Type 0 = λ w. EndedRun look (unpack_tool w) start (devices_at (place_of (source_of new) after)) ((here ++ (got start history stood at).read.given) ++ data) (Err fault) in
+        let P : Wanted → Type 0 = λ w. EndedRun look (unpack_tool w) start (devices_at (place_of (source_of new) after)) ((bytes ++ (got start history stood at).read.given) ++ data) (Err fault) in
         then_turn start history stood at (next.Ended (Err fault)) (subst P same ended)
 
 -- ---- a step, and then inner segments
