@@ -1,6 +1,6 @@
 -- A piece that is taken in runs.
 
-use Rattle.std.proofs.Common.{◌≡◌, ℕ, suc, ◌+◌, ◌-◌, ◌<◌, ◌≤◌, true, false, List, [], ◌∷◌, ◌++◌, length, take, drop, Option, None, Some, Result, Err, refl, sym, ap, ◌∙◌, append_assoc, append-nil, length-append, length-drop, arith}
+use Rattle.std.proofs.Common.{◌≡◌, ℕ, suc, ◌+◌, ◌-◌, ◌<◌, ◌≤◌, true, false, List, [], ◌∷◌, ◌++◌, length, take, drop, Option, None, Some, Result, Err, refl, sym, ap, subst, ◌∙◌, append_assoc, append-nil, length-append, length-drop, arith}
 use Rattle.std.proofs.lemmas.List.{drop-drop, drop_all, length-take, length-take-le, take-take, take-append-drop}
 use Rattle.std.proofs.Math.Seq.{take-add, take-length}
 use Rattle.link_cbor.specs.declared.head.Head.{Head as HeadItem}
@@ -216,8 +216,10 @@ pub content_taken : (left : ℕ) (cursor : Cursor) (draft : Draft) (seen run : L
     → HasCome (Content left) cursor draft seen → length run < left
     → TakenInAll seen run (length run)
 content_taken left cursor draft seen run come inside =
+    let none : 0 + length run ≡ length run = omega arith in
     taken_all seen run (length run) refl
+    (subst (λ (count : ℕ). TakenSoFar seen run count) none
     (taken_more seen run 0 (length run) (omega arith)
     (λ size below. ap (λ (front : List ℕ). bundle_goes (front ++ take size run)) (append-nil seen)
     ∙ goes_in_content left cursor draft seen (take size run) come (omega (arith, length-take size run)))
-    (none_taken seen run))
+    (none_taken seen run)))

@@ -38,24 +38,24 @@ use Rattle.link_unpack.proofs.Joins.{data_comes, goes_on}
 use Rattle.link_unpack.proofs.Messages.{come, continued_by}
 
 -- what is known of the scan after it has taken these bytes of data, of which it returned a part
-pub record TakesPart (old new : TransferScan) (data part : List ℕ) : Type 0 where
+pub record TakesPart (old new : TransferScan) (content part : List ℕ) : Type 0 where
   pub follows : (transfer : Transfer) (closed : Bool) (earlier : List Transfer)
-      → old.total + length data < 2 ^ 63 → Follows old transfer earlier
-      → Follows new (grown transfer data closed) earlier
+      → old.total + length content < 2 ^ 63 → Follows old transfer earlier
+      → Follows new (grown transfer content closed) earlier
   pub part : (transfer : Transfer) (closed : Bool) (earlier : List Transfer)
-      → old.total + length data < 2 ^ 63 → Follows old transfer earlier
-      → part_of old.wanted (grown transfer data closed) ≡ part_of old.wanted transfer ++ part
+      → old.total + length content < 2 ^ 63 → Follows old transfer earlier
+      → part_of old.wanted (grown transfer content closed) ≡ part_of old.wanted transfer ++ part
   pub wanted : new.wanted ≡ old.wanted
-  pub total : new.total ≤ old.total + length data
+  pub total : new.total ≤ old.total + length content
 
 -- ---- one inner segment
 
 module _ {R W E : Type 0} (look : Looks R W E) (start : Devices R W E)
     (old new : Session R) (before : Writers W E) (u : Unpacker) (history : List ℕ)
     (stood : Stands look (unpacking_of u.latest.wanted) start true (place_of (source_of old) before) history)
-    (at : Unpacks look.input stage.Message old u history) (id : ℕ) (data : List ℕ)
+    (at : Unpacks look.input stage.Message old u history) (id : ℕ) (content : List ℕ)
     (is_open : continuable (unpacked_from u.latest.wanted history).taken ≡ Some id)
-    (got : PassedInner look.input old new history id data) where
+    (got : PassedInner look.input old new history id content) where
   abbrev wanted : Wanted
   wanted = u.latest.wanted
 
@@ -65,7 +65,7 @@ module _ {R W E : Type 0} (look : Looks R W E) (start : Devices R W E)
   -- its head, as a step reads it
   abbrev message : MessageBuffer
   message = record {
-    fields = fields.Segment 0 id (length data);
+    fields = fields.Segment 0 id (length content);
     node = record { items = [] };
     items = record { items = [] };
   }
@@ -89,7 +89,7 @@ module _ {R W E : Type 0} (look : Looks R W E) (start : Devices R W E)
 
   head_stands : StandsAt look start wanted (stage.Data false) got.mid before u headed
   head_stands =
-      let left : left_of got.mid ≡ length data = got.read.left in
+      let left : left_of got.mid ≡ length content = got.read.left in
       let some = got.some in
       data_comes look start false got.mid before u headed head_joins (omega arith)
 
@@ -97,14 +97,14 @@ module _ {R W E : Type 0} (look : Looks R W E) (start : Devices R W E)
   going = goes look start false got.mid before u headed head_stands.0 head_stands.1
 
   abbrev closes : Bool
-  closes = closing look start false got.mid before u headed head_stands.0 head_stands.1 new data got.gave got.some
+  closes = closing look start false got.mid before u headed head_stands.0 head_stands.1 new content got.gave got.some
 
-  bound : u.latest.total + length data < 2 ^ 63
-  bound = room look start false got.mid before u headed head_stands.0 head_stands.1 new data got.gave got.some
+  bound : u.latest.total + length content < 2 ^ 63
+  bound = room look start false got.mid before u headed head_stands.0 head_stands.1 new content got.gave got.some
 
   -- a part of its data is written
-  module _ (latest : TransferScan) (part : List ℕ) (taken : TakesPart u.latest latest data part) where
-    part_now : part_of wanted (grown going.transfer data closes)
+  module _ (latest : TransferScan) (part : List ℕ) (taken : TakesPart u.latest latest content part) where
+    part_now : part_of wanted (grown going.transfer content closes)
         ≡ part_of wanted going.transfer ++ part
     part_now = taken.part going.transfer closes going.earlier bound going.follows
 
@@ -113,19 +113,19 @@ module _ {R W E : Type 0} (look : Looks R W E) (start : Devices R W E)
 
     pub inner_taken : (written : Writers W E)
         → Writes look.output look.report before written (on_output part)
-        → StandsAt look start wanted stage.Message new written v (headed ++ data)
+        → StandsAt look start wanted stage.Message new written v (headed ++ content)
     inner_taken written writes =
-        let joins = grows look start false got.mid before u headed head_stands.0 head_stands.1 new data got.gave got.some
+        let joins = grows look start false got.mid before u headed head_stands.0 head_stands.1 new content got.gave got.some
         part part_now written v writes (taken.follows going.transfer closes going.earlier bound going.follows) taken.wanted taken.total refl refl in
-        let P : Wanted → Type 0 = λ w. StandsAt look start w stage.Message new written v (headed ++ data) in
-        subst P taken.wanted (goes_on look start false new written v (headed ++ data) joins got.none refl)
+        let P : Wanted → Type 0 = λ w. StandsAt look start w stage.Message new written v (headed ++ content) in
+        subst P taken.wanted (goes_on look start false new written v (headed ++ content) joins got.none refl)
 
     pub inner_lost : (written : Writers W E) (fault : IoFault)
         → WritesPart look.output look.report before written (on_output part) fault
         → EndedRun look (unpack_tool wanted) start (devices_at (place_of (source_of new) written))
-        (headed ++ data) (Err fault)
+        (headed ++ content) (Err fault)
     inner_lost written fault lost =
-        part_lost look start false got.mid before u headed head_stands.0 head_stands.1 new data got.gave got.some part part_now written fault lost
+        part_lost look start false got.mid before u headed head_stands.0 head_stands.1 new content got.gave got.some part part_now written fault lost
 
 -- ---- a loop over inner segments
 
@@ -155,9 +155,9 @@ module _ {R W E : Type 0} (look : Looks R W E) where
       (kept : HasTaken first old begun before t u (next.Stage stage.Message))
       (same : u.latest.wanted ≡ t.latest.wanted) (joiner : u.joiner ≡ t.joiner) (id : ℕ)
       (open_is : (messages : List Message) → IsJoinerAt t.joiner messages → Some id ≡ continuable messages)
-      (data : List ℕ)
-      (passes : (history : List ℕ) → IsSessionAt look.input old history → PassedInner look.input old new history id data)
-      (latest : TransferScan) (part : List ℕ) (taken : TakesPart u.latest latest data part) where
+      (content : List ℕ)
+      (passes : (history : List ℕ) → IsSessionAt look.input old history → PassedInner look.input old new history id content)
+      (latest : TransferScan) (part : List ℕ) (taken : TakesPart u.latest latest content part) where
     abbrev after_turn : Unpacker
     after_turn = record { joiner = u.joiner; latest = latest; good = u.good }
 
@@ -178,42 +178,42 @@ module _ {R W E : Type 0} (look : Looks R W E) where
       at_here : Unpacks look.input stage.Message old u here
       at_here = so_far.stands.1
 
-      abbrev got : PassedInner look.input old new here id data
+      abbrev got : PassedInner look.input old new here id content
       got = passes here at_here.session
 
       is_continued : continuable (unpacked_from u.latest.wanted here).taken ≡ Some id
       is_continued = sym (open_is (unpacked_from u.latest.wanted here).taken (rw joiner at at_here.joiner))
 
       then_turn : (result : Next)
-          → StandsNext look start t.latest.wanted new after after_turn ((here ++ got.read.given) ++ data) result
+          → StandsNext look start t.latest.wanted new after after_turn ((here ++ got.read.given) ++ content) result
           → TakesInner look start t.latest.wanted first new after after_turn history result
       then_turn result stands =
-          let given = got.read.given ++ data in
+          let given = got.read.given ++ content in
           let P : List ℕ → Type 0 = λ bytes. StandsNext look start t.latest.wanted new after after_turn bytes result in
           record {
             given = so_far.given ++ given;
             takes = Takes-then look.input (source_of first) (source_of old) (source_of new) so_far.given given so_far.takes
-                (Takes-then look.input (source_of old) (source_of got.mid) (source_of new) got.read.given data got.read.takes got.gave.takes);
-            stands = subst P (append_assoc here got.read.given data ∙ append_assoc history so_far.given given) stands;
+                (Takes-then look.input (source_of old) (source_of got.mid) (source_of new) got.read.given content got.read.takes got.gave.takes);
+            stands = subst P (append_assoc here got.read.given content ∙ append_assoc history so_far.given given) stands;
           }
 
     pub turn_taken : Writes look.output look.report before after (on_output part)
         → HasTaken first new begun after t after_turn (next.Stage stage.Message)
     turn_taken writes = λ start history stood at.
-        let here = here start history stood at in
-        let stands = inner_taken look start old new before u here (stood_here start history stood at) (at_here start history stood at) id data
+        let bytes = here start history stood at in
+        let stands = inner_taken look start old new before u bytes (stood_here start history stood at) (at_here start history stood at) id content
         (is_continued start history stood at) (got start history stood at) latest part taken after writes in
-        let P : Wanted → Type 0 = λ w. StandsAt look start w stage.Message new after after_turn ((here ++ (got start history stood at).read.given) ++ data) in
+        let P : Wanted → Type 0 = λ w. StandsAt look start w stage.Message new after after_turn ((bytes ++ (got start history stood at).read.given) ++ content) in
         then_turn start history stood at (next.Stage stage.Message) (subst P same stands)
 
     pub turn_lost : (fault : IoFault)
         → WritesPart look.output look.report before after (on_output part) fault
         → HasTaken first new begun after t after_turn (next.Ended (Err fault))
     turn_lost fault lost = λ start history stood at.
-        let here = here start history stood at in
-        let ended = inner_lost look start old new before u here (stood_here start history stood at) (at_here start history stood at) id data
+        let bytes = here start history stood at in
+        let ended = inner_lost look start old new before u bytes (stood_here start history stood at) (at_here start history stood at) id content
         (is_continued start history stood at) (got start history stood at) latest part taken after fault lost in
-        let P : Wanted → Type 0 = λ w. EndedRun look (unpack_tool w) start (devices_at (place_of (source_of new) after)) ((here ++ (got start history stood at).read.given) ++ data) (Err fault) in
+        let P : Wanted → Type 0 = λ w. EndedRun look (unpack_tool w) start (devices_at (place_of (source_of new) after)) ((bytes ++ (got start history stood at).read.given) ++ content) (Err fault) in
         then_turn start history stood at (next.Ended (Err fault)) (subst P same ended)
 
 -- ---- a step, and then inner segments

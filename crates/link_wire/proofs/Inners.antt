@@ -1,5 +1,5 @@
 -- Inner segments that lie whole in a window, with their data.
-use Rattle.std.proofs.Common.{◌≡◌, ℕ, ◌+◌, ◌<◌, ◌≤◌, List, [], ◌∷◌, ◌++◌, length, take, drop, slice_index, slice_range, refl, ap, sym, subst, arith, length-take, length-drop}
+use Rattle.std.proofs.Common.{◌≡◌, ℕ, ◌+◌, ◌-◌, ◌<◌, ◌≤◌, List, [], ◌∷◌, ◌++◌, length, take, drop, slice_index, slice_range, refl, ap, sym, subst, arith, length-take, length-drop}
 use Rattle.byteorder.specs.Endian.{big_number}
 use Rattle.link_io.specs.Device.{Input}
 use Rattle.link_io.specs.Source.{window_of, IsLive, Takes}
@@ -40,6 +40,13 @@ bytes_size id size window is =
     let within = is.within in
     omega (arith, length-take size (drop 18 window), length-drop 18 window)
 
+-- the data, as the code takes it
+pub bytes_are : (size : ℕ) (window : List ℕ)
+    → slice_range window 18 (18 + size) ≡ inner_bytes window size
+bytes_are size window =
+    let rest : 18 + size - 18 ≡ size = omega arith in
+    ap (λ n. take n (drop 18 window)) rest
+
 -- the head was given, and then the data
 module _ {R : Type 0} {look : R → Input} (old new : Session R) (history : List ℕ)
     (at : IsSessionAt look old history) (between : old.left ≡ 0) (source : Source R) (id size : ℕ)
@@ -52,10 +59,10 @@ module _ {R : Type 0} {look : R → Input} (old new : Session R) (history : List
   abbrev window : List ℕ
   window = window_of old.source
 
-  abbrev data : List ℕ
-  data = inner_bytes window size
+  abbrev content : List ℕ
+  content = inner_bytes window size
 
-  data_size : length data ≡ size
+  data_size : length content ≡ size
   data_size = bytes_size id size window is
 
   -- the session between the head and the data
@@ -63,18 +70,18 @@ module _ {R : Type 0} {look : R → Input} (old new : Session R) (history : List
   mid = record {
     source = source;
     offset = length history;
-    left = length data;
+    left = length content;
     phase = phase.Reading;
   }
 
-  head_read : ReadMessage look old mid history (length history) (inner_segment id (length data))
+  head_read : ReadMessage look old mid history (length history) (inner_segment id (length content))
   head_read =
       let P : ℕ → Type 0 = λ n. IsPart message_at (take 18 window) (inner_segment id n) in
-      came old history at between mid (inner_segment id (length data))
+      came old history at between mid (inner_segment id (length content))
       (record { given = take 18 window; takes = head; live = live; is = subst P (sym data_size) is.is })
       refl refl refl
 
-  pub inner_passed : PassedInner look old new history id data
+  pub inner_passed : PassedInner look old new history id content
   inner_passed =
       let some = is.some in
       let P : List ℕ → Type 0 = λ bytes. Takes look source new.source (take size bytes) in
@@ -83,6 +90,6 @@ module _ {R : Type 0} {look : R → Input} (old new : Session R) (history : List
         offset = length history;
         read = head_read;
         some = omega (arith, data_size);
-        gave = data_given mid new (history ++ head_read.given) data head_read.at (subst P rest body) live_after going offset (omega (arith, left));
+        gave = data_given mid new (history ++ head_read.given) content head_read.at (subst P rest body) live_after going offset (omega (arith, left));
         none = left;
       }

@@ -26,10 +26,10 @@ inner_bytes window size = take size (drop 18 window)
 
 -- a segment of this transfer without flags was given: first its head, and then all of its data
 pub record PassedInner {R : Type 0} (look : R → Input) (old new : Session R) (history : List ℕ)
-    (id : ℕ) (data : List ℕ) : Type 0 where
+    (id : ℕ) (content : List ℕ) : Type 0 where
   pub mid : Session R
   pub offset : ℕ
-  pub read : ReadMessage look old mid history offset (inner_segment id (length data))
-  pub some : 0 < length data
-  pub gave : PassedBytes look mid new (history ++ read.given) data
+  pub read : ReadMessage look old mid history offset (inner_segment id (length content))
+  pub some : 0 < length content
+  pub gave : PassedBytes look mid new (history ++ read.given) content
   pub none : left_of new ≡ 0

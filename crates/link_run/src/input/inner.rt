@@ -14,10 +14,10 @@ impl<R: InDevice> Input<Session<R>> {
     /// all of it is in the window, as [`Session::inner_data`] returns it.
     #[inline(always)]
     pub fn inner_data(&self, id: u64) -> Option<&[u8]>
-        ensures is { IfSome result (λ data.
-            IsInner id (window_of (source_of (inner_of self.now))) (length data.now)) }
-        ensures data { IfSome result (λ data.
-            data.now ≡ inner_bytes (window_of (source_of (inner_of self.now))) (length data.now)) }
+        ensures is { IfSome result (λ bytes.
+            IsInner id (window_of (source_of (inner_of self.now))) (length bytes.now)) }
+        ensures bytes { IfSome result (λ bytes.
+            bytes.now ≡ inner_bytes (window_of (source_of (inner_of self.now))) (length bytes.now)) }
         ensures stopped { (stop : _) → HasStopped (inner_of self.now) stop → result ≡ None }
     {
         self.inner.inner_data(id)

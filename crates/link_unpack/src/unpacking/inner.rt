@@ -68,9 +68,9 @@ fn take_inner<R: InDevice, W: OutDevice, E: OutDevice>(
     let Some(id) = unpacker.joiner.continuable() else {
         return Next::Stage(Stage::Message);
     };
-    'segments: while let Some(data) = input.inner_data(id) {
-        let size = data.len();
-        let part = unpacker.latest.take(data);
+    'segments: while let Some(content) = input.inner_data(id) {
+        let size = content.len();
+        let part = unpacker.latest.take(content);
         let written = writers.write_output(part);
         input.pass_inner(size);
         match written {

@@ -48,10 +48,10 @@ impl<R: InDevice> Session<R> {
     /// After a stop it returns `None`.
     #[inline(always)]
     pub fn inner_data(&self, id: u64) -> Option<&[u8]>
-        ensures is { IfSome result (λ data.
-            IsInner id (window_of (source_of self.now)) (length data.now)) }
-        ensures data { IfSome result (λ data.
-            data.now ≡ inner_bytes (window_of (source_of self.now)) (length data.now)) }
+        ensures is { IfSome result (λ bytes.
+            IsInner id (window_of (source_of self.now)) (length bytes.now)) }
+        ensures bytes { IfSome result (λ bytes.
+            bytes.now ≡ inner_bytes (window_of (source_of self.now)) (length bytes.now)) }
         ensures stopped { (stop : _) → HasStopped self.now stop → result ≡ None }
     {
         if let Phase::Stopped(_) = self.phase {

@@ -1,4 +1,4 @@
-use Rattle.std.proofs.Common.{List, ℕ, ◌++◌, length, sym, ap, subst, ◌∙◌, arith}
+use Rattle.std.proofs.Common.{List, ℕ, ◌<◌, ◌++◌, length, sym, subst, ◌∙◌, arith}
 use Rattle.std.proofs.Math.Seq.{take-length}
 use Rattle.link_bundle.specs.Scan.{HasScanned}
 use Rattle.link_bundle.proofs.Feeding.{TakenInAll, content_taken}
@@ -8,18 +8,19 @@ use Rattle.link_bundle.proofs.scan.BundleScanPiecewise.feed.Goals.{In-Content}
 
 -- all bytes are taken
 all : (c : In-Content) (seen : List ℕ) → HasScanned c.args.self.now seen
+    → length c.args.bytes.now < c.in-Content.left
     → TakenInAll seen c.args.bytes.now (length c.args.bytes.now)
-all c seen come =
+all c seen come short =
     let now = c.args.self.now in
     content_taken c.in-Content.left now.cursor now.draft seen c.args.bytes.now
-    (at_stage now _ seen c.in-Content.is come) (omega arith)
+    (at_stage now _ seen c.in-Content.is come) short
 
 pub returns-in-Content-clause-seen : goal.returns-in-Content-clause-seen
 returns-in-Content-clause-seen c = λ seen come.
-    let here = all ((goal.at.returns-in-Content-clause-seen c).In-Content) seen come in
+    let here = all ((goal.at.returns-in-Content-clause-seen c).In-Content) seen come (omega arith) in
     let P : List ℕ → Type 0 = λ run. HasScanned c.content_run.new.self (seen ++ run) in
     subst P (sym (here.prefix ∙ take-length c.args.bytes.now)) (c.content_run.ensures.seen seen come)
 
 pub returns-in-Content-clause-count : goal.returns-in-Content-clause-count
 returns-in-Content-clause-count c = λ seen come.
-    (all ((goal.at.returns-in-Content-clause-count c).In-Content) seen come).size
+    (all ((goal.at.returns-in-Content-clause-count c).In-Content) seen come (omega arith)).size

@@ -34,11 +34,11 @@ segments-preserved g c =
     let kept = c.segments.invariant in
     let old = inner_of c.segments.input in
     let new = inner_of c.pass_inner.new.self in
-    let data = c.in-Some-2.data.now in
+    let content = c.in-Some-2.content.now in
     let part = c.take-part.result.now in
     let P : List ℕ → Type 0 = λ bytes. (history : List ℕ) → IsSessionAt look.input old history → PassedInner look.input old new history c.in-Some.id bytes in
-    let passes = subst P (sym c.in-Some-2.ensures.data) (λ history session. c.pass_inner.ensures.gives c.in-Some.id history session c.in-Some-2.ensures.is) in
-    let taken : TakesPart c.segments.unpacker.latest c.take-part.new.self data part = record {
+    let passes = subst P (sym c.in-Some-2.ensures.bytes) (λ history session. c.pass_inner.ensures.gives c.in-Some.id history session c.in-Some-2.ensures.is) in
+    let taken : TakesPart c.segments.unpacker.latest c.take-part.new.self content part = record {
       follows = c.take-part.ensures.follows;
       part = c.take-part.ensures.part;
       wanted = c.take-part.ensures.wanted;
@@ -51,7 +51,7 @@ segments-preserved g c =
       texts = kept.texts then on_output part;
       writes = writes_then look.output look.report c.args.writers.now c.segments.writers c.write_output-written.new.self kept.texts (on_output part) kept.writes c.in-Ok.ensures.gives;
       taken = turn_taken look (inner_of c.args.input.now) old new c.args.writers.now c.segments.writers c.write_output-written.new.self c.args.unpacker.now c.segments.unpacker
-          kept.taken kept.wanted kept.joiner c.in-Some.id c.in-Some.ensures data passes c.take-part.new.self part taken c.in-Ok.ensures.gives;
+          kept.taken kept.wanted kept.joiner c.in-Some.id c.in-Some.ensures content passes c.take-part.new.self part taken c.in-Ok.ensures.gives;
     }
 
 pub returns-in-Err-clause-gives : goal.returns-in-Err-clause-gives
@@ -60,18 +60,18 @@ returns-in-Err-clause-gives g c =
     let kept = c.segments.invariant in
     let old = inner_of c.segments.input in
     let new = inner_of c.pass_inner.new.self in
-    let data = c.in-Some-2.data.now in
+    let content = c.in-Some-2.content.now in
     let part = c.take-part.result.now in
     let P : List ℕ → Type 0 = λ bytes. (history : List ℕ) → IsSessionAt look.input old history → PassedInner look.input old new history c.in-Some.id bytes in
-    let passes = subst P (sym c.in-Some-2.ensures.data) (λ history session. c.pass_inner.ensures.gives c.in-Some.id history session c.in-Some-2.ensures.is) in
-    let taken : TakesPart c.segments.unpacker.latest c.take-part.new.self data part = record {
+    let passes = subst P (sym c.in-Some-2.ensures.bytes) (λ history session. c.pass_inner.ensures.gives c.in-Some.id history session c.in-Some-2.ensures.is) in
+    let taken : TakesPart c.segments.unpacker.latest c.take-part.new.self content part = record {
       follows = c.take-part.ensures.follows;
       part = c.take-part.ensures.part;
       wanted = c.take-part.ensures.wanted;
       total = c.take-part.ensures.total;
     } in
     turn_lost look (inner_of c.args.input.now) old new c.args.writers.now c.segments.writers c.write_output-written.new.self c.args.unpacker.now c.segments.unpacker
-    kept.taken kept.wanted kept.joiner c.in-Some.id c.in-Some.ensures data passes c.take-part.new.self part taken c.in-Err.fault c.in-Err.ensures.gives
+    kept.taken kept.wanted kept.joiner c.in-Some.id c.in-Some.ensures content passes c.take-part.new.self part taken c.in-Err.fault c.in-Err.ensures.gives
 
 pub returns-in-Err-clause-writes : goal.returns-in-Err-clause-writes
 returns-in-Err-clause-writes g c = c.in-Err.ensures.gives.kind

@@ -14,5 +14,5 @@ returns c =
     record {
       some = omega arith;
       within = omega arith;
-      is = subst P (sym c.read_u64.ensures ∙ c.if-read_u64-ne-id.false) (rw c.read_u64-size.ensures (inner_head window enough kinds.0 kinds.1));
+      is = subst P (sym c.read_u64.ensures ∙ c.if-read_u64-id.false) (rw c.read_u64-size.ensures (inner_head window enough kinds.0 kinds.1));
     }

@@ -2,13 +2,13 @@ use Rattle.std.proofs.Common.{◌≡◌, length, ap, ◌∙◌, arith, length-dr
 use Rattle.link_io.specs.Source.{window_of}
 use Rattle.link_wire.proofs.Inners.{inner_passed}
 use Rattle.link_wire.proofs.Sessions.{none_left}
-use Rattle.link_wire.proofs.session.inner.Session.pass_inner.Goals as goal
+use Rattle.link_wire.proofs.session.Session.pass_inner.Goals as goal
 
 pub give-requires : goal.give-requires
 give-requires g c = let within = c.requires.inner.1.within in omega arith
 
-pub give-2-requires : goal.give-2-requires
-give-2-requires g c =
+pub give-requires-2 : goal.give-requires-2
+give-requires-2 g c =
     let within = c.requires.inner.1.within in
     omega (arith, ap length c.give.ensures.rest, length-drop 18 (window_of c.args.self.now.source))
 
