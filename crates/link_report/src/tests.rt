@@ -262,10 +262,7 @@ const REFUSALS: [(u8, &str); 8] = [
     (0x03, "56 xfer-refuse reason=03/retransmit id=0\n"),
     (0x04, "56 xfer-refuse reason=04/not-acceptable id=0\n"),
     (0x05, "56 xfer-refuse reason=05/extension-failure id=0\n"),
-    (
-        0x06,
-        "56 xfer-refuse reason=06/session-terminating id=0\n",
-    ),
+    (0x06, "56 xfer-refuse reason=06/session-terminating id=0\n"),
     (0x07, "56 xfer-refuse reason=07/? id=0\n"),
 ];
 

@@ -67,7 +67,8 @@ fn longest_node(rt: HostRuntime) -> Result<(), Fail> {
     }
     output.extend_from_slice(b" items=0\n")?;
     assert_eq!(rt; output.len(), CONTACT_LINE.len() + 4174);
-    gives_at_each_pace(rt.alloc(), "the longest node ID", &stream, &listing(&output, b""))
+    let want = listing(&output, b"");
+    gives_at_each_pace(rt.alloc(), "the longest node ID", &stream, &want)
 }
 
 /// An item that fills an extension list of 4,096 bytes.
@@ -101,7 +102,8 @@ fn longest_list(rt: HostRuntime) -> Result<(), Fail> {
     stream.resize(65_574, 0)?;
     let line = b" node=ipn:1.0 items=1 item=00:abcd:65531\n";
     let output = joined(rt.alloc(), &[CONTACT_LINE, SESSION_WORDS, line])?;
-    gives_at_each_pace(rt.alloc(), "the longest list", &stream, &listing(&output, b""))?;
+    let want = listing(&output, b"");
+    gives_at_each_pace(rt.alloc(), "the longest list", &stream, &want)?;
     for size in (0..=100).chain([65_573]) {
         let prefix = stream.get(..size).ok_or("more than the stream")?;
         let report = match cut_at(size) {
@@ -128,7 +130,8 @@ fn long_segment(rt: HostRuntime) -> Result<(), Fail> {
         rt.alloc(),
         &[CONTACT_LINE, SESSION_LINE, line, b"9060 keepalive\n"],
     )?;
-    gives_at_each_pace(rt.alloc(), "a long segment", &stream, &listing(&output, b""))
+    let want = listing(&output, b"");
+    gives_at_each_pace(rt.alloc(), "a long segment", &stream, &want)
 }
 
 /// The offsets at which the contact header and each of the messages end.

@@ -2,9 +2,7 @@
 
 ghost use Rattle.std.specs.Prelude.{◌<◌};
 
-use link_wire::{
-    Contact, Items, Message, NodeId, SegmentHead, Session, Source, Stop, WireFault,
-};
+use link_wire::{Contact, Items, Message, NodeId, SegmentHead, Session, Source, Stop, WireFault};
 use std::test::Fail;
 use toolkit_tests::rows::TRANSFER;
 use toolkit_tests::stream::{BACK, FRONT, joined};

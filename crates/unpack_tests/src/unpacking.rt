@@ -51,9 +51,7 @@ fn faults(rt: HostRuntime) -> Result<(), Fail> {
 
 /// The stream with keepalives after `SESSION`, so that what follows it begins at this offset.
 pub fn with_keepalives(alloc: Global, stream: &[u8], offset: usize) -> Result<Vec<u8>, Fail> {
-    let (session, rest) = stream
-        .split_at_checked(38)
-        .ok_or("less than the session")?;
+    let (session, rest) = stream.split_at_checked(38).ok_or("less than the session")?;
     let mut delayed = joined(alloc, &[session])?;
     delayed.resize(offset, 4)?;
     delayed.extend_from_slice(rest)?;
