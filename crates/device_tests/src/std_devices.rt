@@ -5,9 +5,9 @@
 
 ghost use Rattle.std.specs.Prelude.{◌≡◌, false};
 
-use crate::rows::{TRANSFER, TRANSFER_LINES};
-use crate::stepping::ended;
-use crate::stream::{CONTACT_LINE, joined, text};
+use toolkit_tests::rows::{TRANSFER, TRANSFER_LINES};
+use toolkit_tests::stepping::ended;
+use toolkit_tests::stream::{CONTACT_LINE, joined, text};
 use link_tools::{Status, list, list_run, run_exit};
 use link_wire::{
     Contact, Filled, InDevice, IoFault, OutDevice, Reader, Session, Source, Stop, Writer,
