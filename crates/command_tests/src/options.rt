@@ -374,12 +374,7 @@ const HELP_TEXTS: [(&[&str], &[&str]); 5] = [
 ];
 
 /// Checks that a text is there for a line, and that it has these parts.
-fn has_parts(
-    rt: &impl Abort,
-    alloc: Global,
-    line: &[&str],
-    parts: &[&str],
-) -> Result<(), Fail> {
+fn has_parts(rt: &impl Abort, alloc: Global, line: &[&str], parts: &[&str]) -> Result<(), Fail> {
     let text = text_of(alloc, line)?;
     for part in parts {
         assert!(rt;
