@@ -3,7 +3,7 @@
 
     apt-get install python3-cbor2 python3-crcmod
     ./make_bundles.py            writes bundles.txt: a name, what the bundle says, and its bytes in hexadecimal
-    ./make_bundles.py --rust     prints the table of crates/link_bundle/src/tests/outside.rt
+    ./make_bundles.py --rust     prints the table of crates/bundle_tests/src/verdicts/outside.rt
 
 Each bundle is read again by cbor2 before it is written.
 """

@@ -44,6 +44,3 @@ pub use link_bundle_types::{
     BLOCK_LIMIT, BundleFault, BundleInfo, BundleView, EID_LIMIT, Eid, EidView, State,
 };
 pub use scan::BundleScan;
-
-#[cfg(test)]
-mod tests;

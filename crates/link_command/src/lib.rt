@@ -16,6 +16,3 @@ mod usage;
 pub use invocation::Invocation;
 pub use reading::options;
 pub use usage::{UsageFault, usage_exit};
-
-#[cfg(test)]
-mod tests;

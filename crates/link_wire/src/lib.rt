@@ -31,8 +31,6 @@ mod quiet;
 mod session;
 mod slices;
 mod spelling;
-#[cfg(test)]
-mod tests;
 
 pub use codes::{END, START};
 pub use fault::{Stop, WireFault};

@@ -12,8 +12,6 @@ mod pace;
 pub mod packing;
 pub mod rows;
 pub mod running;
-#[cfg(test)]
-mod std_devices;
 pub mod stepping;
 pub mod stream;
 

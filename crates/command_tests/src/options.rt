@@ -1,6 +1,6 @@
 //! Tests of the command line on tables of words.
 
-use crate::{Invocation, UsageFault, options, usage_exit};
+use link_command::{Invocation, UsageFault, options, usage_exit};
 use link_tools::{Options, PackOptions, Wanted};
 use link_wire::NodeId;
 use std::alloc::{AllocError, Global};

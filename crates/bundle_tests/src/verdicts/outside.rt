@@ -1,6 +1,6 @@
 //! Made by examples/bundles/make_bundles.py, with cbor2 and crcmod.
 use super::Expected;
-use link_bundle_types::EidView;
+use link_bundle::EidView;
 
 pub const BUNDLES: [Expected; 13] = [
     // ipn endpoints, no checks

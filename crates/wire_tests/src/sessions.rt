@@ -3,7 +3,7 @@
 ghost use Rattle.std.specs.Prelude.{◌≡◌};
 ghost use Rattle.arrayvec.specs.ArrayVec.{array_vec_len};
 
-use crate::{
+use link_wire::{
     Contact, END, HeadBuf, Item, Items, Message, MessageBuffer, NodeId, Reader, START, SegmentHead,
     Session, Source, Stop, put_contact, put_segment_head, put_sess_init, put_sess_term,
 };

@@ -2,7 +2,7 @@
 ghost use Rattle.std.specs.Prelude.{◌+◌, ◌-◌, ◌*◌, ◌^◌, ◌<◌, ◌≤◌, length};
 ghost use Rattle.link_bundle.specs.Scan.{scan_size};
 
-use super::*;
+use link_bundle::{BundleFault, BundleScan, BundleView, EidView, State};
 use link_cbor::Piecewise;
 use std::alloc::{AllocError, Global};
 use std::ops::Range;

@@ -5,9 +5,6 @@
 
 ghost use Rattle.std.specs.Prelude.{◌≡◌, false};
 
-use crate::rows::{TRANSFER, TRANSFER_LINES};
-use crate::stepping::ended;
-use crate::stream::{CONTACT_LINE, joined, text};
 use link_tools::{Status, list, list_run, run_exit};
 use link_wire::{
     Contact, Filled, InDevice, IoFault, OutDevice, Reader, Session, Source, Stop, Writer,
@@ -17,6 +14,9 @@ use std::alloc::Global;
 use std::io::{self, ErrorKind, Read, Write};
 use std::process::Abort;
 use std::test::Fail;
+use toolkit_tests::rows::{TRANSFER, TRANSFER_LINES};
+use toolkit_tests::stepping::ended;
+use toolkit_tests::stream::{CONTACT_LINE, joined, text};
 
 /// A reader of one byte a call, which is interrupted at one call and then goes on.
 ///

@@ -1,0 +1,5 @@
+//! Tests of verdicts on bundles.
+#![tactic(auto)]
+
+#[cfg(test)]
+mod verdicts;

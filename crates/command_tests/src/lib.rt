@@ -1,0 +1,5 @@
+//! Tests of the command line: words, and what they ask for.
+#![tactic(auto)]
+
+#[cfg(test)]
+mod options;

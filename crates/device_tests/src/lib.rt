@@ -1,0 +1,5 @@
+//! Tests of devices that are made of readers and writers of std.
+#![tactic(auto)]
+
+#[cfg(test)]
+mod std_devices;
