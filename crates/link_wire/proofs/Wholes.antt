@@ -1,14 +1,15 @@
 -- Whole messages, one after another, are read as one list of messages.
-use Rattle.std.proofs.Common.{◌≡◌, ℕ, zero, suc, ◌+◌, ◌<◌, ◌≤◌, true, false, List, [], ◌∷◌, ◌++◌, length, take, drop, slice_index, nat_lt, ⊎_elim, refl, ap, sym, ◌∙◌, subst, append_assoc, append-nil, length-append, add-zero, take-append-drop, arith}
-use Rattle.std.proofs.lemmas.Bool.{le-ltb}
+use Rattle.std.proofs.Common.{◌≡◌, ℕ, zero, suc, ◌+◌, ◌^◌, ◌<◌, ◌≤◌, true, false, List, [], ◌∷◌, ◌++◌, length, take, drop, slice_index, nat_lt, ◌==◌, refl, ap, sym, ◌∙◌, subst, append_assoc, append-nil, length-append, length-drop, add-zero, take-append-drop, get_or-drop, arith}
+use Rattle.std.proofs.lemmas.Bool.{le-ltb, eqb-true, cond_both}
 use Rattle.std.proofs.lemmas.List.Elements.{All-nil, All-push}
 use Rattle.std.proofs.Math.Seq.{take-add, take-append_seam, drop-append_seam}
+use Rattle.link_wire.specs.Codes.{xfer_ack, xfer_refuse, keepalive, msg_reject}
 use Rattle.link_wire.specs.Getting.{IsPart}
 use Rattle.link_wire.specs.Here.{IsHere}
 use Rattle.link_wire.specs.Message.{message_at, data_length}
 use Rattle.link_wire.specs.Part.{Part}
 use Rattle.link_wire.specs.Stream.{Entry, stream_at}
-use Rattle.link_wire.specs.Whole.{followed, AreMessages, is_quiet, IsQuiet, AreQuiet, IsQuietSize, IsQuietHead}
+use Rattle.link_wire.specs.Whole.{followed, AreMessages, is_quiet, IsQuiet, AreQuiet, quiet_size, IsQuietHead}
 use Rattle.link_wire.proofs.Plains.{ack_head, refuse_head, keepalive_head, msg_reject_head}
 use Rattle.link_wire.proofs.Streams.{stream_at-head}
 use Rattle.link_wire.specs.declared.message.Message.{Message}
@@ -84,31 +85,63 @@ quiet_first zero size window here head = quiet_here window size head
 quiet_first (suc at) size window here head = here (omega arith)
 
 module _ (window : List ℕ) (size : ℕ) (within : size ≤ length window) where
-  quiet_part : (n : ℕ) (message : Message) → size ≡ n → IsPart message_at (take n window) message
+  quiet_part : (message : Message) → IsPart message_at (take size window) message
       → is_quiet message ≡ true → data_length message ≡ 0 → IsQuietHead window size
-  quiet_part n message same is quiet none =
-      let P : ℕ → Type 0 = λ count. IsPart message_at (take count window) message in
-      record {
-        message = message;
-        quiet = quiet;
-        none = none;
-        within = within;
-        is = subst P (sym same) is;
-      }
+  quiet_part message is quiet none = record {
+    message = message;
+    quiet = quiet;
+    none = none;
+    within = within;
+    is = is;
+  }
 
-  -- a type byte, and the length of its quiet message
-  pub quiet_by_size : 0 < size → IsQuietSize (slice_index window 0) size → IsQuietHead window size
-  quiet_by_size some is =
-      ⊎_elim
-      (λ none. absurd (omega (arith, some, none)))
-      (λ others. ⊎_elim
-      (λ ack. quiet_part 18 _ ack.1 (ack_head window (omega (arith, within, ack.1)) ack.0) refl refl)
-      (λ others. ⊎_elim
-      (λ refuse. quiet_part 10 _ refuse.1 (refuse_head window (omega (arith, within, refuse.1)) refuse.0) refl refl)
-      (λ others. ⊎_elim
-      (λ alive. quiet_part 1 _ alive.1 (keepalive_head window (omega (arith, within, alive.1)) alive.0) refl refl)
-      (λ reject. quiet_part 3 _ reject.1 (msg_reject_head window (omega (arith, within, reject.1)) reject.0) refl refl)
-      others)
-      others)
-      others)
-      is
+-- If a quiet message with the first byte as its type would end in the window, it lies there.
+quiet_by_kind : (window : List ℕ) → length window < 2 ^ 63
+    → quiet_size (slice_index window 0) ≤ length window
+    → IsQuietHead window (quiet_size (slice_index window 0))
+quiet_by_kind window slice =
+    let kind = slice_index window 0 in
+    let P : ℕ → Type 0 = λ size. size ≤ length window → IsQuietHead window size in
+    cond_both (kind == xfer_ack) 18 _ P
+    (λ ack within. quiet_part window 18 within _ (ack_head window within (eqb-true kind 2 ack)) refl refl)
+    (λ _. cond_both (kind == xfer_refuse) 10 _ P
+    (λ refuse within. quiet_part window 10 within _ (refuse_head window within (eqb-true kind 3 refuse)) refl refl)
+    (λ _. cond_both (kind == keepalive) 1 _ P
+    (λ alive within. quiet_part window 1 within _ (keepalive_head window within (eqb-true kind 4 alive)) refl refl)
+    (λ _. cond_both (kind == msg_reject) 3 (2 ^ 63) P
+    (λ reject within. quiet_part window 3 within _ (msg_reject_head window within (eqb-true kind 6 reject)) refl refl)
+    (λ _ within. absurd (omega (arith, slice, within))))))
+
+-- each length is of some bytes, and a sum of it and an index fits
+pub quiet_size-bounds : (kind : ℕ) → (0 < quiet_size kind) × (quiet_size kind ≤ 2 ^ 63)
+quiet_size-bounds kind =
+    let P : ℕ → Type 0 = λ size. (0 < size) × (size ≤ 2 ^ 63) in
+    cond_both (kind == xfer_ack) 18 _ P (λ _. (omega arith, omega arith))
+    (λ _. cond_both (kind == xfer_refuse) 10 _ P (λ _. (omega arith, omega arith))
+    (λ _. cond_both (kind == keepalive) 1 _ P (λ _. (omega arith, omega arith))
+    (λ _. cond_both (kind == msg_reject) 3 (2 ^ 63) P (λ _. (omega arith, omega arith))
+    (λ _. (omega arith, omega arith)))))
+
+-- the first `count` bytes of the window are quiet messages
+pub record BeginQuiet (window : List ℕ) (count : ℕ) : Type 0 where
+  pub within : count ≤ length window
+  pub quiet : (offset : ℕ) → AreQuiet offset (take count window)
+  pub here : 0 < count → IsHere 0 (message_at window)
+
+pub begin_none : (window : List ℕ) → BeginQuiet window 0
+begin_none window = record { within = omega arith; quiet = quiet_none; here = λ some. absurd (omega arith) }
+
+-- quiet messages, and then another one of the size that the next byte has as a type
+pub begin_more : (window : List ℕ) (at size : ℕ) → length window < 2 ^ 63
+    → size ≡ quiet_size (slice_index window at) → BeginQuiet window at → at + size ≤ length window
+    → BeginQuiet window (at + size)
+begin_more window at size slice is begun within =
+    let rest = drop at window in
+    let P : ℕ → Type 0 = λ size. size ≤ length rest → IsQuietHead rest size in
+    let kind : slice_index rest 0 ≡ slice_index window at = get_or-drop at window 0 0 ∙ ap (λ index. slice_index window index) (add-zero at) in
+    let head : IsQuietHead rest size = subst P (ap quiet_size kind ∙ sym is) (quiet_by_kind rest (omega (arith, slice, length-drop at window))) (omega (arith, within, length-drop at window)) in
+    record {
+      within = within;
+      quiet = λ offset. quiet_more offset at size window begun.within (begun.quiet offset) head;
+      here = λ some. quiet_first at size window begun.here head;
+    }

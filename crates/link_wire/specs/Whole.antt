@@ -1,5 +1,5 @@
 -- Whole messages that are passed over in the window: a head with its data, or quiet messages.
-use Rattle.std.specs.Prelude.{◌≡◌, ℕ, ◌+◌, ◌<◌, ◌≤◌, ◌⊎◌, Bool, true, false, List, [], ◌∷◌, ◌++◌, All, length, take}
+use Rattle.std.specs.Prelude.{◌≡◌, ℕ, ◌+◌, ◌^◌, ◌<◌, ◌≤◌, Bool, true, false, List, [], ◌∷◌, ◌++◌, All, length, take, ◌==◌, if◌then◌else◌}
 use Rattle.link_io.specs.Device.{Input}
 use Rattle.link_io.specs.Source.{Takes}
 use Rattle.link_wire.specs.Codes.{xfer_ack, xfer_refuse, keepalive, msg_reject}
@@ -38,13 +38,15 @@ pub record AreQuiet (offset : ℕ) (bytes : List ℕ) : Type 0 where
   pub quiet : All IsQuiet entries
   pub are : AreMessages offset bytes entries
 
--- a quiet message with this type byte has this length, which is 0 if there is none
-abbrev pub IsQuietSize : (kind size : ℕ) → Type 0
-IsQuietSize kind size =
-    (size ≡ 0)
-    ⊎ (((kind ≡ xfer_ack) × (size ≡ 18))
-    ⊎ (((kind ≡ xfer_refuse) × (size ≡ 10))
-    ⊎ (((kind ≡ keepalive) × (size ≡ 1)) ⊎ ((kind ≡ msg_reject) × (size ≡ 3)))))
+-- the length of a quiet message with this type byte; more bytes than a slice can have if there is
+-- none
+abbrev pub quiet_size : ℕ → ℕ
+quiet_size kind =
+    if kind == xfer_ack
+    then 18
+    else (if kind == xfer_refuse
+    then 10
+    else (if kind == keepalive then 1 else (if kind == msg_reject then 3 else 2 ^ 63)))
 
 -- the first `size` bytes of the window are a quiet message
 pub record IsQuietHead (window : List ℕ) (size : ℕ) : Type 0 where

@@ -6,37 +6,50 @@
 ghost use Rattle.std.specs.Prelude.{◌≡◌, ◌<◌, ◌≤◌, ℕ, length, take};
 ghost use Rattle.link_wire.specs.Here.{IsHere};
 ghost use Rattle.link_wire.specs.Message.{message_at};
-ghost use Rattle.link_wire.specs.Whole.{AreQuiet, IsQuietHead, IsQuietSize};
+ghost use Rattle.link_wire.specs.Whole.{AreQuiet, quiet_size};
 
-use crate::codes::{KEEPALIVE, MSG_REJECT, XFER_ACK, XFER_REFUSE};
+/// The entry of a type byte that no quiet message has: more bytes than a slice can have.
+const NONE: usize = 1 << 63;
 
-/// The length of a quiet message with this type byte, or 0 if no quiet message has it.
+/// The length of a quiet message, by its type byte.
+// A `match` would become a jump table, with a jump for each message that is hard to predict.
+#[rattlefmt::skip]
+static SIZES: [usize; 256] = [
+    NONE, // 0: no message has it
+    NONE, // XFER_SEGMENT
+    18, // XFER_ACK
+    10, // XFER_REFUSE
+    1, // KEEPALIVE
+    NONE, // SESS_TERM
+    3, // MSG_REJECT
+    NONE, // SESS_INIT
+    // 8 to 255: no message has them
+    NONE, NONE, NONE, NONE, NONE, NONE, NONE, NONE,
+    NONE, NONE, NONE, NONE, NONE, NONE, NONE, NONE, NONE, NONE, NONE, NONE, NONE, NONE, NONE, NONE,
+    NONE, NONE, NONE, NONE, NONE, NONE, NONE, NONE, NONE, NONE, NONE, NONE, NONE, NONE, NONE, NONE,
+    NONE, NONE, NONE, NONE, NONE, NONE, NONE, NONE, NONE, NONE, NONE, NONE, NONE, NONE, NONE, NONE,
+    NONE, NONE, NONE, NONE, NONE, NONE, NONE, NONE, NONE, NONE, NONE, NONE, NONE, NONE, NONE, NONE,
+    NONE, NONE, NONE, NONE, NONE, NONE, NONE, NONE, NONE, NONE, NONE, NONE, NONE, NONE, NONE, NONE,
+    NONE, NONE, NONE, NONE, NONE, NONE, NONE, NONE, NONE, NONE, NONE, NONE, NONE, NONE, NONE, NONE,
+    NONE, NONE, NONE, NONE, NONE, NONE, NONE, NONE, NONE, NONE, NONE, NONE, NONE, NONE, NONE, NONE,
+    NONE, NONE, NONE, NONE, NONE, NONE, NONE, NONE, NONE, NONE, NONE, NONE, NONE, NONE, NONE, NONE,
+    NONE, NONE, NONE, NONE, NONE, NONE, NONE, NONE, NONE, NONE, NONE, NONE, NONE, NONE, NONE, NONE,
+    NONE, NONE, NONE, NONE, NONE, NONE, NONE, NONE, NONE, NONE, NONE, NONE, NONE, NONE, NONE, NONE,
+    NONE, NONE, NONE, NONE, NONE, NONE, NONE, NONE, NONE, NONE, NONE, NONE, NONE, NONE, NONE, NONE,
+    NONE, NONE, NONE, NONE, NONE, NONE, NONE, NONE, NONE, NONE, NONE, NONE, NONE, NONE, NONE, NONE,
+    NONE, NONE, NONE, NONE, NONE, NONE, NONE, NONE, NONE, NONE, NONE, NONE, NONE, NONE, NONE, NONE,
+    NONE, NONE, NONE, NONE, NONE, NONE, NONE, NONE, NONE, NONE, NONE, NONE, NONE, NONE, NONE, NONE,
+    NONE, NONE, NONE, NONE, NONE, NONE, NONE, NONE, NONE, NONE, NONE, NONE, NONE, NONE, NONE, NONE,
+];
+
+/// The length of a quiet message with this type byte, or [`NONE`] if no quiet message has it.
 #[inline(always)]
 fn quiet_size(kind: u8) -> usize
-    ensures { IsQuietSize kind result }
+    ensures size { result ≡ quiet_size kind }
+    ensures some { 0 < result }
+    ensures fits { result ≤ NONE }
 {
-    match kind {
-        XFER_ACK => 18,
-        XFER_REFUSE => 10,
-        KEEPALIVE => 1,
-        MSG_REJECT => 3,
-        _ => 0,
-    }
-}
-
-/// The length of the quiet message that begins the window, or 0 if none lies whole there.
-#[inline(always)]
-fn quiet_head(window: &[u8]) -> usize
-    ensures { 0 < result → IsQuietHead window.now result }
-{
-    if window.is_empty() {
-        return 0;
-    }
-    let size = quiet_size(window[0]);
-    if size > window.len() {
-        return 0;
-    }
-    size
+    SIZES[usize::from(kind)]
 }
 
 /// The number of bytes of the quiet messages that lie whole at the start of the window.
@@ -47,11 +60,11 @@ pub fn quiet(window: &[u8]) -> usize
     ensures here { 0 < result → IsHere 0 (message_at window.now) }
 {
     let mut at = 0;
-    loop {
-        let size = quiet_head(&window[at..]);
-        if size == 0 {
-            return at;
-        }
-        at += size;
+    let mut next = 0;
+    // One test a message: a message that ends with the window ends the loop too.
+    while next < window.len() {
+        at = next;
+        next = at + quiet_size(window[at]);
     }
+    if next == window.len() { next } else { at }
 }

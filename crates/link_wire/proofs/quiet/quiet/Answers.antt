@@ -1,24 +1,24 @@
-use Rattle.std.proofs.Common.{◌≡◌, ◌-◌, ◌<◌, ℕ, List, length, take, drop, subst, take_all, arith, length-drop}
-use Rattle.link_wire.specs.Whole.{IsQuietHead}
-use Rattle.link_wire.proofs.Wholes.{quiet_none, quiet_more, quiet_first}
+use Rattle.std.proofs.Common.{arith}
+use Rattle.link_wire.proofs.Wholes.{begin_none, begin_more}
 use Rattle.link_wire.proofs.quiet.quiet.Goals as goal
 
-pub loop-at-init : goal.loop-at-init
-loop-at-init c =
-    record { within = omega arith; quiet = quiet_none; here = λ some. absurd (omega arith) }
+pub loop-next-init : goal.loop-next-init
+loop-next-init c = record { at = begin_none c.args.window.now; next = λ within. begin_none c.args.window.now }
 
-pub loop-at-preserved : goal.loop-at-preserved
-loop-at-preserved c =
-    let kept = c.loop-at.invariant in
-    let size = c.quiet_head-size.result in
-    let some : 0 < size = omega (arith, c.if-size-eq0.false) in
-    let at = c.loop-at.at in
-    let window = c.args.window.now in
-    let rest : take (length window - at) (drop at window) ≡ drop at window = take_all _ _ (omega (arith, length-drop at window)) in
-    let P : List ℕ → Type 0 = λ bytes. IsQuietHead bytes size in
-    let head : IsQuietHead (drop at window) size = subst P rest (c.quiet_head-size.ensures some) in
+pub loop-next-preserved : goal.loop-next-preserved
+loop-next-preserved c =
+    let begun = c.loop-next.invariant.next (omega arith) in
     record {
-      within = omega (arith, head.within, kept.within, length-drop at window);
-      quiet = λ offset. quiet_more offset at size window kept.within (kept.quiet offset) head;
-      here = λ more. quiet_first at size window kept.here head;
+      at = begun;
+      next = λ within. begin_more c.args.window.now c.loop-next.next c.quiet_size.result (omega arith) c.quiet_size.ensures.size begun within;
     }
+
+pub returns-then-next-window : goal.returns-then-next-window
+returns-then-next-window c =
+    let begun = c.loop-next.invariant.next (omega arith) in
+    record { within = begun.within; quiet = begun.quiet; here = begun.here }
+
+pub returns-else-next-window : goal.returns-else-next-window
+returns-else-next-window c =
+    let begun = c.loop-next.invariant.at in
+    record { within = begun.within; quiet = begun.quiet; here = begun.here }

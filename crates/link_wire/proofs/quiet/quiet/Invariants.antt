@@ -1,16 +1,13 @@
-use Rattle.std.proofs.Common.{◌-◌, ◌<◌, ◌≤◌, ℕ, length, take}
-use Rattle.link_wire.specs.Here.{IsHere}
-use Rattle.link_wire.specs.Message.{message_at}
-use Rattle.link_wire.specs.Whole.{AreQuiet}
+use Rattle.std.proofs.Common.{◌-◌, ◌≤◌, length}
+use Rattle.link_wire.proofs.Wholes.{BeginQuiet}
 use Rattle.link_wire.proofs.quiet.quiet.Given as goal
 
--- the bytes before `at` are quiet messages
-abbrev pub invariant-loop-at : goal.invariant-loop-at
-invariant-loop-at l = record {
-  within : l.at ≤ length l.window;
-  quiet : (offset : ℕ) → AreQuiet offset (take l.at l.window);
-  here : 0 < l.at → IsHere 0 (message_at l.window);
+-- the bytes before `at` are quiet messages, and so are those before `next` if they are in the window
+abbrev pub invariant-loop-next : goal.invariant-loop-next
+invariant-loop-next l = record {
+  at : BeginQuiet l.window l.at;
+  next : l.next ≤ length l.window → BeginQuiet l.window l.next;
 }
 
-abbrev pub decreases-loop-at : goal.decreases-loop-at
-decreases-loop-at l = length l.window - l.at
+abbrev pub decreases-loop-next : goal.decreases-loop-next
+decreases-loop-next l = length l.window - l.next
