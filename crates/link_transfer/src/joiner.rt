@@ -90,7 +90,7 @@ impl Joiner {
             → result ≡ continuable before }
     {
         if self.initiated {
-            self.transfer
+            self.open()
         } else {
             None
         }
