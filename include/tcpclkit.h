@@ -195,7 +195,7 @@ struct tcpclkit_bundle {
  * payload's fields have a meaning for each of the three.
  *
  * Proved: the status and `fault` are those of `verdict` of the bytes, and the payload's fields are
- * `payload_span` of them.
+ * `payload_seen` of them.
  */
 static inline uint32_t tcpclkit_bundle_verdict(const uint8_t *bytes, size_t length,
                                                struct tcpclkit_verdict *verdict);
@@ -430,8 +430,8 @@ struct tcpclkit_turn {
  * TCPCLKIT_FAULT: it may not, and `order` stays as it was. TCPCLKIT_RANGE: `kind` is none of a
  * message, `flags` are above 255, or `order` has a field above 1 that is 0 or 1.
  *
- * Proved: if `order` is that of some messages, the answer is `judged` of this message after them;
- * and if it was accepted, `order` is then that of these messages and this one.
+ * Proved: if `order` is that of some messages, the answer is `judged_message` of this message after
+ * them; and if it was accepted, `order` is then that of these messages and this one.
  */
 static inline uint32_t tcpclkit_order(struct tcpclkit_order *order, uint64_t kind, uint64_t flags,
                                       uint64_t id, struct tcpclkit_turn *turn);

@@ -12,9 +12,9 @@ use Rattle.link_bundle.specs.declared.stage.CheckType.TheVariants.{Unread, Is}
 use Rattle.link_bundle.specs.declared.stage.Stage.TheVariants.{Start, Ended}
 use Rattle.link_bundle.specs.CheckKinds.{is_unread}
 use Rattle.link_bundle.specs.Covers.{Covers}
-use Rattle.link_bundle.specs.Bundle.{Bundle, opening_at, bundle_at, bundle_goes, if_alone, judged}
+use Rattle.link_bundle.specs.Bundle.{Bundle, opening_at, bundle_at, bundle_goes, if_alone, judged_bundle}
 use Rattle.link_bundle.specs.Left.{bundle_of, stage_left}
-use Rattle.link_bundle.specs.Scan.{HasCome}
+use Rattle.link_bundle.specs.Scan.{HasSeen}
 use Rattle.link_bundle.proofs.Steady.{EndsCut}
 use Rattle.link_bundle.proofs.Keeping.{Stays, cuts, same, bundle_at-stays, bundle_at-alone}
 use Rattle.link_bundle.proofs.Lengths.{bundle_within}
@@ -78,31 +78,31 @@ begins_with bundle bytes is =
 -- ---- a scan that takes a whole bundle at once
 
 pub whole_come : (old new : Cursor) (draft after : Draft) (seen bytes : List ℕ) (size : ℕ)
-    → HasCome Start old draft seen → AreBytes bytes → BeginsWith (bundle_of after size) bytes
-    → new.count ≡ old.count + size → new.place ≡ new.count
-    → HasCome Ended new after (seen ++ take size bytes)
-unfolding judged stage_left
+    → HasSeen Start old draft seen → AreBytes bytes → BeginsWith (bundle_of after size) bytes
+    → new.count ≡ old.count + size → new.offset ≡ new.count
+    → HasSeen Ended new after (seen ++ take size bytes)
+unfolding judged_bundle stage_left
 whole_come old new draft after seen bytes size come all begins counts stays =
     let run = take size bytes in
     let none : length seen ≡ 0 = ap length come.stands.nothing in
     let long : length (seen ++ run) ≡ size =
     omega (arith, length-append seen run, length-take-le size bytes begins.within) in
-    let end : new.place ≡ size = omega (arith, come.count) in
+    let end : new.offset ≡ size = omega (arith, come.count) in
     record {
       all_bytes =
           all_grown seen run come.all_bytes (All-take (λ (byte : ℕ). byte < 256) size bytes all);
       count = omega (arith, come.count);
       start = 0;
       reads = λ more.
-          subst (λ (seen : List ℕ). judged ((seen ++ run) ++ more)
-          ≡ if_alone ((seen ++ run) ++ more) (bundle_of after new.place)) (sym come.stands.nothing)
+          subst (λ (seen : List ℕ). judged_bundle ((seen ++ run) ++ more)
+          ≡ if_alone ((seen ++ run) ++ more) (bundle_of after new.offset)) (sym come.stands.nothing)
           (rw (begins.reads more, end) refl);
       stands = omega arith;
     }
 
 pub goes_in_whole : (old : Cursor) (draft : Draft) (bundle : Bundle)
     (seen bytes : List ℕ) (count : ℕ)
-    → HasCome Start old draft seen → BeginsWith bundle bytes → count < bundle.length
+    → HasSeen Start old draft seen → BeginsWith bundle bytes → count < bundle.length
     → bundle_goes (seen ++ take count bytes) ≡ true
 goes_in_whole old draft bundle seen bytes count come begins before =
     ap (λ (seen : List ℕ). bundle_goes (seen ++ take count bytes)) come.stands.nothing
@@ -114,8 +114,8 @@ unread_of (Is kind) is = cc
 
 -- a scan that has seen nothing may have a new draft
 pub restarted : (cursor : Cursor) (draft after : Draft) (seen : List ℕ)
-    → HasCome Start cursor draft seen → is_unread draft.check ≡ true → after.check ≡ Unread
-    → HasCome Start cursor after seen
+    → HasSeen Start cursor draft seen → is_unread draft.check ≡ true → after.check ≡ Unread
+    → HasSeen Start cursor after seen
 unfolding stage_left
 restarted cursor draft after seen come unread fresh = record {
   all_bytes = come.all_bytes;

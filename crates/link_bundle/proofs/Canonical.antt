@@ -15,36 +15,36 @@ use Rattle.link_bundle.specs.Left.{primary_of, type_left, number_left, block_fla
 use Rattle.link_bundle.proofs.Heads.{row_at-accepted, row_at-refused}
 
 pub blocks_at-refused : (left : ℕ) (numbers : List ℕ) (primary : Primary) (bytes : List ℕ)
-    (place next : ℕ) (head : Head) (fault : BundleFault)
-    → head_at bytes place ≡ Ok (head, next) → block head ≡ Err fault
-    → blocks_at left numbers primary bytes place ≡ Err (stopped fault place)
+    (offset next : ℕ) (head : Head) (fault : BundleFault)
+    → head_at bytes offset ≡ Ok (head, next) → block head ≡ Err fault
+    → blocks_at left numbers primary bytes offset ≡ Err (stopped fault offset)
 unfolding blocks_at block_too_many
-blocks_at-refused zero numbers primary bytes place next head fault outcome judged =
-    rw (row_at-refused block_too_many bytes place next head fault outcome (rw judged refl)) refl
-blocks_at-refused (suc left) numbers primary bytes place next head fault outcome judged =
-    rw (row_at-refused block bytes place next head fault outcome judged) refl
+blocks_at-refused zero numbers primary bytes offset next head fault outcome judged =
+    rw (row_at-refused block_too_many bytes offset next head fault outcome (rw judged refl)) refl
+blocks_at-refused (suc left) numbers primary bytes offset next head fault outcome judged =
+    rw (row_at-refused block bytes offset next head fault outcome judged) refl
 
 pub blocks_at-full : (left : ℕ) (numbers : List ℕ) (primary : Primary) (bytes : List ℕ)
-    (place next : ℕ) (head : Head) (count : ℕ)
-    → left ≡ 0 → head_at bytes place ≡ Ok (head, next) → block head ≡ Ok count
-    → blocks_at left numbers primary bytes place ≡ Err (stopped TooManyBlocks place)
+    (offset next : ℕ) (head : Head) (count : ℕ)
+    → left ≡ 0 → head_at bytes offset ≡ Ok (head, next) → block head ≡ Ok count
+    → blocks_at left numbers primary bytes offset ≡ Err (stopped TooManyBlocks offset)
 unfolding blocks_at block_too_many
-blocks_at-full left numbers primary bytes place next head count none outcome judged =
+blocks_at-full left numbers primary bytes offset next head count none outcome judged =
     rw (
       none,
-      row_at-refused block_too_many bytes place next head TooManyBlocks outcome
+      row_at-refused block_too_many bytes offset next head TooManyBlocks outcome
           (rw judged refl),
     ) refl
 
-pub blocks_at-open : (draft : Draft) (bytes : List ℕ) (place next : ℕ) (head : Head) (count : ℕ)
-    → length draft.numbers < 64 → head_at bytes place ≡ Ok (head, next) → block head ≡ Ok count
-    → blocks_at (64 - length draft.numbers) draft.numbers (primary_of draft) bytes place
+pub blocks_at-open : (draft : Draft) (bytes : List ℕ) (offset next : ℕ) (head : Head) (count : ℕ)
+    → length draft.numbers < 64 → head_at bytes offset ≡ Ok (head, next) → block head ≡ Ok count
+    → blocks_at (64 - length draft.numbers) draft.numbers (primary_of draft) bytes offset
     ≡ type_left (63 - length draft.numbers) (length draft.numbers + 1)
-    (record draft { count = count }) place bytes next
+    (record draft { count = count }) offset bytes next
 unfolding blocks_at type_left number_left block_flags_left block_check_left data_left
-blocks_at-open draft bytes place next head count room outcome judged =
+blocks_at-open draft bytes offset next head count room outcome judged =
     let more : 64 - length draft.numbers ≡ suc (63 - length draft.numbers) = omega arith in
-    rw (more, row_at-accepted block bytes place next head count outcome judged) refl
+    rw (more, row_at-accepted block bytes offset next head count outcome judged) refl
 
 pub no_room : (count : ℕ) → true ≡ (count == 64) → 64 - count ≡ 0
 no_room count full = grind (arith, nat_tests)

@@ -21,59 +21,59 @@ use Rattle.link_bundle.specs.Covers.{Covers}
 use Rattle.link_bundle.specs.Moves.{TakesRun, Enters}
 use Rattle.link_bundle.specs.Fits.{KeepsCheck}
 use Rattle.link_bundle_heads.specs.Rows.{◌>>=◌}
-use Rattle.link_bundle.specs.Reading.{Stop, stopped, Reading, bytes_at}
+use Rattle.link_bundle.specs.Reading.{Stop, stopped, ReadAt, bytes_at}
 use Rattle.link_bundle.specs.CheckField.{field_at}
 use Rattle.link_bundle.specs.Canonical.{content_at}
-use Rattle.link_bundle.specs.Bundle.{Bundle, if_alone, judged}
+use Rattle.link_bundle.specs.Bundle.{Bundle, if_alone, judged_bundle}
 use Rattle.link_bundle.specs.Left.{span_of, bundle_of, read_alone, with_known_payload, after_field, zeroed_check, stored_left, stage_left, BlockEnds, FieldsEnd, NameGoesOn}
-use Rattle.link_bundle.specs.Scan.{HasCome, IsInside, IsInStored}
+use Rattle.link_bundle.specs.Scan.{HasSeen, IsInside, IsInStored}
 use Rattle.link_bundle.proofs.Fields.{stored_left-step, stored_left-last}
 use Rattle.link_bundle.proofs.Heads.{no_content, read_alone-stopped}
 use Rattle.link_bundle.proofs.Runs.{with_run, bytes_at-run, run_within}
 use Rattle.link_bundle.proofs.Steps.{entered, regrown, all_grown, byte_grown, count_more, failed, next_run}
 
 -- the bundle, by the check field of its current block
-abbrev by_field : Draft → List ℕ → Reading Bool → Result Bundle Stop
+abbrev by_field : Draft → List ℕ → ReadAt Bool → Result Bundle Stop
 by_field draft bytes field =
-    read_alone bytes (with_known_payload draft.payload (after_field draft bytes field))
+    read_alone bytes (with_known_payload draft.payload_span (after_field draft bytes field))
 
--- the result of a check field whose head is at `field` and whose content ends before `place`
-abbrev check_result : Bool → ℕ → ℕ → Reading Bool
-check_result same place field = if same then Ok (true, place) else Err (stopped CheckDiffers field)
+-- the result of a check field whose head is at `field` and whose content ends before `offset`
+abbrev check_result : Bool → ℕ → ℕ → ReadAt Bool
+check_result same offset field = if same then Ok (true, offset) else Err (stopped CheckDiffers field)
 
 -- the check field after bytes that were read
-skipped : Option CheckKind → ℕ → List ℕ → Reading (List ℕ) → Reading Bool
-skipped check start bytes reading = reading >>= λ (_, place). field_at check start bytes place
+skipped : Option CheckKind → ℕ → List ℕ → ReadAt (List ℕ) → ReadAt Bool
+skipped check start bytes reading = reading >>= λ (_, offset). field_at check start bytes offset
 
 skipped-with_run : (check : Option CheckKind) (start : ℕ) (bytes run : List ℕ)
-    (reading : Reading (List ℕ))
+    (reading : ReadAt (List ℕ))
     → skipped check start bytes (with_run run reading) ≡ skipped check start bytes reading
 unfolding skipped
-skipped-with_run check start bytes run (Ok (rest, place)) = refl
+skipped-with_run check start bytes run (Ok (rest, offset)) = refl
 skipped-with_run check start bytes run (Err stop) = refl
 
 content_at-run : (left : ℕ) (check : Option CheckKind) (start : ℕ)
-    (bytes more run : List ℕ) (place : ℕ)
-    → drop place bytes ≡ run ++ more → length run ≤ left
-    → content_at left check start bytes place
-    ≡ content_at (left - length run) check start bytes (place + length run)
+    (bytes more run : List ℕ) (offset : ℕ)
+    → drop offset bytes ≡ run ++ more → length run ≤ left
+    → content_at left check start bytes offset
+    ≡ content_at (left - length run) check start bytes (offset + length run)
 unfolding content_at skipped
-content_at-run left check start bytes more run place here fits =
-    ap (λ (reading : Reading (List ℕ)). skipped check start bytes reading)
-    (bytes_at-run left bytes more run place here fits)
+content_at-run left check start bytes more run offset here fits =
+    ap (λ (reading : ReadAt (List ℕ)). skipped check start bytes reading)
+    (bytes_at-run left bytes more run offset here fits)
     ∙ skipped-with_run check start bytes run
-    (bytes_at (left - length run) bytes (place + length run))
+    (bytes_at (left - length run) bytes (offset + length run))
 
 content_at-ends : (left : ℕ) (check : Option CheckKind) (start : ℕ)
-    (bytes more run : List ℕ) (place : ℕ)
-    → drop place bytes ≡ run ++ more → 0 < left → left ≡ length run
-    → content_at left check start bytes place ≡ field_at check start bytes (place + length run)
-content_at-ends left check start bytes more run place here some all =
+    (bytes more run : List ℕ) (offset : ℕ)
+    → drop offset bytes ≡ run ++ more → 0 < left → left ≡ length run
+    → content_at left check start bytes offset ≡ field_at check start bytes (offset + length run)
+content_at-ends left check start bytes more run offset here some all =
     let none : left - length run ≡ 0 = omega arith in
-    content_at-run left check start bytes more run place here (omega arith)
-    ∙ ap (λ (rest : ℕ). content_at rest check start bytes (place + length run)) none
-    ∙ no_content check start bytes (place + length run)
-    (run_within bytes more run place here (omega arith))
+    content_at-run left check start bytes more run offset here (omega arith)
+    ∙ ap (λ (rest : ℕ). content_at rest check start bytes (offset + length run)) none
+    ∙ no_content check start bytes (offset + length run)
+    (run_within bytes more run offset here (omega arith))
 
 -- the checks and the block after more bytes of a name or of data
 inside_grown : (draft : Draft) (old new : Cursor) (start : ℕ) (seen run : List ℕ)
@@ -93,9 +93,9 @@ count_grown check old new seen run counted takes =
 
 -- incomplete data
 pub grown_content : (left rest : ℕ) (old new : Cursor) (draft : Draft) (seen run : List ℕ)
-    → HasCome (Content left) old draft seen → length run ≤ left → rest ≡ left - length run
+    → HasSeen (Content left) old draft seen → length run ≤ left → rest ≡ left - length run
     → AreBytes run → TakesRun draft.check old new run
-    → HasCome (Content rest) new draft (seen ++ run)
+    → HasSeen (Content rest) new draft (seen ++ run)
 unfolding stage_left
 grown_content left rest old new draft seen run come fits is_rest are takes = record {
   all_bytes = all_grown seen run come.all_bytes are;
@@ -103,14 +103,14 @@ grown_content left rest old new draft seen run come fits is_rest are takes = rec
   start = come.start;
   reads = λ more.
       let bytes = (seen ++ run) ++ more in
-      regrown (λ (all : List ℕ). stage_left (Content left) draft come.start old.place all
+      regrown (λ (all : List ℕ). stage_left (Content left) draft come.start old.offset all
       (length seen)) seen run come.reads more
-      ∙ ap (λ (field : Reading Bool). by_field draft bytes field)
+      ∙ ap (λ (field : ReadAt Bool). by_field draft bytes field)
       (content_at-run left (kind_of draft.check) come.start bytes more run (length seen)
       (next_run seen more run) fits
       ∙ ap (λ (rest : ℕ). content_at rest (kind_of draft.check) come.start bytes
       (length seen + length run)) (sym is_rest)
-      ∙ ap (λ (place : ℕ). content_at rest (kind_of draft.check) come.start bytes place)
+      ∙ ap (λ (offset : ℕ). content_at rest (kind_of draft.check) come.start bytes offset)
       (sym (length-append seen run)));
   stands = inside_grown draft old new come.start seen run come.stands takes;
 }
@@ -121,10 +121,10 @@ ran_out : (old grown_cursor new : Cursor) (draft after : Draft) (stage : Stage) 
     → AreBytes seen → old.count ≡ length seen → IsInside old draft.check start seen
     → AreBytes run → TakesRun draft.check old grown_cursor run
     → KeepsCheck draft.check stage after.check → Enters stage grown_cursor new
-    → ((more : List ℕ) → judged ((seen ++ run) ++ more)
+    → ((more : List ℕ) → judged_bundle ((seen ++ run) ++ more)
     ≡ stage_left stage after start (length (seen ++ run)) ((seen ++ run) ++ more)
     (length (seen ++ run)))
-    → HasCome stage new after (seen ++ run)
+    → HasSeen stage new after (seen ++ run)
 ran_out old grown_cursor new draft after stage start seen run all counted at are takes keeps
     enters reads =
     let inside = inside_grown draft old grown_cursor start seen run at takes in
@@ -136,11 +136,11 @@ ran_out old grown_cursor new draft after stage start seen run all counted at are
 -- the last bytes of data
 pub ended_content : (left : ℕ) (old grown_cursor new : Cursor) (draft after : Draft)
     (stage : Stage) (seen run : List ℕ)
-    → HasCome (Content left) old draft seen → 0 < left → left ≡ length run
+    → HasSeen (Content left) old draft seen → 0 < left → left ≡ length run
     → AreBytes run → TakesRun draft.check old grown_cursor run
     → FieldsEnd draft stage after → KeepsCheck draft.check stage after.check
     → Enters stage grown_cursor new
-    → HasCome stage new after (seen ++ run)
+    → HasSeen stage new after (seen ++ run)
 unfolding stage_left
 ended_content left old grown_cursor new draft after stage seen run come some all are takes ends
     keeps enters =
@@ -148,56 +148,56 @@ ended_content left old grown_cursor new draft after stage seen run come some all
     come.stands are takes keeps enters
     (λ more.
     let bytes = (seen ++ run) ++ more in
-    regrown (λ (all : List ℕ). stage_left (Content left) draft come.start old.place all
+    regrown (λ (all : List ℕ). stage_left (Content left) draft come.start old.offset all
     (length seen)) seen run come.reads more
-    ∙ ap (λ (field : Reading Bool). by_field draft bytes field)
+    ∙ ap (λ (field : ReadAt Bool). by_field draft bytes field)
     (content_at-ends left (kind_of draft.check) come.start bytes more run (length seen)
     (next_run seen more run) some all
-    ∙ ap (λ (place : ℕ). field_at (kind_of draft.check) come.start bytes place)
+    ∙ ap (λ (offset : ℕ). field_at (kind_of draft.check) come.start bytes offset)
     (sym (length-append seen run)))
     ∙ ends bytes come.start (length (seen ++ run)))
 
 -- bytes of a name
 pub grown_name : (role : Role) (left : ℕ) (old grown_cursor new : Cursor) (draft after : Draft)
     (stage : Stage) (seen run : List ℕ)
-    → HasCome (Name role left) old draft seen → AreBytes run
+    → HasSeen (Name role left) old draft seen → AreBytes run
     → TakesRun draft.check old grown_cursor run
     → NameGoesOn role left run draft stage after → KeepsCheck draft.check stage after.check
     → Enters stage grown_cursor new
-    → HasCome stage new after (seen ++ run)
+    → HasSeen stage new after (seen ++ run)
 grown_name role left old grown_cursor new draft after stage seen run come are takes goes keeps
     enters =
     ran_out old grown_cursor new draft after stage come.start seen run come.all_bytes come.count
     come.stands are takes keeps enters
     (λ more.
     let bytes = (seen ++ run) ++ more in
-    regrown (λ (all : List ℕ). stage_left (Name role left) draft come.start old.place all
+    regrown (λ (all : List ℕ). stage_left (Name role left) draft come.start old.offset all
     (length seen)) seen run come.reads more
-    ∙ goes bytes more come.start old.place (length seen) (next_run seen more run)
-    ∙ ap (λ (place : ℕ). stage_left stage after come.start place bytes place)
+    ∙ goes bytes more come.start old.offset (length seen) (next_run seen more run)
+    ∙ ap (λ (offset : ℕ). stage_left stage after come.start offset bytes offset)
     (sym (length-append seen run)))
 
 -- the part of a block that was seen does not change
-slice_kept : (seen more : List ℕ) (start place : ℕ) → start ≤ length seen → place ≤ length seen
-    → slice_range (seen ++ more) start place ≡ slice_range seen start place
-slice_kept seen more start place within bound =
-    ap (λ (bytes : List ℕ). take (place - start) bytes) (drop-append-le start seen more within)
-    ∙ take-append-le (place - start) (drop start seen) more (omega (arith, length-drop start seen))
+slice_kept : (seen more : List ℕ) (start offset : ℕ) → start ≤ length seen → offset ≤ length seen
+    → slice_range (seen ++ more) start offset ≡ slice_range seen start offset
+slice_kept seen more start offset within bound =
+    ap (λ (bytes : List ℕ). take (offset - start) bytes) (drop-append-le start seen more within)
+    ∙ take-append-le (offset - start) (drop start seen) more (omega (arith, length-drop start seen))
 
 stored_grown : (check : CheckType) (old new : Cursor) (start : ℕ) (seen : List ℕ) (byte : ℕ)
     → IsInStored old check start seen → TakesRun check old new (0 ∷ [])
     → IsInStored new check start (seen ++ byte ∷ [])
 stored_grown check old new start seen byte at takes =
-    let front = slice_range seen start old.place in
-    let count = length seen - old.place in
-    let longer : length (seen ++ byte ∷ []) - old.place ≡ count + 1 =
+    let front = slice_range seen start old.offset in
+    let count = length seen - old.offset in
+    let longer : length (seen ++ byte ∷ []) - old.offset ≡ count + 1 =
     omega (arith, length-append seen (byte ∷ []), at.in_bytes) in
     record {
       in_block = omega (arith, length-append seen (byte ∷ []), at.in_block);
-      in_bytes = omega (arith, length-append seen (byte ∷ []), at.in_bytes, takes.place);
+      in_bytes = omega (arith, length-append seen (byte ∷ []), at.in_bytes, takes.offset);
       checks = rw (
-        takes.place,
-        slice_kept seen (byte ∷ []) start old.place at.in_block at.in_bytes,
+        takes.offset,
+        slice_kept seen (byte ∷ []) start old.offset at.in_block at.in_bytes,
         longer,
       )
           (subst (λ (covered : List ℕ). Covers check new.checks covered)
@@ -209,14 +209,14 @@ stored_grown check old new start seen byte at takes =
 -- incomplete content of a check field
 pub grown_stored : (field left stored : ℕ) (kind : CheckKind) (old new : Cursor) (draft : Draft)
     (seen : List ℕ) (byte : ℕ)
-    → HasCome (Stored field left stored kind) old draft seen → byte < 256 → 0 < left
+    → HasSeen (Stored field left stored kind) old draft seen → byte < 256 → 0 < left
     → TakesRun draft.check old new (0 ∷ [])
-    → HasCome (Stored field (left - 1) (stored * 256 + byte) kind) new draft (seen ++ byte ∷ [])
+    → HasSeen (Stored field (left - 1) (stored * 256 + byte) kind) new draft (seen ++ byte ∷ [])
 unfolding stage_left
 grown_stored field left stored kind old new draft seen byte come small some takes =
     let longer = length-append seen (byte ∷ []) in
-    let zeros : length (seen ++ byte ∷ []) + (left - 1) - old.place
-    ≡ length seen + left - old.place = omega (arith, longer, some) in
+    let zeros : length (seen ++ byte ∷ []) + (left - 1) - old.offset
+    ≡ length seen + left - old.offset = omega (arith, longer, some) in
     record {
       all_bytes = byte_grown seen byte come.all_bytes small;
       count = count_more old.count new.count seen byte takes.count come.count;
@@ -224,13 +224,13 @@ grown_stored field left stored kind old new draft seen byte come small some take
       reads = λ more.
           let bytes = (seen ++ byte ∷ []) ++ more in
           let check =
-          zeroed_check kind come.start old.place (length seen + left - old.place) bytes in
+          zeroed_check kind come.start old.offset (length seen + left - old.offset) bytes in
           regrown (λ (all : List ℕ). stage_left (Stored field left stored kind) draft come.start
-          old.place all (length seen)) seen (byte ∷ []) come.reads more
-          ∙ ap (λ (reading : Reading Bool). by_field draft bytes reading)
+          old.offset all (length seen)) seen (byte ∷ []) come.reads more
+          ∙ ap (λ (reading : ReadAt Bool). by_field draft bytes reading)
           (stored_left-step left stored check field bytes more byte (length seen)
           (next_run seen more (byte ∷ [])) some
-          ∙ rw (takes.place, zeros, longer) refl);
+          ∙ rw (takes.offset, zeros, longer) refl);
       stands = stored_grown draft.check old new come.start seen byte come.stands takes;
     }
 
@@ -244,50 +244,50 @@ pub record Checks (kind : CheckKind) (check : CheckType) (cursor : Cursor)
 checked : (kind : CheckKind) (check : CheckType) (cursor : Cursor)
     (expected start : ℕ) (seen more : List ℕ)
     → IsInStored cursor check start seen → Checks kind check cursor expected
-    → zeroed_check kind start cursor.place (length seen - cursor.place) (seen ++ more) ≡ expected
+    → zeroed_check kind start cursor.offset (length seen - cursor.offset) (seen ++ more) ≡ expected
 unfolding zeroed_check
 checked kind check cursor expected start seen more at checks =
-    let covered = slice_range seen start cursor.place ++ replicate (length seen - cursor.place) 0 in
-    rw (slice_kept seen more start cursor.place at.in_block at.in_bytes)
+    let covered = slice_range seen start cursor.offset ++ replicate (length seen - cursor.offset) 0 in
+    rw (slice_kept seen more start cursor.offset at.in_block at.in_bytes)
     (sym (checks.outcome covered (subst (λ (check : CheckType). Covers check cursor.checks covered)
     checks.is at.checks)))
 
 -- the reading after the last byte of a check field's content
 last_stored : (field left stored expected : ℕ) (kind : CheckKind) (old new : Cursor) (draft : Draft)
     (seen more : List ℕ) (byte : ℕ)
-    → (come : HasCome (Stored field left stored kind) old draft seen) → left ≡ 1
+    → (come : HasSeen (Stored field left stored kind) old draft seen) → left ≡ 1
     → TakesRun draft.check old new (0 ∷ []) → Checks kind draft.check new expected
-    → judged ((seen ++ byte ∷ []) ++ more)
+    → judged_bundle ((seen ++ byte ∷ []) ++ more)
     ≡ by_field draft ((seen ++ byte ∷ []) ++ more)
     (check_result (stored * 256 + byte == expected) (length (seen ++ byte ∷ [])) field)
 unfolding stage_left
 last_stored field left stored expected kind old new draft seen more byte come one takes checks =
     let bytes = (seen ++ byte ∷ []) ++ more in
     let longer = length-append seen (byte ∷ []) in
-    let zeros : length seen + left - old.place ≡ length (seen ++ byte ∷ []) - new.place =
-    omega (arith, longer, one, takes.place) in
-    let check : zeroed_check kind come.start old.place (length seen + left - old.place) bytes
+    let zeros : length seen + left - old.offset ≡ length (seen ++ byte ∷ []) - new.offset =
+    omega (arith, longer, one, takes.offset) in
+    let check : zeroed_check kind come.start old.offset (length seen + left - old.offset) bytes
     ≡ expected =
-    rw (zeros, sym takes.place)
+    rw (zeros, sym takes.offset)
     (checked kind draft.check new expected come.start (seen ++ byte ∷ []) more
     (stored_grown draft.check old new come.start seen byte come.stands takes) checks) in
-    regrown (λ (all : List ℕ). stage_left (Stored field left stored kind) draft come.start old.place
+    regrown (λ (all : List ℕ). stage_left (Stored field left stored kind) draft come.start old.offset
     all (length seen)) seen (byte ∷ []) come.reads more
-    ∙ ap (λ (reading : Reading Bool). by_field draft bytes reading)
+    ∙ ap (λ (reading : ReadAt Bool). by_field draft bytes reading)
     (ap (λ (check : ℕ). stored_left left stored check field bytes (length seen)) check
     ∙ stored_left-last left stored expected field bytes more byte (length seen)
     (next_run seen more (byte ∷ [])) one
-    ∙ ap (λ (place : ℕ). check_result (stored * 256 + byte == expected) place field) (sym longer))
+    ∙ ap (λ (offset : ℕ). check_result (stored * 256 + byte == expected) offset field) (sym longer))
 
 -- the check is equal, and no more of the block is checked
 pub equal_stored : (field left stored expected : ℕ) (kind : CheckKind)
     (old grown_cursor new : Cursor) (draft after : Draft) (stage : Stage) (seen : List ℕ) (byte : ℕ)
-    → HasCome (Stored field left stored kind) old draft seen → byte < 256 → left ≡ 1
+    → HasSeen (Stored field left stored kind) old draft seen → byte < 256 → left ≡ 1
     → (stored * 256 + byte == expected) ≡ true
     → TakesRun draft.check old grown_cursor (0 ∷ []) → Checks kind draft.check grown_cursor expected
     → BlockEnds (record draft { check = Is None }) stage after
     → KeepsCheck (Is None) stage after.check → Enters stage grown_cursor new
-    → HasCome stage new after (seen ++ byte ∷ [])
+    → HasSeen stage new after (seen ++ byte ∷ [])
 equal_stored field left stored expected kind old grown_cursor new draft after stage seen byte come
     small one same takes checks ends keeps enters =
     entered stage grown_cursor new (Is None) after 0 (seen ++ byte ∷ [])
@@ -305,10 +305,10 @@ equal_stored field left stored expected kind old grown_cursor new draft after st
 -- the check differs
 pub other_stored : (field left stored expected : ℕ) (kind : CheckKind) (old new : Cursor)
     (draft : Draft) (seen : List ℕ) (byte : ℕ)
-    → HasCome (Stored field left stored kind) old draft seen → byte < 256 → left ≡ 1
+    → HasSeen (Stored field left stored kind) old draft seen → byte < 256 → left ≡ 1
     → (stored * 256 + byte == expected) ≡ false
     → TakesRun draft.check old new (0 ∷ []) → Checks kind draft.check new expected
-    → HasCome (Failed CheckDiffers field) new draft (seen ++ byte ∷ [])
+    → HasSeen (Failed CheckDiffers field) new draft (seen ++ byte ∷ [])
 other_stored field left stored expected kind old new draft seen byte come small one differs takes
     checks =
     failed CheckDiffers field new draft (seen ++ byte ∷ [])
@@ -319,32 +319,32 @@ other_stored field left stored expected kind old new draft seen byte come small 
     last_stored field left stored expected kind old new draft seen more byte come one takes checks
     ∙ ap (λ (is : Bool). by_field draft bytes (check_result is (length (seen ++ byte ∷ [])) field))
     differs
-    ∙ read_alone-stopped draft.payload bytes (stopped CheckDiffers field))
+    ∙ read_alone-stopped draft.payload_span bytes (stopped CheckDiffers field))
 
 -- bytes after the bundle
-alone-trailing : (payload : Option (ℕ × ℕ)) (info : BundleInfo) (place : ℕ) (bytes : List ℕ)
-    → is_some payload ≡ true → place < length bytes
-    → if_alone bytes (record { info = info; length = place; payload = span_of payload })
-    ≡ with_known_payload payload (Err (stopped Trailing place))
-alone-trailing None info place bytes outcome short = cc
-alone-trailing (Some payload) info place bytes outcome short =
-    let other : (place == length bytes)
-    ≡ false = ne_eqb place (length bytes) (λ same. omega arith) in rw other refl
+alone-trailing : (payload : Option (ℕ × ℕ)) (info : BundleInfo) (offset : ℕ) (bytes : List ℕ)
+    → is_some payload ≡ true → offset < length bytes
+    → if_alone bytes (record { info = info; length = offset; payload_span = span_of payload })
+    ≡ with_known_payload payload (Err (stopped Trailing offset))
+alone-trailing None info offset bytes outcome short = cc
+alone-trailing (Some payload) info offset bytes outcome short =
+    let other : (offset == length bytes)
+    ≡ false = ne_eqb offset (length bytes) (λ same. omega arith) in rw other refl
 
 pub trailing : (old new : Cursor) (draft : Draft) (seen : List ℕ) (byte : ℕ)
-    → HasCome Ended old draft seen → byte < 256 → is_some draft.payload ≡ true
+    → HasSeen Ended old draft seen → byte < 256 → is_some draft.payload_span ≡ true
     → new.count ≡ old.count + 1
-    → HasCome (Failed Trailing old.place) new draft (seen ++ byte ∷ [])
+    → HasSeen (Failed Trailing old.offset) new draft (seen ++ byte ∷ [])
 unfolding stage_left
 trailing old new draft seen byte come small outcome counts =
-    failed Trailing old.place new draft (seen ++ byte ∷ [])
+    failed Trailing old.offset new draft (seen ++ byte ∷ [])
     (byte_grown seen byte come.all_bytes small)
     (count_more old.count new.count seen byte counts come.count)
     (λ more.
     let bytes = (seen ++ byte ∷ []) ++ more in
-    regrown (λ (all : List ℕ). stage_left Ended draft come.start old.place all (length seen)) seen
+    regrown (λ (all : List ℕ). stage_left Ended draft come.start old.offset all (length seen)) seen
     (byte ∷ []) come.reads more
-    ∙ alone-trailing draft.payload (bundle_of draft old.place).info old.place bytes outcome
+    ∙ alone-trailing draft.payload_span (bundle_of draft old.offset).info old.offset bytes outcome
     (omega (
       arith,
       length-append (seen ++ byte ∷ []) more,

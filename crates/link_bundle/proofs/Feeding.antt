@@ -16,9 +16,9 @@ use Rattle.link_bundle.specs.declared.stage.Role.{Role}
 use Rattle.link_bundle.specs.declared.stage.Stage.TheVariants.{Head, Name, Content}
 use Rattle.link_bundle.specs.Reading.{Stop, stopped}
 use Rattle.link_bundle.specs.Canonical.{content_at}
-use Rattle.link_bundle.specs.Bundle.{Bundle, judged, verdict_by, verdict, state_of, is_going, bundle_goes}
+use Rattle.link_bundle.specs.Bundle.{Bundle, judged_bundle, verdict_by, verdict, state_of, is_going, bundle_goes}
 use Rattle.link_bundle.specs.Left.{block_start, read_alone, with_known_payload, name_left, stage_left}
-use Rattle.link_bundle.specs.Scan.{HasCome, HasScanned, Takes, scan_size}
+use Rattle.link_bundle.specs.Scan.{HasSeen, HasScanned, Advances, scan_size}
 use Rattle.link_bundle.specs.declared.scan.BundleScan.{BundleScan}
 use Rattle.link_bundle.proofs.Heads.{read_alone-stopped}
 use Rattle.link_bundle.proofs.Runs.{bytes_at-cut}
@@ -32,7 +32,7 @@ pub as_taken : {old new : BundleScan} {piece : List ℕ} {count : ℕ}
     → ((seen : List ℕ) → HasScanned old seen → HasScanned new (seen ++ take count piece))
     → ((seen : List ℕ) → HasScanned old seen
     → (fewer : ℕ) → fewer < count → bundle_goes (seen ++ take fewer piece) ≡ true)
-    → Takes old new piece count
+    → Advances old new piece count
 as_taken some within size seen goes =
     record { some = some; within = within; size = size; seen = seen; goes = goes }
 
@@ -143,37 +143,37 @@ taken_all seen bytes count all before =
     ∙ append-nil (take count bytes))
 
 -- more bytes are needed if the bytes end inside a bundle
-verdict_by-cut : (payload : Option (ℕ × ℕ)) (place : ℕ)
-    → is_going (state_of (verdict_by (with_known_payload payload (Err (stopped Cut place))))) ≡ true
-verdict_by-cut None place = refl
-verdict_by-cut (Some payload) place = refl
+verdict_by-cut : (payload : Option (ℕ × ℕ)) (offset : ℕ)
+    → is_going (state_of (verdict_by (with_known_payload payload (Err (stopped Cut offset))))) ≡ true
+verdict_by-cut None offset = refl
+verdict_by-cut (Some payload) offset = refl
 
-pub goes-cut : (payload : Option (ℕ × ℕ)) (bytes : List ℕ) (place : ℕ)
-    → judged bytes ≡ with_known_payload payload (Err (stopped Cut place))
+pub goes-cut : (payload : Option (ℕ × ℕ)) (bytes : List ℕ) (offset : ℕ)
+    → judged_bundle bytes ≡ with_known_payload payload (Err (stopped Cut offset))
     → bundle_goes bytes ≡ true
 unfolding verdict
-goes-cut payload bytes place is = rw is (verdict_by-cut payload place)
+goes-cut payload bytes offset is = rw is (verdict_by-cut payload offset)
 
 -- more bytes are needed inside a name and inside data
 pub goes_in_content : (left : ℕ) (cursor : Cursor) (draft : Draft) (seen run : List ℕ)
-    → HasCome (Content left) cursor draft seen
+    → HasSeen (Content left) cursor draft seen
     → length run < left → bundle_goes (seen ++ run) ≡ true
 unfolding stage_left content_at
 goes_in_content left cursor draft seen run come inside =
-    goes-cut draft.payload (seen ++ run) (length (seen ++ run))
+    goes-cut draft.payload_span (seen ++ run) (length (seen ++ run))
     (come.reads run
     ∙ rw (bytes_at-cut left (seen ++ run) (length seen) (omega (arith, length-append seen run)))
-    (read_alone-stopped draft.payload (seen ++ run) (stopped Cut (length (seen ++ run)))))
+    (read_alone-stopped draft.payload_span (seen ++ run) (stopped Cut (length (seen ++ run)))))
 
 pub goes_in_name : (role : Role) (left : ℕ) (cursor : Cursor) (draft : Draft) (seen run : List ℕ)
-    → HasCome (Name role left) cursor draft seen
+    → HasSeen (Name role left) cursor draft seen
     → length run < left → bundle_goes (seen ++ run) ≡ true
 unfolding stage_left name_left
 goes_in_name role left cursor draft seen run come inside =
-    goes-cut draft.payload (seen ++ run) (length (seen ++ run))
+    goes-cut draft.payload_span (seen ++ run) (length (seen ++ run))
     (come.reads run
     ∙ rw (bytes_at-cut left (seen ++ run) (length seen) (omega (arith, length-append seen run)))
-    (read_alone-stopped draft.payload (seen ++ run) (stopped Cut (length (seen ++ run)))))
+    (read_alone-stopped draft.payload_span (seen ++ run) (stopped Cut (length (seen ++ run)))))
 
 -- a head is cut before its last byte
 cut_by : (run : List ℕ) (head : HeadItem) (count : ℕ) (front : HeadFront)
@@ -193,27 +193,27 @@ cut_by run head count (Whole other size) whole before is =
 
 pub goes_in_head : (which : Field) (cursor : Cursor) (draft : Draft) (seen run : List ℕ)
     (head : HeadItem) (count : ℕ)
-    → HasCome (Head which) cursor draft seen → cursor.place ≡ cursor.count
+    → HasSeen (Head which) cursor draft seen → cursor.offset ≡ cursor.count
     → head_front run ≡ Whole head (length run) → count < length run
     → bundle_goes (seen ++ take count run) ≡ true
 unfolding stage_left
 goes_in_head which cursor draft seen run head count come begins whole before =
     let bytes = seen ++ take count run in
-    let cut : head_front (drop cursor.place bytes) ≡ CutHead =
-    ap head_front (after_seen cursor.place seen (take count run) (begins ∙ come.count))
+    let cut : head_front (drop cursor.offset bytes) ≡ CutHead =
+    ap head_front (after_seen cursor.offset seen (take count run) (begins ∙ come.count))
     ∙ cut_by run head count (head_front (take count run)) whole before refl in
-    goes-cut draft.payload bytes (length bytes)
+    goes-cut draft.payload_span bytes (length bytes)
     (come.reads (take count run)
     ∙ ap (λ (reading : Result Bundle Stop). read_alone bytes
-    (with_known_payload draft.payload reading))
-    (field_left-stopped which draft (block_start which come.start cursor.place) bytes cursor.place
+    (with_known_payload draft.payload_span reading))
+    (field_left-stopped which draft (block_start which come.start cursor.offset) bytes cursor.offset
     (stopped Cut (length bytes))
-    (head_at-cut bytes cursor.place cut))
-    ∙ read_alone-stopped draft.payload bytes (stopped Cut (length bytes)))
+    (head_at-cut bytes cursor.offset cut))
+    ∙ read_alone-stopped draft.payload_span bytes (stopped Cut (length bytes)))
 
 -- inside data, a piece that is shorter than what is left of it is taken whole
 pub content_taken : (left : ℕ) (cursor : Cursor) (draft : Draft) (seen run : List ℕ)
-    → HasCome (Content left) cursor draft seen → length run < left
+    → HasSeen (Content left) cursor draft seen → length run < left
     → TakenInAll seen run (length run)
 content_taken left cursor draft seen run come inside =
     let none : 0 + length run ≡ length run = omega arith in

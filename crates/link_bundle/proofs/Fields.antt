@@ -12,7 +12,7 @@ use Rattle.link_bundle.specs.declared.stage.CheckType.{CheckType}
 use Rattle.link_bundle.specs.declared.stage.CheckType.TheVariants.{Unread, Is}
 use Rattle.link_bundle.specs.CheckKinds.{kind_of, is_kind}
 use Rattle.link_bundle_heads.specs.Rows.{◌>>=◌, check_width, check_field}
-use Rattle.link_bundle.specs.Reading.{stopped, Reading, head_at, bytes_at}
+use Rattle.link_bundle.specs.Reading.{stopped, ReadAt, head_at, bytes_at}
 use Rattle.link_bundle.specs.CheckField.{number_from, check_of, field_at}
 use Rattle.link_bundle.specs.Left.{zeroed_check, stored_left}
 use Rattle.link_bundle.proofs.Heads.{row_at-accepted}
@@ -29,54 +29,54 @@ same_check (Is (Some Crc32)) Crc16 outcome = cc
 same_check (Is (Some Crc32)) Crc32 outcome = refl
 
 -- after the head of the field, its content is read and compared with the check
-pub field_at-accepted : (kind : CheckKind) (bytes : List ℕ) (start place next width : ℕ)
+pub field_at-accepted : (kind : CheckKind) (bytes : List ℕ) (start offset next width : ℕ)
     (head : Head) (count : ℕ)
-    → head_at bytes place ≡ Ok (head, next) → check_field kind head ≡ Ok count
+    → head_at bytes offset ≡ Ok (head, next) → check_field kind head ≡ Ok count
     → width ≡ check_width kind
-    → field_at (Some kind) start bytes place
-    ≡ stored_left width 0 (zeroed_check kind start next (next + width - next) bytes) place bytes
+    → field_at (Some kind) start bytes offset
+    ≡ stored_left width 0 (zeroed_check kind start next (next + width - next) bytes) offset bytes
     next
 unfolding field_at stored_left check_of zeroed_check
-field_at-accepted kind bytes start place next width head count outcome judged is_width =
+field_at-accepted kind bytes start offset next width head count outcome judged is_width =
     let all : next + width - next ≡ check_width kind = omega (arith, is_width) in
     rw (
-      row_at-accepted (check_field kind) bytes place next head count outcome judged,
+      row_at-accepted (check_field kind) bytes offset next head count outcome judged,
       all,
       is_width,
     ) refl
 
 -- the comparison of a content with its check, after some of its bytes
-compared : ℕ → ℕ → ℕ → Reading (List ℕ) → Reading Bool
+compared : ℕ → ℕ → ℕ → ReadAt (List ℕ) → ReadAt Bool
 compared stored expected field reading =
     reading >>= λ (rest, next). if number_from stored rest == expected then Ok (true, next) else Err
     (stopped CheckDiffers field)
 
-compared-with_run : (stored expected field byte : ℕ) (reading : Reading (List ℕ))
+compared-with_run : (stored expected field byte : ℕ) (reading : ReadAt (List ℕ))
     → compared stored expected field (with_run (byte ∷ []) reading)
     ≡ compared (stored * 256 + byte) expected field reading
 unfolding compared
 compared-with_run stored expected field byte (Ok (rest, next)) = refl
 compared-with_run stored expected field byte (Err stop) = refl
 
-pub stored_left-step : (left stored expected field : ℕ) (bytes more : List ℕ) (byte place : ℕ)
-    → drop place bytes ≡ byte ∷ more → 0 < left
-    → stored_left left stored expected field bytes place
-    ≡ stored_left (left - 1) (stored * 256 + byte) expected field bytes (place + 1)
+pub stored_left-step : (left stored expected field : ℕ) (bytes more : List ℕ) (byte offset : ℕ)
+    → drop offset bytes ≡ byte ∷ more → 0 < left
+    → stored_left left stored expected field bytes offset
+    ≡ stored_left (left - 1) (stored * 256 + byte) expected field bytes (offset + 1)
 unfolding stored_left compared
-stored_left-step left stored expected field bytes more byte place here some =
-    ap (λ (reading : Reading (List ℕ)). compared stored expected field reading)
-    (bytes_at-step left bytes more byte place here some)
-    ∙ compared-with_run stored expected field byte (bytes_at (left - 1) bytes (place + 1))
+stored_left-step left stored expected field bytes more byte offset here some =
+    ap (λ (reading : ReadAt (List ℕ)). compared stored expected field reading)
+    (bytes_at-step left bytes more byte offset here some)
+    ∙ compared-with_run stored expected field byte (bytes_at (left - 1) bytes (offset + 1))
 
 -- the last byte of a content
-pub stored_left-last : (left stored expected field : ℕ) (bytes more : List ℕ) (byte place : ℕ)
-    → drop place bytes ≡ byte ∷ more → left ≡ 1
-    → stored_left left stored expected field bytes place
-    ≡ (if stored * 256 + byte == expected then Ok (true, place + 1) else Err
+pub stored_left-last : (left stored expected field : ℕ) (bytes more : List ℕ) (byte offset : ℕ)
+    → drop offset bytes ≡ byte ∷ more → left ≡ 1
+    → stored_left left stored expected field bytes offset
+    ≡ (if stored * 256 + byte == expected then Ok (true, offset + 1) else Err
     (stopped CheckDiffers field))
 unfolding stored_left
-stored_left-last left stored expected field bytes more byte place here one =
-    rw (one, bytes_at-last bytes more byte place here) refl
+stored_left-last left stored expected field bytes more byte offset here one =
+    rw (one, bytes_at-last bytes more byte offset here) refl
 
 -- the number that the content spells fits in its bytes
 abbrev pub room : ℕ → ℕ → Bool

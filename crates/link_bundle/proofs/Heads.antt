@@ -16,39 +16,39 @@ use Rattle.link_bundle.specs.Bundle.{info_of, payload_at, blocks_at}
 use Rattle.link_bundle.specs.Left.{read_alone, with_known_payload, block_end, span_of}
 
 pub row_at-accepted : {A : Type 0} (row : Head → Result A BundleFault) (bytes : List ℕ)
-    (place next : ℕ) (head : Head) (value : A)
-    → head_at bytes place ≡ Ok (head, next) → row head ≡ Ok value
-    → row_at row bytes place ≡ Ok (value, next)
+    (offset next : ℕ) (head : Head) (value : A)
+    → head_at bytes offset ≡ Ok (head, next) → row head ≡ Ok value
+    → row_at row bytes offset ≡ Ok (value, next)
 unfolding row_at
-row_at-accepted row bytes place next head value outcome judged = rw (outcome, judged) refl
+row_at-accepted row bytes offset next head value outcome judged = rw (outcome, judged) refl
 
 pub row_at-refused : {A : Type 0} (row : Head → Result A BundleFault) (bytes : List ℕ)
-    (place next : ℕ) (head : Head) (fault : BundleFault)
-    → head_at bytes place ≡ Ok (head, next) → row head ≡ Err fault
-    → row_at row bytes place ≡ Err (stopped fault place)
+    (offset next : ℕ) (head : Head) (fault : BundleFault)
+    → head_at bytes offset ≡ Ok (head, next) → row head ≡ Err fault
+    → row_at row bytes offset ≡ Err (stopped fault offset)
 unfolding row_at
-row_at-refused row bytes place next head fault outcome judged = rw (outcome, judged) refl
+row_at-refused row bytes offset next head fault outcome judged = rw (outcome, judged) refl
 
 pub ruleset heads = (row_at-accepted, row_at-refused)
 
 pub closes : (payload : Option (ℕ × ℕ)) (numbers : List ℕ) (primary : Primary) (bytes : List ℕ)
-    (place : ℕ) → is_some payload ≡ true
-    → block_end payload numbers primary bytes place
-    ≡ (row_at closing bytes place >>= λ x. Ok
+    (offset : ℕ) → is_some payload ≡ true
+    → block_end payload numbers primary bytes offset
+    ≡ (row_at closing bytes offset >>= λ x. Ok
     (record {
       info = info_of primary (length numbers) (span_of payload).1;
       length = x.1;
-      payload = span_of payload;
+      payload_span = span_of payload;
     }))
-closes None numbers primary bytes place outcome = cc
-closes (Some payload) numbers primary bytes place outcome = refl
+closes None numbers primary bytes offset outcome = cc
+closes (Some payload) numbers primary bytes offset outcome = refl
 
 pub goes_to_block : (payload : Option (ℕ × ℕ)) (numbers : List ℕ) (primary : Primary)
-    (bytes : List ℕ) (place : ℕ) → is_some payload ≡ false
-    → block_end payload numbers primary bytes place
-    ≡ blocks_at (64 - length numbers) numbers primary bytes place
-goes_to_block None numbers primary bytes place outcome = refl
-goes_to_block (Some payload) numbers primary bytes place outcome = cc
+    (bytes : List ℕ) (offset : ℕ) → is_some payload ≡ false
+    → block_end payload numbers primary bytes offset
+    ≡ blocks_at (64 - length numbers) numbers primary bytes offset
+goes_to_block None numbers primary bytes offset outcome = refl
+goes_to_block (Some payload) numbers primary bytes offset outcome = cc
 
 -- the data of the payload block, and of another block
 pub data_read : (payload new : Option (ℕ × ℕ)) (is_payload : Bool) (numbers : List ℕ)
@@ -66,10 +66,10 @@ data_read None new false numbers primary check size start next bytes outcome is 
 data_read (Some payload) new is_payload numbers primary check size start next bytes outcome is = cc
 
 pub no_content : (check : Option CheckKind) (start : ℕ) (bytes : List ℕ)
-    (place : ℕ) → place ≤ length bytes
-    → content_at 0 check start bytes place ≡ field_at check start bytes place
+    (offset : ℕ) → offset ≤ length bytes
+    → content_at 0 check start bytes offset ≡ field_at check start bytes offset
 unfolding content_at
-no_content check start bytes place within = rw (bytes_at-none bytes place within) refl
+no_content check start bytes offset within = rw (bytes_at-none bytes offset within) refl
 
 -- a stop does not change, and neither does the payload that is known
 pub read_alone-stopped : (payload : Option (ℕ × ℕ)) (bytes : List ℕ) (stop : Stop)

@@ -71,11 +71,11 @@ spelled (suc size) (first ∷ bytes) within =
 
 -- ---- heads
 
-pub head_at-front : (bytes : List ℕ) (place size : ℕ) (head : Head)
-    → head_front (drop place bytes) ≡ Whole head size
-    → head_at bytes place ≡ Ok (head, place + size)
+pub head_at-front : (bytes : List ℕ) (offset size : ℕ) (head : Head)
+    → head_front (drop offset bytes) ≡ Whole head size
+    → head_at bytes offset ≡ Ok (head, offset + size)
 unfolding head_at
-head_at-front bytes place size head is = rw is refl
+head_at-front bytes offset size head is = rw is refl
 
 front-small : (major information first : ℕ) (rest : List ℕ)
     → first ≡ 32 * major + information → information < 24
@@ -86,13 +86,13 @@ front-small major information first rest is small =
     let left : first % 32 ≡ information = omega arith in
     rw (by, left) (front_by-small major information rest small)
 
-pub head_at-small : (major information : ℕ) (bytes : List ℕ) (place : ℕ) → place < length bytes
-    → get_or bytes place 0 ≡ 32 * major + information → information < 24
-    → head_at bytes place ≡ Ok (record { major = major; value = Some information }, place + 1)
-head_at-small major information bytes place within is small =
-    head_at-front bytes place 1 (record { major = major; value = Some information })
-    (ap head_front (drop_more bytes place 0 within)
-    ∙ front-small major information (get_or bytes place 0) (drop (place + 1) bytes) is small)
+pub head_at-small : (major information : ℕ) (bytes : List ℕ) (offset : ℕ) → offset < length bytes
+    → get_or bytes offset 0 ≡ 32 * major + information → information < 24
+    → head_at bytes offset ≡ Ok (record { major = major; value = Some information }, offset + 1)
+head_at-small major information bytes offset within is small =
+    head_at-front bytes offset 1 (record { major = major; value = Some information })
+    (ap head_front (drop_more bytes offset 0 within)
+    ∙ front-small major information (get_or bytes offset 0) (drop (offset + 1) bytes) is small)
 
 whole : (major size argument : ℕ) → major < 7
     → with_argument major size argument
@@ -132,49 +132,49 @@ front-argument major information size first rest below is least most size_is wit
     most_of (suc (suc (suc (suc step)))) below = absurd (omega arith)
 
 -- `argument` is the number that the eight bytes after the first spell
-pub head_at-argument : (major information size argument : ℕ) (bytes : List ℕ) (place : ℕ)
+pub head_at-argument : (major information size argument : ℕ) (bytes : List ℕ) (offset : ℕ)
     → major < 7
-    → place + 9 ≤ length bytes → get_or bytes place 0 ≡ 32 * major + information
+    → offset + 9 ≤ length bytes → get_or bytes offset 0 ≡ 32 * major + information
     → 24 ≤ information → information < 28 → size ≡ 2 ^ (information - 24)
     → ((index : ℕ) → slice_index bytes index < 256)
-    → argument ≡ big_from 0 8 (drop (place + 1) bytes)
-    → head_at bytes place
-    ≡ Ok (record { major = major; value = Some (argument / 2 ^ (64 - 8 * size)) }, place + 1 + size)
-head_at-argument major information size argument bytes place below within is least most size_is are
+    → argument ≡ big_from 0 8 (drop (offset + 1) bytes)
+    → head_at bytes offset
+    ≡ Ok (record { major = major; value = Some (argument / 2 ^ (64 - 8 * size)) }, offset + 1 + size)
+head_at-argument major information size argument bytes offset below within is least most size_is are
     spells =
-    let next : place + 1 + size ≡ place + (1 + size) = omega arith in
+    let next : offset + 1 + size ≡ offset + (1 + size) = omega arith in
     rw (spells, next)
-    (head_at-front bytes place (1 + size) _
-    (ap head_front (drop_more bytes place 0 (omega arith))
-    ∙ front-argument major information size (get_or bytes place 0)
-    (drop (place + 1) bytes) below is least most size_is
-    (omega (arith, length-drop (place + 1) bytes))
-    (λ index. rw (get_or-drop (place + 1) bytes index 0) (are (place + 1 + index)))))
+    (head_at-front bytes offset (1 + size) _
+    (ap head_front (drop_more bytes offset 0 (omega arith))
+    ∙ front-argument major information size (get_or bytes offset 0)
+    (drop (offset + 1) bytes) below is least most size_is
+    (omega (arith, length-drop (offset + 1) bytes))
+    (λ index. rw (get_or-drop (offset + 1) bytes index 0) (are (offset + 1 + index)))))
 
 -- ---- heads of one byte, which are judged
 
-pub pair_at-byte : (bytes : List ℕ) (place : ℕ) → place < length bytes → get_or bytes place 0 ≡ 0x82
-    → row_at pair bytes place ≡ Ok (2, place + 1)
+pub pair_at-byte : (bytes : List ℕ) (offset : ℕ) → offset < length bytes → get_or bytes offset 0 ≡ 0x82
+    → row_at pair bytes offset ≡ Ok (2, offset + 1)
 unfolding pair array
-pair_at-byte bytes place within is =
-    row_at-accepted pair bytes place (place + 1) (record { major = 4; value = Some 2 }) 2
-    (head_at-small 4 2 bytes place within is (omega arith)) refl
+pair_at-byte bytes offset within is =
+    row_at-accepted pair bytes offset (offset + 1) (record { major = 4; value = Some 2 }) 2
+    (head_at-small 4 2 bytes offset within is (omega arith)) refl
 
 front-break : (rest : List ℕ)
     → head_front (0xff ∷ rest) ≡ Whole (record { major = 7; value = None }) 1
 unfolding head_front no_argument
 front-break rest = front_by-none 7 31 rest (omega arith)
 
-pub closing_at-byte : (bytes : List ℕ) (place : ℕ) → place < length bytes
-    → get_or bytes place 0 ≡ 0xff
-    → row_at closing bytes place ≡ Ok (true, place + 1)
+pub closing_at-byte : (bytes : List ℕ) (offset : ℕ) → offset < length bytes
+    → get_or bytes offset 0 ≡ 0xff
+    → row_at closing bytes offset ≡ Ok (true, offset + 1)
 unfolding closing is_break
-closing_at-byte bytes place within is =
-    row_at-accepted closing bytes place (place + 1) (record { major = 7; value = None }) true
-    (head_at-front bytes place 1 (record { major = 7; value = None })
-    (ap head_front (drop_more bytes place 0 within)
-    ∙ ap (λ (first : ℕ). head_front (first ∷ drop (place + 1) bytes)) is
-    ∙ front-break (drop (place + 1) bytes)))
+closing_at-byte bytes offset within is =
+    row_at-accepted closing bytes offset (offset + 1) (record { major = 7; value = None }) true
+    (head_at-front bytes offset 1 (record { major = 7; value = None })
+    (ap head_front (drop_more bytes offset 0 within)
+    ∙ ap (λ (first : ℕ). head_front (first ∷ drop (offset + 1) bytes)) is
+    ∙ front-break (drop (offset + 1) bytes)))
     refl
 
 pub ruleset one_byte = (pair_at-byte, closing_at-byte)
@@ -182,82 +182,82 @@ pub ruleset one_byte = (pair_at-byte, closing_at-byte)
 -- ---- endpoint IDs, by their first three bytes
 
 -- three bytes, one by one
-record Three (bytes : List ℕ) (place first second third : ℕ) : Type 0 where
-  one : get_or bytes place 0 ≡ first
-  two : get_or bytes (place + 1) 0 ≡ second
-  three : get_or bytes (place + 2) 0 ≡ third
+record Three (bytes : List ℕ) (offset first second third : ℕ) : Type 0 where
+  one : get_or bytes offset 0 ≡ first
+  two : get_or bytes (offset + 1) 0 ≡ second
+  three : get_or bytes (offset + 2) 0 ≡ third
 
-three_of : (bytes : List ℕ) (place first second third word : ℕ)
+three_of : (bytes : List ℕ) (offset first second third word : ℕ)
     → first < 256 → second < 256 → third < 256
     → ((index : ℕ) → slice_index bytes index < 256)
-    → word ≡ big_from 0 4 (drop place bytes)
+    → word ≡ big_from 0 4 (drop offset bytes)
     → word / 2 ^ 8 ≡ (first * 256 + second) * 256 + third
-    → Three bytes place first second third
-three_of bytes place first second third word first_is second_is third_is are spells is =
-    let zeroth : slice_index (drop place bytes) 0 ≡ get_or bytes place 0 =
-    get_or-drop place bytes 0 0 ∙ ap (λ (index : ℕ). get_or bytes index 0) (omega arith) in
-    let next = get_or-drop place bytes 1 0 in
-    let last = get_or-drop place bytes 2 0 in
-    let more = get_or-drop place bytes 3 0 in
+    → Three bytes offset first second third
+three_of bytes offset first second third word first_is second_is third_is are spells is =
+    let zeroth : slice_index (drop offset bytes) 0 ≡ get_or bytes offset 0 =
+    get_or-drop offset bytes 0 0 ∙ ap (λ (index : ℕ). get_or bytes index 0) (omega arith) in
+    let next = get_or-drop offset bytes 1 0 in
+    let last = get_or-drop offset bytes 2 0 in
+    let more = get_or-drop offset bytes 3 0 in
     let number = rw (zeroth, next, last, more) at spells in
     record {
-      one = omega (arith, number, is, are place, are (place + 1), are (place + 2), are (place + 3));
-      two = omega (arith, number, is, are place, are (place + 1), are (place + 2), are (place + 3));
+      one = omega (arith, number, is, are offset, are (offset + 1), are (offset + 2), are (offset + 3));
+      two = omega (arith, number, is, are offset, are (offset + 1), are (offset + 2), are (offset + 3));
       three = omega (
         arith,
         number,
         is,
-        are place,
-        are (place + 1),
-        are (place + 2),
-        are (place + 3),
+        are offset,
+        are (offset + 1),
+        are (offset + 2),
+        are (offset + 3),
       );
     }
 
 -- a head of one byte at a later offset
-small_value : (major value from place next : ℕ) (bytes : List ℕ) → from ≡ place → next ≡ place + 1
-    → place < length bytes → get_or bytes place 0 ≡ 32 * major + value → value < 24
+small_value : (major value from offset next : ℕ) (bytes : List ℕ) → from ≡ offset → next ≡ offset + 1
+    → offset < length bytes → get_or bytes offset 0 ≡ 32 * major + value → value < 24
     → head_at bytes from ≡ Ok (record { major = major; value = Some value }, next)
-small_value major value from place next bytes start after within is small =
-    rw (start, after) (head_at-small major value bytes place within is small)
+small_value major value from offset next bytes start after within is small =
+    rw (start, after) (head_at-small major value bytes offset within is small)
 
-pub eid_at-ipn : (bytes : List ℕ) (place word node service after next : ℕ)
-    → place + 4 ≤ length bytes → ((index : ℕ) → slice_index bytes index < 256)
-    → word ≡ big_from 0 4 (drop place bytes) → word / 2 ^ 8 ≡ 0x820282
-    → row_at unsigned bytes (place + 3) ≡ Ok (node, after)
+pub eid_at-ipn : (bytes : List ℕ) (offset word node service after next : ℕ)
+    → offset + 4 ≤ length bytes → ((index : ℕ) → slice_index bytes index < 256)
+    → word ≡ big_from 0 4 (drop offset bytes) → word / 2 ^ 8 ≡ 0x820282
+    → row_at unsigned bytes (offset + 3) ≡ Ok (node, after)
     → row_at unsigned bytes after ≡ Ok (service, next)
-    → eid_at bytes place ≡ Ok (IpnNumbers node service, next)
+    → eid_at bytes offset ≡ Ok (IpnNumbers node service, next)
 unfolding eid_at specific_at ipn_at scheme unsigned ipn_part array
-eid_at-ipn bytes place word node service after next within are spells is first second =
+eid_at-ipn bytes offset word node service after next within are spells is first second =
     let begins =
-    three_of bytes place 0x82 2 0x82 word (omega arith) (omega arith) (omega arith) are spells is in
-    let is_pair = pair_at-byte bytes place (omega arith) begins.one in
-    let is_ipn : row_at scheme bytes (place + 1) ≡ Ok (Ipn, place + 2) =
-    row_at-accepted scheme bytes (place + 1) (place + 2) (record { major = 0; value = Some 2 }) Ipn
-    (small_value 0 2 (place + 1) (place + 1) (place + 2) bytes refl (omega arith)
+    three_of bytes offset 0x82 2 0x82 word (omega arith) (omega arith) (omega arith) are spells is in
+    let is_pair = pair_at-byte bytes offset (omega arith) begins.one in
+    let is_ipn : row_at scheme bytes (offset + 1) ≡ Ok (Ipn, offset + 2) =
+    row_at-accepted scheme bytes (offset + 1) (offset + 2) (record { major = 0; value = Some 2 }) Ipn
+    (small_value 0 2 (offset + 1) (offset + 1) (offset + 2) bytes refl (omega arith)
     (omega arith) begins.two (omega arith)) refl in
-    let is_two : row_at ipn_part bytes (place + 2) ≡ Ok (2, place + 3) =
-    row_at-accepted ipn_part bytes (place + 2) (place + 3) (record { major = 4; value = Some 2 }) 2
-    (small_value 4 2 (place + 2) (place + 2) (place + 3) bytes refl (omega arith)
+    let is_two : row_at ipn_part bytes (offset + 2) ≡ Ok (2, offset + 3) =
+    row_at-accepted ipn_part bytes (offset + 2) (offset + 3) (record { major = 4; value = Some 2 }) 2
+    (small_value 4 2 (offset + 2) (offset + 2) (offset + 3) bytes refl (omega arith)
     (omega arith) begins.three (omega arith)) refl in
     rw (is_pair, is_ipn, is_two, first, second) refl
 
-pub eid_at-none : (bytes : List ℕ) (place word : ℕ)
-    → place + 4 ≤ length bytes → ((index : ℕ) → slice_index bytes index < 256)
-    → word ≡ big_from 0 4 (drop place bytes) → word / 2 ^ 8 ≡ 0x820100
-    → eid_at bytes place ≡ Ok (DtnNone, place + 3)
+pub eid_at-none : (bytes : List ℕ) (offset word : ℕ)
+    → offset + 4 ≤ length bytes → ((index : ℕ) → slice_index bytes index < 256)
+    → word ≡ big_from 0 4 (drop offset bytes) → word / 2 ^ 8 ≡ 0x820100
+    → eid_at bytes offset ≡ Ok (DtnNone, offset + 3)
 unfolding eid_at specific_at dtn_at scheme unsigned dtn_part
-eid_at-none bytes place word within are spells is =
+eid_at-none bytes offset word within are spells is =
     let begins =
-    three_of bytes place 0x82 1 0 word (omega arith) (omega arith) (omega arith) are spells is in
-    let is_pair = pair_at-byte bytes place (omega arith) begins.one in
-    let is_dtn : row_at scheme bytes (place + 1) ≡ Ok (Dtn, place + 2) =
-    row_at-accepted scheme bytes (place + 1) (place + 2) (record { major = 0; value = Some 1 }) Dtn
-    (small_value 0 1 (place + 1) (place + 1) (place + 2) bytes refl (omega arith)
+    three_of bytes offset 0x82 1 0 word (omega arith) (omega arith) (omega arith) are spells is in
+    let is_pair = pair_at-byte bytes offset (omega arith) begins.one in
+    let is_dtn : row_at scheme bytes (offset + 1) ≡ Ok (Dtn, offset + 2) =
+    row_at-accepted scheme bytes (offset + 1) (offset + 2) (record { major = 0; value = Some 1 }) Dtn
+    (small_value 0 1 (offset + 1) (offset + 1) (offset + 2) bytes refl (omega arith)
     (omega arith) begins.two (omega arith)) refl in
-    let is_none : row_at dtn_part bytes (place + 2) ≡ Ok (None, place + 3) =
-    row_at-accepted dtn_part bytes (place + 2) (place + 3)
+    let is_none : row_at dtn_part bytes (offset + 2) ≡ Ok (None, offset + 3) =
+    row_at-accepted dtn_part bytes (offset + 2) (offset + 3)
     (record { major = 0; value = Some 0 }) None
-    (small_value 0 0 (place + 2) (place + 2) (place + 3) bytes refl (omega arith)
+    (small_value 0 0 (offset + 2) (offset + 2) (offset + 3) bytes refl (omega arith)
     (omega arith) begins.three (omega arith)) refl in
     rw (is_pair, is_dtn, is_none) refl

@@ -9,7 +9,7 @@ use Rattle.link_bundle_types.specs.declared.fault.BundleFault.{BundleFault}
 use Rattle.link_bundle_types.specs.declared.fault.BundleFault.TheVariants.{Cut}
 use Rattle.link_bundle_types.specs.declared.info.BundleInfo.{BundleInfo}
 use Rattle.link_bundle_heads.specs.Rows.{◌>>=◌, unsigned, byte_string, block, block_too_many, block_number, block_check_type, closing}
-use Rattle.link_bundle.specs.Reading.{Stop, Reading, stopped, cut_short, row_at, bytes_at}
+use Rattle.link_bundle.specs.Reading.{Stop, ReadAt, stopped, cut_short, row_at, bytes_at}
 use Rattle.link_bundle.specs.CheckField.{field_at}
 use Rattle.link_bundle.specs.Primary.{Primary, primary_at}
 use Rattle.link_bundle.specs.Canonical.{content_at}
@@ -20,8 +20,8 @@ use Rattle.link_bundle.proofs.Steady.{Onward, Past, Within, EndsCut, IsCut, Read
 
 -- the payload begins at this offset or after it
 abbrev pub PayloadFrom : ℕ → Option (ℕ × ℕ) → Type 0
-PayloadFrom place None = Unit {0}
-PayloadFrom place (Some payload) = place ≤ payload.0
+PayloadFrom offset None = Unit {0}
+PayloadFrom offset (Some payload) = offset ≤ payload.0
 
 -- all bytes of the payload are there
 abbrev pub PayloadWithin : List ℕ → Option (ℕ × ℕ) → Type 0
@@ -30,17 +30,17 @@ PayloadWithin bytes (Some payload) = payload.0 + payload.1 ≤ length bytes
 
 -- the bundle ends at this offset or after it
 abbrev pub EndFrom : ℕ → Result Bundle Stop → Type 0
-EndFrom place (Ok bundle) = place ≤ bundle.length
-EndFrom place (Err stop) = Unit {0}
+EndFrom offset (Ok bundle) = offset ≤ bundle.length
+EndFrom offset (Err stop) = Unit {0}
 
 -- the bundle ends within the bytes
 abbrev pub EndWithin : List ℕ → Result Bundle Stop → Type 0
 EndWithin bytes (Ok bundle) = bundle.length ≤ length bytes
 EndWithin bytes (Err stop) = Unit {0}
 
-pub record BundleFrom (place : ℕ) (reading : Result Bundle Stop) : Type 0 where
-  pub payload : PayloadFrom place (payload_of reading)
-  pub end : EndFrom place reading
+pub record BundleFrom (offset : ℕ) (reading : Result Bundle Stop) : Type 0 where
+  pub payload : PayloadFrom offset (payload_of reading)
+  pub end : EndFrom offset reading
 
 pub record BundleWithin (bytes : List ℕ) (reading : Result Bundle Stop) : Type 0 where
   pub payload : PayloadWithin bytes (payload_of reading)
@@ -60,84 +60,84 @@ pub data Ends : List ℕ → Result Bundle Stop → Result Bundle Stop → Type 
       → later ≡ now → BundleWithin bytes now → Ends bytes now later
 
 -- a bundle that is read from an offset on, of some bytes and of those bytes with more after them
-record Keeps (bytes : List ℕ) (place : ℕ) (now later : Result Bundle Stop) : Type 0 where
-  from : BundleFrom place later
+record Keeps (bytes : List ℕ) (offset : ℕ) (now later : Result Bundle Stop) : Type 0 where
+  from : BundleFrom offset later
   ends : Ends bytes now later
 
-payload-sooner : (place start : ℕ) (payload : Option (ℕ × ℕ)) → place ≤ start
+payload-sooner : (offset start : ℕ) (payload : Option (ℕ × ℕ)) → offset ≤ start
     → PayloadFrom start payload
-    → PayloadFrom place payload
-payload-sooner place start None lower from = tt
-payload-sooner place start (Some payload) lower from = omega arith
+    → PayloadFrom offset payload
+payload-sooner offset start None lower from = tt
+payload-sooner offset start (Some payload) lower from = omega arith
 
-end-sooner : (place start : ℕ) (reading : Result Bundle Stop) → place ≤ start
+end-sooner : (offset start : ℕ) (reading : Result Bundle Stop) → offset ≤ start
     → EndFrom start reading
-    → EndFrom place reading
-end-sooner place start (Ok bundle) lower from = omega arith
-end-sooner place start (Err stop) lower from = tt
+    → EndFrom offset reading
+end-sooner offset start (Ok bundle) lower from = omega arith
+end-sooner offset start (Err stop) lower from = tt
 
-sooner : (place start : ℕ) (reading : Result Bundle Stop) → place ≤ start
+sooner : (offset start : ℕ) (reading : Result Bundle Stop) → offset ≤ start
     → BundleFrom start reading
-    → BundleFrom place reading
-sooner place start reading lower from = record {
-  payload = payload-sooner place start (payload_of reading) lower from.payload;
-  end = end-sooner place start reading lower from.end;
+    → BundleFrom offset reading
+sooner offset start reading lower from = record {
+  payload = payload-sooner offset start (payload_of reading) lower from.payload;
+  end = end-sooner offset start reading lower from.end;
 }
 
 -- a stop at which no payload is known
-nowhere : (place : ℕ) (stop : Stop) → stop.payload ≡ None → BundleFrom place (Err stop)
-nowhere place stop plain = record { payload = rw plain tt; end = tt }
+nowhere : (offset : ℕ) (stop : Stop) → stop.payload_span ≡ None → BundleFrom offset (Err stop)
+nowhere offset stop plain = record { payload = rw plain tt; end = tt }
 
-keeps-then : {A : Type 0} (bytes : List ℕ) (place : ℕ) (now later : Reading A)
-    (next next_later : A × ℕ → Result Bundle Stop) → Reads bytes place now later
+keeps-then : {A : Type 0} (bytes : List ℕ) (offset : ℕ) (now later : ReadAt A)
+    (next next_later : A × ℕ → Result Bundle Stop) → Reads bytes offset now later
     → ((value : A × ℕ) → Keeps bytes value.1 (next value) (next_later value))
-    → Keeps bytes place (now >>= next) (later >>= next_later)
-keeps-then bytes place (Ok value) later next next_later (short cut onward past) each = absurd cut
-keeps-then bytes place (Err stop) (Err other) next next_later (short cut onward past) each =
+    → Keeps bytes offset (now >>= next) (later >>= next_later)
+keeps-then bytes offset (Ok value) later next next_later (short cut onward past) each = absurd cut
+keeps-then bytes offset (Err stop) (Err other) next next_later (short cut onward past) each =
     record {
-      from = nowhere place other onward;
+      from = nowhere offset other onward;
       ends = before cut (nowhere (suc (length bytes)) other onward);
     }
-keeps-then bytes place (Err stop) (Ok (value, end)) next next_later (short cut onward past) each =
+keeps-then bytes offset (Err stop) (Ok (value, end)) next next_later (short cut onward past) each =
     let rest = next_later (value, end) in
     let from = (each (value, end)).from in
     record {
-      from = sooner place end rest onward from;
+      from = sooner offset end rest onward from;
       ends = before cut (sooner (suc (length bytes)) end rest (omega arith) from);
     }
-keeps-then bytes place (Ok (value, end)) later next next_later (whole is onward within) each =
+keeps-then bytes offset (Ok (value, end)) later next next_later (whole is onward within) each =
     let rest = each (value, end) in
     rw is (record {
-      from = sooner place end (next_later (value, end)) onward rest.from;
+      from = sooner offset end (next_later (value, end)) onward rest.from;
       ends = rest.ends;
     })
-keeps-then bytes place (Err stop) later next next_later (whole is onward within) each =
+keeps-then bytes offset (Err stop) later next next_later (whole is onward within) each =
     let within_now : BundleWithin bytes (Err stop) = record { payload = rw onward tt; end = tt } in
-    rw is (record { from = nowhere place stop onward; ends = after refl within_now })
+    rw is (record { from = nowhere offset stop onward; ends = after refl within_now })
 
-row-keeps : {A : Type 0} (row : Head → Result A BundleFault) (bytes more : List ℕ) (place : ℕ)
+row-keeps : {A : Type 0} (row : Head → Result A BundleFault) (bytes more : List ℕ) (offset : ℕ)
     (next next_later : A × ℕ → Result Bundle Stop)
     → ((value : A × ℕ) → Keeps bytes value.1 (next value) (next_later value))
-    → Keeps bytes place (row_at row bytes place >>= next)
-    (row_at row (bytes ++ more) place >>= next_later)
-row-keeps row bytes more place next next_later each =
-    keeps-then bytes place (row_at row bytes place)
-    (row_at row (bytes ++ more) place) next next_later
-    (row_at-reads row bytes more place) each
+    → Keeps bytes offset (row_at row bytes offset >>= next)
+    (row_at row (bytes ++ more) offset >>= next_later)
+row-keeps row bytes more offset next next_later each =
+    keeps-then bytes offset (row_at row bytes offset)
+    (row_at row (bytes ++ more) offset) next next_later
+    (row_at-reads row bytes more offset) each
 
-keeps-if : (test : Bool) (bytes : List ℕ) (place : ℕ)
+keeps-if : (test : Bool) (bytes : List ℕ) (offset : ℕ)
     (now later other other_later : Result Bundle Stop)
-    → Keeps bytes place now later → Keeps bytes place other other_later
-    → Keeps bytes place (if test then now else other) (if test then later else other_later)
-keeps-if true bytes place now later other other_later taken passed = taken
-keeps-if false bytes place now later other other_later taken passed = passed
+    → Keeps bytes offset now later → Keeps bytes offset other other_later
+    → Keeps bytes offset (if test then now else other) (if test then later else other_later)
+keeps-if true bytes offset now later other other_later taken passed = taken
+keeps-if false bytes offset now later other other_later taken passed = passed
 
-keeps-cut : (bytes more : List ℕ) (place : ℕ)
-    → Keeps bytes place (cut_short bytes) (cut_short (bytes ++ more))
-keeps-cut bytes more place =
+keeps-cut : (bytes more : List ℕ) (offset : ℕ)
+    → Keeps bytes offset (cut_short bytes) (cut_short (bytes ++ more))
+keeps-cut bytes more offset =
     let stop = stopped Cut (length (bytes ++ more)) in
     record {
-      from = nowhere place stop refl;
+      from = nowhere offset stop refl;
       ends = before refl
           (nowhere (suc (length bytes)) stop refl);
     }
@@ -145,94 +145,94 @@ keeps-cut bytes more place =
 -- ---- the payload block
 
 -- the data of the payload block, its check field, and the break after the block
-rest_at : ℕ → Option CheckKind → ℕ → List ℕ → ℕ → Reading Bool
-rest_at size check start bytes place =
-    content_at size check start bytes place >>= λ (_, end). row_at closing bytes end
+rest_at : ℕ → Option CheckKind → ℕ → List ℕ → ℕ → ReadAt Bool
+rest_at size check start bytes offset =
+    content_at size check start bytes offset >>= λ (_, end). row_at closing bytes end
 
-rest_at-reads : (size : ℕ) (check : Option CheckKind) (start : ℕ) (bytes more : List ℕ) (place : ℕ)
-    → Reads bytes place (rest_at size check start bytes place)
-    (rest_at size check start (bytes ++ more) place)
+rest_at-reads : (size : ℕ) (check : Option CheckKind) (start : ℕ) (bytes more : List ℕ) (offset : ℕ)
+    → Reads bytes offset (rest_at size check start bytes offset)
+    (rest_at size check start (bytes ++ more) offset)
 unfolding rest_at
-rest_at-reads size check start bytes more place =
-    reads-then bytes place (content_at size check start bytes place)
-    (content_at size check start (bytes ++ more) place) _ _
-    (content_at-reads size check start bytes more place)
+rest_at-reads size check start bytes more offset =
+    reads-then bytes offset (content_at size check start bytes offset)
+    (content_at size check start (bytes ++ more) offset) _ _
+    (content_at-reads size check start bytes more offset)
     (λ (_, end). row_at-reads closing bytes more end)
 
 -- bytes that end before the end of the payload end inside the bundle
-rest_at-cut : (size : ℕ) (check : Option CheckKind) (start : ℕ) (bytes : List ℕ) (place : ℕ)
-    → length bytes < place + size → IsCut bytes (rest_at size check start bytes place)
+rest_at-cut : (size : ℕ) (check : Option CheckKind) (start : ℕ) (bytes : List ℕ) (offset : ℕ)
+    → length bytes < offset + size → IsCut bytes (rest_at size check start bytes offset)
 unfolding rest_at content_at bytes_at
-rest_at-cut size check start bytes place missing =
-    let short_now : ltb (length bytes) (place + size) ≡ true =
-    lt-ltb (length bytes) (place + size) missing in
+rest_at-cut size check start bytes offset missing =
+    let short_now : ltb (length bytes) (offset + size) ≡ true =
+    lt-ltb (length bytes) (offset + size) missing in
     rw short_now refl
 
 -- the bundle that ends after this part, or the stop in it, with the payload
-abbrev closed : BundleInfo → ℕ × ℕ → Reading Bool → Result Bundle Stop
-closed info payload (Ok (last, end)) = Ok (record { info = info; length = end; payload = payload })
-closed info payload (Err stop) = Err (record stop { payload = Some payload })
+abbrev closed : BundleInfo → ℕ × ℕ → ReadAt Bool → Result Bundle Stop
+closed info payload (Ok (last, end)) = Ok (record { info = info; length = end; payload_span = payload })
+closed info payload (Err stop) = Err (record stop { payload_span = Some payload })
 
-closed-last : (info : BundleInfo) (payload : ℕ × ℕ) (reading : Reading Bool)
+closed-last : (info : BundleInfo) (payload : ℕ × ℕ) (reading : ReadAt Bool)
     → with_payload payload (reading >>= λ (_, end). Ok
-    (record { info = info; length = end; payload = payload }))
+    (record { info = info; length = end; payload_span = payload }))
     ≡ closed info payload reading
 closed-last info payload (Ok (last, end)) = refl
 closed-last info payload (Err stop) = refl
 
-closed-then : (info : BundleInfo) (payload : ℕ × ℕ) (reading : Reading Bool)
-    (next : Bool × ℕ → Reading Bool)
+closed-then : (info : BundleInfo) (payload : ℕ × ℕ) (reading : ReadAt Bool)
+    (next : Bool × ℕ → ReadAt Bool)
     → with_payload payload (reading >>= λ value. next value
-    >>= λ (_, end). Ok (record { info = info; length = end; payload = payload }))
+    >>= λ (_, end). Ok (record { info = info; length = end; payload_span = payload }))
     ≡ closed info payload (reading >>= next)
 closed-then info payload (Ok value) next = closed-last info payload (next value)
 closed-then info payload (Err stop) next = refl
 
 payload_at-closed : (primary : Primary) (blocks size : ℕ) (check : Option CheckKind) (start : ℕ)
-    (bytes : List ℕ) (place : ℕ)
-    → payload_at primary blocks size check start bytes place
-    ≡ closed (info_of primary blocks size) (place, size) (rest_at size check start bytes place)
+    (bytes : List ℕ) (offset : ℕ)
+    → payload_at primary blocks size check start bytes offset
+    ≡ closed (info_of primary blocks size) (offset, size) (rest_at size check start bytes offset)
 unfolding payload_at rest_at
-payload_at-closed primary blocks size check start bytes place =
-    closed-then (info_of primary blocks size) (place, size)
-    (content_at size check start bytes place)
+payload_at-closed primary blocks size check start bytes offset =
+    closed-then (info_of primary blocks size) (offset, size)
+    (content_at size check start bytes offset)
     (λ (_, end). row_at closing bytes end)
 
-closed-payload : (info : BundleInfo) (payload : ℕ × ℕ) (reading : Reading Bool)
+closed-payload : (info : BundleInfo) (payload : ℕ × ℕ) (reading : ReadAt Bool)
     → payload_of (closed info payload reading) ≡ Some payload
 closed-payload info payload (Ok (last, end)) = refl
 closed-payload info payload (Err stop) = refl
 
-closed-end : (info : BundleInfo) (payload : ℕ × ℕ) (place : ℕ) (reading : Reading Bool)
-    → Onward place reading
-    → EndFrom place (closed info payload reading)
-closed-end info payload place (Ok (last, end)) onward = onward
-closed-end info payload place (Err stop) onward = tt
+closed-end : (info : BundleInfo) (payload : ℕ × ℕ) (offset : ℕ) (reading : ReadAt Bool)
+    → Onward offset reading
+    → EndFrom offset (closed info payload reading)
+closed-end info payload offset (Ok (last, end)) onward = onward
+closed-end info payload offset (Err stop) onward = tt
 
-closed-past : (info : BundleInfo) (payload : ℕ × ℕ) (limit : ℕ) (reading : Reading Bool)
+closed-past : (info : BundleInfo) (payload : ℕ × ℕ) (limit : ℕ) (reading : ReadAt Bool)
     → Past limit reading
     → EndFrom (suc limit) (closed info payload reading)
 closed-past info payload limit (Ok (last, end)) past = omega arith
 closed-past info payload limit (Err stop) past = tt
 
-closed-within : (info : BundleInfo) (payload : ℕ × ℕ) (bytes : List ℕ) (place : ℕ)
-    (reading : Reading Bool) → place ≤ length bytes → Within bytes place reading
+closed-within : (info : BundleInfo) (payload : ℕ × ℕ) (bytes : List ℕ) (offset : ℕ)
+    (reading : ReadAt Bool) → offset ≤ length bytes → Within bytes offset reading
     → EndWithin bytes (closed info payload reading)
-closed-within info payload bytes place (Ok (last, end)) here within = within here
-closed-within info payload bytes place (Err stop) here within = tt
+closed-within info payload bytes offset (Ok (last, end)) here within = within here
+closed-within info payload bytes offset (Err stop) here within = tt
 
-closed-cut : (info : BundleInfo) (payload : ℕ × ℕ) (bytes : List ℕ) (reading : Reading Bool)
+closed-cut : (info : BundleInfo) (payload : ℕ × ℕ) (bytes : List ℕ) (reading : ReadAt Bool)
     → IsCut bytes reading
     → EndsCut (closed info payload reading)
 closed-cut info payload bytes (Ok value) cut = absurd cut
 closed-cut info payload bytes (Err stop) cut = ap (λ (stop : Stop). stop.fault) cut
 
-past-cut : (bytes : List ℕ) (limit : ℕ) (reading : Reading Bool) → IsCut bytes reading
+past-cut : (bytes : List ℕ) (limit : ℕ) (reading : ReadAt Bool) → IsCut bytes reading
     → Past limit reading
 past-cut bytes limit (Ok value) cut = absurd cut
 past-cut bytes limit (Err stop) cut = tt
 
-closed-inside : (info : BundleInfo) (payload : ℕ × ℕ) (bytes : List ℕ) (now later : Reading Bool)
+closed-inside : (info : BundleInfo) (payload : ℕ × ℕ) (bytes : List ℕ) (now later : ReadAt Bool)
     → IsCut bytes now → Past (length bytes) later
     → Ends bytes (closed info payload now) (closed info payload later)
 closed-inside info payload bytes now later cut past =
@@ -240,49 +240,49 @@ closed-inside info payload bytes now later cut past =
     (closed-payload info payload later ∙ sym (closed-payload info payload now))
     (closed-past info payload (length bytes) later past)
 
-closed-ends : (info : BundleInfo) (bytes : List ℕ) (place size : ℕ) (now later : Reading Bool)
-    → Reads bytes place now later → (length bytes < place + size → IsCut bytes now)
-    → Ends bytes (closed info (place, size) now) (closed info (place, size) later)
-closed-ends info bytes place size now later (short cut onward past) lacks =
-    closed-inside info (place, size) bytes now later cut past
-closed-ends info bytes place size now later (whole is onward within) lacks =
+closed-ends : (info : BundleInfo) (bytes : List ℕ) (offset size : ℕ) (now later : ReadAt Bool)
+    → Reads bytes offset now later → (length bytes < offset + size → IsCut bytes now)
+    → Ends bytes (closed info (offset, size) now) (closed info (offset, size) later)
+closed-ends info bytes offset size now later (short cut onward past) lacks =
+    closed-inside info (offset, size) bytes now later cut past
+closed-ends info bytes offset size now later (whole is onward within) lacks =
     rw is
     (⊎_elim
-    (λ missing. closed-inside info (place, size) bytes now now (lacks missing)
+    (λ missing. closed-inside info (offset, size) bytes now now (lacks missing)
     (past-cut bytes (length bytes) now (lacks missing)))
     (λ there.
-    let all : BundleWithin bytes (closed info (place, size) now) =
+    let all : BundleWithin bytes (closed info (offset, size) now) =
     record {
-      payload = rw (closed-payload info (place, size) now) there;
-      end = closed-within info (place, size) bytes place now (omega arith) within;
+      payload = rw (closed-payload info (offset, size) now) there;
+      end = closed-within info (offset, size) bytes offset now (omega arith) within;
     } in
     after refl all)
-    (cases_lt (length bytes) (place + size)))
+    (cases_lt (length bytes) (offset + size)))
 
-closed-keeps : (info : BundleInfo) (bytes : List ℕ) (place size : ℕ) (now later : Reading Bool)
-    → Reads bytes place now later → (length bytes < place + size → IsCut bytes now)
-    → Keeps bytes place (closed info (place, size) now) (closed info (place, size) later)
-closed-keeps info bytes place size now later reads lacks = record {
+closed-keeps : (info : BundleInfo) (bytes : List ℕ) (offset size : ℕ) (now later : ReadAt Bool)
+    → Reads bytes offset now later → (length bytes < offset + size → IsCut bytes now)
+    → Keeps bytes offset (closed info (offset, size) now) (closed info (offset, size) later)
+closed-keeps info bytes offset size now later reads lacks = record {
   from = record {
-    payload = rw (closed-payload info (place, size) later) (omega arith);
-    end = closed-end info (place, size) place later (onward_of bytes place now later reads);
+    payload = rw (closed-payload info (offset, size) later) (omega arith);
+    end = closed-end info (offset, size) offset later (onward_of bytes offset now later reads);
   };
-  ends = closed-ends info bytes place size now later reads lacks;
+  ends = closed-ends info bytes offset size now later reads lacks;
 }
 
 payload_at-keeps : (primary : Primary) (blocks size : ℕ) (check : Option CheckKind) (start : ℕ)
-    (bytes more : List ℕ) (place : ℕ)
-    → Keeps bytes place (payload_at primary blocks size check start bytes place)
-    (payload_at primary blocks size check start (bytes ++ more) place)
-payload_at-keeps primary blocks size check start bytes more place =
+    (bytes more : List ℕ) (offset : ℕ)
+    → Keeps bytes offset (payload_at primary blocks size check start bytes offset)
+    (payload_at primary blocks size check start (bytes ++ more) offset)
+payload_at-keeps primary blocks size check start bytes more offset =
     rw (
-      payload_at-closed primary blocks size check start bytes place,
-      payload_at-closed primary blocks size check start (bytes ++ more) place,
+      payload_at-closed primary blocks size check start bytes offset,
+      payload_at-closed primary blocks size check start (bytes ++ more) offset,
     )
-    (closed-keeps (info_of primary blocks size) bytes place size
-    (rest_at size check start bytes place)
-    (rest_at size check start (bytes ++ more) place)
-    (rest_at-reads size check start bytes more place) (rest_at-cut size check start bytes place))
+    (closed-keeps (info_of primary blocks size) bytes offset size
+    (rest_at size check start bytes offset)
+    (rest_at size check start (bytes ++ more) offset)
+    (rest_at-reads size check start bytes more offset) (rest_at-cut size check start bytes offset))
 
 -- ---- the blocks before it
 
@@ -292,26 +292,26 @@ blocks_at-keeps : (left : ℕ) (numbers : List ℕ) (primary : Primary)
     (blocks_at left numbers primary (bytes ++ more) start)
 unfolding blocks_at
 blocks_at-keeps zero numbers primary bytes more start =
-    row-keeps block_too_many bytes more start _ _ (λ (none, place). keeps-cut bytes more place)
+    row-keeps block_too_many bytes more start _ _ (λ (none, offset). keeps-cut bytes more offset)
 blocks_at-keeps (suc left) numbers primary bytes more start =
     row-keeps block bytes more start _ _
-    (λ (count, place). row-keeps unsigned bytes more place _ _
-    (λ (type, place). row-keeps (block_number type numbers) bytes more place _ _
-    (λ (number, place). row-keeps unsigned bytes more place _ _
-    (λ (flags, place). row-keeps (block_check_type count) bytes more place _ _
-    (λ (check, place). row-keeps byte_string bytes more place _ _
-    (λ (size, place). keeps-if (type == 1) bytes place
-    (payload_at primary (length numbers + 1) size check start bytes place)
-    (payload_at primary (length numbers + 1) size check start (bytes ++ more) place)
-    (content_at size check start bytes place >>= λ x. blocks_at left
+    (λ (count, offset). row-keeps unsigned bytes more offset _ _
+    (λ (type, offset). row-keeps (block_number type numbers) bytes more offset _ _
+    (λ (number, offset). row-keeps unsigned bytes more offset _ _
+    (λ (flags, offset). row-keeps (block_check_type count) bytes more offset _ _
+    (λ (check, offset). row-keeps byte_string bytes more offset _ _
+    (λ (size, offset). keeps-if (type == 1) bytes offset
+    (payload_at primary (length numbers + 1) size check start bytes offset)
+    (payload_at primary (length numbers + 1) size check start (bytes ++ more) offset)
+    (content_at size check start bytes offset >>= λ x. blocks_at left
     (numbers ++ number ∷ []) primary bytes x.1)
-    (content_at size check start (bytes ++ more) place >>= λ x.
+    (content_at size check start (bytes ++ more) offset >>= λ x.
     blocks_at left (numbers ++ number ∷ []) primary (bytes ++ more) x.1)
-    (payload_at-keeps primary (length numbers + 1) size check start bytes more place)
-    (keeps-then bytes place (content_at size check start bytes place)
-    (content_at size check start (bytes ++ more) place) _ _
-    (content_at-reads size check start bytes more place)
-    (λ (_, place). blocks_at-keeps left (numbers ++ number ∷ []) primary bytes more place))))))))
+    (payload_at-keeps primary (length numbers + 1) size check start bytes more offset)
+    (keeps-then bytes offset (content_at size check start bytes offset)
+    (content_at size check start (bytes ++ more) offset) _ _
+    (content_at-reads size check start bytes more offset)
+    (λ (_, offset). blocks_at-keeps left (numbers ++ number ∷ []) primary bytes more offset))))))))
 
 bundle_at-keeps : (bytes more : List ℕ)
     → Keeps bytes 0 (bundle_at bytes) (bundle_at (bytes ++ more))
@@ -322,10 +322,10 @@ bundle_at-keeps bytes more =
     (λ (_, start). keeps-then bytes start (primary_at bytes start)
     (primary_at (bytes ++ more) start) _ _
     (primary_at-reads bytes more start)
-    (λ ((primary, check), place). keeps-then bytes place (field_at check start bytes place)
-    (field_at check start (bytes ++ more) place) _ _
-    (field_at-reads check start bytes more place)
-    (λ (_, place). blocks_at-keeps 64 [] primary bytes more place)))
+    (λ ((primary, check), offset). keeps-then bytes offset (field_at check start bytes offset)
+    (field_at check start (bytes ++ more) offset) _ _
+    (field_at-reads check start bytes more offset)
+    (λ (_, offset). blocks_at-keeps 64 [] primary bytes more offset)))
 
 -- ---- what follows of a whole bundle
 

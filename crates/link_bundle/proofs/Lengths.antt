@@ -11,7 +11,7 @@ use Rattle.link_bundle_types.specs.Faults.{lasts}
 use Rattle.link_bundle_heads.specs.Rows.{◌>>=◌}
 use Rattle.link_bundle.specs.Laws.{FaultLasts, TrailingLasts}
 use Rattle.link_bundle.specs.Reading.{Stop}
-use Rattle.link_bundle.specs.Bundle.{Bundle, bundle_at, if_alone, judged, verdict_by, verdict}
+use Rattle.link_bundle.specs.Bundle.{Bundle, bundle_at, if_alone, judged_bundle, verdict_by, verdict}
 use Rattle.link_bundle.proofs.Keeping.{EndWithin, Stays, cuts, same, bundle_at-within, bundle_at-stays}
 
 pub bundle_within : (bytes : List ℕ) (bundle : Bundle) → bundle_at bytes ≡ Ok bundle
@@ -29,21 +29,21 @@ fault_of : Result BundleInfo (BundleFault × ℕ) → BundleFault
 fault_of (Ok info) = Cut
 fault_of (Err stop) = stop.0
 
-fault-lasts : (bytes more : List ℕ) (fault : BundleFault) (place : ℕ)
+fault-lasts : (bytes more : List ℕ) (fault : BundleFault) (offset : ℕ)
     (now later : Result Bundle Stop) → IsTrue (lasts fault)
-    → EndWithin bytes now → Stays now later → judgement bytes now ≡ Err (fault, place)
-    → judgement (bytes ++ more) later ≡ Err (fault, place)
+    → EndWithin bytes now → Stays now later → judgement bytes now ≡ Err (fault, offset)
+    → judgement (bytes ++ more) later ≡ Err (fault, offset)
 unfolding judgement fault_of
-fault-lasts bytes more fault place (Err stop) later lasting within (cuts cut) fails =
+fault-lasts bytes more fault offset (Err stop) later lasting within (cuts cut) fails =
     let is : stop.fault ≡ fault = ap fault_of fails in
     absurd (false≢true (ap lasts (sym cut ∙ is) ∙ lasting))
-fault-lasts bytes more fault place (Err stop) later lasting within (same is) fails = rw is fails
-fault-lasts bytes more fault place (Ok bundle) later lasting within (cuts cut) fails = absurd cut
-fault-lasts bytes more fault place (Ok bundle) later lasting within (same is) fails =
+fault-lasts bytes more fault offset (Err stop) later lasting within (same is) fails = rw is fails
+fault-lasts bytes more fault offset (Ok bundle) later lasting within (cuts cut) fails = absurd cut
+fault-lasts bytes more fault offset (Ok bundle) later lasting within (same is) fails =
     ⊎_elim
-    (λ whole. absurd (let ok : Ok bundle.info ≡ Err (fault, place) = rw whole at fails in cc))
+    (λ whole. absurd (let ok : Ok bundle.info ≡ Err (fault, offset) = rw whole at fails in cc))
     (λ other.
-    let now : Err (Trailing, bundle.length) ≡ Err (fault, place) = rw other at fails in
+    let now : Err (Trailing, bundle.length) ≡ Err (fault, offset) = rw other at fails in
     let beyond : (bundle.length == length (bytes ++ more)) ≡ false =
     ne_eqb bundle.length (length (bytes ++ more))
     (λ equal. absurd (grind (arith, nat_tests, length-append bytes more, other, within, equal))) in
@@ -70,13 +70,13 @@ trailing-lasts bytes more byte info (Ok bundle) later (same is) whole =
     (cases_Bool (bundle.length == length bytes))
 
 pub FaultLasts-holds : FaultLasts
-unfolding verdict judged judgement
-FaultLasts-holds bytes more fault place lasting outcome =
-    fault-lasts bytes more fault place (bundle_at bytes) (bundle_at (bytes ++ more)) lasting
+unfolding verdict judged_bundle judgement
+FaultLasts-holds bytes more fault offset lasting outcome =
+    fault-lasts bytes more fault offset (bundle_at bytes) (bundle_at (bytes ++ more)) lasting
     (bundle_at-within bytes) (bundle_at-stays bytes more) outcome
 
 pub TrailingLasts-holds : TrailingLasts
-unfolding verdict judged judgement
+unfolding verdict judged_bundle judgement
 TrailingLasts-holds bytes more byte info outcome =
     trailing-lasts bytes more byte info (bundle_at bytes) (bundle_at (bytes ++ byte ∷ more))
     (bundle_at-stays bytes (byte ∷ more)) outcome

@@ -9,28 +9,28 @@ use Rattle.link_bundle.specs.declared.stage.Role.TheVariants.{Destination, Sourc
 use Rattle.link_bundle.specs.declared.stage.Stage.TheVariants.{Name}
 use Rattle.link_bundle.specs.Bundle.{Bundle}
 use Rattle.link_bundle_heads.specs.Rows.{◌>>=◌}
-use Rattle.link_bundle.specs.Reading.{Reading, Stop, bytes_at}
+use Rattle.link_bundle.specs.Reading.{ReadAt, Stop, bytes_at}
 use Rattle.link_bundle.specs.Left.{with_eid, after_eid, after_primary, read_alone, with_known_payload, kept_name, name_left, field_left, stage_left, source_left, report_to_left, timestamp_left, time_left, sequence_left, lifetime_left}
 use Rattle.link_bundle.specs.Stages.{stage_after}
 use Rattle.link_bundle.proofs.Runs.{with_run, bytes_at-none, bytes_at-run, run_within}
 
 -- the reading of the whole bundle, by the reading of an endpoint ID
-abbrev pub by_eid : Role → Draft → ℕ → List ℕ → Reading Eid → Result Bundle Stop
+abbrev pub by_eid : Role → Draft → ℕ → List ℕ → ReadAt Eid → Result Bundle Stop
 by_eid role draft start bytes reading =
-    read_alone bytes (with_known_payload draft.payload
+    read_alone bytes (with_known_payload draft.payload_span
     (after_primary draft start bytes (after_eid role draft bytes reading)))
 
 -- the numbers of an ipn endpoint ID that were read so far make no difference after it
 pub by_eid-numbered : (role : Role) (draft : Draft) (allocator : Option ℕ) (node start : ℕ)
-    (bytes : List ℕ) (reading : Reading Eid)
+    (bytes : List ℕ) (reading : ReadAt Eid)
     → by_eid role draft start bytes reading
     ≡ by_eid role (record draft { allocator = allocator; node = node }) start bytes reading
 unfolding source_left report_to_left timestamp_left time_left sequence_left lifetime_left
-by_eid-numbered Destination draft allocator node start bytes (Ok (eid, place)) = refl
+by_eid-numbered Destination draft allocator node start bytes (Ok (eid, offset)) = refl
 by_eid-numbered Destination draft allocator node start bytes (Err stop) = refl
-by_eid-numbered Source draft allocator node start bytes (Ok (eid, place)) = refl
+by_eid-numbered Source draft allocator node start bytes (Ok (eid, offset)) = refl
 by_eid-numbered Source draft allocator node start bytes (Err stop) = refl
-by_eid-numbered ReportTo draft allocator node start bytes (Ok (eid, place)) = refl
+by_eid-numbered ReportTo draft allocator node start bytes (Ok (eid, offset)) = refl
 by_eid-numbered ReportTo draft allocator node start bytes (Err stop) = refl
 
 -- an endpoint ID that was read is in its field
@@ -44,51 +44,51 @@ eid_ends Source old new eid bytes start next is = rw is refl
 eid_ends ReportTo old new eid bytes start next is = rw is refl
 
 -- a name that begins with these bytes and ends with those that a reading returns
-abbrev name_then : List ℕ → Reading (List ℕ) → Reading Eid
+abbrev name_then : List ℕ → ReadAt (List ℕ) → ReadAt Eid
 name_then name reading =
-    reading >>= λ (rest, place). Ok (Dtn (record { items = name ++ rest }), place)
+    reading >>= λ (rest, offset). Ok (Dtn (record { items = name ++ rest }), offset)
 
-name_then-with_run : (name run : List ℕ) (reading : Reading (List ℕ))
+name_then-with_run : (name run : List ℕ) (reading : ReadAt (List ℕ))
     → name_then name (with_run run reading) ≡ name_then (name ++ run) reading
-name_then-with_run name run (Ok (rest, place)) =
-    ap (λ (items : List ℕ). Ok (Dtn (record { items = items }), place))
+name_then-with_run name run (Ok (rest, offset)) =
+    ap (λ (items : List ℕ). Ok (Dtn (record { items = items }), offset))
     (sym (append_assoc name run rest))
 name_then-with_run name run (Err stop) = refl
 
-name_left-run : (name run : List ℕ) (left : ℕ) (bytes more : List ℕ) (place : ℕ)
-    → drop place bytes ≡ run ++ more → length run ≤ left
-    → name_left name left bytes place
-    ≡ name_left (name ++ run) (left - length run) bytes (place + length run)
+name_left-run : (name run : List ℕ) (left : ℕ) (bytes more : List ℕ) (offset : ℕ)
+    → drop offset bytes ≡ run ++ more → length run ≤ left
+    → name_left name left bytes offset
+    ≡ name_left (name ++ run) (left - length run) bytes (offset + length run)
 unfolding name_left
-name_left-run name run left bytes more place here fits =
-    ap (λ (reading : Reading (List ℕ)). name_then name reading)
-    (bytes_at-run left bytes more run place here fits)
-    ∙ name_then-with_run name run (bytes_at (left - length run) bytes (place + length run))
+name_left-run name run left bytes more offset here fits =
+    ap (λ (reading : ReadAt (List ℕ)). name_then name reading)
+    (bytes_at-run left bytes more run offset here fits)
+    ∙ name_then-with_run name run (bytes_at (left - length run) bytes (offset + length run))
 
 -- the bytes so far of a name are in its field, and those of the report-to endpoint are not kept
 in_place : (role : Role) (draft : Draft) (name : List ℕ) (start : ℕ) (bytes : List ℕ)
-    (reading : Reading (List ℕ))
+    (reading : ReadAt (List ℕ))
     → by_eid role draft start bytes (name_then name reading)
     ≡ by_eid role (with_eid role draft (Dtn (record { items = name }))) start bytes
     (name_then (kept_name role (with_eid role draft (Dtn (record { items = name })))) reading)
-in_place Destination draft name start bytes (Ok (rest, place)) = refl
+in_place Destination draft name start bytes (Ok (rest, offset)) = refl
 in_place Destination draft name start bytes (Err stop) = refl
-in_place Source draft name start bytes (Ok (rest, place)) = refl
+in_place Source draft name start bytes (Ok (rest, offset)) = refl
 in_place Source draft name start bytes (Err stop) = refl
-in_place ReportTo draft name start bytes (Ok (rest, place)) = refl
+in_place ReportTo draft name start bytes (Ok (rest, offset)) = refl
 in_place ReportTo draft name start bytes (Err stop) = refl
 
 -- an incomplete name
 pub name_goes_on : (role : Role) (old new : Draft) (name : List ℕ) (left : ℕ)
-    (bytes : List ℕ) (start field place : ℕ)
+    (bytes : List ℕ) (start field offset : ℕ)
     → new ≡ with_eid role old (Dtn (record { items = name }))
-    → by_eid role old start bytes (name_left name left bytes place)
-    ≡ stage_left (Name role left) new start field bytes place
+    → by_eid role old start bytes (name_left name left bytes offset)
+    ≡ stage_left (Name role left) new start field bytes offset
 unfolding stage_left name_left
-name_goes_on role old new name left bytes start field place is =
-    in_place role old name start bytes (bytes_at left bytes place)
+name_goes_on role old new name left bytes start field offset is =
+    in_place role old name start bytes (bytes_at left bytes offset)
     ∙ ap (λ (draft : Draft). by_eid role draft start bytes
-    (name_then (kept_name role draft) (bytes_at left bytes place))) (sym is)
+    (name_then (kept_name role draft) (bytes_at left bytes offset))) (sym is)
 
 -- a complete name
 pub name_ends : (role : Role) (old new : Draft) (name bytes : List ℕ)
@@ -98,7 +98,7 @@ pub name_ends : (role : Role) (old new : Draft) (name bytes : List ℕ)
     ≡ stage_left (stage_after role) new start next bytes next
 unfolding name_left
 name_ends role old new name bytes start next within is =
-    ap (λ (reading : Reading (List ℕ)). by_eid role old start bytes (name_then name reading))
+    ap (λ (reading : ReadAt (List ℕ)). by_eid role old start bytes (name_then name reading))
     (bytes_at-none bytes next within)
     ∙ ap (λ (items : List ℕ). by_eid role old start bytes
     (Ok (Dtn (record { items = items }), next))) (append-nil name)
@@ -106,32 +106,32 @@ name_ends role old new name bytes start next within is =
 
 -- an incomplete name, after more of its bytes
 pub name_run_goes_on : (role : Role) (old new : Draft) (run : List ℕ) (left rest : ℕ)
-    (bytes more : List ℕ) (start field place : ℕ)
-    → drop place bytes ≡ run ++ more → length run ≤ left → rest ≡ left - length run
+    (bytes more : List ℕ) (start field offset : ℕ)
+    → drop offset bytes ≡ run ++ more → length run ≤ left → rest ≡ left - length run
     → new ≡ with_eid role old (Dtn (record { items = kept_name role old ++ run }))
-    → stage_left (Name role left) old start field bytes place
-    ≡ stage_left (Name role rest) new start (place + length run) bytes (place + length run)
+    → stage_left (Name role left) old start field bytes offset
+    ≡ stage_left (Name role rest) new start (offset + length run) bytes (offset + length run)
 unfolding stage_left
-name_run_goes_on role old new run left rest bytes more start field place here fits is_rest is =
-    ap (λ (reading : Reading Eid). by_eid role old start bytes reading)
-    (name_left-run (kept_name role old) run left bytes more place here fits)
+name_run_goes_on role old new run left rest bytes more start field offset here fits is_rest is =
+    ap (λ (reading : ReadAt Eid). by_eid role old start bytes reading)
+    (name_left-run (kept_name role old) run left bytes more offset here fits)
     ∙ ap (λ (rest : ℕ). by_eid role old start bytes
-    (name_left (kept_name role old ++ run) rest bytes (place + length run))) (sym is_rest)
-    ∙ name_goes_on role old new (kept_name role old ++ run) rest bytes start (place + length run)
-    (place + length run) is
+    (name_left (kept_name role old ++ run) rest bytes (offset + length run))) (sym is_rest)
+    ∙ name_goes_on role old new (kept_name role old ++ run) rest bytes start (offset + length run)
+    (offset + length run) is
 
 pub name_run_ends : (role : Role) (old new : Draft) (run : List ℕ) (left : ℕ)
-    (bytes more : List ℕ) (start field place : ℕ)
-    → drop place bytes ≡ run ++ more → 0 < left → left ≡ length run
+    (bytes more : List ℕ) (start field offset : ℕ)
+    → drop offset bytes ≡ run ++ more → 0 < left → left ≡ length run
     → new ≡ with_eid role old (Dtn (record { items = kept_name role old ++ run }))
-    → stage_left (Name role left) old start field bytes place
-    ≡ stage_left (stage_after role) new start (place + length run) bytes (place + length run)
+    → stage_left (Name role left) old start field bytes offset
+    ≡ stage_left (stage_after role) new start (offset + length run) bytes (offset + length run)
 unfolding stage_left
-name_run_ends role old new run left bytes more start field place here some all is =
+name_run_ends role old new run left bytes more start field offset here some all is =
     let none : left - length run ≡ 0 = omega arith in
-    ap (λ (reading : Reading Eid). by_eid role old start bytes reading)
-    (name_left-run (kept_name role old) run left bytes more place here (omega arith))
+    ap (λ (reading : ReadAt Eid). by_eid role old start bytes reading)
+    (name_left-run (kept_name role old) run left bytes more offset here (omega arith))
     ∙ ap (λ (rest : ℕ). by_eid role old start bytes
-    (name_left (kept_name role old ++ run) rest bytes (place + length run))) none
-    ∙ name_ends role old new (kept_name role old ++ run) bytes start (place + length run)
-    (run_within bytes more run place here (omega arith)) is
+    (name_left (kept_name role old ++ run) rest bytes (offset + length run))) none
+    ∙ name_ends role old new (kept_name role old ++ run) bytes start (offset + length run)
+    (run_within bytes more run offset here (omega arith)) is

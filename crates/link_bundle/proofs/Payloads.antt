@@ -9,7 +9,7 @@ use Rattle.std.proofs.Math.Seq.{take-nil}
 use Rattle.link_bundle.specs.Laws.{PayloadLasts, PayloadPlaced, PayloadEnds}
 use Rattle.link_bundle_heads.specs.Rows.{◌>>=◌}
 use Rattle.link_bundle.specs.Reading.{Stop}
-use Rattle.link_bundle.specs.Bundle.{Bundle, bundle_at, if_alone, judged, verdict_by, verdict, payload_of, bytes_of, payload_in, state_of, is_going, bundle_goes}
+use Rattle.link_bundle.specs.Bundle.{Bundle, bundle_at, if_alone, judged_bundle, verdict_by, verdict, payload_of, bytes_of, payload_in, state_of, is_going, bundle_goes}
 use Rattle.link_bundle.proofs.Steady.{EndsCut}
 use Rattle.link_bundle.proofs.Keeping.{PayloadFrom, PayloadWithin, Ends, before, inside, after, bundle_at-ends}
 
@@ -18,8 +18,8 @@ whole_of : List ℕ → Result Bundle Stop → Result Bundle Stop
 whole_of bytes reading = reading >>= λ bundle. if_alone bytes bundle
 
 payload_of-chosen : (test : Bool) (bundle : Bundle) (stop : Stop)
-    → stop.payload ≡ Some bundle.payload
-    → payload_of (if test then Ok bundle else Err stop) ≡ Some bundle.payload
+    → stop.payload_span ≡ Some bundle.payload_span
+    → payload_of (if test then Ok bundle else Err stop) ≡ Some bundle.payload_span
 payload_of-chosen true bundle stop is = refl
 payload_of-chosen false bundle stop is = is
 
@@ -29,8 +29,8 @@ unfolding whole_of
 payload_of-whole bytes (Ok bundle) = payload_of-chosen (bundle.length == length bytes) bundle _ refl
 payload_of-whole bytes (Err stop) = refl
 
-payload_of-judged : (bytes : List ℕ) → payload_of (judged bytes) ≡ payload_of (bundle_at bytes)
-unfolding judged whole_of
+payload_of-judged : (bytes : List ℕ) → payload_of (judged_bundle bytes) ≡ payload_of (bundle_at bytes)
+unfolding judged_bundle whole_of
 payload_of-judged bytes = payload_of-whole bytes (bundle_at bytes)
 
 -- ---- a known payload lasts
@@ -40,7 +40,7 @@ payload_of-lasts : (bytes : List ℕ) (now later : Result Bundle Stop) (payload 
     → payload_of now ≡ Some payload → payload_of later ≡ Some payload
 payload_of-lasts bytes (Ok bundle) later payload (before cut from) is = absurd cut
 payload_of-lasts bytes (Err stop) later payload (before cut from) is =
-    absurd (let none : None ≡ Some payload = ap (λ (stop : Stop). stop.payload) (sym cut) ∙ is in
+    absurd (let none : None ≡ Some payload = ap (λ (stop : Stop). stop.payload_span) (sym cut) ∙ is in
     cc)
 payload_of-lasts bytes now later payload (inside cut kept past) is = kept ∙ is
 payload_of-lasts bytes now later payload (after kept within) is = ap payload_of kept ∙ is
@@ -54,29 +54,29 @@ PayloadLasts-holds bytes more payload is =
 
 -- ---- a known payload determines which of its bytes are there
 
-nothing_from : (bytes : List ℕ) (place size : ℕ) → length bytes ≤ place
-    → [] ≡ take size (drop place bytes)
-nothing_from bytes place size follows =
+nothing_from : (bytes : List ℕ) (offset size : ℕ) → length bytes ≤ offset
+    → [] ≡ take size (drop offset bytes)
+nothing_from bytes offset size follows =
     sym (ap (λ (rest : List ℕ). take size rest) (drop_of_length-le bytes follows) ∙ take-nil size)
 
-payload_of-places : (bytes : List ℕ) (now later : Result Bundle Stop) (place size : ℕ)
+payload_of-places : (bytes : List ℕ) (now later : Result Bundle Stop) (offset size : ℕ)
     → Ends bytes now later
-    → payload_of later ≡ Some (place, size)
-    → bytes_of (payload_of now) bytes ≡ take size (drop place bytes)
-payload_of-places bytes (Ok bundle) later place size (before cut from) is = absurd cut
-payload_of-places bytes (Err stop) later place size (before cut from) is =
-    let plain : stop.payload ≡ None = ap (λ (stop : Stop). stop.payload) cut in
-    let past : PayloadFrom (suc (length bytes)) (Some (place, size)) = rw is at from.payload in
-    rw plain (nothing_from bytes place size (omega arith))
-payload_of-places bytes now later place size (inside cut kept past) is = rw (sym kept ∙ is) refl
-payload_of-places bytes now later place size (after kept within) is =
+    → payload_of later ≡ Some (offset, size)
+    → bytes_of (payload_of now) bytes ≡ take size (drop offset bytes)
+payload_of-places bytes (Ok bundle) later offset size (before cut from) is = absurd cut
+payload_of-places bytes (Err stop) later offset size (before cut from) is =
+    let plain : stop.payload_span ≡ None = ap (λ (stop : Stop). stop.payload_span) cut in
+    let past : PayloadFrom (suc (length bytes)) (Some (offset, size)) = rw is at from.payload in
+    rw plain (nothing_from bytes offset size (omega arith))
+payload_of-places bytes now later offset size (inside cut kept past) is = rw (sym kept ∙ is) refl
+payload_of-places bytes now later offset size (after kept within) is =
     rw (ap payload_of (sym kept) ∙ is) refl
 
 pub PayloadPlaced-holds : PayloadPlaced
 unfolding payload_in
-PayloadPlaced-holds bytes more place size is =
+PayloadPlaced-holds bytes more offset size is =
     ap (λ (known : Option (ℕ × ℕ)). bytes_of known bytes) (payload_of-judged bytes)
-    ∙ payload_of-places bytes (bundle_at bytes) (bundle_at (bytes ++ more)) place size
+    ∙ payload_of-places bytes (bundle_at bytes) (bundle_at (bytes ++ more)) offset size
     (bundle_at-ends bytes more)
     (sym (payload_of-judged (bytes ++ more)) ∙ is)
 
@@ -86,10 +86,10 @@ all_there : (known : Option (ℕ × ℕ)) (bytes more : List ℕ)
     → PayloadWithin bytes known
     → bytes_of known (bytes ++ more) ≡ bytes_of known bytes
 all_there None bytes more within = refl
-all_there (Some (place, size)) bytes more within =
-    let here : place ≤ length bytes = omega arith in
-    let fits : size ≤ length (drop place bytes) = omega (arith, length-drop place bytes) in
-    rw (drop-append-le place bytes more here, take-append-le size (drop place bytes) more fits) refl
+all_there (Some (offset, size)) bytes more within =
+    let here : offset ≤ length bytes = omega arith in
+    let fits : size ≤ length (drop offset bytes) = omega (arith, length-drop offset bytes) in
+    rw (drop-append-le offset bytes more here, take-append-le size (drop offset bytes) more fits) refl
 
 -- whether the bytes end inside the bundle
 goes : List ℕ → Result Bundle Stop → Bool
@@ -102,7 +102,7 @@ cut_goes bytes (Ok bundle) cut = absurd cut
 cut_goes bytes (Err stop) cut = rw cut refl
 
 pub cut_goes-on : (bytes : List ℕ) → EndsCut (bundle_at bytes) → bundle_goes bytes ≡ true
-unfolding verdict judged goes whole_of
+unfolding verdict judged_bundle goes whole_of
 cut_goes-on bytes cut = cut_goes bytes (bundle_at bytes) cut
 
 payload_of-ends : (bytes more : List ℕ) (now later : Result Bundle Stop)
@@ -119,7 +119,7 @@ payload_of-ends bytes more now later (after kept within) stops =
     ∙ all_there (payload_of now) bytes more within.payload
 
 pub PayloadEnds-holds : PayloadEnds
-unfolding payload_in verdict judged goes whole_of
+unfolding payload_in verdict judged_bundle goes whole_of
 PayloadEnds-holds bytes more stops =
     ap (λ (known : Option (ℕ × ℕ)). bytes_of known (bytes ++ more))
     (payload_of-judged (bytes ++ more))

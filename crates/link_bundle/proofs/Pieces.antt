@@ -11,10 +11,10 @@ use Rattle.link_bundle_types.specs.declared.fault.State.{State}
 use Rattle.link_bundle_types.specs.declared.fault.State.TheVariants as state
 use Rattle.link_bundle_types.specs.declared.info.BundleInfo.{BundleInfo}
 use Rattle.link_bundle_types.specs.Faults.{lasts}
-use Rattle.link_bundle.specs.Bundle.{Bundle, judged, verdict_by, verdict, payload_of, payload_in, spanned, payload_span, state_of, is_going, bundle_goes}
+use Rattle.link_bundle.specs.Bundle.{Bundle, judged_bundle, verdict_by, verdict, payload_of, payload_in, spanned, payload_seen, state_of, is_going, bundle_goes}
 use Rattle.link_bundle.specs.Left.{stage_left}
 use Rattle.link_bundle.specs.Reading.{Stop}
-use Rattle.link_bundle.specs.Scan.{HasCome, HasScanned, HasJudged, may_scan}
+use Rattle.link_bundle.specs.Scan.{HasSeen, HasScanned, HasJudged, may_scan}
 use Rattle.link_bundle.specs.Stages.{stage_state, takes_bytes}
 use Rattle.link_bundle.specs.declared.cursor.Cursor.{Cursor}
 use Rattle.link_bundle.specs.declared.draft.Draft.{Draft}
@@ -36,7 +36,7 @@ may_scan-seen scan seen come =
 stuck_idle : (now : State) → takes_bytes now ≡ false → is_going now ≡ false
 stuck_idle state.Going stuck = absurd (false≢true (sym stuck))
 stuck_idle state.Ended stuck = refl
-stuck_idle (state.Failed fault place) stuck = refl
+stuck_idle (state.Failed fault offset) stuck = refl
 
 -- no more bytes are needed after these
 stuck_stops : (scan : BundleScan) (seen : List ℕ) → HasScanned scan seen → may_scan scan ≡ false
@@ -48,22 +48,22 @@ idle_stuck : (now : State) → is_going now ≡ false → (now ≡ state.Ended �
     → takes_bytes now ≡ false
 idle_stuck state.Going idle other = absurd (false≢true (sym idle))
 idle_stuck state.Ended idle other = absurd (other refl)
-idle_stuck (state.Failed fault place) idle other = refl
+idle_stuck (state.Failed fault offset) idle other = refl
 
 -- the verdict is a bundle
 record HasEnded (outcome : Result BundleInfo (BundleFault × ℕ)) : Type 0 where
   info : BundleInfo
   is : outcome ≡ Ok info
 
-ended_fault : (fault : BundleFault) (place : ℕ) (test : Bool)
-    → (if test then state.Failed fault place else state.Going) ≡ state.Ended → ⊥
-ended_fault fault place true is = cc
-ended_fault fault place false is = cc
+ended_fault : (fault : BundleFault) (offset : ℕ) (test : Bool)
+    → (if test then state.Failed fault offset else state.Going) ≡ state.Ended → ⊥
+ended_fault fault offset true is = cc
+ended_fault fault offset false is = cc
 
 has_ended : (outcome : Result BundleInfo (BundleFault × ℕ))
     → state_of outcome ≡ state.Ended → HasEnded outcome
 has_ended (Ok info) is = record { info = info; is = refl }
-has_ended (Err (fault, place)) is = absurd (ended_fault fault place (lasts fault) is)
+has_ended (Err (fault, offset)) is = absurd (ended_fault fault offset (lasts fault) is)
 
 -- ---- one more piece
 
@@ -212,18 +212,18 @@ module _ (scan later : BundleScan) (content piece : List ℕ) (count : ℕ)
 
 -- what it has seen determines the reading of all bytes
 stuck_reading : (stage : Stage) (cursor : Cursor) (draft : Draft) (seen more : List ℕ)
-    → HasCome stage cursor draft seen → takes_bytes (stage_state stage) ≡ false
-    → judged (seen ++ more) ≡ judged seen
+    → HasSeen stage cursor draft seen → takes_bytes (stage_state stage) ≡ false
+    → judged_bundle (seen ++ more) ≡ judged_bundle seen
 unfolding stage_left
 stuck_reading Start cursor draft seen more come stuck = absurd (false≢true (sym stuck))
 stuck_reading (Head field) cursor draft seen more come stuck = absurd (false≢true (sym stuck))
 stuck_reading (Name role left) cursor draft seen more come stuck = absurd (false≢true (sym stuck))
 stuck_reading (Content left) cursor draft seen more come stuck = absurd (false≢true (sym stuck))
-stuck_reading (Stored place left stored kind) cursor draft seen more come stuck =
+stuck_reading (Stored offset left stored kind) cursor draft seen more come stuck =
     absurd (false≢true (sym stuck))
 stuck_reading Ended cursor draft seen more come stuck = absurd (false≢true (sym stuck))
-stuck_reading (Failed fault place) cursor draft seen more come stuck =
-    come.reads more ∙ sym (come.reads []) ∙ ap judged (append-nil seen)
+stuck_reading (Failed fault offset) cursor draft seen more come stuck =
+    come.reads more ∙ sym (come.reads []) ∙ ap judged_bundle (append-nil seen)
 
 pub all_judged : (scan : BundleScan) (seen : List ℕ) → HasScanned scan seen → HasJudged scan seen
 all_judged scan seen come = record {
@@ -240,12 +240,12 @@ module _ (scan : BundleScan) (content : List ℕ) (now : HasJudged scan content)
   all_seen all =
       sym (append-nil now.seen) ∙ ap (λ (rest : List ℕ). now.seen ++ rest) (sym all) ∙ now.parts
 
-  reading_judged : judged now.seen ≡ judged content
+  reading_judged : judged_bundle now.seen ≡ judged_bundle content
   reading_judged = ⊎_elim
-      (λ (all : now.rest ≡ []). ap judged (all_seen all))
+      (λ (all : now.rest ≡ []). ap judged_bundle (all_seen all))
       (λ stuck. sym (stuck_reading scan.stage scan.cursor scan.draft now.seen now.rest now.scanned
       stuck)
-      ∙ ap judged now.parts)
+      ∙ ap judged_bundle now.parts)
       now.enough
 
   pub verdict_judged : verdict now.seen ≡ verdict content
@@ -260,9 +260,9 @@ module _ (scan : BundleScan) (content : List ℕ) (now : HasJudged scan content)
       ∙ ap payload_in now.parts)
       now.enough
 
-  pub span_judged : payload_span now.seen ≡ payload_span content
-  unfolding payload_span
+  pub span_judged : payload_seen now.seen ≡ payload_seen content
+  unfolding payload_seen
   span_judged =
       ap (λ (reading : Result Bundle Stop). spanned (payload_of reading)
       (length (payload_in now.seen))) reading_judged
-      ∙ ap (λ (there : List ℕ). spanned (payload_of (judged content)) (length there)) payload_judged
+      ∙ ap (λ (there : List ℕ). spanned (payload_of (judged_bundle content)) (length there)) payload_judged

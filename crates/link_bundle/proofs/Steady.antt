@@ -15,7 +15,7 @@ use Rattle.link_bundle_types.specs.declared.fault.BundleFault.TheVariants.{Cut, 
 use Rattle.link_bundle_heads.specs.declared.endpoint.Scheme.{Scheme}
 use Rattle.link_bundle_heads.specs.declared.endpoint.Scheme.TheVariants.{Dtn, Ipn}
 use Rattle.link_bundle_heads.specs.Rows.{◌>>=◌, unsigned, pair, scheme, dtn_part, ipn_part, version, is_fragment, primary_block, primary_check_type, check_width, check_field}
-use Rattle.link_bundle.specs.Reading.{Stop, Reading, stopped, cut_short, placed, outcome_at, head_at, row_at, bytes_at}
+use Rattle.link_bundle.specs.Reading.{Stop, ReadAt, stopped, cut_short, head_by, outcome_at, head_at, row_at, bytes_at}
 use Rattle.link_bundle.specs.EndpointId.{dtn_at, ipn_at, specific_at, eid_at}
 use Rattle.link_bundle.specs.CheckField.{number_from, check_of, field_at}
 use Rattle.link_bundle.specs.Primary.{fragment_at, primary_at}
@@ -25,74 +25,74 @@ use Rattle.link_bundle.specs.Bundle.{opening_at}
 -- ---- how far one reading goes
 
 -- a part that is read at an offset ends there or after it, and a stop in it has no payload
-abbrev pub Onward : {A : Type 0} → ℕ → Reading A → Type 0
-Onward place (Ok (value, next)) = place ≤ next
-Onward place (Err stop) = stop.payload ≡ None
+abbrev pub Onward : {A : Type 0} → ℕ → ReadAt A → Type 0
+Onward offset (Ok (value, next)) = offset ≤ next
+Onward offset (Err stop) = stop.payload_span ≡ None
 
 -- a part that is read ends after this offset
-abbrev pub Past : {A : Type 0} → ℕ → Reading A → Type 0
+abbrev pub Past : {A : Type 0} → ℕ → ReadAt A → Type 0
 Past limit (Ok (value, next)) = limit < next
 Past limit (Err stop) = Unit {0}
 
 -- a part that begins within the bytes and is read ends within them
-abbrev pub Within : {A : Type 0} → List ℕ → ℕ → Reading A → Type 0
-Within bytes place (Ok (value, next)) = place ≤ length bytes → next ≤ length bytes
-Within bytes place (Err stop) = Unit {0}
+abbrev pub Within : {A : Type 0} → List ℕ → ℕ → ReadAt A → Type 0
+Within bytes offset (Ok (value, next)) = offset ≤ length bytes → next ≤ length bytes
+Within bytes offset (Err stop) = Unit {0}
 
-onward-from : {A : Type 0} (place start : ℕ) (reading : Reading A)
-    → place ≤ start → Onward start reading
-    → Onward place reading
-onward-from place start (Ok (value, next)) before onward = omega arith
-onward-from place start (Err stop) before onward = onward
+onward-from : {A : Type 0} (offset start : ℕ) (reading : ReadAt A)
+    → offset ≤ start → Onward start reading
+    → Onward offset reading
+onward-from offset start (Ok (value, next)) before onward = omega arith
+onward-from offset start (Err stop) before onward = onward
 
-past-from : {A : Type 0} (limit start : ℕ) (reading : Reading A)
+past-from : {A : Type 0} (limit start : ℕ) (reading : ReadAt A)
     → limit < start → Onward start reading
     → Past limit reading
 past-from limit start (Ok (value, next)) before onward = omega arith
 past-from limit start (Err stop) before onward = tt
 
-within-from : {A : Type 0} (bytes : List ℕ) (place start : ℕ) (reading : Reading A)
-    → (place ≤ length bytes → start ≤ length bytes) → Within bytes start reading
-    → Within bytes place reading
-within-from bytes place start (Ok (value, next)) reach within = λ here. within (reach here)
-within-from bytes place start (Err stop) reach within = tt
+within-from : {A : Type 0} (bytes : List ℕ) (offset start : ℕ) (reading : ReadAt A)
+    → (offset ≤ length bytes → start ≤ length bytes) → Within bytes start reading
+    → Within bytes offset reading
+within-from bytes offset start (Ok (value, next)) reach within = λ here. within (reach here)
+within-from bytes offset start (Err stop) reach within = tt
 
-onward-if : {A : Type 0} (place : ℕ) (test : Bool) (one other : Reading A)
-    → Onward place one → Onward place other
-    → Onward place (if test then one else other)
-onward-if place true one other taken passed = taken
-onward-if place false one other taken passed = passed
+onward-if : {A : Type 0} (offset : ℕ) (test : Bool) (one other : ReadAt A)
+    → Onward offset one → Onward offset other
+    → Onward offset (if test then one else other)
+onward-if offset true one other taken passed = taken
+onward-if offset false one other taken passed = passed
 
-past-if : {A : Type 0} (limit : ℕ) (test : Bool) (one other : Reading A)
+past-if : {A : Type 0} (limit : ℕ) (test : Bool) (one other : ReadAt A)
     → Past limit one → Past limit other
     → Past limit (if test then one else other)
 past-if limit true one other taken passed = taken
 past-if limit false one other taken passed = passed
 
-onward-then : {A B : Type 0} (place : ℕ) (reading : Reading A) (next : A × ℕ → Reading B)
-    → Onward place reading
-    → ((value : A × ℕ) → Onward value.1 (next value)) → Onward place (reading >>= next)
-onward-then place (Ok (value, end)) next onward each =
-    onward-from place end (next (value, end)) onward (each (value, end))
-onward-then place (Err stop) next onward each = onward
+onward-then : {A B : Type 0} (offset : ℕ) (reading : ReadAt A) (next : A × ℕ → ReadAt B)
+    → Onward offset reading
+    → ((value : A × ℕ) → Onward value.1 (next value)) → Onward offset (reading >>= next)
+onward-then offset (Ok (value, end)) next onward each =
+    onward-from offset end (next (value, end)) onward (each (value, end))
+onward-then offset (Err stop) next onward each = onward
 
-onward-placed : (bytes : List ℕ) (place : ℕ) (front : HeadFront)
-    → Onward place (placed bytes place front)
-onward-placed bytes place CutHead = refl
-onward-placed bytes place IllFormed = refl
-onward-placed bytes place (Whole head size) = omega arith
+onward-placed : (bytes : List ℕ) (offset : ℕ) (front : HeadFront)
+    → Onward offset (head_by bytes offset front)
+onward-placed bytes offset CutHead = refl
+onward-placed bytes offset IllFormed = refl
+onward-placed bytes offset (Whole head size) = omega arith
 
-past-placed : (bytes : List ℕ) (limit place missing : ℕ) (front : HeadFront)
-    → limit < place + missing → EndsFrom missing front
-    → Past limit (placed bytes place front)
-past-placed bytes limit place missing CutHead beyond ends = tt
-past-placed bytes limit place missing IllFormed beyond ends = tt
-past-placed bytes limit place missing (Whole head size) beyond ends = omega arith
+past-placed : (bytes : List ℕ) (limit offset missing : ℕ) (front : HeadFront)
+    → limit < offset + missing → EndsFrom missing front
+    → Past limit (head_by bytes offset front)
+past-placed bytes limit offset missing CutHead beyond ends = tt
+past-placed bytes limit offset missing IllFormed beyond ends = tt
+past-placed bytes limit offset missing (Whole head size) beyond ends = omega arith
 
-onward-bytes : (count : ℕ) (bytes : List ℕ) (place : ℕ) → Onward place (bytes_at count bytes place)
+onward-bytes : (count : ℕ) (bytes : List ℕ) (offset : ℕ) → Onward offset (bytes_at count bytes offset)
 unfolding bytes_at
-onward-bytes count bytes place =
-    onward-if place (ltb (length bytes) (place + count)) (cut_short bytes) (Ok _) refl (omega arith)
+onward-bytes count bytes offset =
+    onward-if offset (ltb (length bytes) (offset + count)) (cut_short bytes) (Ok _) refl (omega arith)
 
 -- ---- two readings
 
@@ -109,199 +109,199 @@ IsCut bytes (Err stop) = stop ≡ stopped Cut (length bytes)
 -- A part that is read at an offset of some bytes, and of those bytes with more after them. Either
 -- the first bytes end inside it, and then it ends after them, or it is the same and ends within
 -- them.
-pub data Reads {A : Type 0} : List ℕ → ℕ → Reading A → Reading A → Type 0 where
-  short : {bytes : List ℕ} {place : ℕ} {now later : Reading A}
-      → IsCut bytes now → Onward place later → Past (length bytes) later
-      → Reads bytes place now later
-  whole : {bytes : List ℕ} {place : ℕ} {now later : Reading A}
-      → later ≡ now → Onward place now → Within bytes place now
-      → Reads bytes place now later
+pub data Reads {A : Type 0} : List ℕ → ℕ → ReadAt A → ReadAt A → Type 0 where
+  short : {bytes : List ℕ} {offset : ℕ} {now later : ReadAt A}
+      → IsCut bytes now → Onward offset later → Past (length bytes) later
+      → Reads bytes offset now later
+  whole : {bytes : List ℕ} {offset : ℕ} {now later : ReadAt A}
+      → later ≡ now → Onward offset now → Within bytes offset now
+      → Reads bytes offset now later
 
-pub onward_of : {A : Type 0} (bytes : List ℕ) (place : ℕ) (now later : Reading A)
-    → Reads bytes place now later
-    → Onward place later
-onward_of bytes place now later (short cut onward past) = onward
-onward_of bytes place now later (whole is onward within) = rw is onward
+pub onward_of : {A : Type 0} (bytes : List ℕ) (offset : ℕ) (now later : ReadAt A)
+    → Reads bytes offset now later
+    → Onward offset later
+onward_of bytes offset now later (short cut onward past) = onward
+onward_of bytes offset now later (whole is onward within) = rw is onward
 
-reads-from : {A : Type 0} (bytes : List ℕ) (place start : ℕ) (now later : Reading A)
-    → place ≤ start → (place ≤ length bytes → start ≤ length bytes)
-    → Reads bytes start now later → Reads bytes place now later
-reads-from bytes place start now later before reach (short cut onward past) =
-    short cut (onward-from place start later before onward) past
-reads-from bytes place start now later before reach (whole is onward within) =
-    whole is (onward-from place start now before onward)
-    (within-from bytes place start now reach within)
+reads-from : {A : Type 0} (bytes : List ℕ) (offset start : ℕ) (now later : ReadAt A)
+    → offset ≤ start → (offset ≤ length bytes → start ≤ length bytes)
+    → Reads bytes start now later → Reads bytes offset now later
+reads-from bytes offset start now later before reach (short cut onward past) =
+    short cut (onward-from offset start later before onward) past
+reads-from bytes offset start now later before reach (whole is onward within) =
+    whole is (onward-from offset start now before onward)
+    (within-from bytes offset start now reach within)
 
-pub reads-then : {A B : Type 0} (bytes : List ℕ) (place : ℕ) (now later : Reading A)
-    (next next_later : A × ℕ → Reading B)
-    → Reads bytes place now later
+pub reads-then : {A B : Type 0} (bytes : List ℕ) (offset : ℕ) (now later : ReadAt A)
+    (next next_later : A × ℕ → ReadAt B)
+    → Reads bytes offset now later
     → ((value : A × ℕ) → Reads bytes value.1 (next value) (next_later value))
-    → Reads bytes place (now >>= next) (later >>= next_later)
-reads-then bytes place (Ok value) later next next_later (short cut onward past) each = absurd cut
-reads-then bytes place (Err stop) (Err other) next next_later (short cut onward past) each =
+    → Reads bytes offset (now >>= next) (later >>= next_later)
+reads-then bytes offset (Ok value) later next next_later (short cut onward past) each = absurd cut
+reads-then bytes offset (Err stop) (Err other) next next_later (short cut onward past) each =
     short cut onward tt
-reads-then bytes place (Err stop) (Ok (value, end)) next next_later (short cut onward past) each =
+reads-then bytes offset (Err stop) (Ok (value, end)) next next_later (short cut onward past) each =
     let on = onward_of bytes end (next (value, end)) (next_later (value, end))
     (each (value, end)) in
-    short cut (onward-from place end (next_later (value, end)) onward on)
+    short cut (onward-from offset end (next_later (value, end)) onward on)
     (past-from (length bytes) end (next_later (value, end)) past on)
-reads-then bytes place (Ok (value, end)) later next next_later (whole is onward within) each =
+reads-then bytes offset (Ok (value, end)) later next next_later (whole is onward within) each =
     let rest = each (value, end) in
-    rw is (reads-from bytes place end (next (value, end))
+    rw is (reads-from bytes offset end (next (value, end))
     (next_later (value, end)) onward within rest)
-reads-then bytes place (Err stop) later next next_later (whole is onward within) each =
+reads-then bytes offset (Err stop) later next next_later (whole is onward within) each =
     whole (rw is refl) onward tt
 
 -- no more bytes are read
-ended : {A : Type 0} (bytes : List ℕ) (value : A) (place : ℕ)
-    → Reads bytes place (Ok (value, place)) (Ok (value, place))
-ended bytes value place = whole refl (omega arith) (λ here. here)
+ended : {A : Type 0} (bytes : List ℕ) (value : A) (offset : ℕ)
+    → Reads bytes offset (Ok (value, offset)) (Ok (value, offset))
+ended bytes value offset = whole refl (omega arith) (λ here. here)
 
 -- a value or a fault that no more bytes are read for
-judged-reads : {A : Type 0} (bytes : List ℕ) (place next : ℕ) (outcome : Result A BundleFault)
-    → Reads bytes next (outcome_at place next outcome) (outcome_at place next outcome)
-judged-reads bytes place next (Ok value) = ended bytes value next
-judged-reads bytes place next (Err fault) = whole refl refl tt
+judged-reads : {A : Type 0} (bytes : List ℕ) (offset next : ℕ) (outcome : Result A BundleFault)
+    → Reads bytes next (outcome_at offset next outcome) (outcome_at offset next outcome)
+judged-reads bytes offset next (Ok value) = ended bytes value next
+judged-reads bytes offset next (Err fault) = whole refl refl tt
 
-chosen-reads : (bytes : List ℕ) (start next place : ℕ) (fault : BundleFault) (test : Bool)
+chosen-reads : (bytes : List ℕ) (start next offset : ℕ) (fault : BundleFault) (test : Bool)
     → start ≤ next → (start ≤ length bytes → next ≤ length bytes)
-    → Reads bytes start (if test then Ok (true, next) else Err (stopped fault place))
-    (if test then Ok (true, next) else Err (stopped fault place))
-chosen-reads bytes start next place fault true onward within = whole refl onward within
-chosen-reads bytes start next place fault false onward within = whole refl refl tt
+    → Reads bytes start (if test then Ok (true, next) else Err (stopped fault offset))
+    (if test then Ok (true, next) else Err (stopped fault offset))
+chosen-reads bytes start next offset fault true onward within = whole refl onward within
+chosen-reads bytes start next offset fault false onward within = whole refl refl tt
 
 -- ---- each part of a bundle
 
-placed-reads : (bytes more : List ℕ) (place : ℕ) (now later : HeadFront) → place ≤ length bytes
-    → HeadStays (drop place bytes) now later
-    → Reads bytes place (placed bytes place now) (placed (bytes ++ more) place later)
-placed-reads bytes more place now later here (ends_inside cut ends) =
-    let size = length-drop place bytes in
+placed-reads : (bytes more : List ℕ) (offset : ℕ) (now later : HeadFront) → offset ≤ length bytes
+    → HeadStays (drop offset bytes) now later
+    → Reads bytes offset (head_by bytes offset now) (head_by (bytes ++ more) offset later)
+placed-reads bytes more offset now later here (ends_inside cut ends) =
+    let size = length-drop offset bytes in
     rw cut
-    (short refl (onward-placed (bytes ++ more) place later)
-    (past-placed (bytes ++ more) (length bytes) place (suc (length (drop place bytes))) later
+    (short refl (onward-placed (bytes ++ more) offset later)
+    (past-placed (bytes ++ more) (length bytes) offset (suc (length (drop offset bytes))) later
     (omega arith) ends))
-placed-reads bytes more place CutHead later here (ends_after is within) = absurd within
-placed-reads bytes more place IllFormed later here (ends_after is within) =
+placed-reads bytes more offset CutHead later here (ends_after is within) = absurd within
+placed-reads bytes more offset IllFormed later here (ends_after is within) =
     whole (rw is refl) refl tt
-placed-reads bytes more place (Whole head size) later here (ends_after is within) =
-    let rest = length-drop place bytes in
+placed-reads bytes more offset (Whole head size) later here (ends_after is within) =
+    let rest = length-drop offset bytes in
     whole (rw is refl) (omega arith) (λ _. omega arith)
 
-head_at-reads : (bytes more : List ℕ) (place : ℕ)
-    → Reads bytes place (head_at bytes place) (head_at (bytes ++ more) place)
+head_at-reads : (bytes more : List ℕ) (offset : ℕ)
+    → Reads bytes offset (head_at bytes offset) (head_at (bytes ++ more) offset)
 unfolding head_at head_front
-head_at-reads bytes more place =
-    let later = head_front (drop place (bytes ++ more)) in
+head_at-reads bytes more offset =
+    let later = head_front (drop offset (bytes ++ more)) in
     ⊎_elim
     (λ follows.
-    let none : drop place bytes ≡ [] = drop_of_length-le bytes (omega arith) in
-    let onward = onward-placed (bytes ++ more) place later in
+    let none : drop offset bytes ≡ [] = drop_of_length-le bytes (omega arith) in
+    let onward = onward-placed (bytes ++ more) offset later in
     short (rw none refl) onward
-    (past-from (length bytes) place (placed (bytes ++ more) place later) follows onward))
-    (λ here. placed-reads bytes more place (head_front (drop place bytes)) later here
-    (rw (drop-append-le place bytes more here) (head_stays (drop place bytes) more)))
-    (cases_lt (length bytes) place)
+    (past-from (length bytes) offset (head_by (bytes ++ more) offset later) follows onward))
+    (λ here. placed-reads bytes more offset (head_front (drop offset bytes)) later here
+    (rw (drop-append-le offset bytes more here) (head_stays (drop offset bytes) more)))
+    (cases_lt (length bytes) offset)
 
 pub row_at-reads : {A : Type 0} (row : Head → Result A BundleFault)
-    (bytes more : List ℕ) (place : ℕ)
-    → Reads bytes place (row_at row bytes place) (row_at row (bytes ++ more) place)
+    (bytes more : List ℕ) (offset : ℕ)
+    → Reads bytes offset (row_at row bytes offset) (row_at row (bytes ++ more) offset)
 unfolding row_at
-row_at-reads row bytes more place =
-    reads-then bytes place (head_at bytes place) (head_at (bytes ++ more) place) _ _
-    (head_at-reads bytes more place)
-    (λ (head, next). judged-reads bytes place next (row head))
+row_at-reads row bytes more offset =
+    reads-then bytes offset (head_at bytes offset) (head_at (bytes ++ more) offset) _ _
+    (head_at-reads bytes more offset)
+    (λ (head, next). judged-reads bytes offset next (row head))
 
-row-then : {A B : Type 0} (row : Head → Result A BundleFault) (bytes more : List ℕ) (place : ℕ)
-    (next next_later : A × ℕ → Reading B)
+row-then : {A B : Type 0} (row : Head → Result A BundleFault) (bytes more : List ℕ) (offset : ℕ)
+    (next next_later : A × ℕ → ReadAt B)
     → ((value : A × ℕ) → Reads bytes value.1 (next value) (next_later value))
-    → Reads bytes place (row_at row bytes place >>= next)
-    (row_at row (bytes ++ more) place >>= next_later)
-row-then row bytes more place next next_later each =
-    reads-then bytes place (row_at row bytes place)
-    (row_at row (bytes ++ more) place) next next_later
-    (row_at-reads row bytes more place) each
+    → Reads bytes offset (row_at row bytes offset >>= next)
+    (row_at row (bytes ++ more) offset >>= next_later)
+row-then row bytes more offset next next_later each =
+    reads-then bytes offset (row_at row bytes offset)
+    (row_at row (bytes ++ more) offset) next next_later
+    (row_at-reads row bytes more offset) each
 
-bytes_at-reads : (count : ℕ) (bytes more : List ℕ) (place : ℕ)
-    → Reads bytes place (bytes_at count bytes place) (bytes_at count (bytes ++ more) place)
+bytes_at-reads : (count : ℕ) (bytes more : List ℕ) (offset : ℕ)
+    → Reads bytes offset (bytes_at count bytes offset) (bytes_at count (bytes ++ more) offset)
 unfolding bytes_at
-bytes_at-reads count bytes more place =
+bytes_at-reads count bytes more offset =
     ⊎_elim
     (λ missing.
-    let short_now : ltb (length bytes) (place + count) ≡ true =
-    lt-ltb (length bytes) (place + count) missing in
-    short (rw short_now refl) (onward-bytes count (bytes ++ more) place)
-    (past-if (length bytes) (ltb (length (bytes ++ more)) (place + count))
+    let short_now : ltb (length bytes) (offset + count) ≡ true =
+    lt-ltb (length bytes) (offset + count) missing in
+    short (rw short_now refl) (onward-bytes count (bytes ++ more) offset)
+    (past-if (length bytes) (ltb (length (bytes ++ more)) (offset + count))
     (cut_short (bytes ++ more)) (Ok _) tt
     (omega arith)))
     (λ there.
-    let now : ltb (length bytes) (place + count) ≡ false =
-    le-ltb (length bytes) (place + count) there in
-    let later : ltb (length (bytes ++ more)) (place + count) ≡ false =
-    le-ltb (length (bytes ++ more)) (place + count) (omega (arith, length-append bytes more)) in
-    let within : place ≤ length bytes = omega arith in
-    let fits : count ≤ length (drop place bytes) = omega (arith, length-drop place bytes) in
+    let now : ltb (length bytes) (offset + count) ≡ false =
+    le-ltb (length bytes) (offset + count) there in
+    let later : ltb (length (bytes ++ more)) (offset + count) ≡ false =
+    le-ltb (length (bytes ++ more)) (offset + count) (omega (arith, length-append bytes more)) in
+    let within : offset ≤ length bytes = omega arith in
+    let fits : count ≤ length (drop offset bytes) = omega (arith, length-drop offset bytes) in
     whole
     (rw (
       now,
       later,
-      drop-append-le place bytes more within,
-      take-append-le count (drop place bytes) more fits,
+      drop-append-le offset bytes more within,
+      take-append-le count (drop offset bytes) more fits,
     ) refl)
-    (onward-bytes count bytes place) (rw now (λ _. there)))
-    (cases_lt (length bytes) (place + count))
+    (onward-bytes count bytes offset) (rw now (λ _. there)))
+    (cases_lt (length bytes) (offset + count))
 
-dtn_at-reads : (part : Option ℕ) (bytes more : List ℕ) (place : ℕ)
-    → Reads bytes place (dtn_at part bytes place) (dtn_at part (bytes ++ more) place)
+dtn_at-reads : (part : Option ℕ) (bytes more : List ℕ) (offset : ℕ)
+    → Reads bytes offset (dtn_at part bytes offset) (dtn_at part (bytes ++ more) offset)
 unfolding dtn_at
-dtn_at-reads None bytes more place = ended bytes _ place
-dtn_at-reads (Some count) bytes more place =
-    reads-then bytes place (bytes_at count bytes place) (bytes_at count (bytes ++ more) place) _ _
-    (bytes_at-reads count bytes more place)
+dtn_at-reads None bytes more offset = ended bytes _ offset
+dtn_at-reads (Some count) bytes more offset =
+    reads-then bytes offset (bytes_at count bytes offset) (bytes_at count (bytes ++ more) offset) _ _
+    (bytes_at-reads count bytes more offset)
     (λ (name, end). ended bytes _ end)
 
-ipn_at-reads : (allocated : Bool) (bytes more : List ℕ) (place : ℕ)
-    → Reads bytes place (ipn_at allocated bytes place) (ipn_at allocated (bytes ++ more) place)
+ipn_at-reads : (allocated : Bool) (bytes more : List ℕ) (offset : ℕ)
+    → Reads bytes offset (ipn_at allocated bytes offset) (ipn_at allocated (bytes ++ more) offset)
 unfolding ipn_at
-ipn_at-reads false bytes more place =
-    row-then unsigned bytes more place _ _
-    (λ (node, place). row-then unsigned bytes more place _ _ (λ (service, end). ended bytes _ end))
-ipn_at-reads true bytes more place =
-    row-then unsigned bytes more place _ _
-    (λ (allocator, place). row-then unsigned bytes more place _ _
-    (λ (node, place). row-then unsigned bytes more place _ _ (λ (service, end). ended bytes _ end)))
+ipn_at-reads false bytes more offset =
+    row-then unsigned bytes more offset _ _
+    (λ (node, offset). row-then unsigned bytes more offset _ _ (λ (service, end). ended bytes _ end))
+ipn_at-reads true bytes more offset =
+    row-then unsigned bytes more offset _ _
+    (λ (allocator, offset). row-then unsigned bytes more offset _ _
+    (λ (node, offset). row-then unsigned bytes more offset _ _ (λ (service, end). ended bytes _ end)))
 
-specific_at-reads : (which : Scheme) (bytes more : List ℕ) (place : ℕ)
-    → Reads bytes place (specific_at which bytes place) (specific_at which (bytes ++ more) place)
+specific_at-reads : (which : Scheme) (bytes more : List ℕ) (offset : ℕ)
+    → Reads bytes offset (specific_at which bytes offset) (specific_at which (bytes ++ more) offset)
 unfolding specific_at
-specific_at-reads Dtn bytes more place =
-    row-then dtn_part bytes more place _ _ (λ (part, next). dtn_at-reads part bytes more next)
-specific_at-reads Ipn bytes more place =
-    row-then ipn_part bytes more place _ _
+specific_at-reads Dtn bytes more offset =
+    row-then dtn_part bytes more offset _ _ (λ (part, next). dtn_at-reads part bytes more next)
+specific_at-reads Ipn bytes more offset =
+    row-then ipn_part bytes more offset _ _
     (λ (count, next). ipn_at-reads (count == 3) bytes more next)
 
-eid_at-reads : (bytes more : List ℕ) (place : ℕ)
-    → Reads bytes place (eid_at bytes place) (eid_at (bytes ++ more) place)
+eid_at-reads : (bytes more : List ℕ) (offset : ℕ)
+    → Reads bytes offset (eid_at bytes offset) (eid_at (bytes ++ more) offset)
 unfolding eid_at
-eid_at-reads bytes more place =
-    row-then pair bytes more place _ _
-    (λ (_, place). row-then scheme bytes more place _ _
-    (λ (which, place). specific_at-reads which bytes more place))
+eid_at-reads bytes more offset =
+    row-then pair bytes more offset _ _
+    (λ (_, offset). row-then scheme bytes more offset _ _
+    (λ (which, offset). specific_at-reads which bytes more offset))
 
-eid-then : {B : Type 0} (bytes more : List ℕ) (place : ℕ) (next next_later : Eid × ℕ → Reading B)
+eid-then : {B : Type 0} (bytes more : List ℕ) (offset : ℕ) (next next_later : Eid × ℕ → ReadAt B)
     → ((value : Eid × ℕ) → Reads bytes value.1 (next value) (next_later value))
-    → Reads bytes place (eid_at bytes place >>= next) (eid_at (bytes ++ more) place >>= next_later)
-eid-then bytes more place next next_later each =
-    reads-then bytes place (eid_at bytes place) (eid_at (bytes ++ more) place) next next_later
-    (eid_at-reads bytes more place) each
+    → Reads bytes offset (eid_at bytes offset >>= next) (eid_at (bytes ++ more) offset >>= next_later)
+eid-then bytes more offset next next_later each =
+    reads-then bytes offset (eid_at bytes offset) (eid_at (bytes ++ more) offset) next next_later
+    (eid_at-reads bytes more offset) each
 
-fragment_at-reads : (is : Bool) (bytes more : List ℕ) (place : ℕ)
-    → Reads bytes place (fragment_at is bytes place) (fragment_at is (bytes ++ more) place)
+fragment_at-reads : (is : Bool) (bytes more : List ℕ) (offset : ℕ)
+    → Reads bytes offset (fragment_at is bytes offset) (fragment_at is (bytes ++ more) offset)
 unfolding fragment_at
-fragment_at-reads false bytes more place = ended bytes _ place
-fragment_at-reads true bytes more place =
-    row-then unsigned bytes more place _ _
-    (λ (offset, place). row-then unsigned bytes more place _ _ (λ (total, end). ended bytes _ end))
+fragment_at-reads false bytes more offset = ended bytes _ offset
+fragment_at-reads true bytes more offset =
+    row-then unsigned bytes more offset _ _
+    (λ (fragment_offset, offset). row-then unsigned bytes more offset _ _ (λ (total, end). ended bytes _ end))
 
 -- a check field: the bytes that are checked come before its content
 slice-stays : (bytes more : List ℕ) (start end : ℕ) → end ≤ length bytes
@@ -318,81 +318,81 @@ slice-stays bytes more start end within =
     (cases_lt end start)
 
 -- the comparison of a check field's content with the check
-compared : CheckKind → ℕ → ℕ → ℕ → List ℕ → Reading Bool
-compared kind start place content bytes =
+compared : CheckKind → ℕ → ℕ → ℕ → List ℕ → ReadAt Bool
+compared kind start offset content bytes =
     bytes_at (check_width kind) bytes content >>= λ (stored, next).
     if number_from 0 stored == check_of kind start content bytes then Ok (true, next)
-    else Err (stopped CheckDiffers place)
+    else Err (stopped CheckDiffers offset)
 
-compared-onward : (kind : CheckKind) (start place content : ℕ) (bytes : List ℕ)
-    → Onward content (compared kind start place content bytes)
+compared-onward : (kind : CheckKind) (start offset content : ℕ) (bytes : List ℕ)
+    → Onward content (compared kind start offset content bytes)
 unfolding compared
-compared-onward kind start place content bytes =
+compared-onward kind start offset content bytes =
     onward-then content (bytes_at (check_width kind) bytes content) _
     (onward-bytes (check_width kind) bytes content)
     (λ (stored, next). onward-if next (number_from 0 stored == check_of kind start content bytes)
     (Ok _) (Err _)
     (omega arith) refl)
 
-compared-reads : (kind : CheckKind) (bytes more : List ℕ) (start place content : ℕ)
-    → Reads bytes content (compared kind start place content bytes)
-    (compared kind start place content (bytes ++ more))
+compared-reads : (kind : CheckKind) (bytes more : List ℕ) (start offset content : ℕ)
+    → Reads bytes content (compared kind start offset content bytes)
+    (compared kind start offset content (bytes ++ more))
 unfolding compared check_of bytes_at
-compared-reads kind bytes more start place content =
+compared-reads kind bytes more start offset content =
     ⊎_elim
     (λ follows.
     let short_now : ltb (length bytes) (content + check_width kind) ≡ true =
     lt-ltb (length bytes) (content + check_width kind) (omega arith) in
-    let onward = compared-onward kind start place content (bytes ++ more) in
+    let onward = compared-onward kind start offset content (bytes ++ more) in
     short (rw short_now refl) onward
-    (past-from (length bytes) content (compared kind start place content (bytes ++ more))
+    (past-from (length bytes) content (compared kind start offset content (bytes ++ more))
     (omega arith) onward))
     (λ within.
     rw (slice-stays bytes more start content within)
     (reads-then bytes content (bytes_at (check_width kind) bytes content)
     (bytes_at (check_width kind) (bytes ++ more) content) _ _
     (bytes_at-reads (check_width kind) bytes more content)
-    (λ (stored, next). chosen-reads bytes next next place CheckDiffers
+    (λ (stored, next). chosen-reads bytes next next offset CheckDiffers
     (number_from 0 stored == check_of kind start content bytes) (omega arith) (λ here. here))))
     (cases_lt (length bytes) content)
 
-pub field_at-reads : (check : Option CheckKind) (start : ℕ) (bytes more : List ℕ) (place : ℕ)
-    → Reads bytes place (field_at check start bytes place)
-    (field_at check start (bytes ++ more) place)
+pub field_at-reads : (check : Option CheckKind) (start : ℕ) (bytes more : List ℕ) (offset : ℕ)
+    → Reads bytes offset (field_at check start bytes offset)
+    (field_at check start (bytes ++ more) offset)
 unfolding field_at compared
-field_at-reads None start bytes more place = ended bytes true place
-field_at-reads (Some kind) start bytes more place =
-    row-then (check_field kind) bytes more place _ _
-    (λ (_, content). compared-reads kind bytes more start place content)
+field_at-reads None start bytes more offset = ended bytes true offset
+field_at-reads (Some kind) start bytes more offset =
+    row-then (check_field kind) bytes more offset _ _
+    (λ (_, content). compared-reads kind bytes more start offset content)
 
 pub content_at-reads : (size : ℕ) (check : Option CheckKind) (start : ℕ)
-    (bytes more : List ℕ) (place : ℕ)
-    → Reads bytes place (content_at size check start bytes place)
-    (content_at size check start (bytes ++ more) place)
+    (bytes more : List ℕ) (offset : ℕ)
+    → Reads bytes offset (content_at size check start bytes offset)
+    (content_at size check start (bytes ++ more) offset)
 unfolding content_at
-content_at-reads size check start bytes more place =
-    reads-then bytes place (bytes_at size bytes place) (bytes_at size (bytes ++ more) place) _ _
-    (bytes_at-reads size bytes more place)
-    (λ (_, place). field_at-reads check start bytes more place)
+content_at-reads size check start bytes more offset =
+    reads-then bytes offset (bytes_at size bytes offset) (bytes_at size (bytes ++ more) offset) _ _
+    (bytes_at-reads size bytes more offset)
+    (λ (_, offset). field_at-reads check start bytes more offset)
 
-pub primary_at-reads : (bytes more : List ℕ) (place : ℕ)
-    → Reads bytes place (primary_at bytes place) (primary_at (bytes ++ more) place)
+pub primary_at-reads : (bytes more : List ℕ) (offset : ℕ)
+    → Reads bytes offset (primary_at bytes offset) (primary_at (bytes ++ more) offset)
 unfolding primary_at
-primary_at-reads bytes more place =
-    row-then primary_block bytes more place _ _
-    (λ (count, place). row-then version bytes more place _ _
-    (λ (_, place). row-then unsigned bytes more place _ _
-    (λ (flags, place). row-then (primary_check_type count flags) bytes more place _ _
-    (λ (check, place). eid-then bytes more place _ _
-    (λ (destination, place). eid-then bytes more place _ _
-    (λ (source, place). eid-then bytes more place _ _
-    (λ (report_to, place). row-then pair bytes more place _ _
-    (λ (_, place). row-then unsigned bytes more place _ _
-    (λ (time, place). row-then unsigned bytes more place _ _
-    (λ (sequence, place). row-then unsigned bytes more place _ _
-    (λ (lifetime, place). reads-then bytes place (fragment_at (is_fragment flags) bytes place)
-    (fragment_at (is_fragment flags) (bytes ++ more) place) _ _
-    (fragment_at-reads (is_fragment flags) bytes more place)
+primary_at-reads bytes more offset =
+    row-then primary_block bytes more offset _ _
+    (λ (count, offset). row-then version bytes more offset _ _
+    (λ (_, offset). row-then unsigned bytes more offset _ _
+    (λ (flags, offset). row-then (primary_check_type count flags) bytes more offset _ _
+    (λ (check, offset). eid-then bytes more offset _ _
+    (λ (destination, offset). eid-then bytes more offset _ _
+    (λ (source, offset). eid-then bytes more offset _ _
+    (λ (report_to, offset). row-then pair bytes more offset _ _
+    (λ (_, offset). row-then unsigned bytes more offset _ _
+    (λ (time, offset). row-then unsigned bytes more offset _ _
+    (λ (sequence, offset). row-then unsigned bytes more offset _ _
+    (λ (lifetime, offset). reads-then bytes offset (fragment_at (is_fragment flags) bytes offset)
+    (fragment_at (is_fragment flags) (bytes ++ more) offset) _ _
+    (fragment_at-reads (is_fragment flags) bytes more offset)
     (λ (fragment, end). ended bytes _ end))))))))))))
 
 opening_at-onward : (bytes : List ℕ) → Onward 0 (opening_at bytes)

@@ -11,7 +11,7 @@ use Rattle.std.proofs.lemmas.List.Elements.{All-nil, All-push, All-append}
 use Rattle.link_cbor.specs.declared.head.Head.{Head as HeadItem}
 use Rattle.link_cbor.specs.Head.{AreBytes, Cut as CutHead, IllFormed, Whole, head_front}
 use Rattle.link_cbor.proofs.HeadLaws.{whole_stays, ill_formed_stays}
-use Rattle.link_cbor.specs.HeadScan.{HasScanned as HasScannedHead}
+use Rattle.link_cbor.specs.HeadScan.{HasScannedHead}
 use Rattle.link_bundle.specs.declared.checks.BlockChecks.{BlockChecks}
 use Rattle.link_bundle.specs.declared.cursor.Cursor.{Cursor}
 use Rattle.link_bundle.specs.declared.draft.Draft.{Draft}
@@ -30,20 +30,20 @@ use Rattle.link_bundle.specs.CheckKinds.{is_unread}
 use Rattle.link_bundle.specs.Covers.{Covers}
 use Rattle.link_bundle.specs.Fits.{is_block, scan_fits, KeepsCheck}
 use Rattle.link_bundle.specs.Moves.{TakesRun, Enters}
-use Rattle.link_bundle.specs.Bundle.{Bundle, judged}
+use Rattle.link_bundle.specs.Bundle.{Bundle, judged_bundle}
 use Rattle.link_bundle.specs.Reading.{Stop, stopped, head_at}
 use Rattle.link_bundle.specs.Left.{block_start, field_left, read_alone, with_known_payload, stage_left, goes_on, AsReadFrom}
 use Rattle.link_bundle.proofs.Heads.{read_alone-stopped}
 use Rattle.link_bundle.proofs.Stops.{field_left-stopped}
 use Rattle.link_bundle.specs.declared.scan.BundleScan.{BundleScan}
-use Rattle.link_bundle.specs.Scan.{HasCome, HasScanned, HeadCame, Stands, IsInHead, IsInside, IsInStored}
+use Rattle.link_bundle.specs.Scan.{HasSeen, HasScanned, HasSeenHead, IsAtStage, IsInHead, IsInside, IsInStored}
 
 -- ---- a scan whose stage is known
 
 pub at_stage : (scan : BundleScan) (stage : Stage) (seen : List ℕ) → scan.stage ≡ stage
-    → HasScanned scan seen → HasCome stage scan.cursor scan.draft seen
+    → HasScanned scan seen → HasSeen stage scan.cursor scan.draft seen
 at_stage scan stage seen is come =
-    subst (λ (stage : Stage). HasCome stage scan.cursor scan.draft seen) is come
+    subst (λ (stage : Stage). HasSeen stage scan.cursor scan.draft seen) is come
 
 pub fits_at : (scan : BundleScan) (stage : Stage) → scan.stage ≡ stage
     → IsTrue (scan_fits stage scan.cursor scan.draft)
@@ -79,49 +79,49 @@ kept Unread new checks covered keeps covers = narrowed new checks covered covers
 kept (Is kind) new checks covered keeps covers = keeps refl checks covered covers
 
 -- at the end of the bytes, no byte of the next part was seen
-nothing_yet : (place : ℕ) (seen : List ℕ) → place ≡ length seen → drop place seen ≡ []
-nothing_yet place seen here = ap (λ (place : ℕ). drop place seen) here ∙ drop-length seen
+nothing_yet : (offset : ℕ) (seen : List ℕ) → offset ≡ length seen → drop offset seen ≡ []
+nothing_yet offset seen here = ap (λ (offset : ℕ). drop offset seen) here ∙ drop-length seen
 
 begun : (which : Field) (cursor : Cursor) (check : CheckType) (start : ℕ) (seen : List ℕ)
-    → cursor.place ≡ length seen → HasScannedHead cursor.head []
-    → block_start which start cursor.place ≤ length seen
-    → Covers check cursor.checks (drop (block_start which start cursor.place) seen)
+    → cursor.offset ≡ length seen → HasScannedHead cursor.head []
+    → block_start which start cursor.offset ≤ length seen
+    → Covers check cursor.checks (drop (block_start which start cursor.offset) seen)
     → IsInHead which cursor check start seen
 unfolding head_front
 begun which cursor check start seen here head in_block checks = record {
   at = record {
     in_bytes = omega arith;
     head = subst (λ (bytes : List ℕ). HasScannedHead cursor.head bytes)
-        (sym (nothing_yet cursor.place seen here)) head;
+        (sym (nothing_yet cursor.offset seen here)) head;
     in_block = in_block;
     checks = checks;
   };
-  cut = rw (nothing_yet cursor.place seen here) refl;
+  cut = rw (nothing_yet cursor.offset seen here) refl;
 }
 
 -- a head either begins its block or lies inside it
-begins : (which : Field) (start place : ℕ)
-    → ((is_block (Head which) ≡ true) × (block_start which start place ≡ place))
-    ⊎ ((is_block (Head which) ≡ false) × (block_start which start place ≡ start))
-begins (field.Primary primary.Block) start place = inl (refl, refl)
-begins (field.Primary primary.Version) start place = inr (refl, refl)
-begins (field.Primary primary.Flags) start place = inr (refl, refl)
-begins (field.Primary primary.CheckType) start place = inr (refl, refl)
-begins (field.Primary primary.Timestamp) start place = inr (refl, refl)
-begins (field.Primary primary.Time) start place = inr (refl, refl)
-begins (field.Primary primary.Sequence) start place = inr (refl, refl)
-begins (field.Primary primary.Lifetime) start place = inr (refl, refl)
-begins (field.Primary primary.FragmentOffset) start place = inr (refl, refl)
-begins (field.Primary primary.TotalLength) start place = inr (refl, refl)
-begins (field.Endpoint role part) start place = inr (refl, refl)
-begins (field.Canonical canonical.Block) start place = inl (refl, refl)
-begins (field.Canonical canonical.Type) start place = inr (refl, refl)
-begins (field.Canonical canonical.Number) start place = inr (refl, refl)
-begins (field.Canonical canonical.Flags) start place = inr (refl, refl)
-begins (field.Canonical canonical.CheckType) start place = inr (refl, refl)
-begins (field.Canonical canonical.Data) start place = inr (refl, refl)
-begins (field.Check kind) start place = inr (refl, refl)
-begins field.Closing start place = inr (refl, refl)
+begins : (which : Field) (start offset : ℕ)
+    → ((is_block (Head which) ≡ true) × (block_start which start offset ≡ offset))
+    ⊎ ((is_block (Head which) ≡ false) × (block_start which start offset ≡ start))
+begins (field.Primary primary.Block) start offset = inl (refl, refl)
+begins (field.Primary primary.Version) start offset = inr (refl, refl)
+begins (field.Primary primary.Flags) start offset = inr (refl, refl)
+begins (field.Primary primary.CheckType) start offset = inr (refl, refl)
+begins (field.Primary primary.Timestamp) start offset = inr (refl, refl)
+begins (field.Primary primary.Time) start offset = inr (refl, refl)
+begins (field.Primary primary.Sequence) start offset = inr (refl, refl)
+begins (field.Primary primary.Lifetime) start offset = inr (refl, refl)
+begins (field.Primary primary.FragmentOffset) start offset = inr (refl, refl)
+begins (field.Primary primary.TotalLength) start offset = inr (refl, refl)
+begins (field.Endpoint role part) start offset = inr (refl, refl)
+begins (field.Canonical canonical.Block) start offset = inl (refl, refl)
+begins (field.Canonical canonical.Type) start offset = inr (refl, refl)
+begins (field.Canonical canonical.Number) start offset = inr (refl, refl)
+begins (field.Canonical canonical.Flags) start offset = inr (refl, refl)
+begins (field.Canonical canonical.CheckType) start offset = inr (refl, refl)
+begins (field.Canonical canonical.Data) start offset = inr (refl, refl)
+begins (field.Check kind) start offset = inr (refl, refl)
+begins field.Closing start offset = inr (refl, refl)
 
 stands_head : (which : Field) (old new : Cursor) (check after : CheckType)
     (start : ℕ) (seen : List ℕ)
@@ -129,7 +129,7 @@ stands_head : (which : Field) (old new : Cursor) (check after : CheckType)
     → KeepsCheck check (Head which) after → Enters (Head which) old new
     → IsInHead which new after start seen
 stands_head which old new check after start seen counted within covers keeps enters =
-    let here : new.place ≡ length seen = enters.place ∙ counted in
+    let here : new.offset ≡ length seen = enters.offset ∙ counted in
     ⊎_elim
     (λ (is, at).
     let fresh : Covers Unread new.checks [] =
@@ -137,7 +137,7 @@ stands_head which old new check after start seen counted within covers keeps ent
     enters.checks in
     begun which new after start seen here enters.head (omega (arith, at))
     (subst (λ (bytes : List ℕ). Covers after new.checks bytes)
-    (sym (ap (λ (place : ℕ). drop place seen) at ∙ nothing_yet new.place seen here))
+    (sym (ap (λ (offset : ℕ). drop offset seen) at ∙ nothing_yet new.offset seen here))
     (narrowed after new.checks [] fresh)))
     (λ (is, at).
     let same : new.checks ≡ old.checks =
@@ -146,9 +146,9 @@ stands_head which old new check after start seen counted within covers keeps ent
     let held = kept check after old.checks (drop start seen) (keeps.1 is) covers in
     begun which new after start seen here enters.head (omega (arith, at))
     (subst (λ (checks : BlockChecks). Covers after checks
-    (drop (block_start which start new.place) seen)) (sym same)
-    (subst (λ (place : ℕ). Covers after old.checks (drop place seen)) (sym at) held)))
-    (begins which start new.place)
+    (drop (block_start which start new.offset) seen)) (sym same)
+    (subst (λ (offset : ℕ). Covers after old.checks (drop offset seen)) (sym at) held)))
+    (begins which start new.offset)
 
 stands_inside : (old new : Cursor) (check after : CheckType) (start : ℕ) (seen : List ℕ)
     → start ≤ length seen → Covers check old.checks (drop start seen)
@@ -165,7 +165,7 @@ stands_stored : (old new : Cursor) (check after : CheckType) (start : ℕ) (seen
     → old.count ≡ length seen → start ≤ length seen → Covers check old.checks (drop start seen)
     → (is_unread check ≡ false → (checks : BlockChecks) (covered : List ℕ)
     → Covers check checks covered → Covers after checks covered)
-    → new.place ≡ length seen → new.checks ≡ old.checks → IsInStored new after start seen
+    → new.offset ≡ length seen → new.checks ≡ old.checks → IsInStored new after start seen
 stands_stored old new check after start seen counted within covers keeps here same = record {
   in_block = within;
   in_bytes = omega (arith, here);
@@ -182,7 +182,7 @@ stands_stored old new check after start seen counted within covers keeps here sa
 stands_entered : (stage : Stage) (old new : Cursor) (check after : CheckType)
     (start : ℕ) (seen : List ℕ)
     → old.count ≡ length seen → start ≤ length seen → Covers check old.checks (drop start seen)
-    → KeepsCheck check stage after → Enters stage old new → Stands stage new after start seen
+    → KeepsCheck check stage after → Enters stage old new → IsAtStage stage new after start seen
 stands_entered Start old new check after start seen counted within covers keeps enters =
     absurd (false≢true keeps.0)
 stands_entered (Head which) old new check after start seen counted within covers keeps enters =
@@ -191,13 +191,13 @@ stands_entered (Name role left) old new check after start seen counted within co
     stands_inside old new check after start seen within covers (keeps.1 refl) enters.checks
 stands_entered (Content left) old new check after start seen counted within covers keeps enters =
     stands_inside old new check after start seen within covers (keeps.1 refl) enters.checks
-stands_entered (Stored place left stored kind) old new check after start seen counted within covers
+stands_entered (Stored offset left stored kind) old new check after start seen counted within covers
     keeps enters =
     stands_stored old new check after start seen counted within covers (keeps.1 refl)
-    (enters.place ∙ counted) enters.checks
+    (enters.offset ∙ counted) enters.checks
 stands_entered Ended old new check after start seen counted within covers keeps enters =
-    enters.place ∙ counted
-stands_entered (Failed fault place) old new check after start seen counted within covers keeps
+    enters.offset ∙ counted
+stands_entered (Failed fault offset) old new check after start seen counted within covers keeps
     enters = tt
 
 -- a stage that is entered, with the rest from there on
@@ -206,26 +206,26 @@ pub entered : (stage : Stage) (old new : Cursor) (check : CheckType) (draft : Dr
     → AreBytes seen → old.count ≡ length seen → start ≤ length seen
     → Covers check old.checks (drop start seen)
     → KeepsCheck check stage draft.check → Enters stage old new
-    → ((more : List ℕ) → judged (seen ++ more)
+    → ((more : List ℕ) → judged_bundle (seen ++ more)
     ≡ stage_left stage draft start (length seen) (seen ++ more) (length seen))
-    → HasCome stage new draft seen
+    → HasSeen stage new draft seen
 entered stage old new check draft start seen all counted within covers keeps enters reads = record {
   all_bytes = all;
   count = enters.count ∙ counted;
   start = start;
   reads = λ more. reads more
-      ∙ ap (λ (place : ℕ). stage_left stage draft start place (seen ++ more) (length seen))
-      (sym (enters.place ∙ counted));
+      ∙ ap (λ (offset : ℕ). stage_left stage draft start offset (seen ++ more) (length seen))
+      (sym (enters.offset ∙ counted));
   stands = stands_entered stage old new check draft.check start seen counted within covers keeps
       enters;
 }
 
 -- the rest, after a run of more bytes
 pub regrown : (left : List ℕ → Result Bundle Stop) (seen run : List ℕ)
-    → ((more : List ℕ) → judged (seen ++ more) ≡ left (seen ++ more))
-    → (more : List ℕ) → judged ((seen ++ run) ++ more) ≡ left ((seen ++ run) ++ more)
+    → ((more : List ℕ) → judged_bundle (seen ++ more) ≡ left (seen ++ more))
+    → (more : List ℕ) → judged_bundle ((seen ++ run) ++ more) ≡ left ((seen ++ run) ++ more)
 regrown left seen run reads more =
-    subst (λ (bytes : List ℕ). judged bytes ≡ left bytes) (sym (append_assoc seen run more))
+    subst (λ (bytes : List ℕ). judged_bundle bytes ≡ left bytes) (sym (append_assoc seen run more))
     (reads (run ++ more))
 
 pub all_grown : (seen run : List ℕ) → AreBytes seen → AreBytes run → AreBytes (seen ++ run)
@@ -245,13 +245,13 @@ count_more old new seen byte grows counted =
     grows ∙ ap (λ (count : ℕ). count + 1) counted ∙ sym (length-append seen (byte ∷ []))
 
 -- a fault that the bytes seen show
-pub failed : (fault : BundleFault) (place : ℕ) (cursor : Cursor) (draft : Draft) (seen : List ℕ)
+pub failed : (fault : BundleFault) (offset : ℕ) (cursor : Cursor) (draft : Draft) (seen : List ℕ)
     → AreBytes seen → cursor.count ≡ length seen
-    → ((more : List ℕ) → judged (seen ++ more)
-    ≡ with_known_payload draft.payload (Err (stopped fault place)))
-    → HasCome (Failed fault place) cursor draft seen
+    → ((more : List ℕ) → judged_bundle (seen ++ more)
+    ≡ with_known_payload draft.payload_span (Err (stopped fault offset)))
+    → HasSeen (Failed fault offset) cursor draft seen
 unfolding stage_left
-failed fault place cursor draft seen all counted reads = record {
+failed fault offset cursor draft seen all counted reads = record {
   all_bytes = all;
   count = counted;
   start = 0;
@@ -261,74 +261,74 @@ failed fault place cursor draft seen all counted reads = record {
 
 -- more bytes of a head
 pub grown_head : (which : Field) (old new : Cursor) (draft : Draft) (seen run : List ℕ)
-    → HasCome (Head which) old draft seen → AreBytes run → TakesRun draft.check old new run
-    → HeadCame which new draft (seen ++ run)
+    → HasSeen (Head which) old draft seen → AreBytes run → TakesRun draft.check old new run
+    → HasSeenHead which new draft (seen ++ run)
 unfolding stage_left
 grown_head which old new draft seen run come are takes =
     let at = come.stands.at in
-    let begins = block_start which come.start old.place in
+    let begins = block_start which come.start old.offset in
     let longer = length-append seen run in
     record {
       all_bytes = all_grown seen run come.all_bytes are;
       count = takes.count ∙ ap (λ (count : ℕ). count + length run) come.count ∙ sym longer;
       start = come.start;
-      reads = rw takes.place
+      reads = rw takes.offset
           (regrown (λ (bytes : List ℕ).
-          stage_left (Head which) draft come.start old.place bytes (length seen)) seen run
+          stage_left (Head which) draft come.start old.offset bytes (length seen)) seen run
           come.reads);
-      in_bytes = omega (arith, at.in_bytes, takes.place);
-      in_block = rw takes.place (omega (arith, at.in_block));
-      checks = rw (takes.place, drop-append-le begins seen run at.in_block)
+      in_bytes = omega (arith, at.in_bytes, takes.offset);
+      in_block = rw takes.offset (omega (arith, at.in_block));
+      checks = rw (takes.offset, drop-append-le begins seen run at.in_block)
           (takes.checks (drop begins seen) at.checks);
     }
 
 -- the bytes seen of a head, with one more
 pub grown_bytes : (which : Field) (old new : Cursor) (draft : Draft) (seen : List ℕ) (byte : ℕ)
-    → HasCome (Head which) old draft seen → new.place ≡ old.place
+    → HasSeen (Head which) old draft seen → new.offset ≡ old.offset
     → ((head : List ℕ) → HasScannedHead old.head head → HasScannedHead new.head (head ++ byte ∷ []))
-    → HasScannedHead new.head (drop new.place (seen ++ byte ∷ []))
+    → HasScannedHead new.head (drop new.offset (seen ++ byte ∷ []))
 grown_bytes which old new draft seen byte come stays heads =
     let at = come.stands.at in
-    rw (stays, drop-append-le old.place seen (byte ∷ []) at.in_bytes)
-    (heads (drop old.place seen) at.head)
+    rw (stays, drop-append-le old.offset seen (byte ∷ []) at.in_bytes)
+    (heads (drop old.offset seen) at.head)
 
 -- a run after the bytes seen
-pub after_seen : (place : ℕ) (seen run : List ℕ) → place ≡ length seen
-    → drop place (seen ++ run) ≡ run
-after_seen place seen run here =
-    ap (λ (place : ℕ). drop place (seen ++ run)) here ∙ drop-append_seam seen run
+pub after_seen : (offset : ℕ) (seen run : List ℕ) → offset ≡ length seen
+    → drop offset (seen ++ run) ≡ run
+after_seen offset seen run here =
+    ap (λ (offset : ℕ). drop offset (seen ++ run)) here ∙ drop-append_seam seen run
 
 -- the bytes seen of a head stay the same, whatever bytes follow
-front_stays : (place : ℕ) (seen more : List ℕ) → place ≤ length seen
-    → drop place (seen ++ more) ≡ drop place seen ++ more
-front_stays place seen more within = drop-append-le place seen more within
+front_stays : (offset : ℕ) (seen more : List ℕ) → offset ≤ length seen
+    → drop offset (seen ++ more) ≡ drop offset seen ++ more
+front_stays offset seen more within = drop-append-le offset seen more within
 
-head_at-whole : (place : ℕ) (seen more : List ℕ) (head : HeadItem) → place ≤ length seen
-    → head_front (drop place seen) ≡ Whole head (length (drop place seen))
-    → head_at (seen ++ more) place ≡ Ok (head, length seen)
+head_at-whole : (offset : ℕ) (seen more : List ℕ) (head : HeadItem) → offset ≤ length seen
+    → head_front (drop offset seen) ≡ Whole head (length (drop offset seen))
+    → head_at (seen ++ more) offset ≡ Ok (head, length seen)
 unfolding head_at
-head_at-whole place seen more head within outcome =
-    let next : place + length (drop place seen) ≡ length seen =
-    omega (arith, length-drop place seen) in
+head_at-whole offset seen more head within outcome =
+    let next : offset + length (drop offset seen) ≡ length seen =
+    omega (arith, length-drop offset seen) in
     rw (
-      front_stays place seen more within,
-      whole_stays (drop place seen) more head
-          (length (drop place seen)) outcome,
+      front_stays offset seen more within,
+      whole_stays (drop offset seen) more head
+          (length (drop offset seen)) outcome,
       next,
     ) refl
 
-head_at-bad : (place : ℕ) (seen more : List ℕ) → place ≤ length seen
-    → head_front (drop place seen) ≡ IllFormed
-    → head_at (seen ++ more) place ≡ Err (stopped BadHead place)
+head_at-bad : (offset : ℕ) (seen more : List ℕ) → offset ≤ length seen
+    → head_front (drop offset seen) ≡ IllFormed
+    → head_at (seen ++ more) offset ≡ Err (stopped BadHead offset)
 unfolding head_at
-head_at-bad place seen more within outcome =
-    rw (front_stays place seen more within, ill_formed_stays (drop place seen) more outcome) refl
+head_at-bad offset seen more within outcome =
+    rw (front_stays offset seen more within, ill_formed_stays (drop offset seen) more outcome) refl
 
 -- a head that is not whole yet
 pub more_head : (which : Field) (cursor : Cursor) (draft : Draft) (seen : List ℕ)
-    → HeadCame which cursor draft seen
-    → HasScannedHead cursor.head (drop cursor.place seen)
-    → head_front (drop cursor.place seen) ≡ CutHead → HasCome (Head which) cursor draft seen
+    → HasSeenHead which cursor draft seen
+    → HasScannedHead cursor.head (drop cursor.offset seen)
+    → head_front (drop cursor.offset seen) ≡ CutHead → HasSeen (Head which) cursor draft seen
 more_head which cursor draft seen come head outcome = record {
   all_bytes = come.all_bytes;
   count = come.count;
@@ -347,64 +347,64 @@ more_head which cursor draft seen come head outcome = record {
 
 -- an ill-formed head
 pub bad_head : (which : Field) (cursor : Cursor) (draft : Draft) (seen : List ℕ)
-    → HeadCame which cursor draft seen
-    → head_front (drop cursor.place seen) ≡ IllFormed
-    → HasCome (Failed BadHead cursor.place) cursor draft seen
+    → HasSeenHead which cursor draft seen
+    → head_front (drop cursor.offset seen) ≡ IllFormed
+    → HasSeen (Failed BadHead cursor.offset) cursor draft seen
 unfolding stage_left
 bad_head which cursor draft seen come outcome =
-    failed BadHead cursor.place cursor draft seen come.all_bytes come.count
+    failed BadHead cursor.offset cursor draft seen come.all_bytes come.count
     (λ more.
     let bytes = seen ++ more in
-    let stop = stopped BadHead cursor.place in
+    let stop = stopped BadHead cursor.offset in
     come.reads more
     ∙ ap (λ (reading : Result Bundle Stop). read_alone bytes
-    (with_known_payload draft.payload reading))
-    (field_left-stopped which draft (block_start which come.start cursor.place) bytes cursor.place
+    (with_known_payload draft.payload_span reading))
+    (field_left-stopped which draft (block_start which come.start cursor.offset) bytes cursor.offset
     stop
-    (head_at-bad cursor.place seen more come.in_bytes outcome))
-    ∙ read_alone-stopped draft.payload bytes stop)
+    (head_at-bad cursor.offset seen more come.in_bytes outcome))
+    ∙ read_alone-stopped draft.payload_span bytes stop)
 
 -- a whole head that is judged
 judged_head : (which : Field) (cursor : Cursor) (draft new : Draft) (head : HeadItem)
     (result : Result Stage BundleFault) (seen : List ℕ)
-    → (come : HeadCame which cursor draft seen)
-    → head_front (drop cursor.place seen) ≡ Whole head (length (drop cursor.place seen))
-    → AsReadFrom cursor.place cursor.count which draft head result new
-    → (more : List ℕ) → judged (seen ++ more)
-    ≡ goes_on result new (block_start which come.start cursor.place) cursor.place (length seen)
+    → (come : HasSeenHead which cursor draft seen)
+    → head_front (drop cursor.offset seen) ≡ Whole head (length (drop cursor.offset seen))
+    → AsReadFrom cursor.offset cursor.count which draft head result new
+    → (more : List ℕ) → judged_bundle (seen ++ more)
+    ≡ goes_on result new (block_start which come.start cursor.offset) cursor.offset (length seen)
     (seen ++ more)
 unfolding stage_left
 judged_head which cursor draft new head result seen come outcome judges more =
-    let whole = head_at-whole cursor.place seen more head come.in_bytes outcome in
+    let whole = head_at-whole cursor.offset seen more head come.in_bytes outcome in
     come.reads more
     ∙ subst (λ (count : ℕ). read_alone (seen ++ more)
-    (with_known_payload draft.payload
-    (field_left which draft (block_start which come.start cursor.place)
-    (seen ++ more) cursor.place))
-    ≡ goes_on result new (block_start which come.start cursor.place) cursor.place count
+    (with_known_payload draft.payload_span
+    (field_left which draft (block_start which come.start cursor.offset)
+    (seen ++ more) cursor.offset))
+    ≡ goes_on result new (block_start which come.start cursor.offset) cursor.offset count
     (seen ++ more)) come.count
     (judges (seen ++ more) come.start (rw come.count whole)
     (omega (arith, length-append seen more, come.count)))
 
 pub went_on : (which : Field) (old cursor : Cursor) (draft new : Draft) (head : HeadItem)
     (stage : Stage) (seen : List ℕ)
-    → HeadCame which old draft seen
-    → head_front (drop old.place seen) ≡ Whole head (length (drop old.place seen))
-    → AsReadFrom old.place old.count which draft head (Ok stage) new
+    → HasSeenHead which old draft seen
+    → head_front (drop old.offset seen) ≡ Whole head (length (drop old.offset seen))
+    → AsReadFrom old.offset old.count which draft head (Ok stage) new
     → KeepsCheck draft.check stage new.check → Enters stage old cursor
-    → HasCome stage cursor new seen
+    → HasSeen stage cursor new seen
 went_on which old cursor draft new head stage seen come outcome judges keeps enters =
-    entered stage old cursor draft.check new (block_start which come.start old.place) seen
+    entered stage old cursor draft.check new (block_start which come.start old.offset) seen
     come.all_bytes come.count
     come.in_block come.checks keeps enters
     (judged_head which old draft new head (Ok stage) seen come outcome judges)
 
 pub refused : (which : Field) (cursor : Cursor) (draft new : Draft) (head : HeadItem)
     (fault : BundleFault) (seen : List ℕ)
-    → HeadCame which cursor draft seen
-    → head_front (drop cursor.place seen) ≡ Whole head (length (drop cursor.place seen))
-    → AsReadFrom cursor.place cursor.count which draft head (Err fault) new
-    → HasCome (Failed fault cursor.place) cursor new seen
+    → HasSeenHead which cursor draft seen
+    → head_front (drop cursor.offset seen) ≡ Whole head (length (drop cursor.offset seen))
+    → AsReadFrom cursor.offset cursor.count which draft head (Err fault) new
+    → HasSeen (Failed fault cursor.offset) cursor new seen
 refused which cursor draft new head fault seen come outcome judges =
-    failed fault cursor.place cursor new seen come.all_bytes come.count
+    failed fault cursor.offset cursor new seen come.all_bytes come.count
     (judged_head which cursor draft new head (Err fault) seen come outcome judges)

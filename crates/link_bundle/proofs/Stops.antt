@@ -20,75 +20,75 @@ use Rattle.link_bundle.specs.Bundle.{blocks_at}
 use Rattle.link_bundle.specs.Left.{field_left, primary_of, primary_block_left, version_left, flags_left, check_type_left, timestamp_left, time_left, sequence_left, lifetime_left, offset_left, total_left, scheme_left, allocator_left, node_left, service_left, type_left, number_left, block_flags_left, block_check_left, data_left}
 
 row_at-stopped : {A : Type 0} (row : Head → Result A BundleFault) (bytes : List ℕ)
-    (place : ℕ) (stop : Stop)
-    → head_at bytes place ≡ Err stop → row_at row bytes place ≡ Err stop
+    (offset : ℕ) (stop : Stop)
+    → head_at bytes offset ≡ Err stop → row_at row bytes offset ≡ Err stop
 unfolding row_at
-row_at-stopped row bytes place stop outcome = rw outcome refl
+row_at-stopped row bytes offset stop outcome = rw outcome refl
 
 blocks_at-stopped : (left : ℕ) (numbers : List ℕ) (primary : Primary) (bytes : List ℕ)
-    (place : ℕ) (stop : Stop)
-    → head_at bytes place ≡ Err stop → blocks_at left numbers primary bytes place ≡ Err stop
+    (offset : ℕ) (stop : Stop)
+    → head_at bytes offset ≡ Err stop → blocks_at left numbers primary bytes offset ≡ Err stop
 unfolding blocks_at
-blocks_at-stopped zero numbers primary bytes place stop outcome =
-    rw (row_at-stopped block_too_many bytes place stop outcome) refl
-blocks_at-stopped (suc left) numbers primary bytes place stop outcome =
-    rw (row_at-stopped block bytes place stop outcome) refl
+blocks_at-stopped zero numbers primary bytes offset stop outcome =
+    rw (row_at-stopped block_too_many bytes offset stop outcome) refl
+blocks_at-stopped (suc left) numbers primary bytes offset stop outcome =
+    rw (row_at-stopped block bytes offset stop outcome) refl
 
 pub field_left-stopped : (which : Field) (draft : Draft) (start : ℕ) (bytes : List ℕ)
-    (place : ℕ) (stop : Stop)
-    → head_at bytes place ≡ Err stop → field_left which draft start bytes place ≡ Err stop
+    (offset : ℕ) (stop : Stop)
+    → head_at bytes offset ≡ Err stop → field_left which draft start bytes offset ≡ Err stop
 unfolding field_left primary_block_left version_left flags_left check_type_left timestamp_left
     time_left sequence_left lifetime_left offset_left total_left fragment_at eid_at specific_at
     scheme_left allocator_left node_left service_left type_left number_left block_flags_left
     block_check_left data_left field_at
-field_left-stopped (field.Primary primary.Block) draft start bytes place stop outcome =
-    rw (row_at-stopped primary_block bytes place stop outcome) refl
-field_left-stopped (field.Primary primary.Version) draft start bytes place stop outcome =
-    rw (row_at-stopped version bytes place stop outcome) refl
-field_left-stopped (field.Primary primary.Flags) draft start bytes place stop outcome =
-    rw (row_at-stopped unsigned bytes place stop outcome) refl
-field_left-stopped (field.Primary primary.CheckType) draft start bytes place stop outcome =
-    rw (row_at-stopped (primary_check_type draft.count draft.flags) bytes place stop outcome) refl
-field_left-stopped (field.Primary primary.Timestamp) draft start bytes place stop outcome =
-    rw (row_at-stopped pair bytes place stop outcome) refl
-field_left-stopped (field.Primary primary.Time) draft start bytes place stop outcome =
-    rw (row_at-stopped unsigned bytes place stop outcome) refl
-field_left-stopped (field.Primary primary.Sequence) draft start bytes place stop outcome =
-    rw (row_at-stopped unsigned bytes place stop outcome) refl
-field_left-stopped (field.Primary primary.Lifetime) draft start bytes place stop outcome =
-    rw (row_at-stopped unsigned bytes place stop outcome) refl
-field_left-stopped (field.Primary primary.FragmentOffset) draft start bytes place stop outcome =
-    rw (row_at-stopped unsigned bytes place stop outcome) refl
-field_left-stopped (field.Primary primary.TotalLength) draft start bytes place stop outcome =
-    rw (row_at-stopped unsigned bytes place stop outcome) refl
-field_left-stopped (field.Endpoint role part.Array) draft start bytes place stop outcome =
-    rw (row_at-stopped pair bytes place stop outcome) refl
-field_left-stopped (field.Endpoint role part.Scheme) draft start bytes place stop outcome =
-    rw (row_at-stopped scheme bytes place stop outcome) refl
-field_left-stopped (field.Endpoint role (part.Specific Dtn)) draft start bytes place stop outcome =
-    rw (row_at-stopped dtn_part bytes place stop outcome) refl
-field_left-stopped (field.Endpoint role (part.Specific Ipn)) draft start bytes place stop outcome =
-    rw (row_at-stopped ipn_part bytes place stop outcome) refl
-field_left-stopped (field.Endpoint role part.Allocator) draft start bytes place stop outcome =
-    rw (row_at-stopped unsigned bytes place stop outcome) refl
-field_left-stopped (field.Endpoint role part.Node) draft start bytes place stop outcome =
-    rw (row_at-stopped unsigned bytes place stop outcome) refl
-field_left-stopped (field.Endpoint role part.Service) draft start bytes place stop outcome =
-    rw (row_at-stopped unsigned bytes place stop outcome) refl
-field_left-stopped (field.Canonical canonical.Block) draft start bytes place stop outcome =
+field_left-stopped (field.Primary primary.Block) draft start bytes offset stop outcome =
+    rw (row_at-stopped primary_block bytes offset stop outcome) refl
+field_left-stopped (field.Primary primary.Version) draft start bytes offset stop outcome =
+    rw (row_at-stopped version bytes offset stop outcome) refl
+field_left-stopped (field.Primary primary.Flags) draft start bytes offset stop outcome =
+    rw (row_at-stopped unsigned bytes offset stop outcome) refl
+field_left-stopped (field.Primary primary.CheckType) draft start bytes offset stop outcome =
+    rw (row_at-stopped (primary_check_type draft.count draft.flags) bytes offset stop outcome) refl
+field_left-stopped (field.Primary primary.Timestamp) draft start bytes offset stop outcome =
+    rw (row_at-stopped pair bytes offset stop outcome) refl
+field_left-stopped (field.Primary primary.Time) draft start bytes offset stop outcome =
+    rw (row_at-stopped unsigned bytes offset stop outcome) refl
+field_left-stopped (field.Primary primary.Sequence) draft start bytes offset stop outcome =
+    rw (row_at-stopped unsigned bytes offset stop outcome) refl
+field_left-stopped (field.Primary primary.Lifetime) draft start bytes offset stop outcome =
+    rw (row_at-stopped unsigned bytes offset stop outcome) refl
+field_left-stopped (field.Primary primary.FragmentOffset) draft start bytes offset stop outcome =
+    rw (row_at-stopped unsigned bytes offset stop outcome) refl
+field_left-stopped (field.Primary primary.TotalLength) draft start bytes offset stop outcome =
+    rw (row_at-stopped unsigned bytes offset stop outcome) refl
+field_left-stopped (field.Endpoint role part.Array) draft start bytes offset stop outcome =
+    rw (row_at-stopped pair bytes offset stop outcome) refl
+field_left-stopped (field.Endpoint role part.Scheme) draft start bytes offset stop outcome =
+    rw (row_at-stopped scheme bytes offset stop outcome) refl
+field_left-stopped (field.Endpoint role (part.Specific Dtn)) draft start bytes offset stop outcome =
+    rw (row_at-stopped dtn_part bytes offset stop outcome) refl
+field_left-stopped (field.Endpoint role (part.Specific Ipn)) draft start bytes offset stop outcome =
+    rw (row_at-stopped ipn_part bytes offset stop outcome) refl
+field_left-stopped (field.Endpoint role part.Allocator) draft start bytes offset stop outcome =
+    rw (row_at-stopped unsigned bytes offset stop outcome) refl
+field_left-stopped (field.Endpoint role part.Node) draft start bytes offset stop outcome =
+    rw (row_at-stopped unsigned bytes offset stop outcome) refl
+field_left-stopped (field.Endpoint role part.Service) draft start bytes offset stop outcome =
+    rw (row_at-stopped unsigned bytes offset stop outcome) refl
+field_left-stopped (field.Canonical canonical.Block) draft start bytes offset stop outcome =
     blocks_at-stopped (64 - length draft.numbers) draft.numbers
-    (primary_of draft) bytes place stop outcome
-field_left-stopped (field.Canonical canonical.Type) draft start bytes place stop outcome =
-    rw (row_at-stopped unsigned bytes place stop outcome) refl
-field_left-stopped (field.Canonical canonical.Number) draft start bytes place stop outcome =
-    rw (row_at-stopped (block_number draft.block_type draft.numbers) bytes place stop outcome) refl
-field_left-stopped (field.Canonical canonical.Flags) draft start bytes place stop outcome =
-    rw (row_at-stopped unsigned bytes place stop outcome) refl
-field_left-stopped (field.Canonical canonical.CheckType) draft start bytes place stop outcome =
-    rw (row_at-stopped (block_check_type draft.count) bytes place stop outcome) refl
-field_left-stopped (field.Canonical canonical.Data) draft start bytes place stop outcome =
-    rw (row_at-stopped byte_string bytes place stop outcome) refl
-field_left-stopped (field.Check kind) draft start bytes place stop outcome =
-    rw (row_at-stopped (check_field kind) bytes place stop outcome) refl
-field_left-stopped field.Closing draft start bytes place stop outcome =
-    rw (row_at-stopped closing bytes place stop outcome) refl
+    (primary_of draft) bytes offset stop outcome
+field_left-stopped (field.Canonical canonical.Type) draft start bytes offset stop outcome =
+    rw (row_at-stopped unsigned bytes offset stop outcome) refl
+field_left-stopped (field.Canonical canonical.Number) draft start bytes offset stop outcome =
+    rw (row_at-stopped (block_number draft.block_type draft.numbers) bytes offset stop outcome) refl
+field_left-stopped (field.Canonical canonical.Flags) draft start bytes offset stop outcome =
+    rw (row_at-stopped unsigned bytes offset stop outcome) refl
+field_left-stopped (field.Canonical canonical.CheckType) draft start bytes offset stop outcome =
+    rw (row_at-stopped (block_check_type draft.count) bytes offset stop outcome) refl
+field_left-stopped (field.Canonical canonical.Data) draft start bytes offset stop outcome =
+    rw (row_at-stopped byte_string bytes offset stop outcome) refl
+field_left-stopped (field.Check kind) draft start bytes offset stop outcome =
+    rw (row_at-stopped (check_field kind) bytes offset stop outcome) refl
+field_left-stopped field.Closing draft start bytes offset stop outcome =
+    rw (row_at-stopped closing bytes offset stop outcome) refl

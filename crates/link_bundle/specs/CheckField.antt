@@ -5,7 +5,7 @@ use Rattle.link_cbor.specs.declared.check.CheckKind.{CheckKind}
 use Rattle.link_cbor.specs.Crc.{crc}
 use Rattle.link_bundle_types.specs.declared.fault.BundleFault.TheVariants.{CheckDiffers}
 use Rattle.link_bundle_heads.specs.Rows.{◌>>=◌, check_width, check_field}
-use Rattle.link_bundle.specs.Reading.{Reading, stopped, row_at, bytes_at}
+use Rattle.link_bundle.specs.Reading.{ReadAt, stopped, row_at, bytes_at}
 
 -- the number that bytes spell after those that spell `high`, the most significant byte first
 abbrev pub number_from : ℕ → List ℕ → ℕ
@@ -18,10 +18,10 @@ check_of kind start content bytes =
     crc kind (slice_range bytes start content ++ replicate (check_width kind) 0)
 
 -- the check field at an offset, in a block that begins at `start` (section 4.2.1)
-unfoldable pub field_at : Option CheckKind → ℕ → List ℕ → ℕ → Reading Bool
-field_at None start bytes place = Ok (true, place)
-field_at (Some kind) start bytes place = do
-  (_, content) ← row_at (check_field kind) bytes place
+unfoldable pub field_at : Option CheckKind → ℕ → List ℕ → ℕ → ReadAt Bool
+field_at None start bytes offset = Ok (true, offset)
+field_at (Some kind) start bytes offset = do
+  (_, content) ← row_at (check_field kind) bytes offset
   (stored, next) ← bytes_at (check_width kind) bytes content
   if number_from 0 stored == check_of kind start content bytes then Ok (true, next)
-      else Err (stopped CheckDiffers place)
+      else Err (stopped CheckDiffers offset)

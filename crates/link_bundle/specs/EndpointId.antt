@@ -6,37 +6,39 @@ use Rattle.link_bundle_types.specs.declared.eid.Eid.TheVariants.{DtnNone, Dtn as
 use Rattle.link_bundle_heads.specs.declared.endpoint.Scheme.{Scheme}
 use Rattle.link_bundle_heads.specs.declared.endpoint.Scheme.TheVariants.{Dtn, Ipn}
 use Rattle.link_bundle_heads.specs.Rows.{◌>>=◌, unsigned, pair, scheme, dtn_part, ipn_part}
-use Rattle.link_bundle.specs.Reading.{Reading, row_at, bytes_at}
+use Rattle.link_bundle.specs.Reading.{ReadAt, row_at, bytes_at}
 
 -- dtn:none, or a dtn name of that many bytes
-unfoldable pub dtn_at : Option ℕ → List ℕ → ℕ → Reading Eid
-dtn_at None bytes place = Ok (DtnNone, place)
-dtn_at (Some count) bytes place = do
-  (name, place) ← bytes_at count bytes place
-  Ok (DtnName (record { items = name }), place)
+unfoldable pub dtn_at : Option ℕ → List ℕ → ℕ → ReadAt Eid
+dtn_at None bytes offset = Ok (DtnNone, offset)
+dtn_at (Some count) bytes offset = do
+  (name, offset) ← bytes_at count bytes offset
+  Ok (DtnName (record { items = name }), offset)
 
 -- a node number and a service number, after an allocator identifier if there is one
-unfoldable pub ipn_at : Bool → List ℕ → ℕ → Reading Eid
-ipn_at false bytes place = do
-  (node, place) ← row_at unsigned bytes place
-  (service, place) ← row_at unsigned bytes place
-  Ok (IpnNumbers node service, place)
-ipn_at true bytes place = do
-  (allocator, place) ← row_at unsigned bytes place
-  (node, place) ← row_at unsigned bytes place
-  (service, place) ← row_at unsigned bytes place
-  Ok (Ipn3 allocator node service, place)
+unfoldable pub ipn_at : Bool → List ℕ → ℕ → ReadAt Eid
+ipn_at false bytes offset = do
+  (node, offset) ← row_at unsigned bytes offset
+  (service, offset) ← row_at unsigned bytes offset
+  Ok (IpnNumbers node service, offset)
+ipn_at true bytes offset = do
+  (allocator, offset) ← row_at unsigned bytes offset
+  (node, offset) ← row_at unsigned bytes offset
+  (service, offset) ← row_at unsigned bytes offset
+  Ok (Ipn3 allocator node service, offset)
 
-unfoldable pub specific_at : Scheme → List ℕ → ℕ → Reading Eid
-specific_at Dtn bytes place = do
-  (part, place) ← row_at dtn_part bytes place
-  dtn_at part bytes place
-specific_at Ipn bytes place = do
-  (count, place) ← row_at ipn_part bytes place
-  ipn_at (count == 3) bytes place
+-- the scheme-specific part of an endpoint ID
+unfoldable pub specific_at : Scheme → List ℕ → ℕ → ReadAt Eid
+specific_at Dtn bytes offset = do
+  (part, offset) ← row_at dtn_part bytes offset
+  dtn_at part bytes offset
+specific_at Ipn bytes offset = do
+  (count, offset) ← row_at ipn_part bytes offset
+  ipn_at (count == 3) bytes offset
 
-unfoldable pub eid_at : List ℕ → ℕ → Reading Eid
-eid_at bytes place = do
-  (_, place) ← row_at pair bytes place
-  (scheme, place) ← row_at scheme bytes place
-  specific_at scheme bytes place
+-- an endpoint ID: an array of its scheme and its scheme-specific part
+unfoldable pub eid_at : List ℕ → ℕ → ReadAt Eid
+eid_at bytes offset = do
+  (_, offset) ← row_at pair bytes offset
+  (scheme, offset) ← row_at scheme bytes offset
+  specific_at scheme bytes offset

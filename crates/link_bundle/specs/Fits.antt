@@ -2,7 +2,7 @@
 
 use Rattle.std.specs.Prelude.{◌≡◌, ℕ, ◌-◌, ◌^◌, Bool, true, false, ◌&&◌, ◌==◌, nat_lt, nat_le, List, length, is_none, is_some, Result, MatchResult, IsTrue}
 use Rattle.link_cbor.specs.declared.head_scan.HeadScan.{HeadScan}
-use Rattle.link_cbor.specs.HeadScan.{may_scan}
+use Rattle.link_cbor.specs.HeadScan.{may_scan_head}
 use Rattle.link_bundle.specs.declared.cursor.Cursor.{Cursor}
 use Rattle.link_bundle_types.specs.declared.fault.BundleFault.{BundleFault}
 use Rattle.link_bundle_types.specs.Faults.{lasts}
@@ -38,21 +38,21 @@ primary_fits primary.TotalLength draft = true
 
 -- the payload block was not seen yet, and there is room for the number of the block
 abbrev pub canonical_fits : CanonicalField → Draft → Bool
-canonical_fits canonical.Block draft = is_none draft.payload && is_unread draft.check
+canonical_fits canonical.Block draft = is_none draft.payload_span && is_unread draft.check
 canonical_fits canonical.Type draft =
-    is_none draft.payload && (is_unread draft.check && nat_lt (length draft.numbers) 64)
+    is_none draft.payload_span && (is_unread draft.check && nat_lt (length draft.numbers) 64)
 canonical_fits canonical.Number draft =
-    is_none draft.payload && (is_unread draft.check && nat_lt (length draft.numbers) 64)
-canonical_fits canonical.Flags draft = is_none draft.payload && is_unread draft.check
-canonical_fits canonical.CheckType draft = is_none draft.payload && is_unread draft.check
-canonical_fits canonical.Data draft = is_none draft.payload
+    is_none draft.payload_span && (is_unread draft.check && nat_lt (length draft.numbers) 64)
+canonical_fits canonical.Flags draft = is_none draft.payload_span && is_unread draft.check
+canonical_fits canonical.CheckType draft = is_none draft.payload_span && is_unread draft.check
+canonical_fits canonical.Data draft = is_none draft.payload_span
 
 abbrev pub field_fits : Field → Draft → Bool
 field_fits (field.Primary which) draft = primary_fits which draft
 field_fits (field.Endpoint role part) draft = true
 field_fits (field.Canonical which) draft = canonical_fits which draft
 field_fits (field.Check kind) draft = is_kind (kind_of draft.check) kind
-field_fits field.Closing draft = is_some draft.payload
+field_fits field.Closing draft = is_some draft.payload_span
 
 -- a name that is kept has room for the bytes that are left of it
 abbrev pub rest_fits : Role → Draft → ℕ → Bool
@@ -62,15 +62,15 @@ rest_fits ReportTo draft left = true
 
 abbrev pub stage_fits : Stage → Draft → Bool
 stage_fits Start draft =
-    is_none draft.payload && (is_unread draft.check && length draft.numbers == 0)
+    is_none draft.payload_span && (is_unread draft.check && length draft.numbers == 0)
 stage_fits (Head which) draft = field_fits which draft
 stage_fits (Name role left) draft = nat_lt 0 left && rest_fits role draft left
 stage_fits (Content left) draft = nat_lt 0 left
-stage_fits (Stored place left stored kind) draft =
+stage_fits (Stored offset left stored kind) draft =
     is_kind (kind_of draft.check) kind
     && (nat_lt 0 left && (nat_le left 4 && nat_lt stored (256 ^ (4 - left))))
-stage_fits Ended draft = is_some draft.payload
-stage_fits (Failed fault place) draft = lasts fault
+stage_fits Ended draft = is_some draft.payload_span
+stage_fits (Failed fault offset) draft = lasts fault
 
 -- whether the stage is at the head of a block's array, where the block's checks begin
 abbrev pub is_block : Stage → Bool
@@ -96,18 +96,18 @@ is_block (Head (field.Check kind)) = false
 is_block (Head field.Closing) = false
 is_block (Name role left) = false
 is_block (Content left) = false
-is_block (Stored place left stored kind) = false
+is_block (Stored offset left stored kind) = false
 is_block Ended = false
-is_block (Failed fault place) = false
+is_block (Failed fault offset) = false
 
 abbrev pub is_begun : Stage → Bool
 is_begun Start = false
 is_begun (Head which) = true
 is_begun (Name role left) = true
 is_begun (Content left) = true
-is_begun (Stored place left stored kind) = true
+is_begun (Stored offset left stored kind) = true
 is_begun Ended = true
-is_begun (Failed fault place) = true
+is_begun (Failed fault offset) = true
 
 -- once the check type was read, what the checks cover stays covered until the end of the block
 abbrev pub KeepsCheck : CheckType → Stage → CheckType → Type 0
@@ -123,12 +123,12 @@ Follows result draft =
 
 abbrev pub head_fits : Stage → HeadScan → Bool
 head_fits Start head = true
-head_fits (Head which) head = may_scan head
+head_fits (Head which) head = may_scan_head head
 head_fits (Name role left) head = true
 head_fits (Content left) head = true
-head_fits (Stored place left stored kind) head = true
+head_fits (Stored offset left stored kind) head = true
 head_fits Ended head = true
-head_fits (Failed fault place) head = true
+head_fits (Failed fault offset) head = true
 
 abbrev pub scan_fits : Stage → Cursor → Draft → Bool
 scan_fits stage cursor draft = head_fits stage cursor.head && stage_fits stage draft

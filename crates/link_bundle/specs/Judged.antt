@@ -17,17 +17,17 @@ pub record IsJudged (reading : Type 0) (old : Draft) (result : Result Stage Bund
   pub follows : Follows result new
   pub keeps : IfOk result (λ stage. KeepsCheck old.check stage new.check)
 
--- a head that begins at `place` and ends before `next`
+-- a head that begins at `offset` and ends before `next`
 abbrev pub JudgedFrom : ℕ → ℕ → Field → Draft → HeadItem → Result Stage BundleFault → Draft → Type 0
-JudgedFrom place next which old head result new =
-    IsJudged (AsReadFrom place next which old head result new) old result new
+JudgedFrom offset next which old head result new =
+    IsJudged (AsReadFrom offset next which old head result new) old result new
 
 -- a head that ends before `next`, wherever it begins
 abbrev pub JudgedAt : ℕ → Field → Draft → HeadItem → Result Stage BundleFault → Draft → Type 0
 JudgedAt next which old head result new =
-    IsJudged ((place : ℕ) → AsReadFrom place next which old head result new) old result new
+    IsJudged ((offset : ℕ) → AsReadFrom offset next which old head result new) old result new
 
 -- a head, wherever it begins and ends
 abbrev pub Judged : Field → Draft → HeadItem → Result Stage BundleFault → Draft → Type 0
 Judged which old head result new =
-    IsJudged ((next place : ℕ) → AsReadFrom place next which old head result new) old result new
+    IsJudged ((next offset : ℕ) → AsReadFrom offset next which old head result new) old result new

@@ -5,13 +5,13 @@ use Rattle.link_bundle_types.specs.declared.fault.BundleFault.{BundleFault}
 use Rattle.link_bundle_types.specs.declared.fault.BundleFault.TheVariants.{Trailing}
 use Rattle.link_bundle_types.specs.declared.info.BundleInfo.{BundleInfo}
 use Rattle.link_bundle_types.specs.Faults.{lasts}
-use Rattle.link_bundle.specs.Bundle.{judged, verdict, payload_of, payload_in, bundle_goes}
+use Rattle.link_bundle.specs.Bundle.{judged_bundle, verdict, payload_of, payload_in, bundle_goes}
 
 -- a fault stays the same, unless it is that the bytes end inside the bundle
 abbrev pub FaultLasts : Type 0
 FaultLasts =
-    (bytes more : List ℕ) (fault : BundleFault) (place : ℕ) → IsTrue (lasts fault) →
-    verdict bytes ≡ Err (fault, place) → verdict (bytes ++ more) ≡ Err (fault, place)
+    (bytes more : List ℕ) (fault : BundleFault) (offset : ℕ) → IsTrue (lasts fault) →
+    verdict bytes ≡ Err (fault, offset) → verdict (bytes ++ more) ≡ Err (fault, offset)
 
 -- a bundle with a byte after it is the fault of trailing bytes, at the bundle's length
 abbrev pub TrailingLasts : Type 0
@@ -23,15 +23,16 @@ TrailingLasts =
 abbrev pub PayloadLasts : Type 0
 PayloadLasts =
     (bytes more : List ℕ) (payload : ℕ × ℕ) →
-    payload_of (judged bytes) ≡ Some payload → payload_of (judged (bytes ++ more)) ≡ Some payload
+    payload_of (judged_bundle bytes) ≡ Some payload → payload_of (judged_bundle (bytes ++ more))
+    ≡ Some payload
 
 -- The offset and the length of the payload determine which of its bytes are there. This holds for
 -- fewer bytes too, in which the two may not be known yet.
 abbrev pub PayloadPlaced : Type 0
 PayloadPlaced =
-    (bytes more : List ℕ) (place size : ℕ) →
-    payload_of (judged (bytes ++ more)) ≡ Some (place, size)
-    → payload_in bytes ≡ take size (drop place bytes)
+    (bytes more : List ℕ) (offset size : ℕ) →
+    payload_of (judged_bundle (bytes ++ more)) ≡ Some (offset, size)
+    → payload_in bytes ≡ take size (drop offset bytes)
 
 -- once the bytes do not end inside a bundle, no more bytes of the payload come
 abbrev pub PayloadEnds : Type 0

@@ -2,7 +2,7 @@
 
 use Rattle.std.specs.Prelude.{◌≡◌, ℕ, ◌+◌, List, [], ◌++◌, length, IsTrue}
 use Rattle.std.specs.Bool.{MatchBool}
-use Rattle.link_cbor.specs.HeadScan.{HasScanned as HasScannedHead, may_scan as may_scan_head}
+use Rattle.link_cbor.specs.HeadScan.{HasScannedHead, may_scan_head}
 use Rattle.link_bundle.specs.declared.cursor.Cursor.{Cursor}
 use Rattle.link_bundle.specs.declared.stage.CheckType.{CheckType}
 use Rattle.link_bundle.specs.declared.stage.CheckType.TheVariants.{Unread}
@@ -10,10 +10,10 @@ use Rattle.link_bundle.specs.declared.stage.Stage.{Stage}
 use Rattle.link_bundle.specs.Covers.{Covers}
 use Rattle.link_bundle.specs.Fits.{is_block}
 
--- bytes are counted, and the checks cover them
+-- these bytes were counted, and the checks cover them
 pub record TakesRun (check : CheckType) (old new : Cursor) (run : List ℕ) : Type 0 where
   pub count : new.count ≡ old.count + length run
-  pub place : new.place ≡ old.place
+  pub offset : new.offset ≡ old.offset
   pub checks : (covered : List ℕ) → Covers check old.checks covered
       → Covers check new.checks (covered ++ run)
 
@@ -21,7 +21,7 @@ pub record TakesRun (check : CheckType) (old new : Cursor) (run : List ℕ) : Ty
 -- too.
 pub record Enters (stage : Stage) (old new : Cursor) : Type 0 where
   pub count : new.count ≡ old.count
-  pub place : new.place ≡ old.count
+  pub offset : new.offset ≡ old.count
   pub head : HasScannedHead new.head []
   pub may_step : IsTrue (may_scan_head new.head)
   pub checks : MatchBool (is_block stage) (Covers Unread new.checks []) (new.checks ≡ old.checks)

@@ -1,5 +1,5 @@
--- How the parts of a bundle are read at offsets of a whole list of bytes. A `place` is an offset in
--- that list, and `next` the offset after a part.
+-- How the parts of a bundle are read at offsets of a whole list of bytes. `next` is the offset
+-- after a part.
 
 use Rattle.std.specs.Prelude.{ℕ, ◌+◌, nat_lt, List, length, take, drop, Option, None, Result, Ok, Err, if◌then◌else◌}
 use Rattle.link_cbor.specs.declared.head.Head.{Head}
@@ -12,43 +12,44 @@ use Rattle.link_bundle_heads.specs.Rows.{◌>>=◌}
 -- before, the offset and the length of the payload are known too.
 pub record Stop : Type 0 where
   pub fault : BundleFault
-  pub place : ℕ
+  pub offset : ℕ
   -- the offset and the length
-  pub payload : Option (ℕ × ℕ)
+  pub payload_span : Option (ℕ × ℕ)
 
 abbrev pub stopped : BundleFault → ℕ → Stop
-stopped fault place = record { fault = fault; place = place; payload = None }
+stopped fault offset = record { fault = fault; offset = offset; payload_span = None }
 
 -- a part that begins at an offset and the offset after it, or the stop
-abbrev pub Reading : Type 0 → Type 0
-Reading A = Result (A × ℕ) Stop
+abbrev pub ReadAt : Type 0 → Type 0
+ReadAt A = Result (A × ℕ) Stop
 
 -- the fault of missing bytes, whose offset is the number of bytes that there are
 abbrev pub cut_short : {A : Type 0} → List ℕ → Result A Stop
 cut_short bytes = Err (stopped Cut (length bytes))
 
-abbrev pub placed : List ℕ → ℕ → HeadFront → Reading Head
-placed bytes place CutHead = cut_short bytes
-placed bytes place IllFormed = Err (stopped BadHead place)
-placed bytes place (Whole head size) = Ok (head, place + size)
+-- the head at an offset, by what the bytes from there on begin with
+abbrev pub head_by : List ℕ → ℕ → HeadFront → ReadAt Head
+head_by bytes offset CutHead = cut_short bytes
+head_by bytes offset IllFormed = Err (stopped BadHead offset)
+head_by bytes offset (Whole head size) = Ok (head, offset + size)
 
 -- the head at an offset (RFC 8949 section 3)
-unfoldable pub head_at : List ℕ → ℕ → Reading Head
-head_at bytes place = placed bytes place (head_front (drop place bytes))
+unfoldable pub head_at : List ℕ → ℕ → ReadAt Head
+head_at bytes offset = head_by bytes offset (head_front (drop offset bytes))
 
 -- the value of a head with the offset after the head, or its fault with the offset of the head
-abbrev pub outcome_at : {A : Type 0} → ℕ → ℕ → Result A BundleFault → Reading A
-outcome_at place next (Ok value) = Ok (value, next)
-outcome_at place next (Err fault) = Err (stopped fault place)
+abbrev pub outcome_at : {A : Type 0} → ℕ → ℕ → Result A BundleFault → ReadAt A
+outcome_at offset next (Ok value) = Ok (value, next)
+outcome_at offset next (Err fault) = Err (stopped fault offset)
 
 -- the head at an offset, judged by a function of link_bundle_heads
-unfoldable pub row_at : {A : Type 0} → (Head → Result A BundleFault) → List ℕ → ℕ → Reading A
-row_at row bytes place = do
-  (head, next) ← head_at bytes place
-  outcome_at place next (row head)
+unfoldable pub row_at : {A : Type 0} → (Head → Result A BundleFault) → List ℕ → ℕ → ReadAt A
+row_at row bytes offset = do
+  (head, next) ← head_at bytes offset
+  outcome_at offset next (row head)
 
 -- that many bytes from an offset on
-unfoldable pub bytes_at : ℕ → List ℕ → ℕ → Reading (List ℕ)
-bytes_at count bytes place =
-    if nat_lt (length bytes) (place + count) then cut_short bytes
-    else Ok (take count (drop place bytes), place + count)
+unfoldable pub bytes_at : ℕ → List ℕ → ℕ → ReadAt (List ℕ)
+bytes_at count bytes offset =
+    if nat_lt (length bytes) (offset + count) then cut_short bytes
+    else Ok (take count (drop offset bytes), offset + count)

@@ -3,7 +3,7 @@
 
 use Rattle.std.specs.Prelude.{◌≡◌, ℕ, ◌+◌, ◌-◌, ◌^◌, ◌<◌, ◌≤◌, ◌⊎◌, Bool, true, false, List, [], ◌++◌, length, replicate, slice_range, take, drop}
 use Rattle.link_cbor.specs.Head.{AreBytes, Cut, head_front}
-use Rattle.link_cbor.specs.HeadScan.{HasScanned as HasScannedHead}
+use Rattle.link_cbor.specs.HeadScan.{HasScannedHead}
 use Rattle.link_bundle.specs.declared.cursor.Cursor.{Cursor}
 use Rattle.link_bundle.specs.declared.draft.Draft.{Draft}
 use Rattle.link_bundle.specs.declared.scan.BundleScan.{BundleScan}
@@ -11,37 +11,37 @@ use Rattle.link_bundle.specs.declared.stage.CheckType.{CheckType}
 use Rattle.link_bundle.specs.declared.stage.Field.{Field}
 use Rattle.link_bundle.specs.declared.stage.Stage.{Stage}
 use Rattle.link_bundle.specs.declared.stage.Stage.TheVariants.{Start, Head, Name, Content, Stored, Ended, Failed}
-use Rattle.link_bundle.specs.Bundle.{judged, bundle_goes}
+use Rattle.link_bundle.specs.Bundle.{judged_bundle, bundle_goes}
 use Rattle.link_bundle.specs.Covers.{Covers}
 use Rattle.link_bundle.specs.Left.{block_start, stage_left}
 use Rattle.link_bundle.specs.Stages.{stage_state, takes_bytes}
 
--- in a head that begins at `cursor.place`, in a block that begins at `start`
+-- in a head that begins at `cursor.offset`, in a block that begins at `start`
 pub record IsAtHead (field : Field) (cursor : Cursor) (check : CheckType) (start : ℕ)
     (seen : List ℕ) : Type 0 where
-  pub in_bytes : cursor.place ≤ length seen
-  pub head : HasScannedHead cursor.head (drop cursor.place seen)
-  pub in_block : block_start field start cursor.place ≤ length seen
-  pub checks : Covers check cursor.checks (drop (block_start field start cursor.place) seen)
+  pub in_bytes : cursor.offset ≤ length seen
+  pub head : HasScannedHead cursor.head (drop cursor.offset seen)
+  pub in_block : block_start field start cursor.offset ≤ length seen
+  pub checks : Covers check cursor.checks (drop (block_start field start cursor.offset) seen)
 
 -- the same, while the head is not whole
 pub record IsInHead (field : Field) (cursor : Cursor) (check : CheckType) (start : ℕ)
     (seen : List ℕ) : Type 0 where
   pub at : IsAtHead field cursor check start seen
-  pub cut : head_front (drop cursor.place seen) ≡ Cut
+  pub cut : head_front (drop cursor.offset seen) ≡ Cut
 
 -- in a name or in data, in a block that begins at `start`
 pub record IsInside (cursor : Cursor) (check : CheckType) (start : ℕ) (seen : List ℕ) : Type 0 where
   pub in_block : start ≤ length seen
   pub checks : Covers check cursor.checks (drop start seen)
 
--- in the content of a check field, which begins at `cursor.place`; the checks cover it as zeros
+-- in the content of a check field, which begins at `cursor.offset`; the checks cover it as zeros
 pub record IsInStored (cursor : Cursor) (check : CheckType) (start : ℕ)
     (seen : List ℕ) : Type 0 where
   pub in_block : start ≤ length seen
-  pub in_bytes : cursor.place ≤ length seen
-  pub checks : Covers check cursor.checks (slice_range seen start cursor.place
-      ++ replicate (length seen - cursor.place) 0)
+  pub in_bytes : cursor.offset ≤ length seen
+  pub checks : Covers check cursor.checks (slice_range seen start cursor.offset
+      ++ replicate (length seen - cursor.offset) 0)
 
 -- before the first byte
 pub record IsFresh (cursor : Cursor) (check : CheckType) (seen : List ℕ) : Type 0 where
@@ -49,42 +49,44 @@ pub record IsFresh (cursor : Cursor) (check : CheckType) (seen : List ℕ) : Typ
   pub checks : Covers check cursor.checks []
 
 -- the state of the cursor at each stage
-abbrev pub Stands : Stage → Cursor → CheckType → ℕ → List ℕ → Type 0
-Stands Start cursor check start seen = IsFresh cursor check seen
-Stands (Head field) cursor check start seen = IsInHead field cursor check start seen
-Stands (Name role left) cursor check start seen = IsInside cursor check start seen
-Stands (Content left) cursor check start seen = IsInside cursor check start seen
-Stands (Stored place left stored kind) cursor check start seen = IsInStored cursor check start seen
-Stands Ended cursor check start seen = cursor.place ≡ length seen
-Stands (Failed fault place) cursor check start seen = Unit {0}
+abbrev pub IsAtStage : Stage → Cursor → CheckType → ℕ → List ℕ → Type 0
+IsAtStage Start cursor check start seen = IsFresh cursor check seen
+IsAtStage (Head field) cursor check start seen = IsInHead field cursor check start seen
+IsAtStage (Name role left) cursor check start seen = IsInside cursor check start seen
+IsAtStage (Content left) cursor check start seen = IsInside cursor check start seen
+IsAtStage (Stored offset left stored kind) cursor check start seen =
+    IsInStored cursor check start seen
+IsAtStage Ended cursor check start seen = cursor.offset ≡ length seen
+IsAtStage (Failed fault offset) cursor check start seen = Unit {0}
 
 -- Exactly these bytes were seen. Whatever bytes follow, the bundle is the rest that is read from
 -- this stage on.
-pub record HasCome (stage : Stage) (cursor : Cursor) (draft : Draft) (seen : List ℕ) : Type 0 where
+pub record HasSeen (stage : Stage) (cursor : Cursor) (draft : Draft) (seen : List ℕ) : Type 0 where
   pub all_bytes : AreBytes seen
   pub count : cursor.count ≡ length seen
   -- the offset of the current block
   pub start : ℕ
   pub reads : (more : List ℕ)
-      → judged (seen ++ more)
-      ≡ stage_left stage draft start cursor.place (seen ++ more) (length seen)
-  pub stands : Stands stage cursor draft.check start seen
+      → judged_bundle (seen ++ more)
+      ≡ stage_left stage draft start cursor.offset (seen ++ more) (length seen)
+  pub stands : IsAtStage stage cursor draft.check start seen
 
--- bytes of the head at `cursor.place` were seen, and the head is not judged yet
-pub record HeadCame (which : Field) (cursor : Cursor) (draft : Draft) (seen : List ℕ) : Type 0 where
+-- bytes of the head at `cursor.offset` were seen, and the head is not judged yet
+pub record HasSeenHead (which : Field) (cursor : Cursor) (draft : Draft)
+    (seen : List ℕ) : Type 0 where
   pub all_bytes : AreBytes seen
   pub count : cursor.count ≡ length seen
   pub start : ℕ
   pub reads : (more : List ℕ)
-      → judged (seen ++ more)
-      ≡ stage_left (Head which) draft start cursor.place (seen ++ more) (length seen)
-  pub in_bytes : cursor.place ≤ length seen
-  pub in_block : block_start which start cursor.place ≤ length seen
-  pub checks : Covers draft.check cursor.checks (drop (block_start which start cursor.place) seen)
+      → judged_bundle (seen ++ more)
+      ≡ stage_left (Head which) draft start cursor.offset (seen ++ more) (length seen)
+  pub in_bytes : cursor.offset ≤ length seen
+  pub in_block : block_start which start cursor.offset ≤ length seen
+  pub checks : Covers draft.check cursor.checks (drop (block_start which start cursor.offset) seen)
 
 -- the scan has seen exactly these bytes
 abbrev pub HasScanned : BundleScan → List ℕ → Type 0
-HasScanned scan seen = HasCome scan.stage scan.cursor scan.draft seen
+HasScanned scan seen = HasSeen scan.stage scan.cursor scan.draft seen
 
 -- the number of bytes seen
 abbrev pub scan_size : BundleScan → ℕ
@@ -100,14 +102,14 @@ pub record HasTaken (old new : BundleScan) (run : List ℕ) : Type 0 where
   pub seen : (seen : List ℕ) → HasScanned old seen → HasScanned new (seen ++ run)
 
 -- the scan may take the next bytes of a piece: it needs more bytes, and the piece has some
-pub record MayTake (scan : BundleScan) (piece : List ℕ) : Type 0 where
+pub record MayAdvance (scan : BundleScan) (piece : List ℕ) : Type 0 where
   pub goes : (seen : List ℕ) → HasScanned scan seen → bundle_goes seen ≡ true
   pub some : 0 < length piece
   pub room : scan_size scan + length piece ≤ 2 ^ 63 - 1
 
 -- The scan has taken the first `count` bytes of a piece, at least one. Before each of them, more
 -- bytes were needed.
-pub record Takes (old new : BundleScan) (piece : List ℕ) (count : ℕ) : Type 0 where
+pub record Advances (old new : BundleScan) (piece : List ℕ) (count : ℕ) : Type 0 where
   pub some : 0 < count
   pub within : count ≤ length piece
   pub size : scan_size new ≡ scan_size old + count

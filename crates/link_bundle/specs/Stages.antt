@@ -16,9 +16,9 @@ stage_state Start = state.Going
 stage_state (Head field) = state.Going
 stage_state (Name role left) = state.Going
 stage_state (Content left) = state.Going
-stage_state (Stored place left stored kind) = state.Going
+stage_state (Stored offset left stored kind) = state.Going
 stage_state Ended = state.Ended
-stage_state (Failed fault place) = state.Failed fault place
+stage_state (Failed fault offset) = state.Failed fault offset
 
 -- the stage at the head after an endpoint ID
 abbrev pub stage_after : Role → Stage
@@ -30,4 +30,4 @@ stage_after ReportTo = Head (field.Primary primary.Timestamp)
 abbrev pub takes_bytes : State → Bool
 takes_bytes state.Going = true
 takes_bytes state.Ended = true
-takes_bytes (state.Failed fault place) = false
+takes_bytes (state.Failed fault offset) = false

@@ -1,7 +1,7 @@
 //! The progress of a scan: the bytes counted, the head that is being read, and the checks.
 ghost use Rattle.std.specs.Prelude.{◌≡◌, ℕ, ◌+◌, ◌-◌, ◌^◌, ◌<◌, ◌≤◌, ◌↔◌, IsTrue, List, ◌∷◌, [], ◌++◌, length};
-ghost use Rattle.link_cbor.specs.Head.{head_front, front_of};
-ghost use Rattle.link_cbor.specs.HeadScan.{HasScanned as HasScannedHead, may_scan as may_scan_head};
+ghost use Rattle.link_cbor.specs.Head.{head_front, front_by_step};
+ghost use Rattle.link_cbor.specs.HeadScan.{HasScannedHead, may_scan_head};
 ghost use Rattle.link_bundle.specs.Covers.{Covers};
 ghost use Rattle.link_bundle.specs.Moves.{TakesRun, Enters};
 
@@ -15,7 +15,7 @@ pub(crate) struct Cursor {
     /// The number of bytes seen.
     pub count: u64,
     /// At a head, the offset of its first byte.
-    pub place: u64,
+    pub offset: u64,
     pub head: HeadScan,
     pub checks: BlockChecks,
 }
@@ -29,7 +29,7 @@ impl Cursor {
     {
         Cursor {
             count: 0,
-            place: 0,
+            offset: 0,
             head: HeadScan::new(),
             checks: BlockChecks::new(),
         }
@@ -43,7 +43,7 @@ impl Cursor {
         ensures head { (seen : List ℕ) → HasScannedHead self.old.head seen
             → HasScannedHead self.new.head (seen ++ byte ∷ []) }
         ensures front { (seen : List ℕ) → HasScannedHead self.new.head seen
-            → head_front seen ≡ front_of result (length seen) }
+            → head_front seen ≡ front_by_step result (length seen) }
         ensures may_step { IsTrue (may_scan_head self.new.head) ↔ (result ≡ HeadStep.More) }
     {
         self.count += 1;
@@ -68,7 +68,7 @@ impl Cursor {
     pub fn enter(&mut self, stage: Stage)
         ensures { Enters stage self.old self.new }
     {
-        self.place = self.count;
+        self.offset = self.count;
         self.head = HeadScan::new();
         if stage.is_block() {
             self.checks = BlockChecks::new();

@@ -31,7 +31,7 @@ pub(crate) struct Draft {
     /// The numbers of the canonical blocks so far.
     pub numbers: BlockNumbers,
     /// The offset of the payload's first byte, and the payload's length by its head.
-    pub payload: Option<(u64, u64)>,
+    pub payload_span: Option<(u64, u64)>,
 }
 
 impl Draft {
@@ -61,7 +61,7 @@ impl Draft {
             fragment: None,
             block_type: 0,
             numbers: BlockNumbers::new(),
-            payload: None,
+            payload_span: None,
         }
     }
 
@@ -74,16 +74,17 @@ impl Draft {
     {
         self.check = CheckType::Unread;
         self.numbers.clear();
-        self.payload = None;
+        self.payload_span = None;
     }
 
     /// The fields of a complete bundle.
     pub fn view(&self) -> BundleView<'_>
         ensures view { viewed_info result
-            ≡ info_of (primary_of self.now) (length self.now.numbers) (span_of self.now.payload).1 }
+            ≡ info_of (primary_of self.now) (length self.now.numbers)
+            (span_of self.now.payload_span).1 }
         ensures short { HasShortNames (viewed_info result) }
     {
-        let (_, payload) = self.payload.unwrap_or((0, 0));
+        let (_, payload) = self.payload_span.unwrap_or((0, 0));
         BundleView {
             flags: self.flags,
             destination: self.destination.view(),
@@ -104,7 +105,7 @@ impl Draft {
         ensures fits { IsTrue (stage_fits result self.new) }
         ensures keeps { KeepsCheck self.old.check result self.new.check }
     {
-        if self.payload.is_some() {
+        if self.payload_span.is_some() {
             return Stage::Head(Field::Closing);
         }
         self.check = CheckType::Unread;
@@ -485,7 +486,7 @@ impl Draft {
             self.old head result self.new }
     {
         let size = row::byte_string(head)?;
-        self.payload = (self.block_type == row::PAYLOAD_TYPE).then_some((next, size));
+        self.payload_span = (self.block_type == row::PAYLOAD_TYPE).then_some((next, size));
         Ok(self.content(size))
     }
 

@@ -22,30 +22,30 @@ const LONGEST: usize = 9;
 
 /// The additional information of a head that has this major type, or at least 32.
 #[inline(always)]
-fn information_at(major: u8, bytes: &[u8], place: usize) -> Result<u8, BundleFault>
+fn information_at(major: u8, bytes: &[u8], offset: usize) -> Result<u8, BundleFault>
     requires { major < 8 }
-    ensures within { IfOk result (λ _. place < length bytes.now) }
+    ensures within { IfOk result (λ _. offset < length bytes.now) }
     ensures first { IfOk result (λ information. information < 32
-        → get_or bytes.now place 0 ≡ 32 * major + information) }
+        → get_or bytes.now offset 0 ≡ 32 * major + information) }
 {
-    if place >= bytes.len() {
+    if offset >= bytes.len() {
         return Err(BundleFault::Cut);
     }
-    Ok(bytes[place].wrapping_sub(32 * major))
+    Ok(bytes[offset].wrapping_sub(32 * major))
 }
 
 /// Reads a head of one byte, which has this major type and a value.
 #[inline(always)]
-pub fn small_at(major: u8, bytes: &[u8], place: usize) -> Result<(Head, usize), BundleFault>
+pub fn small_at(major: u8, bytes: &[u8], offset: usize) -> Result<(Head, usize), BundleFault>
     requires { major < 8 }
-    ensures { IfOk result (λ read. head_at bytes.now place ≡ Ok read) }
+    ensures { IfOk result (λ read. head_at bytes.now offset ≡ Ok read) }
 {
-    let information = information_at(major, bytes, place)?;
+    let information = information_at(major, bytes, offset)?;
     if information >= 24 {
         return Err(BundleFault::WrongKind);
     }
     let value = Some(u64::from(information));
-    Ok((Head { major, value }, place + 1))
+    Ok((Head { major, value }, offset + 1))
 }
 
 /// The length of the argument after a first byte with this additional information.
@@ -70,74 +70,74 @@ fn argument_size(information: u8) -> Result<usize, BundleFault>
 /// A longer head is read from nine bytes, whatever its length. A bundle hardly ever ends so soon
 /// after one: its payload block and a break come last.
 #[inline(always)]
-pub fn item_at(major: u8, bytes: &[u8], place: usize) -> Result<(Head, usize), BundleFault>
+pub fn item_at(major: u8, bytes: &[u8], offset: usize) -> Result<(Head, usize), BundleFault>
     requires { major < 7 }
-    ensures { IfOk result (λ read. head_at bytes.now place ≡ Ok read) }
+    ensures { IfOk result (λ read. head_at bytes.now offset ≡ Ok read) }
 {
-    let information = information_at(major, bytes, place)?;
+    let information = information_at(major, bytes, offset)?;
     if information < 24 {
         let value = Some(u64::from(information));
-        return Ok((Head { major, value }, place + 1));
+        return Ok((Head { major, value }, offset + 1));
     }
-    if bytes.len() < place + LONGEST {
+    if bytes.len() < offset + LONGEST {
         return Err(BundleFault::Cut);
     }
     let size = argument_size(information)?;
-    let argument = BigEndian::read_u64(&bytes[place + 1..]) >> (64 - 8 * size);
+    let argument = BigEndian::read_u64(&bytes[offset + 1..]) >> (64 - 8 * size);
     let value = Some(argument);
-    Ok((Head { major, value }, place + 1 + size))
+    Ok((Head { major, value }, offset + 1 + size))
 }
 
 /// Reads an unsigned integer.
 #[inline(always)]
 #[tactic(auto, using(crate::proofs::Heads::heads))]
-pub fn unsigned_at(bytes: &[u8], place: usize) -> Result<(u64, usize), BundleFault>
-    ensures { IfOk result (λ read. row_at unsigned bytes.now place ≡ Ok read) }
+pub fn unsigned_at(bytes: &[u8], offset: usize) -> Result<(u64, usize), BundleFault>
+    ensures { IfOk result (λ read. row_at unsigned bytes.now offset ≡ Ok read) }
 {
-    let (head, next) = item_at(row::UNSIGNED, bytes, place)?;
+    let (head, next) = item_at(row::UNSIGNED, bytes, offset)?;
     Ok((row::unsigned(head)?, next))
 }
 
 /// Reads the head of an array of two elements, and returns the offset after it.
 #[inline(always)]
 #[tactic(auto, using(crate::proofs::Items::one_byte))]
-pub fn pair_at(bytes: &[u8], place: usize) -> Result<usize, BundleFault>
-    ensures { IfOk result (λ next. row_at pair bytes.now place ≡ Ok (2, next)) }
+pub fn pair_at(bytes: &[u8], offset: usize) -> Result<usize, BundleFault>
+    ensures { IfOk result (λ next. row_at pair bytes.now offset ≡ Ok (2, next)) }
 {
-    if place >= bytes.len() {
+    if offset >= bytes.len() {
         return Err(BundleFault::Cut);
     }
-    if bytes[place] != PAIR {
+    if bytes[offset] != PAIR {
         return Err(BundleFault::WrongKind);
     }
-    Ok(place + 1)
+    Ok(offset + 1)
 }
 
 /// Reads the break after the payload block, and returns the offset after it.
 #[inline(always)]
 #[tactic(auto, using(crate::proofs::Items::one_byte))]
-pub fn closing_at(bytes: &[u8], place: usize) -> Result<usize, BundleFault>
-    ensures { IfOk result (λ next. row_at closing bytes.now place ≡ Ok (true, next)) }
+pub fn closing_at(bytes: &[u8], offset: usize) -> Result<usize, BundleFault>
+    ensures { IfOk result (λ next. row_at closing bytes.now offset ≡ Ok (true, next)) }
 {
-    if place >= bytes.len() {
+    if offset >= bytes.len() {
         return Err(BundleFault::Cut);
     }
-    if bytes[place] != BREAK {
+    if bytes[offset] != BREAK {
         return Err(BundleFault::NoPayloadLast);
     }
-    Ok(place + 1)
+    Ok(offset + 1)
 }
 
 /// Reads that many bytes from an offset on, and returns them and the offset after them.
 #[inline(always)]
-pub fn bytes_at(size: u64, bytes: &[u8], place: usize) -> Result<(&[u8], usize), BundleFault>
-    ensures read { IfOk result (λ read. bytes_at size bytes.now place ≡ Ok (read.0.now, read.1)) }
+pub fn bytes_at(size: u64, bytes: &[u8], offset: usize) -> Result<(&[u8], usize), BundleFault>
+    ensures read { IfOk result (λ read. bytes_at size bytes.now offset ≡ Ok (read.0.now, read.1)) }
     ensures size { IfOk result (λ read. length read.0.now ≡ size) }
-    ensures within { IfOk result (λ read. place + size ≤ length bytes.now) }
+    ensures within { IfOk result (λ read. offset + size ≤ length bytes.now) }
 {
-    if place > bytes.len() || size > (bytes.len() - place) as u64 {
+    if offset > bytes.len() || size > (bytes.len() - offset) as u64 {
         return Err(BundleFault::Cut);
     }
-    let next = place + size as usize;
-    Ok((&bytes[place..next], next))
+    let next = offset + size as usize;
+    Ok((&bytes[offset..next], next))
 }

@@ -3,7 +3,7 @@ ghost use Rattle.std.specs.Prelude.{◌≡◌, ℕ, IsTrue, List, length, drop};
 ghost use Rattle.link_cbor.specs.Head.{Whole, head_front};
 ghost use Rattle.link_bundle.specs.Fits.{scan_fits, stage_fits};
 ghost use Rattle.link_bundle.specs.Judged.{JudgedFrom};
-ghost use Rattle.link_bundle.specs.Scan.{HasCome, HeadCame};
+ghost use Rattle.link_bundle.specs.Scan.{HasSeen, HasSeenHead};
 
 use crate::cursor::Cursor;
 use crate::draft::Draft;
@@ -16,7 +16,7 @@ use link_cbor::Head;
 #[tactic(auto, using(crate::proofs::Heads::heads), unfolding(crate::specs::Left::field_left, crate::specs::Left::stage_left))]
 fn judge(draft: &mut Draft, cursor: &Cursor, field: Field, head: Head) -> Result<Stage, BundleFault>
     requires { IsTrue (stage_fits (Stage.Head field) draft.old) }
-    ensures { JudgedFrom cursor.now.place cursor.now.count field draft.old head result draft.new }
+    ensures { JudgedFrom cursor.now.offset cursor.now.count field draft.old head result draft.new }
 {
     match field {
         Field::Primary(which) => draft.primary(which, head),
@@ -25,7 +25,7 @@ fn judge(draft: &mut Draft, cursor: &Cursor, field: Field, head: Head) -> Result
         Field::Check(kind) => {
             row::check_field(kind, head)?;
             Ok(Stage::Stored {
-                place: cursor.place,
+                offset: cursor.offset,
                 left: row::check_width(kind),
                 stored: 0,
                 kind,
@@ -43,15 +43,16 @@ pub(crate) fn take_head(draft: &mut Draft, cursor: &mut Cursor, field: Field, he
     requires { IsTrue (stage_fits (Stage.Head field) draft.old) }
     ensures count { cursor.new.count ≡ cursor.old.count }
     ensures fits { IsTrue (scan_fits result cursor.new draft.new) }
-    ensures seen { (seen : List ℕ) → HeadCame field cursor.old draft.old seen
-        → head_front (drop cursor.old.place seen) ≡ Whole head (length (drop cursor.old.place seen))
-        → HasCome result cursor.new draft.new seen }
+    ensures seen { (seen : List ℕ) → HasSeenHead field cursor.old draft.old seen
+        → head_front (drop cursor.old.offset seen)
+        ≡ Whole head (length (drop cursor.old.offset seen))
+        → HasSeen result cursor.new draft.new seen }
 {
     match judge(draft, cursor, field, head) {
         Ok(stage) => {
             cursor.enter(stage);
             stage
         }
-        Err(fault) => Stage::Failed(fault, cursor.place),
+        Err(fault) => Stage::Failed(fault, cursor.offset),
     }
 }

@@ -36,7 +36,7 @@ fn first_of(piece: &[u8], left: u64) -> &[u8]
 }
 
 impl BundleScan {
-    ghost use Rattle.link_bundle.specs.Bundle.{verdict, state_of, payload_span};
+    ghost use Rattle.link_bundle.specs.Bundle.{verdict, state_of, payload_seen};
     ghost use Rattle.link_bundle_types.specs.BundleView.{viewed_info, viewed_verdict};
     ghost use Rattle.link_bundle_types.specs.ShortNames.{HasShortNames};
     ghost use Rattle.link_bundle.specs.Scan.{HasScanned, scan_size, may_scan, HasTaken};
@@ -101,7 +101,7 @@ impl BundleScan {
         match self.stage.state() {
             State::Going => Err((BundleFault::Cut, self.cursor.count)),
             State::Ended => Ok(self.draft.view()),
-            State::Failed(fault, place) => Err((fault, place)),
+            State::Failed(fault, offset) => Err((fault, offset)),
         }
     }
 
@@ -110,10 +110,10 @@ impl BundleScan {
     /// It is `None` until the head of the payload block's data (RFC 9171 section 4.3.2) is complete
     /// and accepted. A later fault does not change the result.
     pub fn payload_seen(&self) -> Option<(u64, u64)>
-        ensures { (seen : List ℕ) → HasScanned self.now seen → result ≡ payload_span seen }
+        ensures { (seen : List ℕ) → HasScanned self.now seen → result ≡ payload_seen seen }
     {
-        let (place, size) = self.draft.payload?;
-        Some((place, size.min(self.cursor.count.saturating_sub(place))))
+        let (offset, size) = self.draft.payload_span?;
+        Some((offset, size.min(self.cursor.count.saturating_sub(offset))))
     }
 
     /// Takes the first byte of a bundle.
@@ -140,7 +140,7 @@ impl BundleScan {
         match self.cursor.head_byte(self.draft.check, byte) {
             HeadStep::More => {}
             HeadStep::Bad => {
-                self.stage = Stage::Failed(BundleFault::BadHead, self.cursor.place);
+                self.stage = Stage::Failed(BundleFault::BadHead, self.cursor.offset);
             }
             HeadStep::Done(head) => self.stage = take_head(
                 &mut self.draft,
@@ -154,7 +154,7 @@ impl BundleScan {
     /// Takes a head that lies whole in a piece.
     fn head_run(&mut self, field: Field, head: Head, run: &[u8])
         requires stage { self.old.stage ≡ Stage.Head field }
-        requires begins { self.old.cursor.place ≡ self.old.cursor.count }
+        requires begins { self.old.cursor.offset ≡ self.old.cursor.count }
         requires whole { head_front run.now ≡ Whole head (length run.now) }
         requires room { self.old.cursor.count + length run.now ≤ 2 ^ 63 - 1 }
         ensures { HasTaken self.old self.new run.now }
@@ -196,8 +196,8 @@ impl BundleScan {
     }
 
     /// Takes a byte of a check field's content, which the check covers as zero.
-    fn stored_byte(&mut self, place: u64, left: u64, stored: u32, kind: CheckKind, byte: u8)
-        requires stage { self.old.stage ≡ Stage.Stored place left stored kind }
+    fn stored_byte(&mut self, offset: u64, left: u64, stored: u32, kind: CheckKind, byte: u8)
+        requires stage { self.old.stage ≡ Stage.Stored offset left stored kind }
         requires room { self.old.cursor.count < 2 ^ 63 - 1 }
         ensures { HasTaken self.old self.new (byte ∷ []) }
     {
@@ -205,7 +205,7 @@ impl BundleScan {
         let stored = stored * 256 + u32::from(byte);
         if left > 1 {
             self.stage = Stage::Stored {
-                place,
+                offset,
                 left: left - 1,
                 stored,
                 kind,
@@ -217,7 +217,7 @@ impl BundleScan {
             self.cursor.enter(stage);
             self.stage = stage;
         } else {
-            self.stage = Stage::Failed(BundleFault::CheckDiffers, place);
+            self.stage = Stage::Failed(BundleFault::CheckDiffers, offset);
         }
     }
 
@@ -227,7 +227,7 @@ impl BundleScan {
         requires room { self.old.cursor.count < 2 ^ 63 - 1 }
         ensures { HasTaken self.old self.new (byte ∷ []) }
     {
-        self.stage = Stage::Failed(BundleFault::Trailing, self.cursor.place);
+        self.stage = Stage::Failed(BundleFault::Trailing, self.cursor.offset);
         self.cursor.count += 1;
     }
 }
@@ -235,7 +235,7 @@ impl BundleScan {
 impl BundleScan {
     ghost use Rattle.link_cbor.specs.Pieces.{taken};
     ghost use Rattle.link_bundle.specs.Bundle.{bundle_goes};
-    ghost use Rattle.link_bundle.specs.Scan.{HasScanned, scan_size, may_scan, MayTake, Takes};
+    ghost use Rattle.link_bundle.specs.Scan.{HasScanned, scan_size, may_scan, MayAdvance, Advances};
 
     /// Takes the bytes of a piece while more are needed, and returns how many.
     #[inline(always)]
@@ -262,8 +262,8 @@ impl BundleScan {
     #[inline(always)]
     fn advance(&mut self, piece: &[u8]) -> usize
         requires may_step { IsTrue (may_scan self.old) }
-        requires may_take { MayTake self.old piece.now }
-        ensures { Takes self.old self.new piece.now result }
+        requires may_take { MayAdvance self.old piece.now }
+        ensures { Advances self.old self.new piece.now result }
     {
         match self.stage {
             Stage::Name(role, left) => {
@@ -277,7 +277,7 @@ impl BundleScan {
                 run.len()
             }
             Stage::Start => self.advance_start(piece),
-            Stage::Head(field) if self.cursor.place == self.cursor.count => {
+            Stage::Head(field) if self.cursor.offset == self.cursor.count => {
                 self.advance_head(field, piece)
             }
             _ => {
@@ -291,13 +291,13 @@ impl BundleScan {
     #[inline(never)]
     fn advance_start(&mut self, piece: &[u8]) -> usize
         requires stage { self.old.stage ≡ Stage.Start }
-        requires may_take { MayTake self.old piece.now }
-        ensures { Takes self.old self.new piece.now result }
+        requires may_take { MayAdvance self.old piece.now }
+        ensures { Advances self.old self.new piece.now result }
     {
         match self.draft.whole(piece) {
             Ok(size) => {
                 self.cursor.count += size as u64;
-                self.cursor.place = self.cursor.count;
+                self.cursor.offset = self.cursor.count;
                 self.stage = Stage::Ended;
                 size
             }
@@ -313,9 +313,9 @@ impl BundleScan {
     #[inline(never)]
     fn advance_head(&mut self, field: Field, piece: &[u8]) -> usize
         requires stage { self.old.stage ≡ Stage.Head field }
-        requires begins { self.old.cursor.place ≡ self.old.cursor.count }
-        requires may_take { MayTake self.old piece.now }
-        ensures { Takes self.old self.new piece.now result }
+        requires begins { self.old.cursor.offset ≡ self.old.cursor.count }
+        requires may_take { MayAdvance self.old piece.now }
+        ensures { Advances self.old self.new piece.now result }
     {
         match Head::front(piece) {
             Some((head, size)) => {
@@ -399,11 +399,11 @@ impl Piecewise for BundleScan {
             Stage::Name(role, left) => self.name_run(role, left, &[byte]),
             Stage::Content(left) => self.content_run(left, &[byte]),
             Stage::Stored {
-                place,
+                offset,
                 left,
                 stored,
                 kind,
-            } => self.stored_byte(place, left, stored, kind, byte),
+            } => self.stored_byte(offset, left, stored, kind, byte),
             Stage::Ended => self.trailing_byte(byte),
             Stage::Failed(..) => unreachable!(),
         }

@@ -95,11 +95,11 @@ pub(crate) enum Stage {
     Name(Role, u64),
     /// In a block's data, which has this many bytes left.
     Content(u64),
-    /// In the content of the check field whose head is at `place`.
+    /// In the content of the check field whose head is at `offset`.
     ///
     /// The bytes seen of it spell `stored`, and `left` bytes are left.
     Stored {
-        place: u64,
+        offset: u64,
         left: u64,
         stored: u32,
         kind: CheckKind,
@@ -118,7 +118,7 @@ impl Stage {
     {
         match self {
             Stage::Ended => State::Ended,
-            Stage::Failed(fault, place) => State::Failed(fault, place),
+            Stage::Failed(fault, offset) => State::Failed(fault, offset),
             _ => State::Going,
         }
     }

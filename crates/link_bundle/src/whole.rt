@@ -14,7 +14,7 @@ ghost use Rattle.link_bundle.specs.Canonical.{content_at};
 ghost use Rattle.link_bundle.specs.Primary.{Primary, fragment_at, primary_at};
 ghost use Rattle.link_bundle.specs.Bundle.{blocks_at, bundle_at};
 ghost use Rattle.link_bundle.specs.Left.{primary_of, bundle_of};
-ghost use Rattle.link_bundle.specs.Whole.{after_heads, bundle_by};
+ghost use Rattle.link_bundle.specs.Whole.{after_heads, bundle_with};
 ghost use Rattle.link_bundle_heads.specs.declared.endpoint.Scheme.TheVariants.{Dtn, Ipn};
 
 use crate::draft::Draft;
@@ -35,21 +35,21 @@ const DTN_NONE: u32 = 0x82_01_00;
 ///
 /// Nearly all are ipn endpoint IDs of two numbers, or `dtn:none`. Their first three bytes say so.
 #[inline(always)]
-fn eid_at(bytes: &[u8], place: usize) -> Result<(EidView<'_>, usize), BundleFault>
-    ensures read { IfOk result (λ read. eid_at bytes.now place ≡ Ok (viewed_eid read.0, read.1)) }
+fn eid_at(bytes: &[u8], offset: usize) -> Result<(EidView<'_>, usize), BundleFault>
+    ensures read { IfOk result (λ read. eid_at bytes.now offset ≡ Ok (viewed_eid read.0, read.1)) }
     ensures short { IfOk result (λ read. IsShort (viewed_eid read.0)) }
 {
-    if bytes.len().saturating_sub(place) < 4 {
+    if bytes.len().saturating_sub(offset) < 4 {
         return Err(BundleFault::Cut);
     }
-    match BigEndian::read_u32(&bytes[place..]) >> 8 {
+    match BigEndian::read_u32(&bytes[offset..]) >> 8 {
         IPN => {
-            let (node, place) = unsigned_at(bytes, place + 3)?;
-            let (service, place) = unsigned_at(bytes, place)?;
-            Ok((EidView::Ipn(node, service), place))
+            let (node, offset) = unsigned_at(bytes, offset + 3)?;
+            let (service, offset) = unsigned_at(bytes, offset)?;
+            Ok((EidView::Ipn(node, service), offset))
         }
-        DTN_NONE => Ok((EidView::DtnNone, place + 3)),
-        _ => any_eid_at(bytes, place),
+        DTN_NONE => Ok((EidView::DtnNone, offset + 3)),
+        _ => any_eid_at(bytes, offset),
     }
 }
 
@@ -57,51 +57,51 @@ fn eid_at(bytes: &[u8], place: usize) -> Result<(EidView<'_>, usize), BundleFaul
 #[cold]
 #[inline(never)]
 #[tactic(auto, using(crate::proofs::Heads::heads), unfolding(crate::specs::EndpointId::eid_at))]
-fn any_eid_at(bytes: &[u8], place: usize) -> Result<(EidView<'_>, usize), BundleFault>
-    ensures read { IfOk result (λ read. eid_at bytes.now place ≡ Ok (viewed_eid read.0, read.1)) }
+fn any_eid_at(bytes: &[u8], offset: usize) -> Result<(EidView<'_>, usize), BundleFault>
+    ensures read { IfOk result (λ read. eid_at bytes.now offset ≡ Ok (viewed_eid read.0, read.1)) }
     ensures short { IfOk result (λ read. IsShort (viewed_eid read.0)) }
 {
-    let place = pair_at(bytes, place)?;
-    let (head, place) = small_at(row::UNSIGNED, bytes, place)?;
+    let offset = pair_at(bytes, offset)?;
+    let (head, offset) = small_at(row::UNSIGNED, bytes, offset)?;
     match row::scheme(head)? {
-        Scheme::Dtn => dtn_at(bytes, place),
-        Scheme::Ipn => ipn_at(bytes, place),
+        Scheme::Dtn => dtn_at(bytes, offset),
+        Scheme::Ipn => ipn_at(bytes, offset),
     }
 }
 
 /// Reads the specific part of scheme dtn.
 #[tactic(auto, using(crate::proofs::Heads::heads), unfolding(crate::specs::EndpointId::specific_at, crate::specs::EndpointId::dtn_at))]
-fn dtn_at(bytes: &[u8], place: usize) -> Result<(EidView<'_>, usize), BundleFault>
-    ensures read { IfOk result (λ read. specific_at Dtn bytes.now place
+fn dtn_at(bytes: &[u8], offset: usize) -> Result<(EidView<'_>, usize), BundleFault>
+    ensures read { IfOk result (λ read. specific_at Dtn bytes.now offset
         ≡ Ok (viewed_eid read.0, read.1)) }
     ensures short { IfOk result (λ read. IsShort (viewed_eid read.0)) }
 {
-    let (head, place) = item_at(row::TEXT_STRING, bytes, place)?;
+    let (head, offset) = item_at(row::TEXT_STRING, bytes, offset)?;
     match row::dtn_part(head)? {
-        None => Ok((EidView::DtnNone, place)),
+        None => Ok((EidView::DtnNone, offset)),
         Some(size) => {
-            let (name, place) = bytes_at(size, bytes, place)?;
-            Ok((EidView::Dtn(name), place))
+            let (name, offset) = bytes_at(size, bytes, offset)?;
+            Ok((EidView::Dtn(name), offset))
         }
     }
 }
 
 /// Reads the specific part of scheme ipn.
 #[tactic(auto, using(crate::proofs::Heads::heads), unfolding(crate::specs::EndpointId::specific_at, crate::specs::EndpointId::ipn_at))]
-fn ipn_at(bytes: &[u8], place: usize) -> Result<(EidView<'_>, usize), BundleFault>
-    ensures read { IfOk result (λ read. specific_at Ipn bytes.now place
+fn ipn_at(bytes: &[u8], offset: usize) -> Result<(EidView<'_>, usize), BundleFault>
+    ensures read { IfOk result (λ read. specific_at Ipn bytes.now offset
         ≡ Ok (viewed_eid read.0, read.1)) }
     ensures short { IfOk result (λ read. IsShort (viewed_eid read.0)) }
 {
-    let (head, place) = small_at(row::ARRAY, bytes, place)?;
+    let (head, offset) = small_at(row::ARRAY, bytes, offset)?;
     let count = row::ipn_part(head)?;
-    let (first, place) = unsigned_at(bytes, place)?;
-    let (second, place) = unsigned_at(bytes, place)?;
+    let (first, offset) = unsigned_at(bytes, offset)?;
+    let (second, offset) = unsigned_at(bytes, offset)?;
     if count != 3 {
-        return Ok((EidView::Ipn(first, second), place));
+        return Ok((EidView::Ipn(first, second), offset));
     }
-    let (third, place) = unsigned_at(bytes, place)?;
-    Ok((EidView::Ipn3(first, second, third), place))
+    let (third, offset) = unsigned_at(bytes, offset)?;
+    Ok((EidView::Ipn3(first, second, third), offset))
 }
 
 /// Reads the fragment offset and the total length, if the bundle is a fragment.
@@ -110,16 +110,16 @@ fn ipn_at(bytes: &[u8], place: usize) -> Result<(EidView<'_>, usize), BundleFaul
 fn fragment_at(
     is_fragment: bool,
     bytes: &[u8],
-    place: usize,
+    offset: usize,
 ) -> Result<(Option<(u64, u64)>, usize), BundleFault>
-    ensures { IfOk result (λ read. fragment_at is_fragment bytes.now place ≡ Ok read) }
+    ensures { IfOk result (λ read. fragment_at is_fragment bytes.now offset ≡ Ok read) }
 {
     if !is_fragment {
-        return Ok((None, place));
+        return Ok((None, offset));
     }
-    let (offset, place) = unsigned_at(bytes, place)?;
-    let (total, place) = unsigned_at(bytes, place)?;
-    Ok((Some((offset, total)), place))
+    let (fragment_offset, offset) = unsigned_at(bytes, offset)?;
+    let (total, offset) = unsigned_at(bytes, offset)?;
+    Ok((Some((fragment_offset, total)), offset))
 }
 
 /// The number that the content of a check field spells.
@@ -161,13 +161,13 @@ fn field_at(
     check: Option<CheckKind>,
     start: usize,
     bytes: &[u8],
-    place: usize,
+    offset: usize,
 ) -> Result<usize, BundleFault>
-    ensures { IfOk result (λ next. field_at check start bytes.now place ≡ Ok (true, next)) }
+    ensures { IfOk result (λ next. field_at check start bytes.now offset ≡ Ok (true, next)) }
 {
     match check {
-        None => Ok(place),
-        Some(kind) => stored_at(kind, start, bytes, place),
+        None => Ok(offset),
+        Some(kind) => stored_at(kind, start, bytes, offset),
     }
 }
 
@@ -179,11 +179,11 @@ fn stored_at(
     kind: CheckKind,
     start: usize,
     bytes: &[u8],
-    place: usize,
+    offset: usize,
 ) -> Result<usize, BundleFault>
-    ensures { IfOk result (λ next. field_at (Some kind) start bytes.now place ≡ Ok (true, next)) }
+    ensures { IfOk result (λ next. field_at (Some kind) start bytes.now offset ≡ Ok (true, next)) }
 {
-    let (head, content) = small_at(row::BYTE_STRING, bytes, place)?;
+    let (head, content) = small_at(row::BYTE_STRING, bytes, offset)?;
     row::check_field(kind, head)?;
     let (stored, next) = bytes_at(row::check_width(kind), bytes, content)?;
     if start > content || number_of(stored) != check_of(kind, &bytes[start..content]) {
@@ -202,12 +202,12 @@ fn content_at(
     check: Option<CheckKind>,
     start: usize,
     bytes: &[u8],
-    place: usize,
+    offset: usize,
 ) -> Result<usize, BundleFault>
-    ensures { IfOk result (λ next. content_at size check start bytes.now place ≡ Ok (true, next)) }
+    ensures { IfOk result (λ next. content_at size check start bytes.now offset ≡ Ok (true, next)) }
 {
-    let (_, place) = bytes_at(size, bytes, place)?;
-    field_at(check, start, bytes, place)
+    let (_, offset) = bytes_at(size, bytes, offset)?;
+    field_at(check, start, bytes, offset)
 }
 
 /// The values of the heads of a canonical block, up to its data.
@@ -223,19 +223,19 @@ struct Heads {
 ///
 /// `numbers` are the numbers of the blocks before it.
 #[inline(always)]
-fn heads_at(numbers: &[u64], bytes: &[u8], place: usize) -> Result<(Heads, usize), BundleFault>
+fn heads_at(numbers: &[u64], bytes: &[u8], offset: usize) -> Result<(Heads, usize), BundleFault>
     ensures { IfOk result (λ read. (left : ℕ) (primary : Primary)
-        → blocks_at (suc left) numbers.now primary bytes.now place
-        ≡ after_heads read.0 left numbers.now primary place bytes.now read.1) }
+        → blocks_at (suc left) numbers.now primary bytes.now offset
+        ≡ after_heads read.0 left numbers.now primary offset bytes.now read.1) }
 {
-    let (head, place) = small_at(row::ARRAY, bytes, place)?;
+    let (head, offset) = small_at(row::ARRAY, bytes, offset)?;
     let count = row::block(head)?;
-    let (block_type, place) = unsigned_at(bytes, place)?;
-    let (number_head, place) = item_at(row::UNSIGNED, bytes, place)?;
-    let (_, place) = unsigned_at(bytes, place)?;
-    let (head, place) = small_at(row::UNSIGNED, bytes, place)?;
+    let (block_type, offset) = unsigned_at(bytes, offset)?;
+    let (number_head, offset) = item_at(row::UNSIGNED, bytes, offset)?;
+    let (_, offset) = unsigned_at(bytes, offset)?;
+    let (head, offset) = small_at(row::UNSIGNED, bytes, offset)?;
     let check = row::block_check_type(count, head)?;
-    let (head, place) = item_at(row::BYTE_STRING, bytes, place)?;
+    let (head, offset) = item_at(row::BYTE_STRING, bytes, offset)?;
     let size = row::byte_string(head)?;
     // The call comes last, where little has to be kept over it.
     let number = row::block_number(block_type, numbers, number_head)?;
@@ -245,7 +245,7 @@ fn heads_at(numbers: &[u64], bytes: &[u8], place: usize) -> Result<(Heads, usize
         check,
         size,
     };
-    Ok((heads, place))
+    Ok((heads, offset))
 }
 
 /// Reads the canonical blocks, and the break after the payload block.
@@ -255,21 +255,21 @@ fn heads_at(numbers: &[u64], bytes: &[u8], place: usize) -> Result<(Heads, usize
 fn blocks_at(
     numbers: &mut BlockNumbers,
     bytes: &[u8],
-    place: usize,
+    offset: usize,
 ) -> Result<((u64, u64), usize), BundleFault>
     requires { numbers.old ≡ [] }
     ensures { IfOk result (λ read. (primary : Primary)
-        → blocks_at 64 [] primary bytes.now place
-        ≡ Ok (bundle_by primary (length numbers.new) read.0 read.1)) }
+        → blocks_at 64 [] primary bytes.now offset
+        ≡ Ok (bundle_with primary (length numbers.new) read.0 read.1)) }
 {
-    let mut start = place;
+    let mut start = offset;
     while !numbers.is_full() {
-        let (heads, place) = heads_at(numbers.as_slice(), bytes, start)?;
+        let (heads, offset) = heads_at(numbers.as_slice(), bytes, start)?;
         numbers.push(heads.number);
-        let next = content_at(heads.size, heads.check, start, bytes, place)?;
+        let next = content_at(heads.size, heads.check, start, bytes, offset)?;
         if heads.block_type == row::PAYLOAD_TYPE {
             let end = closing_at(bytes, next)?;
-            return Ok(((place as u64, heads.size), end));
+            return Ok(((offset as u64, heads.size), end));
         }
         start = next;
     }
@@ -284,35 +284,35 @@ impl Draft {
     fn primary_at(
         &mut self,
         bytes: &[u8],
-        place: usize,
+        offset: usize,
     ) -> Result<(Option<CheckKind>, usize), BundleFault>
-        ensures read { IfOk result (λ read. primary_at bytes.now place
+        ensures read { IfOk result (λ read. primary_at bytes.now offset
             ≡ Ok ((primary_of self.new, read.0), read.1)) }
         ensures numbers { self.new.numbers ≡ self.old.numbers }
     {
-        let (head, place) = small_at(row::ARRAY, bytes, place)?;
+        let (head, offset) = small_at(row::ARRAY, bytes, offset)?;
         let count = row::primary_block(head)?;
-        let (head, place) = small_at(row::UNSIGNED, bytes, place)?;
+        let (head, offset) = small_at(row::UNSIGNED, bytes, offset)?;
         row::version(head)?;
-        let (flags, place) = unsigned_at(bytes, place)?;
-        let (head, place) = small_at(row::UNSIGNED, bytes, place)?;
+        let (flags, offset) = unsigned_at(bytes, offset)?;
+        let (head, offset) = small_at(row::UNSIGNED, bytes, offset)?;
         let check = row::primary_check_type(count, flags, head)?;
-        let (destination, place) = eid_at(bytes, place)?;
+        let (destination, offset) = eid_at(bytes, offset)?;
         self.destination.keep(destination);
-        let (source, place) = eid_at(bytes, place)?;
+        let (source, offset) = eid_at(bytes, offset)?;
         self.source.keep(source);
-        let (_report_to, place) = eid_at(bytes, place)?;
-        let place = pair_at(bytes, place)?;
-        let (time, place) = unsigned_at(bytes, place)?;
-        let (sequence, place) = unsigned_at(bytes, place)?;
-        let (lifetime, place) = unsigned_at(bytes, place)?;
-        let (fragment, place) = fragment_at(row::is_fragment(flags), bytes, place)?;
+        let (_report_to, offset) = eid_at(bytes, offset)?;
+        let offset = pair_at(bytes, offset)?;
+        let (time, offset) = unsigned_at(bytes, offset)?;
+        let (sequence, offset) = unsigned_at(bytes, offset)?;
+        let (lifetime, offset) = unsigned_at(bytes, offset)?;
+        let (fragment, offset) = fragment_at(row::is_fragment(flags), bytes, offset)?;
         self.flags = flags;
         self.time = time;
         self.sequence = sequence;
         self.lifetime = lifetime;
         self.fragment = fragment;
-        Ok((check, place))
+        Ok((check, offset))
     }
 
     /// Reads the bundle that the bytes begin with, and returns its length.
@@ -323,15 +323,15 @@ impl Draft {
         requires some { 0 < length bytes.now }
         requires blank { self.old.numbers ≡ [] }
         ensures read { IfOk result (λ size. bundle_at bytes.now ≡ Ok (bundle_of self.new size)) }
-        ensures payload { IfOk result (λ _. IsTrue (is_some self.new.payload)) }
+        ensures payload { IfOk result (λ _. IsTrue (is_some self.new.payload_span)) }
     {
         if bytes[0] != OPENING {
             return Err(BundleFault::NotABundle);
         }
-        let (check, place) = self.primary_at(bytes, 1)?;
-        let place = field_at(check, 1, bytes, place)?;
-        let (payload, end) = blocks_at(&mut self.numbers, bytes, place)?;
-        self.payload = Some(payload);
+        let (check, offset) = self.primary_at(bytes, 1)?;
+        let offset = field_at(check, 1, bytes, offset)?;
+        let (payload, end) = blocks_at(&mut self.numbers, bytes, offset)?;
+        self.payload_span = Some(payload);
         Ok(end)
     }
 }

@@ -27,6 +27,8 @@ valued true (Some value) = Ok value
 valued true None = Err WrongKind
 valued false value = Err WrongKind
 
+-- The value of an item of this major type. It is an unsigned integer (0), the length of a byte
+-- string (2), or the number of elements of an array (4).
 abbrev pub of_major : ℕ → Head → Result ℕ BundleFault
 of_major major head = valued (head.major == major) head.value
 
@@ -45,11 +47,12 @@ pair head = do
   count ← array head
   wanted (count == 2) count BadCount
 
--- the break (RFC 8949 section 3.2.1): major type 7 without a value
+-- whether an item has no value: its length is indefinite, or it is the break
 abbrev pub is_absent : Option ℕ → Bool
 is_absent None = true
 is_absent (Some value) = false
 
+-- the break (RFC 8949 section 3.2.1): major type 7 without a value
 unfoldable pub is_break : Head → Bool
 is_break head = (head.major == 7) && is_absent head.value
 

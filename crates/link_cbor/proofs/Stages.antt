@@ -11,11 +11,11 @@ use Rattle.link_cbor.specs.declared.head_scan.Stage.{Stage}
 use Rattle.link_cbor.specs.declared.head_scan.Stage.TheVariants.{Start, Argument, Simple, Whole as WholeHead, IllFormed as NoHead}
 use Rattle.link_cbor.specs.declared.head.HeadStep.{HeadStep}
 use Rattle.link_cbor.specs.declared.head.HeadStep.TheVariants.{More, Done, Bad}
-use Rattle.link_cbor.specs.Head.{Cut, Whole, big_endian, head_front, front_of, step_at, step_of, argument_front, with_argument, no_argument, front_by}
+use Rattle.link_cbor.specs.Head.{Cut, Whole, big_endian, head_front, front_by_step, step_at, step_of, argument_front, with_argument, no_argument, front_by}
 use Rattle.link_cbor.proofs.HeadLaws.{argument_front-cut, argument_front-there, front_by-small, front_by-argument, front_by-reserved, front_by-none}
-use Rattle.link_cbor.specs.Stage.{front_from, in_argument, outcome_at, stage_fits, StandsAt}
+use Rattle.link_cbor.specs.Stage.{front_from, in_argument, stage_step, head_stage_fits, DeterminesHead}
 
--- the bounds of an argument, from `stage_fits`
+-- the bounds of an argument, from `head_stage_fits`
 pub record ArgumentFits (count left value : ℕ) : Type 0 where
   pub wanted : 0 < left
   pub most : left ≤ 8
@@ -23,8 +23,8 @@ pub record ArgumentFits (count left value : ℕ) : Type 0 where
   pub fits : value < 256 ^ (8 - left)
 
 pub argument_fits : (count major left value : ℕ)
-    → stage_fits count (Argument major left value) ≡ true → ArgumentFits count left value
-unfolding stage_fits
+    → head_stage_fits count (Argument major left value) ≡ true → ArgumentFits count left value
+unfolding head_stage_fits
 argument_fits count major left value test =
     let first =
     and_parts (nat_lt 0 left) (nat_le left 8
@@ -41,8 +41,8 @@ argument_fits count major left value test =
     }
 
 pub stage_fits-argument : (count major left value : ℕ) → ArgumentFits count left value
-    → stage_fits count (Argument major left value) ≡ true
-unfolding stage_fits
+    → head_stage_fits count (Argument major left value) ≡ true
+unfolding head_stage_fits
 stage_fits-argument count major left value facts =
     rw (
       lt-ltb 0 left facts.wanted,
@@ -52,8 +52,8 @@ stage_fits-argument count major left value facts =
     ) refl
 
 -- the outcome of a scan is the head that the bytes seen begin with
-outcome_from : (count : ℕ) (stage : Stage) → stage_fits count stage ≡ true
-    → front_from count stage [] ≡ front_of (outcome_at stage) count
+outcome_from : (count : ℕ) (stage : Stage) → head_stage_fits count stage ≡ true
+    → front_from count stage [] ≡ front_by_step (stage_step stage) count
 unfolding front_from head_front argument_front
 outcome_from count Start fits = refl
 outcome_from count (Argument major left value) fits =
@@ -62,23 +62,23 @@ outcome_from count Simple fits = refl
 outcome_from count (WholeHead head) fits = refl
 outcome_from count NoHead fits = refl
 
-step_at_front : (step : HeadStep) (size : ℕ) → step_at (front_of step size) ≡ step
+step_at_front : (step : HeadStep) (size : ℕ) → step_at (front_by_step step size) ≡ step
 step_at_front More size = refl
 step_at_front (Done head) size = refl
 step_at_front Bad size = refl
 
 pub outcome_front : (count : ℕ) (stage : Stage) (seen : List ℕ) → count ≡ length seen
-    → StandsAt count stage (λ more. head_front (seen ++ more))
-    → head_front seen ≡ front_of (outcome_at stage) (length seen)
+    → DeterminesHead count stage (λ more. head_front (seen ++ more))
+    → head_front seen ≡ front_by_step (stage_step stage) (length seen)
 outcome_front count stage seen size stands =
     ap head_front (sym (append-nil seen)) ∙ stands.reads [] ∙ outcome_from count stage stands.fits
-    ∙ ap (front_of (outcome_at stage)) size
+    ∙ ap (front_by_step (stage_step stage)) size
 
 -- the outcome at a stage is that of a scan of these bytes
 pub outcome_step : (stage : Stage) (seen : List ℕ)
-    → head_front seen ≡ front_of (outcome_at stage) (length seen) → outcome_at stage ≡ step_of seen
+    → head_front seen ≡ front_by_step (stage_step stage) (length seen) → stage_step stage ≡ step_of seen
 outcome_step stage seen front =
-    sym (ap step_at front ∙ step_at_front (outcome_at stage) (length seen))
+    sym (ap step_at front ∙ step_at_front (stage_step stage) (length seen))
 
 -- ---- an argument
 
@@ -160,7 +160,7 @@ argument_end count major left value byte more last =
 
 -- the argument fits in 64 bits
 pub value_fits : (count major left value byte : ℕ)
-    → stage_fits count (Argument major left value) ≡ true → byte < 256
+    → head_stage_fits count (Argument major left value) ≡ true → byte < 256
     → value * 256 + byte < 2 ^ 64
 value_fits count major left value byte test below =
     let facts = argument_fits count major left value test in
@@ -189,9 +189,9 @@ more_fits count left value byte facts below other =
 
 -- one more byte of an argument, which may be its last
 stands-more : (count major left value byte : ℕ)
-    → stage_fits count (Argument major left value) ≡ true → byte < 256
+    → head_stage_fits count (Argument major left value) ≡ true → byte < 256
     → (left ≡ 1 → ⊥)
-    → StandsAt (count + 1) (Argument major (left - 1) (value * 256 + byte))
+    → DeterminesHead (count + 1) (Argument major (left - 1) (value * 256 + byte))
     (λ more. front_from count (Argument major left value) (byte ∷ more))
 stands-more count major left value byte test below other =
     let facts = argument_fits count major left value test in
@@ -202,10 +202,10 @@ stands-more count major left value byte test below other =
     }
 
 stands-last : (count major left value byte : ℕ)
-    → stage_fits count (Argument major left value) ≡ true → left ≡ 1
-    → StandsAt (count + 1) (WholeHead (record { major = major; value = Some (value * 256 + byte) }))
+    → head_stage_fits count (Argument major left value) ≡ true → left ≡ 1
+    → DeterminesHead (count + 1) (WholeHead (record { major = major; value = Some (value * 256 + byte) }))
     (λ more. front_from count (Argument major left value) (byte ∷ more))
-unfolding stage_fits
+unfolding head_stage_fits
 stands-last count major left value byte test last =
     let facts = argument_fits count major left value test in
     record {
@@ -214,8 +214,8 @@ stands-last count major left value byte test last =
     }
 
 pub stands-next : (count major left value byte : ℕ)
-    → stage_fits count (Argument major left value) ≡ true → byte < 256
-    → StandsAt (count + 1) (in_argument major (left - 1) (value * 256 + byte))
+    → head_stage_fits count (Argument major left value) ≡ true → byte < 256
+    → DeterminesHead (count + 1) (in_argument major (left - 1) (value * 256 + byte))
     (λ more. front_from count (Argument major left value) (byte ∷ more))
 stands-next count major left value byte test below =
     let wanted = (argument_fits count major left value test).wanted in
@@ -235,9 +235,9 @@ simple_there byte more =
     let plain : byte * 1 + 0 ≡ byte = omega arith in
     argument_front-there 7 1 (byte ∷ more) (omega arith) ∙ ap (with_argument 7 1) plain
 
-pub stands-low : (count byte : ℕ) → stage_fits count Simple ≡ true → byte < 32
-    → StandsAt (count + 1) NoHead (λ more. front_from count Simple (byte ∷ more))
-unfolding stage_fits front_from with_argument
+pub stands-low : (count byte : ℕ) → head_stage_fits count Simple ≡ true → byte < 32
+    → DeterminesHead (count + 1) NoHead (λ more. front_from count Simple (byte ∷ more))
+unfolding head_stage_fits front_from with_argument
 stands-low count byte test low =
     let one : count ≡ 1 = eqb-true count 1 test in
     record {
@@ -245,10 +245,10 @@ stands-low count byte test low =
       reads = λ more. simple_there byte more ∙ rw (lt-ltb byte 32 low) refl;
     }
 
-pub stands-high : (count byte : ℕ) → stage_fits count Simple ≡ true → 32 ≤ byte
-    → StandsAt (count + 1) (WholeHead (record { major = 7; value = Some byte }))
+pub stands-high : (count byte : ℕ) → head_stage_fits count Simple ≡ true → 32 ≤ byte
+    → DeterminesHead (count + 1) (WholeHead (record { major = 7; value = Some byte }))
     (λ more. front_from count Simple (byte ∷ more))
-unfolding stage_fits front_from with_argument
+unfolding head_stage_fits front_from with_argument
 stands-high count byte test high =
     let one : count ≡ 1 = eqb-true count 1 test in
     record {
@@ -259,33 +259,33 @@ stands-high count byte test high =
 -- ---- the first byte
 
 stands-whole : (major information : ℕ) → information < 24
-    → StandsAt 1 (WholeHead (record { major = major; value = Some information }))
+    → DeterminesHead 1 (WholeHead (record { major = major; value = Some information }))
     (front_by major information)
-unfolding stage_fits front_from
+unfolding head_stage_fits front_from
 stands-whole major information below = record {
   fits = refl;
   reads = λ more. front_by-small major information more below;
 }
 
 stands-reserved : (major information : ℕ) → 28 ≤ information → information < 31
-    → StandsAt 1 NoHead (front_by major information)
-unfolding stage_fits front_from
+    → DeterminesHead 1 NoHead (front_by major information)
+unfolding head_stage_fits front_from
 stands-reserved major information least below = record {
   fits = refl;
   reads = λ more. front_by-reserved major information more least below;
 }
 
 stands-unargued : (stage : Stage) (major information : ℕ) → 31 ≤ information
-    → StandsAt 1 stage (λ _. no_argument major)
-    → StandsAt 1 stage (front_by major information)
+    → DeterminesHead 1 stage (λ _. no_argument major)
+    → DeterminesHead 1 stage (front_by major information)
 stands-unargued stage major information least stands = record {
   fits = stands.fits;
   reads = λ more. front_by-none major information more least ∙ stands.reads more;
 }
 
 stands-simple : (major information : ℕ) → major ≡ 7 → information ≡ 24
-    → StandsAt 1 Simple (front_by major information)
-unfolding stage_fits front_from
+    → DeterminesHead 1 Simple (front_by major information)
+unfolding head_stage_fits front_from
 stands-simple major information seven simple =
     rw (seven, simple) (record {
       fits = refl;
@@ -331,7 +331,7 @@ one_byte information least one =
 stands-argued : (major information left : ℕ) → 24 ≤ information → information < 28
     → (major ≡ 7 → information ≡ 24 → ⊥)
     → left ≡ 1 * 2 ^ (information - 24) % 256
-    → StandsAt 1 (Argument major left 0) (front_by major information)
+    → DeterminesHead 1 (Argument major left 0) (front_by major information)
 stands-argued major information left least below other is =
     let near : information - 24 ≤ 3 = omega arith in
     let most : 2 ^ (information - 24) ≤ 2 ^ 3 = pow_mono near in
@@ -352,8 +352,8 @@ stands-argued major information left least below other is =
 
 -- the first byte's major type and additional information determine the stage after it
 first_reads : (first : ℕ) (stage : Stage)
-    → StandsAt 1 stage (front_by (first / 32) (bit_and first 31))
-    → StandsAt 1 stage (λ more. head_front (first ∷ more))
+    → DeterminesHead 1 stage (front_by (first / 32) (bit_and first 31))
+    → DeterminesHead 1 stage (λ more. head_front (first ∷ more))
 unfolding head_front
 first_reads first stage stands = record {
   fits = stands.fits;
@@ -363,19 +363,19 @@ first_reads first stage stands = record {
 
 -- the four kinds of additional information, at the first byte
 pub begins-whole : (first value : ℕ) → value ≡ bit_and first 31 → bit_and first 31 < 24
-    → StandsAt 1 (WholeHead (record { major = first / 32; value = Some value }))
+    → DeterminesHead 1 (WholeHead (record { major = first / 32; value = Some value }))
     (λ more. head_front (first ∷ more))
 begins-whole first value is below =
     rw is (first_reads first _ (stands-whole (first / 32) (bit_and first 31) below))
 
 pub begins-simple : (first : ℕ) → first ≡ 0xf8
-    → StandsAt 1 Simple (λ more. head_front (first ∷ more))
+    → DeterminesHead 1 Simple (λ more. head_front (first ∷ more))
 begins-simple first simple =
     rw simple (first_reads 0xf8 Simple (stands-simple 7 24 refl refl))
 
 pub begins-argument : (first : ℕ) → 24 ≤ bit_and first 31
     → bit_and first 31 < 28 → (first ≡ 0xf8 → ⊥)
-    → StandsAt 1 (Argument (first / 32) (1 * 2 ^ (bit_and first 31 - 24) % 256) 0)
+    → DeterminesHead 1 (Argument (first / 32) (1 * 2 ^ (bit_and first 31 - 24) % 256) 0)
     (λ more. head_front (first ∷ more))
 begins-argument first least below other =
     first_reads first _
@@ -383,57 +383,57 @@ begins-argument first least below other =
     (λ seven simple. other (omega (arith, and_mask first 5))) refl)
 
 pub begins-reserved : (first : ℕ) → 28 ≤ bit_and first 31 → bit_and first 31 < 31
-    → StandsAt 1 NoHead (λ more. head_front (first ∷ more))
+    → DeterminesHead 1 NoHead (λ more. head_front (first ∷ more))
 begins-reserved first least below =
     first_reads first NoHead (stands-reserved (first / 32) (bit_and first 31) least below)
 
 pub begins-unargued : (first : ℕ) (stage : Stage) → bit_and first 31 ≡ 31
-    → StandsAt 1 stage (λ _. no_argument (first / 32))
-    → StandsAt 1 stage (λ more. head_front (first ∷ more))
+    → DeterminesHead 1 stage (λ _. no_argument (first / 32))
+    → DeterminesHead 1 stage (λ more. head_front (first ∷ more))
 begins-unargued first stage is stands =
     first_reads first stage (stands-unargued stage (first / 32) (bit_and first 31)
     (omega arith) stands)
 
-pub begins-start : (count : ℕ) (stage : Stage) (byte : ℕ) → stage_fits count Start ≡ true
-    → StandsAt 1 stage (λ more. head_front (byte ∷ more))
-    → StandsAt (count + 1) stage (λ more. front_from count Start (byte ∷ more))
-unfolding stage_fits front_from
+pub begins-start : (count : ℕ) (stage : Stage) (byte : ℕ) → head_stage_fits count Start ≡ true
+    → DeterminesHead 1 stage (λ more. head_front (byte ∷ more))
+    → DeterminesHead (count + 1) stage (λ more. front_from count Start (byte ∷ more))
+unfolding head_stage_fits front_from
 begins-start count stage byte test stands =
     let none : count ≡ 0 = eqb-true count 0 test in rw none stands
 
 -- ---- information 31
 
 pub stands-wrong : (major : ℕ) → (nat_lt major 2 || (major == 6)) ≡ true
-    → StandsAt 1 NoHead (λ _. no_argument major)
-unfolding stage_fits front_from no_argument
+    → DeterminesHead 1 NoHead (λ _. no_argument major)
+unfolding head_stage_fits front_from no_argument
 stands-wrong major wrong = record { fits = refl; reads = λ _. rw wrong refl }
 
 pub stands-right : (major : ℕ) → 2 ≤ major → (major ≡ 6 → ⊥)
-    → StandsAt 1 (WholeHead (record { major = major; value = None })) (λ _. no_argument major)
-unfolding stage_fits front_from no_argument
+    → DeterminesHead 1 (WholeHead (record { major = major; value = None })) (λ _. no_argument major)
+unfolding head_stage_fits front_from no_argument
 stands-right major two not_six =
     record { fits = refl; reads = λ _. rw (le-ltb major 2 two, ne_eqb major 6 not_six) refl }
 
 -- ---- the history, with one more byte
 
 pub scanned_more : (count : ℕ) (stage next : Stage) (seen : List ℕ) (byte : ℕ)
-    → StandsAt count stage (λ more. head_front (seen ++ more))
-    → StandsAt (count + 1) next (λ more. front_from count stage (byte ∷ more))
-    → StandsAt (count + 1) next (λ more. head_front ((seen ++ byte ∷ []) ++ more))
+    → DeterminesHead count stage (λ more. head_front (seen ++ more))
+    → DeterminesHead (count + 1) next (λ more. front_from count stage (byte ∷ more))
+    → DeterminesHead (count + 1) next (λ more. head_front ((seen ++ byte ∷ []) ++ more))
 scanned_more count stage next seen byte before step = record {
   fits = step.fits;
   reads = λ more. ap head_front (append_assoc seen (byte ∷ []) more) ∙ before.reads (byte ∷ more)
       ∙ step.reads more;
 }
 
-pub scanned_none : StandsAt 0 Start (λ more. head_front ([] ++ more))
-unfolding stage_fits front_from
+pub scanned_none : DeterminesHead 0 Start (λ more. head_front ([] ++ more))
+unfolding head_stage_fits front_from
 scanned_none = record { fits = refl; reads = λ more. refl }
 
 -- ---- how many bytes
 
-pub count_fits : (count : ℕ) (stage : Stage) → stage_fits count stage ≡ true → count ≤ 9
-unfolding stage_fits
+pub count_fits : (count : ℕ) (stage : Stage) → head_stage_fits count stage ≡ true → count ≤ 9
+unfolding head_stage_fits
 count_fits count Start fits = omega (arith, eqb-true count 0 fits)
 count_fits count (Argument major left value) fits =
     omega (arith, (argument_fits count major left value fits).room)

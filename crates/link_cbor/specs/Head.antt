@@ -14,8 +14,8 @@ unfoldable pub big_endian : List ℕ → ℕ
 big_endian [] = 0
 big_endian (byte ∷ bytes) = byte * 256 ^ length bytes + big_endian bytes
 
--- A list of bytes ends inside a head, begins with no well-formed head, or begins with a whole head
--- of this many bytes.
+-- What a list of bytes begins with. `Cut`: it ends inside a head. `IllFormed`: it begins with no
+-- well-formed head. `Whole`: it begins with this head, which has this many bytes.
 pub data HeadFront : Type 0 where
   Cut : HeadFront
   IllFormed : HeadFront
@@ -72,10 +72,10 @@ abbrev pub step_of : List ℕ → HeadStep
 step_of bytes = step_at (head_front bytes)
 
 -- the head that a scan of `size` bytes has seen, by its outcome
-abbrev pub front_of : HeadStep → ℕ → HeadFront
-front_of More size = Cut
-front_of (Done head) size = Whole head size
-front_of Bad size = IllFormed
+abbrev pub front_by_step : HeadStep → ℕ → HeadFront
+front_by_step More size = Cut
+front_by_step (Done head) size = Whole head size
+front_by_step Bad size = IllFormed
 
 -- whether more bytes are needed
 abbrev pub is_cut : HeadFront → Bool

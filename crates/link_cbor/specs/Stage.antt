@@ -35,25 +35,25 @@ wants_more (WholeHead head) = false
 wants_more NoHead = false
 
 -- the outcome at this stage
-abbrev pub outcome_at : Stage → HeadStep
-outcome_at Start = More
-outcome_at (Argument major left value) = More
-outcome_at Simple = More
-outcome_at (WholeHead head) = Done head
-outcome_at NoHead = Bad
+abbrev pub stage_step : Stage → HeadStep
+stage_step Start = More
+stage_step (Argument major left value) = More
+stage_step Simple = More
+stage_step (WholeHead head) = Done head
+stage_step NoHead = Bad
 
 -- The bounds that keep the argument in 64 bits. An argument has at most eight bytes, and those seen
 -- encode `value`.
-unfoldable pub stage_fits : ℕ → Stage → Bool
-stage_fits count Start = count == 0
-stage_fits count (Argument major left value) =
+unfoldable pub head_stage_fits : ℕ → Stage → Bool
+head_stage_fits count Start = count == 0
+head_stage_fits count (Argument major left value) =
     nat_lt 0 left && (nat_le left 8 && (nat_le (count + left) 9 && nat_lt value (256 ^ (8 - left))))
-stage_fits count Simple = count == 1
-stage_fits count (WholeHead head) = nat_le count 9
-stage_fits count NoHead = nat_le count 9
+head_stage_fits count Simple = count == 1
+head_stage_fits count (WholeHead head) = nat_le count 9
+head_stage_fits count NoHead = nat_le count 9
 
 -- The stage is that of a scan which has seen `count` bytes. For all bytes that follow, `reading` is
 -- the head that the stage determines.
-pub record StandsAt (count : ℕ) (stage : Stage) (reading : List ℕ → HeadFront) : Type 0 where
-  pub fits : IsTrue (stage_fits count stage)
+pub record DeterminesHead (count : ℕ) (stage : Stage) (reading : List ℕ → HeadFront) : Type 0 where
+  pub fits : IsTrue (head_stage_fits count stage)
   pub reads : (more : List ℕ) → reading more ≡ front_from count stage more

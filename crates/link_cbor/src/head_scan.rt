@@ -1,6 +1,6 @@
 //! Reading a head byte by byte.
 ghost use Rattle.std.specs.Prelude.{◌≡◌, ℕ, ◌+◌, ◌<◌, ◌≤◌, ◌↔◌, List, [], ◌∷◌, ◌++◌, length, IsTrue};
-ghost use Rattle.link_cbor.specs.Stage.{stage_fits};
+ghost use Rattle.link_cbor.specs.Stage.{head_stage_fits};
 
 use crate::head::{Head, HeadStep};
 use crate::piecewise::Piecewise;
@@ -26,11 +26,11 @@ const LEAST_IN_NEXT_BYTE: u8 = 32;
 
 impl Stage {
     ghost use Rattle.link_cbor.specs.Head.{head_front, no_argument};
-    ghost use Rattle.link_cbor.specs.Stage.{outcome_at, in_argument, StandsAt};
+    ghost use Rattle.link_cbor.specs.Stage.{stage_step, in_argument, DeterminesHead};
 
     /// The state of the head after the bytes seen.
     fn outcome(self) -> HeadStep
-        ensures { result ≡ outcome_at self }
+        ensures { result ≡ stage_step self }
     {
         match self {
             Stage::Whole(head) => HeadStep::Done(head),
@@ -43,7 +43,7 @@ impl Stage {
     ///
     /// The top three bits are the major type, and the low five bits are the additional information.
     fn begin(first: u8) -> Stage
-        ensures { StandsAt 1 result (λ more. head_front (first ∷ more)) }
+        ensures { DeterminesHead 1 result (λ more. head_front (first ∷ more)) }
     {
         let major = first >> 5;
         let information = first & 0x1f;
@@ -80,7 +80,7 @@ impl Stage {
     /// The head has an indefinite length or is the break. For major types 0, 1 and 6 it is
     /// ill-formed.
     fn without_argument(major: u8) -> Stage
-        ensures { StandsAt 1 result (λ _. no_argument major) }
+        ensures { DeterminesHead 1 result (λ _. no_argument major) }
     {
         if major < 2 || major == 6 {
             Stage::IllFormed
@@ -98,20 +98,20 @@ impl Stage {
 pub struct HeadScan {
     count: u8,
     stage: Stage,
-    ghost fits: { IsTrue (stage_fits count stage) },
+    ghost fits: { IsTrue (head_stage_fits count stage) },
 }
 
 impl HeadScan {
-    ghost use Rattle.link_cbor.specs.Head.{head_front, step_of, front_of};
-    ghost use Rattle.link_cbor.specs.HeadScan.{HasScanned, scan_size, may_scan};
-    ghost use Rattle.link_cbor.specs.Stage.{front_from, StandsAt};
+    ghost use Rattle.link_cbor.specs.Head.{head_front, step_of, front_by_step};
+    ghost use Rattle.link_cbor.specs.HeadScan.{HasScannedHead, head_scan_size, may_scan_head};
+    ghost use Rattle.link_cbor.specs.Stage.{front_from, DeterminesHead};
     ghost use Rattle.link_cbor.specs.declared.head.HeadStep.TheVariants.{More};
 
     /// A scan that has seen no byte.
     pub fn new() -> HeadScan
-        ensures seen { HasScanned result [] }
-        ensures size { scan_size result ≡ 0 }
-        ensures may_step { IsTrue (may_scan result) }
+        ensures seen { HasScannedHead result [] }
+        ensures size { head_scan_size result ≡ 0 }
+        ensures may_step { IsTrue (may_scan_head result) }
     {
         HeadScan {
             count: 0,
@@ -121,17 +121,17 @@ impl HeadScan {
 
     /// The state of the head after the bytes seen so far.
     pub fn outcome(&self) -> HeadStep
-        ensures seen { (seen : List ℕ) → HasScanned self.now seen → result ≡ step_of seen }
-        ensures front { (seen : List ℕ) → HasScanned self.now seen
-            → head_front seen ≡ front_of result (length seen) }
-        ensures may_step { IsTrue (may_scan self.now) ↔ (result ≡ More) }
+        ensures seen { (seen : List ℕ) → HasScannedHead self.now seen → result ≡ step_of seen }
+        ensures front { (seen : List ℕ) → HasScannedHead self.now seen
+            → head_front seen ≡ front_by_step result (length seen) }
+        ensures may_step { IsTrue (may_scan_head self.now) ↔ (result ≡ More) }
     {
         self.stage.outcome()
     }
 
     fn next_stage(&self, byte: u8) -> Stage
-        requires { IsTrue (may_scan self.now) }
-        ensures { StandsAt (self.now.count + 1) result
+        requires { IsTrue (may_scan_head self.now) }
+        ensures { DeterminesHead (self.now.count + 1) result
             (λ more. front_from self.now.count self.now.stage (byte ∷ more)) }
     {
         match self.stage {
@@ -148,36 +148,36 @@ impl HeadScan {
 }
 
 impl Piecewise for HeadScan {
-    ghost use Rattle.link_cbor.specs.HeadScan.{HasScanned, scan_size, may_scan, head_goes};
+    ghost use Rattle.link_cbor.specs.HeadScan.{HasScannedHead, head_scan_size, may_scan_head, head_goes};
 
-    ghost has_seen = { HasScanned };
+    ghost has_seen = { HasScannedHead };
 
-    ghost size = { scan_size };
+    ghost size = { head_scan_size };
 
     ghost goes = { head_goes };
 
-    ghost may_step = { may_scan };
+    ghost may_step = { may_scan_head };
 
     fn going(&self) -> bool
-        ensures seen { (seen : List ℕ) → HasScanned self.now seen → result ≡ head_goes seen }
-        ensures may_step { result ≡ may_scan self.now }
+        ensures seen { (seen : List ℕ) → HasScannedHead self.now seen → result ≡ head_goes seen }
+        ensures may_step { result ≡ may_scan_head self.now }
     {
         self.outcome() == HeadStep::More
     }
 
     fn count(&self) -> u64
-        ensures size { result ≡ scan_size self.now }
-        ensures seen { (seen : List ℕ) → HasScanned self.now seen → result ≡ length seen }
+        ensures size { result ≡ head_scan_size self.now }
+        ensures seen { (seen : List ℕ) → HasScannedHead self.now seen → result ≡ length seen }
         ensures small { result ≤ 9 }
     {
         u64::from(self.count)
     }
 
     fn step(&mut self, byte: u8)
-        requires may_step { IsTrue (may_scan self.old) }
-        ensures size { scan_size self.new ≡ scan_size self.old + 1 }
-        ensures seen { (seen : List ℕ) → HasScanned self.old seen
-            → HasScanned self.new (seen ++ byte ∷ []) }
+        requires may_step { IsTrue (may_scan_head self.old) }
+        ensures size { head_scan_size self.new ≡ head_scan_size self.old + 1 }
+        ensures seen { (seen : List ℕ) → HasScannedHead self.old seen
+            → HasScannedHead self.new (seen ++ byte ∷ []) }
     {
         self.stage = self.next_stage(byte);
         self.count += 1;

@@ -16,7 +16,7 @@ use Rattle.clap.specs.declared.error.kind.ErrorKind.{ErrorKind}
 use Rattle.clap.specs.declared.error.kind.ErrorKind.TheVariants.{OutOfMemory}
 use Rattle.clap.proofs.WalkLemmas.{both}
 use Rattle.link_command.proofs.Stopped.{StopsElsewhere, level_stops, not_help, second_empty}
-use Rattle.link_command.specs.Usage.{AreTaken, IsFaultOf, is_request, node_of}
+use Rattle.link_command.specs.Usage.{AreAccepted, IsFaultOf, is_request, node_of}
 use Rattle.link_command.specs.Reading.{IsToolFault, NamesTool, StandsFor}
 use Rattle.link_command.specs.declared.usage.UsageFault.{UsageFault}
 use Rattle.link_command.specs.declared.usage.UsageFault.TheVariants.{Help, Words, NodeTooLong, Memory}
@@ -98,7 +98,7 @@ built_names top s₁ s₂ s₃ s₄ words required enabled help none =
     entered_one top s₁ s₂ s₃ s₄ stop help (level_stops top names nothing_held words has (entered_fault app stop) enabled none)
     (check_passes top (finished top.rules (walk top.rules names nothing_held words).held) has required (level_checked top names nothing_held words has (entered_fault app stop) none))
 
-pub taken_names : (words : List Text) → AreTaken words → NamesTool (subcommand_of table words)
+pub taken_names : (words : List Text) → AreAccepted words → NamesTool (subcommand_of table words)
 unfolding table list_words unpack_words pack_words
 taken_names words taken = built_names (built table).top (built_leaf list_words) (built_leaf unpack_words) (built_leaf pack_words) (built_leaf help_shape) (argument_words table words) refl refl refl taken
 
@@ -108,7 +108,7 @@ module _ (a : App) (words : List Text) (is : a ≡ table) where
   pub is_free : is_simple_and_free a ≡ true
   is_free = ap is_simple_and_free is ∙ table_is_simple
 
-  pub are_taken : fault_of a words ≡ [] → AreTaken words
+  pub are_taken : fault_of a words ≡ [] → AreAccepted words
   are_taken none = ap (λ x. fault_of x words) (sym is) ∙ none
 
   pub found : (m : ArgMatches) → HasMatchesOf a words m
@@ -116,7 +116,7 @@ module _ (a : App) (words : List Text) (is : a ≡ table) where
   found m has = (has (both _ _ is_free).0).1 ∙ ap (λ x. subcommand_of x words) is
 
 pub tool_fault : (words : List Text) (tool : Option (Text × List Row))
-    → tool ≡ subcommand_of table words → AreTaken words
+    → tool ≡ subcommand_of table words → AreAccepted words
     → (fault : UsageFault) → IsToolFault tool fault → IsFaultOf words fault
 tool_fault words tool is taken fault (inl long) = subst (IsFaultOf words) (sym long.0) (taken, subst (λ t. 1024 < length (node_of t)) is long.1)
 tool_fault words tool is taken fault (inr memory) = subst (IsFaultOf words) (sym memory) tt

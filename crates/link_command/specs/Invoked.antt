@@ -51,30 +51,30 @@ pub record IsWanted (rows : List Row) (wanted : Wanted) : Type 0 where
   pub keep_going : wanted.keep_going ≡ is_set (codes "keep-going") rows
 
 -- `max` and `min` change no number that `clap` takes, because the table has the same bounds.
-pub record IsPackOptions (rows : List Row) (o : PackOptions) : Type 0 where
-  pub node : o.node.items ≡ text_of (codes "node") rows
-  pub keepalive : o.keepalive ≡ number_of (2 ^ 16) (codes "keepalive") rows
-  pub segment_mru : o.segment_mru ≡ number_of (2 ^ 64) (codes "segment-mru") rows
-  pub transfer_mru : o.transfer_mru ≡ number_of (2 ^ 64) (codes "transfer-mru") rows
-  pub peer_segment : o.peer_segment ≡ max 1 (number_of (2 ^ 64) (codes "peer-segment") rows)
-  pub peer_transfer : o.peer_transfer ≡ number_of (2 ^ 64) (codes "peer-transfer") rows
-  pub announce : o.announce ≡ min 1048576 (number_of (2 ^ 64) (codes "announce") rows)
-  pub send_term : o.send_term ≡ is_set (codes "end") rows
+pub record IsPackOptions (rows : List Row) (packing : PackOptions) : Type 0 where
+  pub node : packing.node.items ≡ text_of (codes "node") rows
+  pub keepalive : packing.keepalive ≡ number_of (2 ^ 16) (codes "keepalive") rows
+  pub segment_mru : packing.segment_mru ≡ number_of (2 ^ 64) (codes "segment-mru") rows
+  pub transfer_mru : packing.transfer_mru ≡ number_of (2 ^ 64) (codes "transfer-mru") rows
+  pub peer_segment : packing.peer_segment ≡ max 1 (number_of (2 ^ 64) (codes "peer-segment") rows)
+  pub peer_transfer : packing.peer_transfer ≡ number_of (2 ^ 64) (codes "peer-transfer") rows
+  pub announce : packing.announce ≡ min 1048576 (number_of (2 ^ 64) (codes "announce") rows)
+  pub send_term : packing.send_term ≡ is_set (codes "end") rows
 
 -- the options of the tool of this name
 abbrev pub AreOptions : (name : Text) → List Row → Options → Type 0
 AreOptions name rows options.List = name ≡ codes "list"
 AreOptions name rows (options.Unpack wanted) = (name ≡ codes "unpack") × IsWanted rows wanted
-AreOptions name rows (options.Pack o) = (name ≡ codes "pack") × IsPackOptions rows o
+AreOptions name rows (options.Pack packing) = (name ≡ codes "pack") × IsPackOptions rows packing
 
-pub record IsInvokedBy (name : Text) (rows : List Row) (i : Invocation) : Type 0 where
-  pub options : AreOptions name rows i.options
-  pub file : option_map string_bytes i.file ≡ first_of (codes "file") rows
+pub record IsInvokedBy (name : Text) (rows : List Row) (invocation : Invocation) : Type 0 where
+  pub options : AreOptions name rows invocation.options
+  pub file : option_map string_bytes invocation.file ≡ first_of (codes "file") rows
 
 -- the invocation of a tool, by its name and its matches; without a tool there is none
 abbrev pub IsInvokedByTool : Option (Text × List Row) → Invocation → Type 0
-IsInvokedByTool None i = ⊥
-IsInvokedByTool (Some tool) i = IsInvokedBy tool.0 tool.1 i
+IsInvokedByTool None invocation = ⊥
+IsInvokedByTool (Some tool) invocation = IsInvokedBy tool.0 tool.1 invocation
 
 -- The words are those of the command line. The first is the program's own name.
 abbrev pub IsInvoked : (words : List Text) → Invocation → Type 0

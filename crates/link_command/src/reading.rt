@@ -4,7 +4,7 @@ ghost use Rattle.std.specs.Prelude.{◌≡◌, ◌^◌, ◌<◌, ◌⊎◌, code
 ghost use Rattle.clap.specs.Words.{first_of, found_of, kind_of, rows_of, subcommand_rows_of, takes};
 ghost use Rattle.link_command.specs.Table.{table};
 ghost use Rattle.link_command.specs.Invoked.{AreOptions, IsInvoked, IsInvokedBy, IsInvokedByTool, IsPackOptions, IsWanted, is_set, number_in, number_of, text_of};
-ghost use Rattle.link_command.specs.Usage.{AreTaken, IsFaultOf};
+ghost use Rattle.link_command.specs.Usage.{AreAccepted, IsFaultOf};
 ghost use Rattle.link_command.specs.Reading.{IsToolFault, IsToolName, NamesTool, StandsFor};
 
 use crate::command::tcpclkit;
@@ -26,7 +26,7 @@ use std::alloc::{AllocError, Global};
 /// - [`UsageFault::Memory`]: a request for memory was refused.
 pub fn options(alloc: Global, words: &[String]) -> Result<Invocation, UsageFault>
     ensures ok { IfOk result (IsInvoked (map string_bytes words.now)) }
-    ensures taken { IfOk result (λ _. AreTaken (map string_bytes words.now)) }
+    ensures taken { IfOk result (λ _. AreAccepted (map string_bytes words.now)) }
     ensures err { IfErr result (IsFaultOf (map string_bytes words.now)) }
     ensures passes { takes table (map string_bytes words.now) ≡ true
         → IfErr result (λ fault. (fault ≡ UsageFault.NodeTooLong) ⊎ (fault ≡ UsageFault.Memory)) }

@@ -1,5 +1,5 @@
--- Which bytes of its reader a `Source` has given. It reads ahead: the bytes that were taken and not
--- given are its window.
+-- Which bytes of its reader a `Source` has *given* to its caller. It reads ahead: the bytes that
+-- were *taken* from the reader and not given are its window.
 use Rattle.std.specs.Prelude.{◌≡◌, ℕ, ◌+◌, ◌-◌, ◌<◌, ◌≤◌, Bool, true, false, ◌&&◌, ◌==◌, nat_lt, if◌then◌else◌, List, [], ◌∷◌, ◌++◌, length, take, slice_range, Option, Result, Ok, Err}
 use Rattle.std.specs.Io.KnownBytes.{Consumes, IsAtEnd, prepend_known}
 use Rattle.link_io.specs.Bytes.{AreBytes}
@@ -16,13 +16,15 @@ use Rattle.link_io.specs.declared.source.Source.{Source}
 -- the result of a `fill` after the end: an empty slice counts as full
 abbrev pub filled_at_end : List ℕ → Filled
 filled_at_end [] = filled.Whole
-filled_at_end (b ∷ buffer) = filled.Ended 0
+filled_at_end (byte ∷ buffer) = filled.Ended 0
 
+-- whether more bytes may come from the reader
 abbrev pub is_open : Flow → Bool
 is_open flow.Open = true
 is_open flow.Ended = false
 is_open (flow.Failed fault) = false
 
+-- `IsLive`, by the fields of a source
 abbrev pub IsLiveBy : Flow → Option (List ℕ) → ℕ → ℕ → Type 0
 IsLiveBy flow.Open left start end = Unit {0}
 IsLiveBy flow.Ended left start end = IsAtEnd left × (start ≡ end)
@@ -38,57 +40,57 @@ held_from (flow.Failed fault) most held = []
 module _ {R : Type 0} where
   -- the reader, in its present state
   abbrev pub reader_of : Source R → R
-  reader_of s = s.reader
+  reader_of source = source.reader
 
   -- the number of bytes given
   abbrev pub given_by : Source R → ℕ
-  given_by s = s.given
+  given_by source = source.given
 
   -- the window: the bytes that were taken and not given
   abbrev pub window_of : Source R → List ℕ
-  window_of s = slice_range s.window s.start s.end
+  window_of source = slice_range source.window source.start source.end
 
   -- the number of bytes taken from the reader
   abbrev pub taken_by : Source R → ℕ
-  taken_by s = s.given + (s.end - s.start)
+  taken_by source = source.given + (source.end - source.start)
 
   -- the bytes still to be given, if they are known: the window, and then what the reader has left
   abbrev pub ahead : (R → Input) → Source R → Option (List ℕ)
-  ahead look s = prepend_known (window_of s) (look s.reader).left
+  ahead look source = prepend_known (window_of source) (look source.reader).left
 
   -- The bytes at hand: those of the window, or those that the reader holds if it is empty. What the
   -- reader holds is not taken yet.
   unfoldable pub front_of : (R → Input) → Source R → List ℕ
-  front_of look s =
-      if nat_lt s.start s.end
-      then window_of s
-      else held_from s.flow (longest_input - s.given) (look s.reader).held
+  front_of look source =
+      if nat_lt source.start source.end
+      then window_of source
+      else held_from source.flow (longest_input - source.given) (look source.reader).held
 
   -- the source has given exactly these bytes since it was made
-  pub record IsSourceAt (s : Source R) (history : List ℕ) : Type 0 where
+  pub record IsSourceAt (source : Source R) (history : List ℕ) : Type 0 where
     pub bytes : AreBytes history
-    pub given : given_by s ≡ length history
+    pub given : given_by source ≡ length history
 
   -- nothing was given or taken, and more bytes may come
   abbrev pub is_fresh : Source R → Bool
-  is_fresh s = (s.given == 0) && (is_open s.flow && (s.start == s.end))
+  is_fresh source = (source.given == 0) && (is_open source.flow && (source.start == source.end))
 
   -- the input has ended and the window is empty: no call reads any more
   abbrev pub HasEnded : Source R → Type 0
-  HasEnded s = (s.flow ≡ flow.Ended) × (s.start ≡ s.end)
+  HasEnded source = (source.flow ≡ flow.Ended) × (source.start ≡ source.end)
 
   -- the source has stopped at this fault and the window is empty: no call reads any more
   abbrev pub HasFailed : Source R → IoFault → Type 0
-  HasFailed s fault = (s.flow ≡ flow.Failed fault) × (s.start ≡ s.end)
+  HasFailed source fault = (source.flow ≡ flow.Failed fault) × (source.start ≡ source.end)
 
   -- the source has not failed: more bytes may come, or none is left
   abbrev pub IsLive : (R → Input) → Source R → Type 0
-  IsLive look s = IsLiveBy s.flow (look s.reader).left s.start s.end
+  IsLive look source = IsLiveBy source.flow (look source.reader).left source.start source.end
 
   -- the input has ended, and no byte of it is left
-  pub record IsOver (look : R → Input) (s : Source R) : Type 0 where
-    pub ended : HasEnded s
-    pub empty : IsAtEnd (look s.reader).left
+  pub record IsOver (look : R → Input) (source : Source R) : Type 0 where
+    pub ended : HasEnded source
+    pub empty : IsAtEnd (look source.reader).left
 
   -- The window after these bytes were given. Only an empty window is read into. So if a byte was
   -- given, less than a whole window is left. If none was given, the window has not changed.
@@ -96,7 +98,8 @@ module _ {R : Type 0} where
     pub kept : length bytes ≡ 0 → window_of new ≡ window_of old
     pub less : 0 < length bytes → length (window_of new) < window_size
 
-  -- from `old` to `new` these bytes, the next of the input, were given, and the reader did not fail
+  -- The caller takes bytes: from `old` to `new` these, the next of the input, were given to it, and
+  -- the reader did not fail.
   pub record Takes (look : R → Input) (old new : Source R) (bytes : List ℕ) : Type 0 where
     pub bytes_fit : AreBytes bytes
     pub next : Consumes (ahead look old) (ahead look new) bytes
@@ -141,9 +144,9 @@ module _ {R : Type 0} where
     pub size : n ≡ length (window_of new)
     pub over : n ≡ 0 → IsOver look new
 
-  abbrev pub GivesReady : (R → Input) → Source R → Source R → Result ℕ IoFault → Type 0
-  GivesReady look old new (Ok n) = ReadyWindow look old new n
-  GivesReady look old new (Err fault) = StopsAfter look old new [] fault
+  abbrev pub AfterReady : (R → Input) → Source R → Source R → Result ℕ IoFault → Type 0
+  AfterReady look old new (Ok n) = ReadyWindow look old new n
+  AfterReady look old new (Err fault) = StopsAfter look old new [] fault
 
   -- The result of `ready_front`: some bytes are at hand, or the input is over.
   pub record ReadyFront (look : R → Input) (old new : Source R) (n : ℕ) : Type 0 where
@@ -152,9 +155,9 @@ module _ {R : Type 0} where
     pub size : n ≡ length (front_of look new)
     pub over : n ≡ 0 → IsOver look new
 
-  abbrev pub GivesFront : (R → Input) → Source R → Source R → Result ℕ IoFault → Type 0
-  GivesFront look old new (Ok n) = ReadyFront look old new n
-  GivesFront look old new (Err fault) = StopsAfter look old new [] fault
+  abbrev pub AfterReadyFront : (R → Input) → Source R → Source R → Result ℕ IoFault → Type 0
+  AfterReadyFront look old new (Ok n) = ReadyFront look old new n
+  AfterReadyFront look old new (Err fault) = StopsAfter look old new [] fault
 
   -- The result of one call of `some`.
   pub record SomeBytes (look : R → Input) (old new : Source R)
@@ -164,9 +167,9 @@ module _ {R : Type 0} where
     pub live : IsLive look new
     pub over : n ≡ 0 → 0 < length buffer → IsOver look new
 
-  abbrev pub GivesSome : (R → Input) → Source R → Source R → List ℕ → Result ℕ IoFault → Type 0
-  GivesSome look old new buffer (Ok n) = SomeBytes look old new buffer n
-  GivesSome look old new buffer (Err fault) = StopsAfter look old new [] fault
+  abbrev pub AfterSome : (R → Input) → Source R → Source R → List ℕ → Result ℕ IoFault → Type 0
+  AfterSome look old new buffer (Ok n) = SomeBytes look old new buffer n
+  AfterSome look old new buffer (Err fault) = StopsAfter look old new [] fault
 
   -- The result of a `fill`: the whole slice, what the input still had, or what was given before a
   -- fault.
@@ -186,7 +189,7 @@ module _ {R : Type 0} where
     pub part : count < length buffer
     pub stops : StopsAfter look old new (take count buffer) fault
 
-  abbrev pub GivesFill : (R → Input) → Source R → Source R → List ℕ → Result Filled IoFault → Type 0
-  GivesFill look old new buffer (Ok filled.Whole) = WholeSlice look old new buffer
-  GivesFill look old new buffer (Ok (filled.Ended n)) = EndedSlice look old new buffer n
-  GivesFill look old new buffer (Err fault) = StoppedSlice look old new buffer fault
+  abbrev pub AfterFill : (R → Input) → Source R → Source R → List ℕ → Result Filled IoFault → Type 0
+  AfterFill look old new buffer (Ok filled.Whole) = WholeSlice look old new buffer
+  AfterFill look old new buffer (Ok (filled.Ended n)) = EndedSlice look old new buffer n
+  AfterFill look old new buffer (Err fault) = StoppedSlice look old new buffer fault

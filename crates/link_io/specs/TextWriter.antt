@@ -5,7 +5,7 @@ use Rattle.link_io.specs.Device.{Output}
 use Rattle.link_io.specs.declared.text_writer.TextWriter.{TextWriter}
 
 -- a proper prefix of these bytes was written
-pub record GivesPart (old new : Option (List ℕ)) (bytes : List ℕ) : Type 0 where
+pub record AppendsPart (old new : Option (List ℕ)) (bytes : List ℕ) : Type 0 where
   pub count : ℕ
   pub part : count < length bytes
   pub written : Appends old new (take count bytes)

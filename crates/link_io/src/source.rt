@@ -57,7 +57,7 @@ pub struct Source<R> {
 impl<R: InDevice> Source<R> {
     ghost use Rattle.std.specs.Prelude.{◌≡◌, ◌+◌, ◌-◌, ◌<◌, ◌≤◌, ◌==◌, true, false, [], length, take, drop, IfOk, IfErr, OnOk, MatchResult, IsTrue};
     ghost use Rattle.link_io.specs.Limits.{window_size};
-    ghost use Rattle.link_io.specs.Source.{IsSourceAt, is_fresh, reader_of, given_by, taken_by, window_of, front_of, ahead, IsLive, IsOver, HasEnded, HasFailed, Takes, StopsAfter, GivesReady, GivesFront, GivesSome, GivesFill, filled_at_end};
+    ghost use Rattle.link_io.specs.Source.{IsSourceAt, is_fresh, reader_of, given_by, taken_by, window_of, front_of, ahead, IsLive, IsOver, HasEnded, HasFailed, Takes, StopsAfter, AfterReady, AfterReadyFront, AfterSome, AfterFill, filled_at_end};
 
     /// Makes a source that has taken nothing.
     pub fn new(reader: R) -> Source<R>
@@ -233,7 +233,7 @@ impl<R: InDevice> Source<R> {
     #[inline(always)]
     pub fn ready(&mut self) -> Result<usize, IoFault>
         ensures size { IfOk result (λ n. n ≡ length (window_of self.new)) }
-        ensures gives { IsLive R.state self.old → GivesReady R.state self.old self.new result }
+        ensures gives { IsLive R.state self.old → AfterReady R.state self.old self.new result }
         ensures kept { 0 < length (window_of self.old)
             → (self.new ≡ self.old) × (result ≡ Ok (length (window_of self.old))) }
         ensures ended { HasEnded self.old → (self.new ≡ self.old) × (result ≡ Ok 0) }
@@ -253,7 +253,7 @@ impl<R: InDevice> Source<R> {
     #[inline(always)]
     pub fn ready_front(&mut self) -> Result<usize, IoFault>
         ensures size { IfOk result (λ n. n ≡ length (front_of R.state self.new)) }
-        ensures gives { IsLive R.state self.old → GivesFront R.state self.old self.new result }
+        ensures gives { IsLive R.state self.old → AfterReadyFront R.state self.old self.new result }
         ensures kept { 0 < length (front_of R.state self.old)
             → (self.new ≡ self.old) × (result ≡ Ok (length (front_of R.state self.old))) }
         ensures ended { HasEnded self.old → (self.new ≡ self.old) × (result ≡ Ok 0) }
@@ -273,7 +273,7 @@ impl<R: InDevice> Source<R> {
     fn read_on(&mut self, first: bool) -> Result<usize, IoFault>
         requires { self.old.start ≡ self.old.end }
         ensures size { IfOk result (λ n. n ≡ length (window_of self.new)) }
-        ensures gives { IsLive R.state self.old → GivesReady R.state self.old self.new result }
+        ensures gives { IsLive R.state self.old → AfterReady R.state self.old self.new result }
         ensures ended { HasEnded self.old → (self.new ≡ self.old) × (result ≡ Ok 0) }
         ensures failed { (fault : _) → HasFailed self.old fault
             → (self.new ≡ self.old) × (result ≡ Err fault) }
@@ -290,7 +290,7 @@ impl<R: InDevice> Source<R> {
     fn read(&mut self, first: bool) -> Result<usize, IoFault>
         requires open { self.old.flow ≡ Flow.Open }
         requires empty { self.old.start ≡ self.old.end }
-        ensures gives { GivesReady R.state self.old self.new result }
+        ensures gives { AfterReady R.state self.old self.new result }
         ensures size { IfOk result (λ n. n ≡ length (window_of self.new)) }
     {
         self.start = 0;
@@ -319,7 +319,7 @@ impl<R: InDevice> Source<R> {
 /// The calls that copy bytes.
 impl<R: InDevice> Source<R> {
     ghost use Rattle.std.specs.Prelude.{◌≡◌, ◌+◌, ◌-◌, ◌<◌, ◌≤◌, [], length, take, drop, IfOk};
-    ghost use Rattle.link_io.specs.Source.{reader_of, window_of, IsLive, HasEnded, HasFailed, Takes, GivesSome, GivesFill, filled_at_end};
+    ghost use Rattle.link_io.specs.Source.{reader_of, window_of, IsLive, HasEnded, HasFailed, Takes, AfterSome, AfterFill, filled_at_end};
 
     /// Gives the next bytes, after at most one read, and returns how many.
     ///
@@ -329,7 +329,7 @@ impl<R: InDevice> Source<R> {
     pub fn some(&mut self, buffer: &mut [u8]) -> Result<usize, IoFault>
         ensures bound { IfOk result (λ n. n ≤ length buffer.new) }
         ensures gives { IsLive R.state self.old
-            → GivesSome R.state self.old self.new buffer.new result }
+            → AfterSome R.state self.old self.new buffer.new result }
         ensures ended { HasEnded self.old → (self.new ≡ self.old) × (result ≡ Ok 0) }
         ensures failed { (fault : _) → HasFailed self.old fault
             → (self.new ≡ self.old) × (result ≡ Err fault) }
@@ -372,7 +372,7 @@ impl<R: InDevice> Source<R> {
     #[inline(always)]
     pub fn fill(&mut self, buffer: &mut [u8]) -> Result<Filled, IoFault>
         ensures gives { IsLive R.state self.old
-            → GivesFill R.state self.old self.new buffer.new result }
+            → AfterFill R.state self.old self.new buffer.new result }
         ensures ended { HasEnded self.old
             → (self.new ≡ self.old) × (result ≡ Ok (filled_at_end buffer.old)) }
         ensures failed { (fault : _) → HasFailed self.old fault
@@ -390,7 +390,7 @@ impl<R: InDevice> Source<R> {
     #[inline(never)]
     fn fill_on(&mut self, buffer: &mut [u8]) -> Result<Filled, IoFault>
         ensures gives { IsLive R.state self.old
-            → GivesFill R.state self.old self.new buffer.new result }
+            → AfterFill R.state self.old self.new buffer.new result }
         ensures ended { HasEnded self.old
             → (self.new ≡ self.old) × (result ≡ Ok (filled_at_end buffer.old)) }
         ensures failed { (fault : _) → HasFailed self.old fault
@@ -418,7 +418,7 @@ impl<R: InDevice> Source<R> {
         ensures before { take at buffer.new ≡ take at buffer.old }
         ensures bound { IfOk result (λ n. at + n ≤ length buffer.new) }
         ensures gives { IsLive R.state self.old
-            → GivesSome R.state self.old self.new (drop at buffer.new) result }
+            → AfterSome R.state self.old self.new (drop at buffer.new) result }
         ensures ended { HasEnded self.old → (self.new ≡ self.old) × (result ≡ Ok 0) }
         ensures failed { (fault : _) → HasFailed self.old fault
             → (self.new ≡ self.old) × (result ≡ Err fault) }

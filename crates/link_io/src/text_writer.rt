@@ -59,7 +59,7 @@ impl<D: OutDevice> TextWriter<D> {
     ghost use Rattle.std.specs.Prelude.{◌≡◌, ◌+◌, ◌<◌, ◌≤◌, [], ◌++◌, length, OnOk, OnErr, IfOk, IfErr, true, MatchResult};
     ghost use Rattle.std.specs.Io.KnownBytes.{Keeps, WriteAppends};
     ghost use Rattle.link_io.specs.Writing.{WritesWhole, WritesFront};
-    ghost use Rattle.link_io.specs.TextWriter.{device_of, waiting, output_of, GivesPart};
+    ghost use Rattle.link_io.specs.TextWriter.{device_of, waiting, output_of, AppendsPart};
 
     /// Hands on all that waits, and returns the device below.
     ///
@@ -68,7 +68,7 @@ impl<D: OutDevice> TextWriter<D> {
         ensures ok { OnOk result.1
             (Keeps (output_of D.state self).written (D.state result.0).written) }
         ensures part { OnErr result.1
-            (GivesPart (D.state (device_of self)).written
+            (AppendsPart (D.state (device_of self)).written
             (D.state result.0).written (waiting self)) }
         ensures failed { MatchResult result.1
             (λ _. (D.state result.0).failed ≡ (output_of D.state self).failed)

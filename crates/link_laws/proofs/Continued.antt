@@ -11,7 +11,7 @@ use Rattle.link_wire.specs.declared.fault.WireFault.TheVariants.{Truncated}
 use Rattle.link_wire.proofs.Shrinks.{shrinks_message}
 use Rattle.link_wire.proofs.Steady.{steady_contact, steady_message}
 use Rattle.link_wire.proofs.Streams.{stream_at-nil, stream_at-message, stream_at-fault}
-use Rattle.link_run.specs.Made.{is_shown, is_lasting, stop_of}
+use Rattle.link_run.specs.Made.{shows_fault, is_lasting, stop_of}
 use Rattle.link_unpack.specs.Transfers.{cut_heads}
 use Rattle.link_unpack.proofs.Heads.{entry}
 use Rattle.link_laws.proofs.Fronts.{take-append}
@@ -38,7 +38,7 @@ pub record GoesOn (before after : Stream) : Type 0 where
   pub are : after ≡ record { entries = before.entries ++ rest.entries; end = rest.end }
   pub follows : LastGoesOn (cut_heads before.end) (rest.entries ++ cut_heads rest.end)
   -- a fault that lasts stays the same
-  pub stays : is_shown (stop_of before.end) ≡ true → after ≡ before
+  pub stays : shows_fault (stop_of before.end) ≡ true → after ≡ before
 
 goes_on_entry : (first : Entry) (before after : Stream) → GoesOn before after
     → GoesOn (with_entry first before) (with_entry first after)
@@ -149,7 +149,7 @@ pub record ReadingGoesOn (before after : Reading) : Type 0 where
   -- the contact header stays the same, or it was not read yet
   pub contact : (after.contact ≡ before.contact) ⊎ ((before.contact ≡ None) × (before.entries ≡ []))
   pub messages : GoesOn (stream_of before) (stream_of after)
-  pub stays : is_shown (stop_of before.end) ≡ true → after ≡ before
+  pub stays : shows_fault (stop_of before.end) ≡ true → after ≡ before
 
 reading_on_by : (bytes more : List ℕ) (read : Result (Contact × List ℕ) WireFault)
     → contact_at bytes ≡ read

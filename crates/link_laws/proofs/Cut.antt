@@ -9,21 +9,21 @@ use Rattle.link_run.specs.Made.{StreamStop, Made, whole_by}
 use Rattle.link_unpack.specs.Transfers.{Ordered, Transfer, transfers_of, settled}
 use Rattle.link_unpack.specs.Unpacking.{part_of, parts_of, entry_of, line_of, lines_of, unpacking_of, unpacking_by}
 use Rattle.link_unpack.specs.declared.wanted.Wanted.{Wanted}
-use Rattle.link_laws.specs.Cuts.{order_of, entries_of, Follow, written_by, stop_at, lined, reported, stop_line, Divides, CutsOutput, stopping}
+use Rattle.link_laws.specs.Cuts.{order_of, entries_of, Follow, total_written, stream_stop, lined, reported, stop_line, Divides, CutsOutput, stopping}
 use Rattle.link_laws.proofs.Prefixes.{whole_output}
 
 -- ---- one more entry
 
 written_push : (entries : List TransferEntry) (last : TransferEntry)
-    → written_by (entries ++ last ∷ []) ≡ written_by entries + last.written
-unfolding written_by
+    → total_written (entries ++ last ∷ []) ≡ total_written entries + last.written
+unfolding total_written
 written_push [] last = omega arith
 written_push (entry ∷ more) last = let later = written_push more last in omega arith
 
 follow_push : (start : ℕ) (entries : List TransferEntry) (last : TransferEntry)
-    → Follow start entries → last.start ≡ start + written_by entries
+    → Follow start entries → last.start ≡ start + total_written entries
     → Follow start (entries ++ last ∷ [])
-unfolding Follow written_by
+unfolding Follow total_written
 follow_push start [] last follow is = (omega arith, tt)
 follow_push start (entry ∷ more) last follow is = (follow.0, follow_push (start + entry.written) more last follow.1 (omega arith))
 
@@ -39,8 +39,8 @@ module _ (wanted : Wanted) where
       ∙ flat_map_more transfer_text [] (entries_of wanted earlier) (entry_of wanted latest (length (parts_of wanted earlier)))
 
   all_written : (transfers : List Transfer)
-      → length (parts_of wanted transfers) ≡ written_by (entries_of wanted transfers)
-  unfolding parts_of entries_of written_by
+      → length (parts_of wanted transfers) ≡ total_written (entries_of wanted transfers)
+  unfolding parts_of entries_of total_written
   all_written [] = refl
   all_written (latest ∷ earlier) =
       let before = all_written earlier in
@@ -101,7 +101,7 @@ unfolding unpacking_of
 cuts wanted bytes =
     let now = stopping wanted in
     let order = order_of bytes in
-    let stop = stop_at bytes in
+    let stop = stream_stop bytes in
     record {
       lines = report_is now stop (reading_of bytes).end order
           ∙ ap (λ (lines : List ℕ). lines ++ stop_line stop) (lines_are now (reported bytes));

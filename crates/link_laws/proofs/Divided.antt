@@ -10,7 +10,7 @@ use Rattle.link_bundle_types.specs.Faults.{lasts}
 use Rattle.link_bundle_types.specs.declared.fault.BundleFault.{BundleFault}
 use Rattle.link_bundle_types.specs.declared.info.BundleInfo.{BundleInfo}
 use Rattle.link_bundle.specs.Bundle.{verdict, bundle_goes}
-use Rattle.link_pack.specs.Bundles.{Packed, Refusal, Longer, Faulty, Rest, Divided, front_of, refused_by, judged_front, accepted_by, divided_by, divided_in, divided}
+use Rattle.link_pack.specs.Bundles.{Packed, Refusal, Longer, Faulty, Rest, Divided, bundle_prefix, refused_by, judged_front, accepted_by, divided_by, divided_in, divided}
 use Rattle.link_pack.proofs.Dividing.{whole_stops, none_goes}
 
 -- a bundle that the peer takes
@@ -88,22 +88,22 @@ accepted_bytes (Faulty fault place) front are = faulty_bytes (lasts fault) front
 
 -- ---- all bytes
 
-front_first : (bytes : List ℕ) → front_of bytes ≡ take (length (front_of bytes)) bytes
-front_first bytes = ((takes_shortest bundle_goes [] bytes (front_of bytes)).1 refl).is_front
+front_first : (bytes : List ℕ) → bundle_prefix bytes ≡ take (length (bundle_prefix bytes)) bytes
+front_first bytes = ((takes_shortest bundle_goes [] bytes (bundle_prefix bytes)).1 refl).is_front
 
-front_bytes : (bytes : List ℕ) → AreBytes bytes → AreBytes (front_of bytes)
-front_bytes bytes are = subst AreBytes (sym (front_first bytes)) (All-take IsByte (length (front_of bytes)) bytes are)
+front_bytes : (bytes : List ℕ) → AreBytes bytes → AreBytes (bundle_prefix bytes)
+front_bytes bytes are = subst AreBytes (sym (front_first bytes)) (All-take IsByte (length (bundle_prefix bytes)) bytes are)
 
 module _ (limit : ℕ) (next : List ℕ → Divided) (bytes : List ℕ) (are : AreBytes bytes) where
   abbrev front : List ℕ
-  front = front_of bytes
+  front = bundle_prefix bytes
 
   abbrev left : List ℕ
-  left = drop (length (front_of bytes)) bytes
+  left = drop (length (bundle_prefix bytes)) bytes
 
-  divides : (said : Result BundleInfo Refusal) → judged_front limit (front_of bytes) ≡ said
+  divides : (said : Result BundleInfo Refusal) → judged_front limit (bundle_prefix bytes) ≡ said
       → (length left < length bytes → IsDivided limit left (next left)) → 0 < length bytes
-      → IsDivided limit bytes (divided_by next (front_of bytes) bytes said)
+      → IsDivided limit bytes (divided_by next (bundle_prefix bytes) bytes said)
   divides (Ok info) is later there =
       let taken = taken_whole limit front info is in
       let some = some_bundle front info taken.1 in
@@ -132,8 +132,8 @@ divided_so count limit [] are few = record { bundles = tt; few = omega arith; re
 divided_so zero limit (byte ∷ bytes) are few = absurd (omega arith)
 divided_so (suc count) limit (byte ∷ bytes) are few =
     let all = byte ∷ bytes in
-    divides limit (divided_in count limit) all are (judged_front limit (front_of all)) refl
-    (λ fewer. divided_so count limit (drop (length (front_of all)) all) (All-drop IsByte (length (front_of all)) all are) (omega arith))
+    divides limit (divided_in count limit) all are (judged_front limit (bundle_prefix all)) refl
+    (λ fewer. divided_so count limit (drop (length (bundle_prefix all)) all) (All-drop IsByte (length (bundle_prefix all)) all are) (omega arith))
     (omega arith)
 
 -- the parts of any input

@@ -9,7 +9,7 @@ use Rattle.link_bundle_types.specs.declared.fault.BundleFault.{BundleFault}
 use Rattle.link_bundle_types.specs.declared.info.BundleInfo.{BundleInfo}
 use Rattle.link_bundle_types.specs.declared.fault.State.TheVariants as state
 use Rattle.link_bundle.specs.Bundle.{verdict, state_of, is_going, bundle_goes}
-use Rattle.link_pack.specs.Bundles.{Packed, Refusal, Longer, Faulty, Divided, front_of, with_bundle, divided_by, divided, joined}
+use Rattle.link_pack.specs.Bundles.{Packed, Refusal, Longer, Faulty, Divided, bundle_prefix, with_bundle, divided_by, divided, with_bundles}
 use Rattle.link_pack.proofs.Dividing.{taken_again, none_front, none_goes, some_stopped, beyond_limit, divided_front, divided_whole, divided_faulty}
 
 abbrev pub refused_so : Refusal → (accepted : List ℕ) → Divided
@@ -24,7 +24,7 @@ pub record IsRefused (limit : ℕ) (bytes : List ℕ) : Type 0 where
 
 -- the bytes begin a bundle that goes on
 pub record IsOpen (limit : ℕ) (begun : List ℕ) : Type 0 where
-  pub front : front_of begun ≡ begun
+  pub front : bundle_prefix begun ≡ begun
   pub goes : bundle_goes begun ≡ true
   pub within : length begun ≤ limit
 
@@ -33,21 +33,21 @@ pub record StaysDivided (limit : ℕ) (bytes : List ℕ) : Type 0 where
   pub bundles : List Packed
   pub begun : List ℕ
   pub divides : (more : List ℕ)
-      → divided limit (bytes ++ more) ≡ joined bundles (divided limit (begun ++ more))
+      → divided limit (bytes ++ more) ≡ with_bundles bundles (divided limit (begun ++ more))
   pub last : IsRefused limit begun ⊎ IsOpen limit begun
 
 -- ---- a prefix, and the bytes after it
 
-is_shortest : (bytes : List ℕ) → IsShortestFront bundle_goes [] bytes (front_of bytes)
-is_shortest bytes = (takes_shortest bundle_goes [] bytes (front_of bytes)).1 refl
+is_shortest : (bytes : List ℕ) → IsShortestFront bundle_goes [] bytes (bundle_prefix bytes)
+is_shortest bytes = (takes_shortest bundle_goes [] bytes (bundle_prefix bytes)).1 refl
 
-follows : (bytes : List ℕ) → bytes ≡ front_of bytes ++ drop (length (front_of bytes)) bytes
+follows : (bytes : List ℕ) → bytes ≡ bundle_prefix bytes ++ drop (length (bundle_prefix bytes)) bytes
 follows bytes =
-    sym (take-append-drop (length (front_of bytes)) bytes)
-    ∙ ap (λ (xs : List ℕ). xs ++ drop (length (front_of bytes)) bytes) (sym (is_shortest bytes).is_front)
+    sym (take-append-drop (length (bundle_prefix bytes)) bytes)
+    ∙ ap (λ (xs : List ℕ). xs ++ drop (length (bundle_prefix bytes)) bytes) (sym (is_shortest bytes).is_front)
 
 -- if more bytes are needed after the prefix, it is all of the bytes
-all_taken : (bytes : List ℕ) → bundle_goes (front_of bytes) ≡ true → front_of bytes ≡ bytes
+all_taken : (bytes : List ℕ) → bundle_goes (bundle_prefix bytes) ≡ true → bundle_prefix bytes ≡ bytes
 all_taken bytes goes =
     ⊎_elim (λ stops. absurd (false≢true (sym stops ∙ goes))) (λ all. all) (is_shortest bytes).stops
 
@@ -60,7 +60,7 @@ none_first limit bytes last =
     record { bundles = []; begun = bytes; divides = λ more. refl; last = last }
 
 -- a bundle, and then the rest after it
-whole_first : (limit : ℕ) (bundle rest : List ℕ) (info : BundleInfo) → front_of bundle ≡ bundle
+whole_first : (limit : ℕ) (bundle rest : List ℕ) (info : BundleInfo) → bundle_prefix bundle ≡ bundle
     → verdict bundle ≡ Ok info → length bundle ≤ limit
     → StaysDivided limit rest → StaysDivided limit (bundle ++ rest)
 whole_first limit bundle rest info front is within later =
@@ -76,7 +76,7 @@ whole_first limit bundle rest info front is within later =
 
 -- the last byte of the prefix shows a fault
 faulty_first : (limit : ℕ) (front rest : List ℕ) (fault : BundleFault) (place : ℕ)
-    → front_of front ≡ front → verdict front ≡ Err (fault, place) → lasts fault ≡ true
+    → bundle_prefix front ≡ front → verdict front ≡ Err (fault, place) → lasts fault ≡ true
     → length front ≤ limit → IsRefused limit (front ++ rest)
 faulty_first limit front rest fault place is said stays within = record {
   accepted = _;
@@ -86,12 +86,12 @@ faulty_first limit front rest fault place is said stays within = record {
 
 -- more bytes than the peer takes
 longer_first : (limit : ℕ) (bytes : List ℕ)
-    → limit < length (front_of bytes) → IsRefused limit bytes
+    → limit < length (bundle_prefix bytes) → IsRefused limit bytes
 longer_first limit bytes beyond = record {
-  accepted = take limit (front_of bytes);
+  accepted = take limit (bundle_prefix bytes);
   refusal = Longer limit;
   divides = λ more.
-      let front = front_of bytes in
+      let front = bundle_prefix bytes in
       let run = taken bundle_goes front more in
       let size = ap length (follows bytes) ∙ length-append front _ in
       let longer = length-append front run in
@@ -116,7 +116,7 @@ module _ (count limit : ℕ)
   -- a prefix that is judged, and the rest after it, which has fewer bytes
   judged_so : (front rest : List ℕ) (said : Result BundleInfo (BundleFault × ℕ))
       → verdict front ≡ said → bundle_goes front ≡ false
-      → front_of front ≡ front → length front ≤ limit → length rest ≤ count
+      → bundle_prefix front ≡ front → length front ≤ limit → length rest ≤ count
       → StaysDivided limit (front ++ rest)
   judged_so front rest (Ok info) is stops all within fewer =
       whole_first limit front rest info all is within (later rest fewer)
@@ -127,9 +127,9 @@ module _ (count limit : ℕ)
       (inl (faulty_first limit front rest fault place all is stays within))
 
   step : (bytes : List ℕ) → length bytes ≤ suc count
-      → length (front_of bytes) ≤ limit → StaysDivided limit bytes
+      → length (bundle_prefix bytes) ≤ limit → StaysDivided limit bytes
   step bytes fewer within =
-      let front = front_of bytes in
+      let front = bundle_prefix bytes in
       ⊎_elim
       (λ goes.
       let all = all_taken bytes goes in
@@ -154,7 +154,7 @@ divided_upto (suc count) limit bytes fewer =
     ⊎_elim
     (λ beyond. none_first limit bytes (inl (longer_first limit bytes beyond)))
     (λ within. step count limit (divided_upto count limit) bytes fewer within)
-    (cases_lt limit (length (front_of bytes)))
+    (cases_lt limit (length (bundle_prefix bytes)))
 
 pub stays_divided : (limit : ℕ) (bytes : List ℕ) → StaysDivided limit bytes
 stays_divided limit bytes = divided_upto (length bytes) limit bytes (omega arith)

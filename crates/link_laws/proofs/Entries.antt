@@ -10,7 +10,7 @@ use Rattle.link_wire.proofs.Spellings.{contact_spelled, sess_init_spelled, sess_
 use Rattle.link_transfer.specs.Cutting.{due}
 use Rattle.link_unpack.proofs.Heads.{entry}
 use Rattle.link_pack.specs.Bundles.{Packed, Rest, Divided}
-use Rattle.link_pack.specs.Packing.{prelude_bytes, sending, transfers_of, rest_segments, end_bytes, bundles_output, packing_by}
+use Rattle.link_pack.specs.Packing.{prelude_bytes, sending, transfer_bytes, rest_segments, end_bytes, bundles_output, packing_by}
 use Rattle.link_pack.specs.Segments.{Sending, cutting_of, segments_of}
 use Rattle.link_pack.specs.declared.options.PackOptions.{PackOptions}
 use Rattle.link_pack.proofs.Outcomes.{whole_of}
@@ -53,7 +53,7 @@ module _ (options : PackOptions) where
   module _ (input : Divided) where
     -- the bytes of SESS_INIT and of the bundles, and then those of the rest too
     abbrev pub bundles_bytes : List ℕ
-    bundles_bytes = init_bytes ++ transfers_of options 0 input.bundles
+    bundles_bytes = init_bytes ++ transfer_bytes options 0 input.bundles
 
     abbrev pub rest_bytes : List ℕ
     rest_bytes = bundles_bytes ++ rest_segments options (length input.bundles) input.rest
@@ -89,13 +89,13 @@ module _ (options : PackOptions) where
   bundle_stream : (number : ℕ) (bundles : List Packed) (offset : ℕ)
       → AreBundles options.peer_transfer bundles → number + length bundles ≤ 2 ^ 64
       → IsStream (bundle_entries options number bundles offset) Clean offset
-      (transfers_of options number bundles)
-  unfolding bundle_entries transfers_of
+      (transfer_bytes options number bundles)
+  unfolding bundle_entries transfer_bytes
   bundle_stream number [] offset are few = refl
   bundle_stream number (bundle ∷ more) offset are few =
       let whole = sending options true bundle.bytes in
       let after = offset + length (segments_of number whole) in
-      stream_then (due_entries number whole offset) (bundle_entries options (suc number) more after) Clean offset (segments_of number whole) (transfers_of options (suc number) more)
+      stream_then (due_entries number whole offset) (bundle_entries options (suc number) more after) Clean offset (segments_of number whole) (transfer_bytes options (suc number) more)
       (segments_stream number whole (sending_fits true bundle.bytes are.0.are) (omega arith) 0 (due (cutting_of whole)) offset)
       (bundle_stream (suc number) more after are.1 (omega arith))
 
@@ -148,7 +148,7 @@ module _ (options : PackOptions) where
           stream_then (first ++ more) (last_entries options input) Clean 6
           (rest_bytes options input) (last_bytes input.rest)
           (stream_then first more Clean 6 (bundles_bytes options input) (rest_segments options (length input.bundles) input.rest)
-          (stream_then (init_entry options ∷ []) (bundle_entries options 0 input.bundles (6 + length (init_bytes options))) Clean 6 (init_bytes options) (transfers_of options 0 input.bundles)
+          (stream_then (init_entry options ∷ []) (bundle_entries options 0 input.bundles (6 + length (init_bytes options))) Clean 6 (init_bytes options) (transfer_bytes options 0 input.bundles)
           init_stream
           (bundle_stream 0 input.bundles (6 + length (init_bytes options)) bundles (omega arith)))
           (rest_stream (length input.bundles) input.rest (6 + length (bundles_bytes options input)) rest few))
@@ -167,5 +167,5 @@ module _ (options : PackOptions) where
             is_second = packed_stream;
             parts = output_is input.bundles input.rest
                 ∙ joined (contact_bytes 0) (init_bytes options)
-                (transfers_of options 0 input.bundles) segments (last_bytes input.rest);
+                (transfer_bytes options 0 input.bundles) segments (last_bytes input.rest);
           }

@@ -22,7 +22,7 @@ use Rattle.link_unpack.proofs.GoingOn.{kind_of, not_stray, taken_more, LatestIsO
 use Rattle.link_unpack.proofs.Heads.{entry, transfers_same}
 use Rattle.link_unpack.proofs.Orders.{all as in_order, first_may}
 use Rattle.link_unpack.proofs.Texts.{parts_more}
-use Rattle.link_laws.specs.Cuts.{data_of, going_on, taken_by, taken_after, HasEveryByte, HasEveryTakenByte}
+use Rattle.link_laws.specs.Cuts.{data_of, going_on, prepended_unless, taken_after, HasEveryByte, HasEveryTakenByte}
 use Rattle.link_laws.specs.RoundTrip.{all}
 use Rattle.link_laws.proofs.Accepted.{accepted_in_order}
 use Rattle.link_laws.proofs.Prefixes.{whole_output}
@@ -130,7 +130,7 @@ module _ (keep_going : Bool) where
       (rest : List Entry) → is_stray before (event_of head.message) ≡ stray → OwnsData head
       → KnowsOpen transfers before
       → parts_of everything (transfers_with stray transfers head) ++ flat_map data_of rest
-      ≡ parts_of everything transfers ++ flat_map data_of (taken_by stray head rest)
+      ≡ parts_of everything transfers ++ flat_map data_of (prepended_unless stray head rest)
   head_added true transfers before head rest is own knows = refl
   head_added false transfers before head rest is own knows =
       ap (λ (parts : List ℕ). parts ++ flat_map data_of rest)

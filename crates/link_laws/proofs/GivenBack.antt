@@ -6,7 +6,7 @@ use Rattle.link_bundle_types.specs.declared.fault.BundleFault.{BundleFault}
 use Rattle.link_bundle_types.specs.declared.info.BundleInfo.{BundleInfo}
 use Rattle.link_wire.specs.Spelling.{announced}
 use Rattle.link_wire.specs.Stream.{End, Reading}
-use Rattle.link_report.specs.Judgement.{judged}
+use Rattle.link_report.specs.Judgement.{judged_transfer}
 use Rattle.link_report.specs.Transfer.{transfer_text}
 use Rattle.link_report.specs.declared.judgement.Judgement.TheVariants.{Good}
 use Rattle.link_run.specs.Run.{Outcome}
@@ -32,7 +32,7 @@ use Rattle.link_laws.proofs.Readings.{packed, nothing_left, IsPacked}
 
 good_by : (outcome : Announced) (size : ℕ) (said : Result BundleInfo (BundleFault × ℕ))
     (info : BundleInfo) → said ≡ Ok info → (outcome ≡ Absent) ⊎ ((true ≡ true) × (outcome ≡ Total size))
-    → judged false outcome size said ≡ Good info
+    → judged_transfer false outcome size said ≡ Good info
 good_by outcome size said info is (inl absent) = rw (absent, is) refl
 good_by outcome size said info is (inr total) = rw (total.1, is, eq-eqb size size refl) refl
 

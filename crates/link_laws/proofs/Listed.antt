@@ -9,11 +9,11 @@ use Rattle.link_report.specs.Message.{contact_text, message_text}
 use Rattle.link_run.specs.Run.{Outcome}
 use Rattle.link_list.specs.Listing.{listing_of, listing_by, message_lines, list_tool}
 use Rattle.link_pack.specs.Bundles.{Packed, Rest, divided}
-use Rattle.link_pack.specs.Packing.{sending, transfers_of}
+use Rattle.link_pack.specs.Packing.{sending, transfer_bytes}
 use Rattle.link_pack.specs.Segments.{Sending, cut_at, segment_bytes, segments_from}
 use Rattle.link_pack.specs.declared.options.PackOptions.{PackOptions}
 use Rattle.link_pack.proofs.Outcomes.{whole_of}
-use Rattle.link_laws.specs.Listed.{flags_at, length_at, segment_line, segment_span, segment_lines, segments_span, chunks_of, term_line, bundle_lines, IsListed}
+use Rattle.link_laws.specs.Listed.{flags_at, length_at, segment_line, size_of_segment, segment_lines, size_of_segments, chunks_of, term_line, bundle_lines, IsListed}
 use Rattle.link_laws.proofs.Entries.{init_bytes, init_entry, bundle_entries, term_entries, packed_entries, packed_reading}
 use Rattle.link_laws.proofs.Listings.{message_lines-append}
 use Rattle.link_laws.proofs.Readings.{packed, nothing_left, IsPacked}
@@ -45,15 +45,15 @@ length-init interval segment_mru transfer_mru node =
 
 module _ (id : ℕ) (sending : Sending) where
   length-segment : (k : ℕ)
-      → length (segment_bytes id (cut_at sending k) (chunk_of sending k)) ≡ segment_span sending k
+      → length (segment_bytes id (cut_at sending k) (chunk_of sending k)) ≡ size_of_segment sending k
   length-segment k =
       let head = segment_head_bytes (flags_at sending k) id (length_at sending k) (cut_at sending k).announce in
       length-append head (chunk_of sending k)
       ∙ ap (λ n. n + length_at sending k) (length-head (flags_at sending k) id (length_at sending k) (cut_at sending k).announce)
 
   length-segments : (k count : ℕ)
-      → length (segments_from id sending k count) ≡ segments_span sending k count
-  unfolding segments_from segments_span
+      → length (segments_from id sending k count) ≡ size_of_segments sending k count
+  unfolding segments_from size_of_segments
   length-segments k zero = refl
   length-segments k (suc count) =
       length-append (segment_bytes id (cut_at sending k) (chunk_of sending k)) (segments_from id sending (suc k) count)
@@ -79,11 +79,11 @@ module _ (options : PackOptions) where
   term_listed false offset = refl
 
   bundles_listed : (number : ℕ) (bundles : List Packed) (offset after : ℕ)
-      → after ≡ offset + length (transfers_of options number bundles)
+      → after ≡ offset + length (transfer_bytes options number bundles)
       → message_lines (bundle_entries options number bundles offset
       ++ term_entries options options.send_term after)
       ≡ bundle_lines options number offset bundles
-  unfolding bundle_entries bundle_lines transfers_of due
+  unfolding bundle_entries bundle_lines transfer_bytes due
   bundles_listed number [] offset after at = term_listed options.send_term after ∙ ap (term_line options.send_term) (omega (arith, at))
   bundles_listed number (bundle ∷ more) offset after at =
       let whole = sending options true bundle.bytes in
@@ -92,8 +92,8 @@ module _ (options : PackOptions) where
       let next = offset + length (segments_from number whole 0 count) in
       let rest = bundle_entries options (suc number) more next in
       let term = term_entries options options.send_term after in
-      let follows : after ≡ next + length (transfers_of options (suc number) more) =
-      omega (arith, at, length-append (segments_from number whole 0 count) (transfers_of options (suc number) more)) in
+      let follows : after ≡ next + length (transfer_bytes options (suc number) more) =
+      omega (arith, at, length-append (segments_from number whole 0 count) (transfer_bytes options (suc number) more)) in
       ap message_lines (append_assoc front rest term) ∙ message_lines-append front (rest ++ term)
       ∙ ap₂ (λ (a b : List ℕ). a ++ b) (segments_listed number whole 0 count offset)
       (bundles_listed (suc number) more next after follows ∙ ap (λ n. bundle_lines options (suc number) (offset + n) more) (length-segments number whole 0 count))
@@ -104,7 +104,7 @@ module _ (options : PackOptions) where
   unfolding message_lines
   messages_listed bundles =
       let init = init_bytes options in
-      let segments = transfers_of options 0 bundles in
+      let segments = transfer_bytes options 0 bundles in
       let size = length-init options.keepalive options.segment_mru options.transfer_mru options.node.items in
       let after = 6 + length (init ++ segments ++ []) in
       let term = term_entries options options.send_term after in

@@ -3,7 +3,7 @@ use Rattle.std.proofs.Common.{◌≡◌, ℕ, List, [], ◌++◌, None, refl, ap
 use Rattle.std.proofs.lemmas.Grind.{flat_map-append}
 use Rattle.link_wire.specs.Stream.{Entry, Stream, Reading, reading_of}
 use Rattle.link_report.specs.Message.{message_text}
-use Rattle.link_list.specs.Listing.{contact_lines, message_lines, lines_of, listing_of, listing_by, list_tool}
+use Rattle.link_list.specs.Listing.{contact_lines, message_lines, listed_lines, listing_of, listing_by, list_tool}
 use Rattle.link_laws.specs.Prefix.{IsFrontOf, IsPrefixed}
 use Rattle.link_laws.proofs.Fronts.{front_same, front_after, front_none, fronts_same}
 use Rattle.link_laws.proofs.Continued.{GoesOn, stream_of, ReadingGoesOn, reading_on}
@@ -22,17 +22,17 @@ entries_on before after on =
     (_, same ∙ message_lines-append before.entries on.rest.entries)
 
 module _ (before after : Reading) (on : ReadingGoesOn before after) where
-  same_contact : after.contact ≡ before.contact → IsFrontOf (lines_of before) (lines_of after)
+  same_contact : after.contact ≡ before.contact → IsFrontOf (listed_lines before) (listed_lines after)
   same_contact same =
       rw same (front_after (contact_lines before.contact) _ _
       (entries_on (stream_of before) (stream_of after) on.messages))
 
   no_contact : (before.contact ≡ None) × (before.entries ≡ [])
-      → IsFrontOf (lines_of before) (lines_of after)
+      → IsFrontOf (listed_lines before) (listed_lines after)
   unfolding message_lines
   no_contact none = rw (none.0, none.1) (front_none _)
 
-  lines_on : IsFrontOf (lines_of before) (lines_of after)
+  lines_on : IsFrontOf (listed_lines before) (listed_lines after)
   lines_on = ⊎_elim same_contact no_contact on.contact
 
 pub list_prefix : (bytes more : List ℕ) → IsPrefixed list_tool bytes more

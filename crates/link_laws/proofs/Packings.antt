@@ -7,8 +7,8 @@ use Rattle.link_bundle_types.specs.declared.fault.BundleFault.{BundleFault}
 use Rattle.link_bundle_types.specs.declared.info.BundleInfo.{BundleInfo}
 use Rattle.link_bundle.specs.Bundle.{verdict, bundle_goes}
 use Rattle.link_run.specs.Made.{Made}
-use Rattle.link_pack.specs.Bundles.{Packed, Refusal, Longer, Faulty, Divided, front_of, refused_by, with_bundle, divided_by, divided, joined}
-use Rattle.link_pack.specs.Packing.{prelude_bytes, segment_size, sending, transfers_of, rest_segments, bundles_output, lines_of, line_of, packing_of, packing_by, pack_tool}
+use Rattle.link_pack.specs.Bundles.{Packed, Refusal, Longer, Faulty, Divided, bundle_prefix, refused_by, with_bundle, divided_by, divided, with_bundles}
+use Rattle.link_pack.specs.Packing.{prelude_bytes, segment_size, sending, transfer_bytes, rest_segments, bundles_output, report_lines, report_line, packing_of, packing_by, pack_tool}
 use Rattle.link_pack.specs.PackRun.{texts_of}
 use Rattle.link_pack.specs.Segments.{segments_of}
 use Rattle.link_pack.specs.declared.options.PackOptions.{PackOptions}
@@ -30,30 +30,30 @@ module _ (options : PackOptions) where
   -- ---- some bundles, and then others
 
   transfers_of-append : (number : ℕ) (bundles more : List Packed)
-      → transfers_of options number (bundles ++ more) ≡ transfers_of options number bundles
-      ++ transfers_of options (number + length bundles) more
-  unfolding transfers_of
-  transfers_of-append number [] more = ap (λ n. transfers_of options n more) (sym (add-zero number))
+      → transfer_bytes options number (bundles ++ more) ≡ transfer_bytes options number bundles
+      ++ transfer_bytes options (number + length bundles) more
+  unfolding transfer_bytes
+  transfers_of-append number [] more = ap (λ n. transfer_bytes options n more) (sym (add-zero number))
   transfers_of-append number (bundle ∷ bundles) more =
       ap (λ (xs : List ℕ). segments_of number (sending options true bundle.bytes) ++ xs)
-      (transfers_of-append (suc number) bundles more ∙ ap (λ n. transfers_of options (suc number) bundles ++ transfers_of options n more) {y = number + suc (length bundles)} (omega arith))
-      ∙ sym (append_assoc (segments_of number (sending options true bundle.bytes)) (transfers_of options (suc number) bundles) _)
+      (transfers_of-append (suc number) bundles more ∙ ap (λ n. transfer_bytes options (suc number) bundles ++ transfer_bytes options n more) {y = number + suc (length bundles)} (omega arith))
+      ∙ sym (append_assoc (segments_of number (sending options true bundle.bytes)) (transfer_bytes options (suc number) bundles) _)
 
   lines_of-append : (number : ℕ) (bundles more : List Packed)
-      → lines_of options number (bundles ++ more) ≡ lines_of options number bundles
-      ++ lines_of options (number + length bundles) more
-  unfolding lines_of
-  lines_of-append number [] more = ap (λ n. lines_of options n more) (sym (add-zero number))
+      → report_lines options number (bundles ++ more) ≡ report_lines options number bundles
+      ++ report_lines options (number + length bundles) more
+  unfolding report_lines
+  lines_of-append number [] more = ap (λ n. report_lines options n more) (sym (add-zero number))
   lines_of-append number (bundle ∷ bundles) more =
-      ap (λ (xs : List ℕ). line_of options number bundle ++ xs)
-      (lines_of-append (suc number) bundles more ∙ ap (λ n. lines_of options (suc number) bundles ++ lines_of options n more) {y = number + suc (length bundles)} (omega arith))
-      ∙ sym (append_assoc (line_of options number bundle) (lines_of options (suc number) bundles) _)
+      ap (λ (xs : List ℕ). report_line options number bundle ++ xs)
+      (lines_of-append (suc number) bundles more ∙ ap (λ n. report_lines options (suc number) bundles ++ report_lines options n more) {y = number + suc (length bundles)} (omega arith))
+      ∙ sym (append_assoc (report_line options number bundle) (report_lines options (suc number) bundles) _)
 
   -- ---- a bundle that has begun
 
   -- the segments of the bundles and of the rest
   abbrev segments : (number : ℕ) → Divided → List ℕ
-  segments number input = transfers_of options number input.bundles ++ rest_segments options (number + length input.bundles) input.rest
+  segments number input = transfer_bytes options number input.bundles ++ rest_segments options (number + length input.bundles) input.rest
 
   abbrev begun_segments : (number : ℕ) → List ℕ → List ℕ
   begun_segments number begun = segments_of number (sending options false begun)
@@ -76,13 +76,13 @@ module _ (options : PackOptions) where
     whole_front : (run : List ℕ) (info : BundleInfo) (later : Divided) → 0 < length run
         → IsFrontOf (begun_segments number begun)
         (segments number (with_bundle (record { bytes = begun ++ run; info = info }) later))
-    unfolding transfers_of
+    unfolding transfer_bytes
     whole_front run info later some = front_then _ _ _ (front_then _ _ _ (grown run true some))
 
     -- the bundle is refused, or goes on
     rest_front : (run accepted : List ℕ) (refusal : Refusal) → accepted ≡ begun ++ run
         → IsFrontOf (begun_segments number begun) (segments number (refused_so refusal accepted))
-    unfolding transfers_of
+    unfolding transfer_bytes
     rest_front run accepted refusal is = rw (is, add-zero) (grown_any run)
 
     module _ (run : List ℕ) (goes : bundle_goes begun ≡ true)
@@ -113,7 +113,7 @@ module _ (options : PackOptions) where
       judged_front (Ok info) is = whole_front run info _ (some_come begun run goes (whole_stops (begun ++ run) info is))
       judged_front (Err (fault, place)) is = faulty_front (lasts fault) fault place refl is
 
-  begun_front : (limit number : ℕ) (begun more : List ℕ) → front_of begun ≡ begun
+  begun_front : (limit number : ℕ) (begun more : List ℕ) → bundle_prefix begun ≡ begun
       → bundle_goes begun ≡ true → length begun ≤ limit
       → IsFrontOf (begun_segments number begun) (segments number (divided limit (begun ++ more)))
   begun_front limit number [] more front goes within = rw (segments_none number (segment_size options) options.announce) (front_none _)
@@ -136,16 +136,16 @@ module _ (options : PackOptions) where
   output_front : (bundles : List Packed) (begun : List ℕ) (input : Divided)
       → IsFrontOf (begun_segments (length bundles) begun) (segments (length bundles) input)
       → IsFrontOf (texts_of options bundles begun).output
-      (bundles_output options (joined bundles input))
+      (bundles_output options (with_bundles bundles input))
   output_front bundles begun input front =
       let from : 0 + length bundles ≡ length bundles = omega arith in
-      let before = prelude_bytes options ++ transfers_of options 0 bundles in
-      let after = transfers_of options (length bundles) input.bundles in
+      let before = prelude_bytes options ++ transfer_bytes options 0 bundles in
+      let after = transfer_bytes options (length bundles) input.bundles in
       let rest = rest_segments options (length bundles + length input.bundles) input.rest in
-      let all : bundles_output options (joined bundles input) ≡ before ++ (after ++ rest) =
+      let all : bundles_output options (with_bundles bundles input) ≡ before ++ (after ++ rest) =
       rw (transfers_of-append 0 bundles input.bundles, length-append bundles input.bundles, from)
       (ap (λ (xs : List ℕ). xs ++ rest)
-      (sym (append_assoc (prelude_bytes options) (transfers_of options 0 bundles) after))
+      (sym (append_assoc (prelude_bytes options) (transfer_bytes options 0 bundles) after))
       ∙ append_assoc before after rest) in
       rw all (front_after before _ _ front)
 
@@ -162,10 +162,10 @@ module _ (options : PackOptions) where
         → MadeOn (packing_of options bytes) (packing_of options (bytes ++ more))
     refused_on refused =
         let input = refused_so refused.refusal refused.accepted in
-        let made = packing_by options (joined bundles input) in
+        let made = packing_by options (with_bundles bundles input) in
         let is : (rest : List ℕ) → packing_of options (bytes ++ rest) ≡ made =
-        λ rest. made_as options (bytes ++ rest) (joined bundles input)
-        (divides rest ∙ ap (joined bundles) (refused.divides rest)) in
+        λ rest. made_as options (bytes ++ rest) (with_bundles bundles input)
+        (divides rest ∙ ap (with_bundles bundles) (refused.divides rest)) in
         let same = is more ∙ sym (is []) ∙ ap (packing_of options) (append-nil bytes) in
         record {
           texts = fronts_same _ _ (ap (λ (m : Made). m.texts) (sym same));
@@ -181,7 +181,7 @@ module _ (options : PackOptions) where
       texts_on =
           let limit = options.peer_transfer in
           let input = divided limit (begun ++ more) in
-          rw (made_as options (bytes ++ more) (joined bundles input) (divides more)) (record {
+          rw (made_as options (bytes ++ more) (with_bundles bundles input) (divides more)) (record {
             output =
                 output_front bundles begun input
                 (begun_front limit (length bundles) begun more front goes within);

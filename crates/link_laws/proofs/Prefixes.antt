@@ -1,7 +1,7 @@
 -- The texts that a tool determines by some bytes are prefixes of its texts for longer inputs.
 use Rattle.std.proofs.Common.{◌≡◌, ℕ, true, List, ◌++◌, Option, Some, None, refl, ap, sym, ◌∙◌, ⊎_elim}
 use Rattle.std.proofs.lemmas.Bool.{cases_Bool}
-use Rattle.link_run.specs.Made.{StreamStop, Made, whole_by, sofar_by, is_shown, tool_of}
+use Rattle.link_run.specs.Made.{StreamStop, Made, whole_by, so_far_by, shows_fault, tool_of}
 use Rattle.link_run.proofs.Ends.{unshown_sofar, shown_sofar}
 use Rattle.link_laws.specs.Prefix.{IsPrefixed}
 use Rattle.link_laws.proofs.Fronts.{front_same, front_first, AreFronts, fronts_same, fronts_trans}
@@ -11,7 +11,7 @@ pub record MadeOn (before after : Made) : Type 0 where
   pub texts : AreFronts before.texts after.texts
   pub ended : AreFronts after.texts after.ended
   -- where a fault is shown, more bytes change nothing
-  pub stays : is_shown before.stop ≡ true → after ≡ before
+  pub stays : shows_fault before.stop ≡ true → after ≡ before
 
 texts_first : (stop : Option StreamStop) (made : Made) → AreFronts made.texts made.ended
     → AreFronts made.texts (whole_by stop made).texts
@@ -20,20 +20,20 @@ texts_first (Some stop) made ended =
     record { output = front_same _ _ refl; report = front_first _ _ }
 
 module _ (before after : Made) (on : MadeOn before after) where
-  shown_first : is_shown before.stop ≡ true
-      → AreFronts (sofar_by before.stop before.texts) (whole_by after.stop after).texts
+  shown_first : shows_fault before.stop ≡ true
+      → AreFronts (so_far_by before.stop before.texts) (whole_by after.stop after).texts
   shown_first shown =
       fronts_same _ _
       (shown_sofar before.stop before shown
       ∙ sym (ap (λ (m : Made). (whole_by m.stop m).texts) (on.stays shown)))
 
-  sofar_first : AreFronts (sofar_by before.stop before.texts) (whole_by after.stop after).texts
+  sofar_first : AreFronts (so_far_by before.stop before.texts) (whole_by after.stop after).texts
   sofar_first =
       ⊎_elim shown_first
       (λ unshown.
       fronts_trans _ _ _ (fronts_same _ _ (unshown_sofar before.stop before.texts unshown))
       (fronts_trans _ _ _ on.texts (texts_first after.stop after on.ended)))
-      (cases_Bool (is_shown before.stop))
+      (cases_Bool (shows_fault before.stop))
 
 pub prefixed : (made : List ℕ → Made) (bytes more : List ℕ)
     → MadeOn (made bytes) (made (bytes ++ more)) → IsPrefixed (tool_of made) bytes more

@@ -14,7 +14,7 @@ use Rattle.link_unpack.specs.Transfers.{heads_of, Transfer, settled}
 use Rattle.link_unpack.specs.Unpacking.{parts_of, entry_of, line_of, Unpacked, none_unpacked, order_line, transfers_with, with_head, unpacked_of, going_on_by, unpacking_of}
 use Rattle.link_unpack.specs.declared.wanted.Wanted.{Wanted}
 use Rattle.link_unpack.proofs.GoingOn.{KnowsOpen, knows_none, knows_head, if_open, if_closed, due, due_is, abandoned_is, settled_all, settles_by}
-use Rattle.link_laws.specs.Cuts.{going_on, entries_of, lined, stop_line, ReportLine, OfHead, OfTransfer, text_of, entry_in, fault_in, fault_at, faults_after, CutsOutputOn}
+use Rattle.link_laws.specs.Cuts.{going_on, entries_of, lined, stop_line, ReportLine, OfHead, OfTransfer, line_text, entry_in, fault_in, fault_at, faults_after, CutsOutputOn}
 use Rattle.link_laws.proofs.Cut.{cut_by_lines}
 
 -- ---- what is due for transfers, in other words
@@ -89,7 +89,7 @@ head_line offset None = []
 head_line offset (Some fault) = OfHead offset fault ∷ []
 
 head_text : (offset : ℕ) (fault : Option OrderFault)
-    → flat_map text_of (head_line offset fault) ≡ order_line offset fault
+    → flat_map line_text (head_line offset fault) ≡ order_line offset fault
 head_text offset None = refl
 head_text offset (Some fault) = append-nil _
 
@@ -129,7 +129,7 @@ module _ (wanted : Wanted) where
   -- these lines are the report so far: of the heads with these faults, and of the settled transfers
   record Reports (un : Unpacked) (faults : List (ℕ × OrderFault)) : Type 0 where
     pub lines : List ReportLine
-    pub report : flat_map text_of lines ≡ un.report
+    pub report : flat_map line_text lines ≡ un.report
     pub entries : flat_map entry_in lines ≡ entries_of wanted (settled un.transfers)
     pub faults_are : flat_map fault_in lines ≡ faults
 
@@ -157,9 +157,9 @@ module _ (wanted : Wanted) where
         let last = due line_for stray happened un.transfers after in
         record {
           lines = so_far.lines ++ (first ++ last);
-          report = joined text_of so_far.lines first last _ _ _ so_far.report
+          report = joined line_text so_far.lines first last _ _ _ so_far.report
               (head_text head.offset fault)
-              (due_as text_of line_for (line_of wanted) (λ latest earlier. append-nil _) stray happened un.transfers after
+              (due_as line_text line_for (line_of wanted) (λ latest earlier. append-nil _) stray happened un.transfers after
               ∙ due_is wanted stray happened un.transfers after)
               ∙ sym (append_assoc un.report (order_line head.offset fault) _);
           entries = joined entry_in so_far.lines first last _ _ _ so_far.entries
@@ -198,7 +198,7 @@ module _ (wanted : Wanted) where
       (faults : List (ℕ × OrderFault)) : Type 0 where
     pub lines : List ReportLine
     pub report : (whole_by stop (going_on_by wanted end un)).texts.report
-        ≡ flat_map text_of lines ++ stop_line stop
+        ≡ flat_map line_text lines ++ stop_line stop
     pub entries : flat_map entry_in lines ≡ entries_of wanted (lined stop un.transfers)
     pub faults_are : flat_map fault_in lines ≡ faults
 
@@ -215,9 +215,9 @@ module _ (wanted : Wanted) where
       record {
         lines = all.lines ++ last;
         report = sym
-            (append-nil _ ∙ flat_map-append text_of all.lines last
+            (append-nil _ ∙ flat_map-append line_text all.lines last
             ∙ ap₂ (λ (xs ys : List ℕ). xs ++ ys) all.report
-            (open_as text_of line_for (line_of wanted) (λ latest earlier. append-nil _) un.transfers
+            (open_as line_text line_for (line_of wanted) (λ latest earlier. append-nil _) un.transfers
             ∙ abandoned_is wanted un.transfers));
         entries = flat_map-append entry_in all.lines last
             ∙ ap₂ (λ (xs ys : List TransferEntry). xs ++ ys) all.entries

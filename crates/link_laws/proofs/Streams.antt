@@ -21,7 +21,7 @@ stream_then (first ∷ entries) more end offset front back stands is =
     let Q : ℕ → Type 0 = λ at. IsStream more end at back in
     let place : offset + length front ≡ offset + length stands.before + length stands.after = omega (arith, ap length stands.parts, length-append stands.before stands.after) in
     record {
-      place = stands.place;
+      offset_is = stands.offset_is;
       before = stands.before;
       after = stands.after ++ back;
       is_entry = stands.is_entry;
@@ -34,7 +34,7 @@ pub stream_one : (offset : ℕ) (message : Message) (head content : List ℕ) �
     → length content ≡ data_length message → AreBytes content
     → IsStream (entry offset message content ∷ []) Clean offset (head ++ content)
 stream_one offset message head content spells size are = record {
-  place = refl;
+  offset_is = refl;
   before = head ++ content;
   after = [];
   is_entry = (size, record { before = head; after = content; is_first = spells; is_second = (are, refl); parts = refl });

@@ -2,7 +2,7 @@
 use Rattle.std.proofs.Common.{◌≡◌, ℕ, Bool, true, false, List, ◌++◌, Option, Some, None, refl, ap, sym, ◌∙◌, append_assoc}
 use Rattle.link_wire.specs.Stream.{Entry, End, Stream, Reading, reading_of}
 use Rattle.link_transfer.specs.declared.fault.OrderFault.{OrderFault}
-use Rattle.link_run.specs.Made.{is_shown}
+use Rattle.link_run.specs.Made.{shows_fault}
 use Rattle.link_unpack.specs.Transfers.{Ordered, ordered, cut_heads, heads_of}
 use Rattle.link_unpack.specs.Unpacking.{stop_by, unpacking_by, unpacked_of, made_of, unpacking_of, unpack_tool}
 use Rattle.link_unpack.specs.UnpackRun.{texts_of}
@@ -65,7 +65,7 @@ module _ (wanted : Wanted) where
 
     -- a head is refused, or a fault of the wire is shown
     stays_by : (refused : Option (ℕ × OrderFault)) → order.refused ≡ refused
-        → is_shown (stop_by refused before.end) ≡ true
+        → shows_fault (stop_by refused before.end) ≡ true
         → made_of false wanted after ≡ made_of false wanted before
     stays_by (Some stop) is shown =
         ap (unpacking_by wanted after.end) (orders.stays stop is) ∙ rw is refl

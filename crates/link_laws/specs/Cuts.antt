@@ -43,14 +43,14 @@ HasEveryByte bytes =
     ((unpack_tool all).whole bytes).texts.output ≡ flat_map data_of (order_of bytes).heads
 
 -- the heads that are not stray, from those that come after these messages
-abbrev pub taken_by : (stray : Bool) → Entry → List Entry → List Entry
-taken_by true head rest = rest
-taken_by false head rest = head ∷ rest
+abbrev pub prepended_unless : (stray : Bool) → Entry → List Entry → List Entry
+prepended_unless true head rest = rest
+prepended_unless false head rest = head ∷ rest
 
 unfoldable pub taken_after : List Message → List Entry → List Entry
 taken_after before [] = []
 taken_after before (head ∷ more) =
-    taken_by (is_stray before (event_of head.message)) head
+    prepended_unless (is_stray before (event_of head.message)) head
     (taken_after (with_taken before head.message) more)
 
 -- as `HasEveryByte`, where a fault of the order does not end the run: the output is the data of the
@@ -74,13 +74,13 @@ unfoldable pub Follow : (start : ℕ) → List TransferEntry → Type 0
 Follow start [] = Unit {0}
 Follow start (entry ∷ more) = (entry.start ≡ start) × Follow (start + entry.written) more
 
-unfoldable pub written_by : List TransferEntry → ℕ
-written_by [] = 0
-written_by (entry ∷ more) = entry.written + written_by more
+unfoldable pub total_written : List TransferEntry → ℕ
+total_written [] = 0
+total_written (entry ∷ more) = entry.written + total_written more
 
 -- where the stream stops: at the head that is refused, and else where its reading does
-abbrev pub stop_at : List ℕ → Option StreamStop
-stop_at bytes = stop_by (order_of bytes).refused (reading_of bytes).end
+abbrev pub stream_stop : List ℕ → Option StreamStop
+stream_stop bytes = stop_by (order_of bytes).refused (reading_of bytes).end
 
 -- The transfers that have a line. An open transfer is abandoned at a clean end, and has its line.
 -- At a fault it has no line, since it might have gone on.
@@ -90,7 +90,7 @@ lined (Some stop) transfers = settled transfers
 
 -- the transfers that have a line in the report, the latest first
 abbrev pub reported : List ℕ → List Transfer
-reported bytes = lined (stop_at bytes) (transfers_of (order_of bytes).heads)
+reported bytes = lined (stream_stop bytes) (transfers_of (order_of bytes).heads)
 
 -- the line of the fault, if there is one
 abbrev pub stop_line : Option StreamStop → List ℕ
@@ -105,14 +105,14 @@ pub record Divides (wanted : Wanted) (output : List ℕ) (transfers : List Trans
   pub left : List Transfer
   pub one : length left ≤ 1
   pub whole : output ≡ parts_of wanted (left ++ transfers)
-  pub size : length (parts_of wanted transfers) ≡ written_by (entries_of wanted transfers)
+  pub size : length (parts_of wanted transfers) ≡ total_written (entries_of wanted transfers)
 
 -- The report is the lines of these transfers, and then the line of the fault. The lines cut the
 -- output.
 pub record CutsOutput (wanted : Wanted) (bytes : List ℕ) : Type 0 where
   pub lines : ((unpack_tool wanted).whole bytes).texts.report
       ≡ flat_map transfer_text (entries_of wanted (reported bytes))
-      ++ stop_line (stop_at bytes)
+      ++ stop_line (stream_stop bytes)
   pub divides : Divides wanted ((unpack_tool wanted).whole bytes).texts.output (reported bytes)
 
 -- ---- a report with the lines of heads that are not in order
@@ -122,9 +122,9 @@ pub data ReportLine : Type 0 where
   OfHead : (offset : ℕ) (fault : OrderFault) → ReportLine
   OfTransfer : (entry : TransferEntry) → ReportLine
 
-abbrev pub text_of : ReportLine → List ℕ
-text_of (OfHead offset fault) = fault_text (Order offset fault)
-text_of (OfTransfer entry) = transfer_text entry
+abbrev pub line_text : ReportLine → List ℕ
+line_text (OfHead offset fault) = fault_text (Order offset fault)
+line_text (OfTransfer entry) = transfer_text entry
 
 abbrev pub entry_in : ReportLine → List TransferEntry
 entry_in (OfHead offset fault) = []
@@ -156,7 +156,7 @@ reported_on wanted bytes =
 pub record CutsOutputOn (wanted : Wanted) (bytes : List ℕ) : Type 0 where
   pub lines : List ReportLine
   pub report : ((unpack_tool wanted).whole bytes).texts.report
-      ≡ flat_map text_of lines ++ stop_line (stop_of (reading_of bytes).end)
+      ≡ flat_map line_text lines ++ stop_line (stop_of (reading_of bytes).end)
   pub faults : flat_map fault_in lines ≡ faults_after [] (heads_of (reading_of bytes))
   pub entries : flat_map entry_in lines ≡ entries_of wanted (reported_on wanted bytes)
   pub divides : Divides wanted ((unpack_tool wanted).whole bytes).texts.output

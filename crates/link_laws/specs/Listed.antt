@@ -25,8 +25,8 @@ segment_line id sending k offset =
     (cut_at sending k).announce)
 
 -- the number of bytes of the segment: its head and its data
-abbrev pub segment_span : Sending → (k : ℕ) → ℕ
-segment_span sending k =
+abbrev pub size_of_segment : Sending → (k : ℕ) → ℕ
+size_of_segment sending k =
     segment_head_size (flags_at sending k) (cut_at sending k).announce + length_at sending k
 
 -- ---- segments
@@ -36,11 +36,12 @@ unfoldable pub segment_lines : (id : ℕ) → Sending → (k count offset : ℕ)
 segment_lines id sending k zero offset = []
 segment_lines id sending k (suc count) offset =
     segment_line id sending k offset
-    ++ segment_lines id sending (suc k) count (offset + segment_span sending k)
+    ++ segment_lines id sending (suc k) count (offset + size_of_segment sending k)
 
-unfoldable pub segments_span : Sending → (k count : ℕ) → ℕ
-segments_span sending k zero = 0
-segments_span sending k (suc count) = segment_span sending k + segments_span sending (suc k) count
+unfoldable pub size_of_segments : Sending → (k count : ℕ) → ℕ
+size_of_segments sending k zero = 0
+size_of_segments sending k (suc count) =
+    size_of_segment sending k + size_of_segments sending (suc k) count
 
 -- ---- bundles
 
@@ -60,7 +61,7 @@ bundle_lines options number offset (bundle ∷ more) =
     let whole = sending options true bundle.bytes in
     let count = chunks_of options bundle in
     segment_lines number whole 0 count offset
-    ++ bundle_lines options (suc number) (offset + segments_span whole 0 count) more
+    ++ bundle_lines options (suc number) (offset + size_of_segments whole 0 count) more
 
 -- The lines of a packed stream. The contact header has 6 bytes, and SESS_INIT has 25 bytes and the
 -- node ID.

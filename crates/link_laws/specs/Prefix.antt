@@ -9,5 +9,5 @@ IsFrontOf text whole = (rest : List ℕ) × (whole ≡ text ++ rest)
 -- The texts that the bytes determine are prefixes of the texts of an input that has these bytes and
 -- then `more`.
 pub record IsPrefixed (tool : Tool) (bytes more : List ℕ) : Type 0 where
-  pub output : IsFrontOf (tool.sofar bytes).output (tool.whole (bytes ++ more)).texts.output
-  pub report : IsFrontOf (tool.sofar bytes).report (tool.whole (bytes ++ more)).texts.report
+  pub output : IsFrontOf (tool.so_far bytes).output (tool.whole (bytes ++ more)).texts.output
+  pub report : IsFrontOf (tool.so_far bytes).report (tool.whole (bytes ++ more)).texts.report

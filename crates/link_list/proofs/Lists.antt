@@ -16,18 +16,18 @@ use Rattle.link_wire.specs.declared.session.Session.{Session}
 use Rattle.link_wire.proofs.Contacts.{reading-none}
 use Rattle.link_io.proofs.Sources.{Takes-none, Takes-then, Readies-takes}
 use Rattle.link_report.specs.Message.{contact_text, message_text}
-use Rattle.link_run.specs.Made.{Made, whole_by, is_shown, stop_of}
+use Rattle.link_run.specs.Made.{Made, whole_by, shows_fault, stop_of}
 use Rattle.link_run.specs.Run.{Texts, no_texts, ◌then◌, Looks, Devices, Place, devices_at, LastStep, progress_after}
-use Rattle.link_run.specs.Stages.{Stands, GivesStage, MayBegin}
-use Rattle.link_run.specs.Writers.{place_of, on_output, GivesTexts}
+use Rattle.link_run.specs.Stages.{Stands, AfterStage, MayBegin}
+use Rattle.link_run.specs.Writers.{place_of, on_output, AfterWrite}
 use Rattle.link_run.specs.declared.run.Progress.{Progress}
 use Rattle.link_run.specs.declared.run.Status.{Status}
 use Rattle.link_run.specs.declared.writers.Writers.{Writers}
 use Rattle.link_run.proofs.Runs.{texts_as, then_assoc, then_none, few_over, writes_none}
 use Rattle.link_run.proofs.Sessions.{SameTexts}
 use Rattle.link_run.proofs.Stands.{ends, goes_on, written}
-use Rattle.link_list.specs.Listing.{contact_lines, message_lines, lines_of, listing_by, listing_of, list_tool}
-use Rattle.link_list.specs.ListRun.{most_by, IsWaiting, IsWaitingAfter, Lists, IsDue, IsListedTo, ListedOn, GivesRead, GivesLines, GivesFar, GoesOn}
+use Rattle.link_list.specs.Listing.{contact_lines, message_lines, listed_lines, listing_by, listing_of, list_tool}
+use Rattle.link_list.specs.ListRun.{most_by, IsWaiting, IsWaitingAfter, Lists, IsDue, IsListedTo, ListedOn, AfterRead, AfterLines, AfterStepOrStride, WaitsForData}
 use Rattle.link_list.specs.declared.listing.Read.{Read}
 use Rattle.link_list.specs.declared.listing.Read.TheVariants as read
 use Rattle.link_list.specs.declared.listing.Stage.{Stage}
@@ -54,7 +54,7 @@ by_reading bytes = refl
 
 -- the lines of a reading, followed by those of the stream after it
 lines_joined : (reading : Reading) (more : Stream)
-    → lines_of (joined reading more) ≡ lines_of reading ++ message_lines more.entries
+    → listed_lines (joined reading more) ≡ listed_lines reading ++ message_lines more.entries
 unfolding message_lines
 lines_joined reading more = rw flat_map-append (sym (append_assoc (contact_lines reading.contact) (message_lines reading.entries) (message_lines more.entries)))
 
@@ -67,48 +67,48 @@ unfolding message_lines
 no_lines = refl
 
 pub nothing_listed : (listing_of []).texts ≡ no_texts
-nothing_listed = ap (λ (m : Made). m.texts) (by_reading []) ∙ ap (λ r. on_output (lines_of r)) reading-none ∙ texts_as no_lines refl
+nothing_listed = ap (λ (m : Made). m.texts) (by_reading []) ∙ ap (λ r. on_output (listed_lines r)) reading-none ∙ texts_as no_lines refl
 
 pub may_begin : MayBegin listing_of true
 may_begin = record {
   texts = nothing_listed;
-  unshown = ap (λ (m : Made). is_shown m.stop) (by_reading []) ∙ ap (λ (r : Reading). is_shown (stop_of r.end)) reading-none;
+  unshown = ap (λ (m : Made). shows_fault m.stop) (by_reading []) ∙ ap (λ (r : Reading). shows_fault (stop_of r.end)) reading-none;
 }
 
 -- a reading with the same messages has the same lines
 pub same_texts : (reading : Reading) → SameTexts listing_by reading
 same_texts reading = λ other same uncut.
-    let lines : lines_of other ≡ lines_of reading =
+    let lines : listed_lines other ≡ listed_lines reading =
     ap (λ c. contact_lines c ++ message_lines other.entries) same.contact ∙ ap (λ es. contact_lines reading.contact ++ message_lines es) same.entries in
     (ap on_output lines, refl)
 
 module _ (history given : List ℕ) (more : Stream)
     (is : reading_of (history ++ given) ≡ joined (reading_of history) more) where
-  texts_are : (listing_of (history ++ given)).texts ≡ on_output (lines_of (reading_of history) ++ message_lines more.entries)
-  texts_are = ap (λ (m : Made). m.texts) (by_reading (history ++ given)) ∙ ap (λ r. on_output (lines_of r)) is ∙ ap on_output (lines_joined (reading_of history) more)
+  texts_are : (listing_of (history ++ given)).texts ≡ on_output (listed_lines (reading_of history) ++ message_lines more.entries)
+  texts_are = ap (λ (m : Made). m.texts) (by_reading (history ++ given)) ∙ ap (λ r. on_output (listed_lines r)) is ∙ ap on_output (lines_joined (reading_of history) more)
 
-  texts_were : (listing_of history).texts ≡ on_output (lines_of (reading_of history))
+  texts_were : (listing_of history).texts ≡ on_output (listed_lines (reading_of history))
   texts_were = ap (λ (m : Made). m.texts) (by_reading history)
 
   -- the bytes that follow complete no message, so no line is added
   texts_same : more.entries ≡ [] → (listing_of history).texts then no_texts ≡ (listing_of (history ++ given)).texts
   texts_same none =
       then_none (listing_of history).texts ∙ texts_were
-      ∙ sym (texts_are ∙ ap (λ es. on_output (lines_of (reading_of history) ++ message_lines es)) none ∙ ap (λ xs. on_output (lines_of (reading_of history) ++ xs)) no_lines ∙ ap on_output (append-nil _))
+      ∙ sym (texts_are ∙ ap (λ es. on_output (listed_lines (reading_of history) ++ message_lines es)) none ∙ ap (λ xs. on_output (listed_lines (reading_of history) ++ xs)) no_lines ∙ ap on_output (append-nil _))
 
   -- the bytes that follow complete one message, so its line is added
   texts_one : (entry : Entry) → more.entries ≡ entry ∷ []
       → (listing_of history).texts then on_output (message_text entry.offset entry.message) ≡ (listing_of (history ++ given)).texts
   texts_one entry one =
       ap (λ t. t then on_output (message_text entry.offset entry.message)) texts_were
-      ∙ sym (texts_are ∙ ap (λ es. on_output (lines_of (reading_of history) ++ message_lines es)) one ∙ ap (λ xs. on_output (lines_of (reading_of history) ++ xs)) (one_line entry))
+      ∙ sym (texts_are ∙ ap (λ es. on_output (listed_lines (reading_of history) ++ message_lines es)) one ∙ ap (λ xs. on_output (listed_lines (reading_of history) ++ xs)) (one_line entry))
 
-  unshown_by : is_shown (stop_of more.end) ≡ false → is_shown (listing_of (history ++ given)).stop ≡ false
-  unshown_by unshown = ap (λ (m : Made). is_shown m.stop) (by_reading (history ++ given)) ∙ ap (λ (r : Reading). is_shown (stop_of r.end)) is ∙ unshown
+  unshown_by : shows_fault (stop_of more.end) ≡ false → shows_fault (listing_of (history ++ given)).stop ≡ false
+  unshown_by unshown = ap (λ (m : Made). shows_fault m.stop) (by_reading (history ++ given)) ∙ ap (λ (r : Reading). shows_fault (stop_of r.end)) is ∙ unshown
 
 -- a reading that ends between two messages shows no fault
-clean_unshown : (bytes : List ℕ) → (reading_of bytes).end ≡ Clean → is_shown (listing_of bytes).stop ≡ false
-clean_unshown bytes clean = ap (λ (m : Made). is_shown m.stop) (by_reading bytes) ∙ ap (λ e. is_shown (stop_of e)) clean
+clean_unshown : (bytes : List ℕ) → (reading_of bytes).end ≡ Clean → shows_fault (listing_of bytes).stop ≡ false
+clean_unshown bytes clean = ap (λ (m : Made). shows_fault m.stop) (by_reading bytes) ∙ ap (λ e. shows_fault (stop_of e)) clean
 
 -- ---- the contact header
 
@@ -119,11 +119,11 @@ module _ {R W E : Type 0} {look : Looks R W E} {start : Devices R W E} (old new 
   contact_texts : (listing_of []).texts then on_output (contact_text contact) ≡ (listing_of got.given).texts
   contact_texts =
       ap (λ t. t then on_output (contact_text contact)) nothing_listed
-      ∙ sym (ap (λ (m : Made). m.texts) (by_reading got.given) ∙ ap (λ r. on_output (lines_of r)) got.reading ∙ ap (λ xs. on_output (contact_text contact ++ xs)) no_lines ∙ ap on_output (append-nil (contact_text contact)))
+      ∙ sym (ap (λ (m : Made). m.texts) (by_reading got.given) ∙ ap (λ r. on_output (listed_lines r)) got.reading ∙ ap (λ xs. on_output (contact_text contact ++ xs)) no_lines ∙ ap on_output (append-nil (contact_text contact)))
 
   pub contact_listed : (line : List ℕ) (result : Result (Unit {0}) IoFault)
-      → GivesTexts look.output look.report mid after (on_output (contact_text contact)) result
-      → GivesStage look listing_of start true (place_of (source_of old) mid) (place_of (source_of new) after) (Lists look.input stage.Message line new) 6 [] (progress_after result)
+      → AfterWrite look.output look.report mid after (on_output (contact_text contact)) result
+      → AfterStage look listing_of start true (place_of (source_of old) mid) (place_of (source_of new) after) (Lists look.input stage.Message line new) 6 [] (progress_after result)
   contact_listed line result gives =
       let size = got.size in
       let clean = ap (λ (r : Reading). r.end) got.reading in
@@ -150,8 +150,8 @@ module _ {R W E : Type 0} {look : Looks R W E} {start : Devices R W E} (old new 
         else with_entry (record { offset = offset; message = message; content = [] }) (ended Clean))
     read_head test is = got.reading ∙ ap (λ b. joined (reading_of history) (if b then ended (Cut offset message []) else with_entry (record { offset = offset; message = message; content = [] }) (ended Clean))) is
 
-    pub message_read : (piece : ℕ) (next : Read) → GoesOn (left_of new) next
-        → GivesRead look start piece stage.Message old new w (message_text offset message) history next
+    pub message_read : (piece : ℕ) (next : Read) → WaitsForData (left_of new) next
+        → AfterRead look start piece stage.Message old new w (message_text offset message) history next
     message_read piece read.Whole none =
         let left = got.left in
         let reading = read_head false (le-ltb 0 (data_length message) (omega arith)) in
@@ -246,8 +246,8 @@ module _ {R W E : Type 0} {look : Looks R W E} {start : Devices R W E} (old mid 
       ∙ ap (λ end. joined (reading_of history) (data_after (left_of new) bytes end)) within.end
       ∙ ap (λ b. joined (reading_of history) (if b then ended (Cut within.offset within.message (within.content ++ bytes)) else with_entry (record { offset = within.offset; message = within.message; content = within.content ++ bytes }) (ended Clean))) is
 
-  pub data_read : (next : Read) → GoesOn (left_of new) next
-      → GivesRead look start piece stage.Data old new w line history next
+  pub data_read : (next : Read) → WaitsForData (left_of new) next
+      → AfterRead look start piece stage.Data old new w line history next
   data_read read.Whole none =
       let reading = read_data false (le-ltb 0 (left_of new) (omega arith)) in
       record {
@@ -322,8 +322,8 @@ module _ {R W E : Type 0} {look : Looks R W E} {start : Devices R W E} {piece : 
 
   pub lines_written : (far : Bool) (last : List ℕ) (result : Result (Unit {0}) IoFault)
       → (far ≡ false → new ≡ mid)
-      → GivesLines look (listing_of history).texts mid new before after (history ++ due.given) result
-      → GivesFar look start piece far now (place_of (source_of old) before) (place_of (source_of new) after) (Lists look.input stage.Message last new) history (progress_after result)
+      → AfterLines look (listing_of history).texts mid new before after (history ++ due.given) result
+      → AfterStepOrStride look start piece far now (place_of (source_of old) before) (place_of (source_of new) after) (Lists look.input stage.Message last new) history (progress_after result)
   lines_written far last result near gives =
       let on = gives.2 in
       let bytes = due.given ++ on.given in
@@ -346,7 +346,7 @@ module _ {R W E : Type 0} {look : Looks R W E} {start : Devices R W E} {piece : 
 pub not_far : {R W E : Type 0} (look : Looks R W E) (start : Devices R W E) (piece : ℕ)
     (far : Bool) (now : Stage) (old new : Place R W E) (knows : List ℕ → Type 0) (history : List ℕ)
     (result : Result Progress IoFault) → 0 < piece
-    → GivesStage look listing_of start true old new knows (most_by piece now) history result
-    → GivesFar look start piece far now old new knows history result
+    → AfterStage look listing_of start true old new knows (most_by piece now) history result
+    → AfterStepOrStride look start piece far now old new knows history result
 not_far look start piece far now old new knows history result some gives =
     (most_by piece now, λ is. refl, most_some piece now some, gives)

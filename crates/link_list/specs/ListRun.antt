@@ -10,8 +10,8 @@ use Rattle.link_wire.specs.declared.IoFault.{IoFault}
 use Rattle.link_wire.specs.declared.session.Session.{Session}
 use Rattle.link_report.specs.Message.{message_text}
 use Rattle.link_run.specs.Run.{Texts, Looks, ◌then◌, Devices, Place, LastStep, WentOn, devices_at}
-use Rattle.link_run.specs.Stages.{Stands, GivesStage}
-use Rattle.link_run.specs.Writers.{place_of, on_output, GivesTexts}
+use Rattle.link_run.specs.Stages.{Stands, AfterStage}
+use Rattle.link_run.specs.Writers.{place_of, on_output, AfterWrite}
 use Rattle.link_run.specs.declared.run.Progress.{Progress}
 use Rattle.link_run.specs.declared.writers.Writers.{Writers}
 use Rattle.link_list.specs.Listing.{list_tool, listing_of}
@@ -82,7 +82,7 @@ module _ {R : Type 0} (look : R → Input) where
   IsListing stage.Data line session history = Lists stage.Data line session history
 
 module _ {R W E : Type 0} (look : Looks R W E) (start : Devices R W E) (piece : ℕ) (now : Stage)
-    (old new : Session R) (w : Writers W E) (line history : List ℕ) where
+    (old new : Session R) (writers : Writers W E) (line history : List ℕ) where
   -- the message is whole, and only its line is still to be written
   pub record IsDue : Type 0 where
     pub given : List ℕ
@@ -90,22 +90,23 @@ module _ {R W E : Type 0} (look : Looks R W E) (start : Devices R W E) (piece : 
     pub takes : Takes look.input (source_of old) (source_of new) given
     pub size : length given ≤ most_by piece now
     pub few : length (window_of (source_of new)) < window_size
-    pub stood : Stands look listing_of start true (place_of (source_of old) w) history
+    pub stood : Stands look listing_of start true (place_of (source_of old) writers) history
     pub texts : (listing_of history).texts then on_output line
         ≡ (listing_of (history ++ given)).texts
     pub session_at : IsSessionAt look.input new (history ++ given)
     pub clean : (reading_of (history ++ given)).end ≡ Clean
 
   -- what holds after the first part of a step
-  abbrev pub GivesRead : Read → Type 0
-  GivesRead read.Whole = IsDue
-  GivesRead read.Waits =
+  abbrev pub AfterRead : Read → Type 0
+  AfterRead read.Whole = IsDue
+  AfterRead read.Waits =
       WentOn (source_of old) (source_of new)
-      (λ bytes. Stands look listing_of start true (place_of (source_of new) w) bytes
+      (λ bytes. Stands look listing_of start true (place_of (source_of new) writers) bytes
       × (Lists look.input stage.Data line new bytes
       × IsWaitingAfter now (reading_of bytes).end)) (most_by piece now) history
-  GivesRead (read.Ended answer) =
-      LastStep look list_tool start (devices_at (place_of (source_of new) w)) (most_by piece now)
+  AfterRead (read.Ended answer) =
+      LastStep look list_tool start (devices_at (place_of (source_of new) writers))
+      (most_by piece now)
       history answer
 
 module _ {R : Type 0} (look : R → Input) (first : Texts) where
@@ -122,22 +123,23 @@ module _ {R : Type 0} (look : R → Input) (first : Texts) where
     pub listed : IsListedTo new lines (history ++ given)
 
 -- some whole messages were given, and their lines were written, or a writer failed in them
-abbrev pub GivesLines : {R W E : Type 0} → Looks R W E → (first : Texts) → (old new : Session R)
+abbrev pub AfterLines : {R W E : Type 0} → Looks R W E → (first : Texts) → (old new : Session R)
     → (before after : Writers W E) → (history : List ℕ) → Result (Unit {0}) IoFault → Type 0
-GivesLines look first old new before after history result =
-    (lines : List ℕ) × GivesTexts look.output look.report before after (on_output lines) result
+AfterLines look first old new before after history result =
+    (lines : List ℕ) × AfterWrite look.output look.report before after (on_output lines) result
     × ListedOn look.input first old new lines history
 
--- what holds after a step, which has the bound of a step unless it went on
-abbrev pub GivesFar : {R W E : Type 0} → Looks R W E → Devices R W E → (piece : ℕ) → (far : Bool)
+-- What holds after a step, or after a stride if `far` is true. Only a step has its bound.
+abbrev pub AfterStepOrStride : {R W E : Type 0} → Looks R W E → Devices R W E → (piece : ℕ)
+    → (far : Bool)
     → (now : Stage) → (old new : Place R W E) → (knows : List ℕ → Type 0) → (history : List ℕ)
     → Result Progress IoFault → Type 0
-GivesFar look start piece far now old new knows history result =
+AfterStepOrStride look start piece far now old new knows history result =
     (size : ℕ) × (far ≡ false → size ≡ most_by piece now) × (0 < size)
-    × GivesStage look listing_of start true old new knows size history result
+    × AfterStage look listing_of start true old new knows size history result
 
 -- the line waits if data is to come, and is due if none is
-abbrev pub GoesOn : (left : ℕ) → Read → Type 0
-GoesOn left read.Whole = left ≡ 0
-GoesOn left read.Waits = 0 < left
-GoesOn left (read.Ended answer) = ⊥
+abbrev pub WaitsForData : (left : ℕ) → Read → Type 0
+WaitsForData left read.Whole = left ≡ 0
+WaitsForData left read.Waits = 0 < left
+WaitsForData left (read.Ended answer) = ⊥

@@ -17,15 +17,15 @@ contact_lines (Some contact) = contact_text contact
 unfoldable pub message_lines : List Entry → List ℕ
 message_lines entries = flat_map (λ entry. message_text entry.offset entry.message) entries
 
-abbrev pub lines_of : Reading → List ℕ
-lines_of reading = contact_lines reading.contact ++ message_lines reading.entries
+abbrev pub listed_lines : Reading → List ℕ
+listed_lines reading = contact_lines reading.contact ++ message_lines reading.entries
 
 -- The output has a line for each whole message. If no fault stops the stream, everything is good.
 abbrev pub listing_by : Reading → Made
 listing_by reading = record {
-  texts = on_output (lines_of reading);
+  texts = on_output (listed_lines reading);
   stop = stop_of reading.end;
-  ended = on_output (lines_of reading);
+  ended = on_output (listed_lines reading);
   good = true;
 }
 

@@ -3,11 +3,11 @@
 ghost use Rattle.std.specs.Prelude.{◌≡◌, ◌<◌, true, false, [], IsTrue, List, ℕ, Err};
 ghost use Rattle.link_wire.specs.Session.{may_open, may_read, is_opened, left_of, source_of};
 ghost use Rattle.link_run.specs.Reading.{inner_of, HasEnough};
-ghost use Rattle.link_run.specs.Run.{Texts, Devices, devices_at, looks, GivesAnswer};
-ghost use Rattle.link_run.specs.Stages.{Stands, GivesStage, HandedOn, IsMore};
-ghost use Rattle.link_run.specs.Writers.{GivesTexts, WritesSome, on_output, place_of};
+ghost use Rattle.link_run.specs.Run.{Texts, Devices, devices_at, looks, AfterRun};
+ghost use Rattle.link_run.specs.Stages.{Stands, AfterStage, HandedOn, IsMore};
+ghost use Rattle.link_run.specs.Writers.{AfterWrite, WritesSome, on_output, place_of};
 ghost use Rattle.link_list.specs.Listing.{listing_of, list_tool};
-ghost use Rattle.link_list.specs.ListRun.{may_go_on, may_follow, latest_line, IsListing, Begins, Lists, IsListedTo, GivesRead, GivesLines, GivesFar, GoesOn};
+ghost use Rattle.link_list.specs.ListRun.{may_go_on, may_follow, latest_line, IsListing, Begins, Lists, IsListedTo, AfterRead, AfterLines, AfterStepOrStride, WaitsForData};
 
 use link_report::{KeptDigits, MessageText, contact_line};
 use link_run::{Input, PIECE, Progress, Run, RunEnd, Stages, Status, ToolRun, Writers};
@@ -107,7 +107,7 @@ fn step<R: InDevice, W: OutDevice, E: OutDevice>(
         → Stands (looks R.state W.state E.state) listing_of start true
         (place_of (source_of (inner_of input.old)) writers.old) history
         → IsListing R.state tool.old.stage (latest_line tool.old.latest) (inner_of input.old) history
-        → GivesFar (looks R.state W.state E.state) start piece far tool.old.stage
+        → AfterStepOrStride (looks R.state W.state E.state) start piece far tool.old.stage
         (place_of (source_of (inner_of input.old)) writers.old)
         (place_of (source_of (inner_of input.new)) writers.new)
         (IsListing R.state tool.new.stage (latest_line tool.new.latest) (inner_of input.new))
@@ -150,7 +150,7 @@ fn list_contact<R: InDevice, W: OutDevice, E: OutDevice>(
         → Stands (looks R.state W.state E.state) listing_of start true
         (place_of (source_of (inner_of input.old)) writers.old) history
         → Begins R.state (inner_of input.old) history
-        → GivesStage (looks R.state W.state E.state) listing_of start true
+        → AfterStage (looks R.state W.state E.state) listing_of start true
         (place_of (source_of (inner_of input.old)) writers.old)
         (place_of (source_of (inner_of input.new)) writers.new)
         (Lists R.state Stage.Message line (inner_of input.new)) 6 history result }
@@ -187,7 +187,7 @@ fn advance<R: InDevice, W: OutDevice, E: OutDevice>(
         → Stands (looks R.state W.state E.state) listing_of start true
         (place_of (source_of (inner_of input.old)) writers.old) history
         → IsListing R.state stage (latest_line latest.old) (inner_of input.old) history
-        → GivesRead (looks R.state W.state E.state) start piece stage (inner_of input.old)
+        → AfterRead (looks R.state W.state E.state) start piece stage (inner_of input.old)
         (inner_of input.new) writers.new (latest_line latest.new) history result }
     ensures handed { (history : List ℕ)
         → IsListing R.state stage (latest_line latest.old) (inner_of input.old) history
@@ -216,7 +216,7 @@ fn read_message<R: InDevice, W: OutDevice, E: OutDevice>(
         → Stands (looks R.state W.state E.state) listing_of start true
         (place_of (source_of (inner_of input.old)) writers.old) history
         → Lists R.state Stage.Message (latest_line latest.old) (inner_of input.old) history
-        → GivesRead (looks R.state W.state E.state) start piece Stage.Message (inner_of input.old)
+        → AfterRead (looks R.state W.state E.state) start piece Stage.Message (inner_of input.old)
         (inner_of input.new) writers.new (latest_line latest.new) history result }
     ensures handed { (history : List ℕ)
         → Lists R.state Stage.Message (latest_line latest.old) (inner_of input.old) history
@@ -250,7 +250,7 @@ fn pass_data<R: InDevice, W: OutDevice, E: OutDevice>(
         → Stands (looks R.state W.state E.state) listing_of start true
         (place_of (source_of (inner_of input.old)) writers.old) history
         → Lists R.state Stage.Data line (inner_of input.old) history
-        → GivesRead (looks R.state W.state E.state) start piece Stage.Data (inner_of input.old)
+        → AfterRead (looks R.state W.state E.state) start piece Stage.Data (inner_of input.old)
         (inner_of input.new) writers.new line history result }
     ensures handed { (line history : List ℕ)
         → Lists R.state Stage.Data line (inner_of input.old) history
@@ -274,7 +274,7 @@ fn pass_data<R: InDevice, W: OutDevice, E: OutDevice>(
 fn go_on<R: InDevice>(input: &Input<Session<R>>) -> Read
     requires { IsTrue (is_opened (inner_of input.now)) }
     ensures fits { IsTrue (may_follow result (inner_of input.now)) }
-    ensures goes { GoesOn (left_of (inner_of input.now)) result }
+    ensures goes { WaitsForData (left_of (inner_of input.now)) result }
 {
     if input.left() > 0 {
         return Read::Waits;
@@ -298,7 +298,7 @@ fn write_lines<R: InDevice, W: OutDevice, E: OutDevice>(
     ensures near { far ≡ false → input.new ≡ input.old }
     ensures gives { (first : Texts) (history : List ℕ)
         → IsListedTo R.state first (inner_of input.old) (latest_line latest.old) history
-        → GivesLines (looks R.state W.state E.state) first (inner_of input.old)
+        → AfterLines (looks R.state W.state E.state) first (inner_of input.old)
         (inner_of input.new) writers.old writers.new history result }
     ensures wrote { WritesSome W.state E.state writers.old writers.new result }
 {
@@ -323,7 +323,7 @@ fn write_line<W: OutDevice, E: OutDevice>(
     writers: &mut Writers<W, E>,
     latest: &mut Latest,
 ) -> Result<(), IoFault>
-    ensures line { GivesTexts W.state E.state writers.old writers.new
+    ensures line { AfterWrite W.state E.state writers.old writers.new
         (on_output (latest_line latest.old)) result }
     ensures latest { latest_line latest.new ≡ latest_line latest.old }
 {
@@ -378,7 +378,7 @@ pub fn list<R: InDevice, W: OutDevice, E: OutDevice>(
     requires reader { (R.state reader).failed ≡ false }
     requires output { (W.state output).failed ≡ false }
     requires report { (E.state report).failed ≡ false }
-    ensures { GivesAnswer (looks R.state W.state E.state) list_tool
+    ensures { AfterRun (looks R.state W.state E.state) list_tool
         (record { reader = reader; output = output; report = report })
         (record { reader = result.reader; output = result.output; report = result.report })
         result.answer }

@@ -9,9 +9,9 @@ use Rattle.link_bundle_types.specs.declared.fault.BundleFault.{BundleFault}
 use Rattle.link_bundle_types.specs.declared.fault.BundleFault.TheVariants.{Cut}
 use Rattle.link_bundle_types.specs.declared.fault.State.TheVariants as state
 use Rattle.link_bundle_types.specs.declared.info.BundleInfo.{BundleInfo}
-use Rattle.link_bundle.specs.Bundle.{opening_at, bundle_at, judged, verdict, state_of, is_going, bundle_goes}
-use Rattle.link_pack.specs.Bundles.{Packed, Refusal, Longer, Faulty, Divided, front_of, refused_by, judged_front, with_bundle, divided_by, divided_in, divided, joined}
-use Rattle.link_pack.specs.Packer.{IsCut}
+use Rattle.link_bundle.specs.Bundle.{opening_at, bundle_at, judged_bundle, verdict, state_of, is_going, bundle_goes}
+use Rattle.link_pack.specs.Bundles.{Packed, Refusal, Longer, Faulty, Divided, bundle_prefix, refused_by, judged_front, with_bundle, divided_by, divided_in, divided, with_bundles}
+use Rattle.link_pack.specs.Packer.{EndsInBundle}
 
 -- ---- prefixes
 
@@ -28,43 +28,43 @@ taken_again goes seen (byte ∷ bytes) =
     (cases_Bool (goes seen))
 
 -- bytes that are taken whole are followed by the bytes that they still need
-pub front_more : (part more : List ℕ) → front_of part ≡ part
-    → front_of (part ++ more) ≡ part ++ taken bundle_goes part more
+pub front_more : (part more : List ℕ) → bundle_prefix part ≡ part
+    → bundle_prefix (part ++ more) ≡ part ++ taken bundle_goes part more
 front_more part more front =
     joins_pieces bundle_goes [] part more ∙ ap (λ (seen : List ℕ). seen ++ taken bundle_goes seen more) front
 
-pub front_kept : (part piece : List ℕ) → front_of part ≡ part
-    → front_of (part ++ taken bundle_goes part piece) ≡ part ++ taken bundle_goes part piece
+pub front_kept : (part piece : List ℕ) → bundle_prefix part ≡ part
+    → bundle_prefix (part ++ taken bundle_goes part piece) ≡ part ++ taken bundle_goes part piece
 front_kept part piece front =
     front_more part (taken bundle_goes part piece) front
     ∙ ap (λ (bytes : List ℕ). part ++ bytes) (taken_again bundle_goes part piece)
 
 -- if no more bytes are needed, none are taken
-pub front_stopped : (front more : List ℕ) → front_of front ≡ front → bundle_goes front ≡ false
-    → front_of (front ++ more) ≡ front
+pub front_stopped : (front more : List ℕ) → bundle_prefix front ≡ front → bundle_goes front ≡ false
+    → bundle_prefix (front ++ more) ≡ front
 front_stopped front more is idle =
     front_more front more is ∙ ap (λ (bytes : List ℕ). front ++ bytes) (taken-idle bundle_goes front more idle) ∙ append-nil front
 
 -- ---- verdicts
 
 verdict_none : verdict [] ≡ Err (Cut, 0)
-unfolding verdict judged bundle_at opening_at
+unfolding verdict judged_bundle bundle_at opening_at
 verdict_none = refl
 
 pub whole_stops : (bundle : List ℕ) (info : BundleInfo) → verdict bundle ≡ Ok info
     → bundle_goes bundle ≡ false
 whole_stops bundle info is = ap (λ said. is_going (state_of said)) is
 
-pub faulty_stops : (front : List ℕ) (fault : BundleFault) (place : ℕ)
-    → verdict front ≡ Err (fault, place) → lasts fault ≡ true → bundle_goes front ≡ false
-faulty_stops front fault place is stays =
-    ap (λ said. is_going (state_of said)) is ∙ ap (λ test. is_going (if test then state.Failed fault place else state.Going)) stays
+pub faulty_stops : (front : List ℕ) (fault : BundleFault) (offset : ℕ)
+    → verdict front ≡ Err (fault, offset) → lasts fault ≡ true → bundle_goes front ≡ false
+faulty_stops front fault offset is stays =
+    ap (λ said. is_going (state_of said)) is ∙ ap (λ test. is_going (if test then state.Failed fault offset else state.Going)) stays
 
 -- before the first byte, more bytes are needed
 pub none_goes : bundle_goes [] ≡ true
 none_goes = ap (λ said. is_going (state_of said)) verdict_none
 
-pub none_front : front_of [] ≡ []
+pub none_front : bundle_prefix [] ≡ []
 none_front = taken-nil bundle_goes []
 
 -- bytes that need no more are not empty
@@ -72,22 +72,22 @@ pub some_stopped : (front : List ℕ) → bundle_goes front ≡ false → 0 < le
 some_stopped [] idle = absurd (false≢true (sym idle ∙ none_goes))
 some_stopped (byte ∷ bytes) idle = omega arith
 
-going_mends : (stays : Bool) (fault : BundleFault) (place : ℕ)
-    → is_going (if stays then state.Failed fault place else state.Going) ≡ true → stays ≡ false
-going_mends true fault place goes = absurd (cc)
-going_mends false fault place goes = refl
+going_mends : (stays : Bool) (fault : BundleFault) (offset : ℕ)
+    → is_going (if stays then state.Failed fault offset else state.Going) ≡ true → stays ≡ false
+going_mends true fault offset goes = absurd (cc)
+going_mends false fault offset goes = refl
 
 cut_by : (part : List ℕ) (said : Result BundleInfo (BundleFault × ℕ)) → verdict part ≡ said
-    → is_going (state_of said) ≡ true → IsCut part
+    → is_going (state_of said) ≡ true → EndsInBundle part
 cut_by part (Ok info) is goes = absurd (cc)
-cut_by part (Err (fault, place)) is goes = record { fault = fault; place = place; is = is; mends = going_mends (lasts fault) fault place goes }
+cut_by part (Err (fault, offset)) is goes = record { fault = fault; offset = offset; is = is; mends = going_mends (lasts fault) fault offset goes }
 
 -- the fault of bytes that need more does not last
-pub open_mends : (part : List ℕ) (fault : BundleFault) (place : ℕ)
-    → verdict part ≡ Err (fault, place) → bundle_goes part ≡ true → lasts fault ≡ false
-open_mends part fault place is goes = going_mends (lasts fault) fault place (ap (λ said. is_going (state_of said)) (sym is) ∙ goes)
+pub open_mends : (part : List ℕ) (fault : BundleFault) (offset : ℕ)
+    → verdict part ≡ Err (fault, offset) → bundle_goes part ≡ true → lasts fault ≡ false
+open_mends part fault offset is goes = going_mends (lasts fault) fault offset (ap (λ said. is_going (state_of said)) (sym is) ∙ goes)
 
-pub goes_cut : (part : List ℕ) → bundle_goes part ≡ true → IsCut part
+pub goes_cut : (part : List ℕ) → bundle_goes part ≡ true → EndsInBundle part
 goes_cut part goes = cut_by part (verdict part) refl goes
 
 -- ---- the judgement of a prefix
@@ -103,7 +103,7 @@ beyond_limit limit front beyond = rw (lt-ltb limit (length front) beyond) refl
 refused_whole : (said : Result BundleInfo (BundleFault × ℕ)) (info : BundleInfo)
     → refused_by said ≡ Ok info → said ≡ Ok info
 refused_whole (Ok other) info is = cc
-refused_whole (Err (fault, place)) info is = absurd (cc)
+refused_whole (Err (fault, offset)) info is = absurd (cc)
 
 judged_whole_by : (beyond : Bool) (limit : ℕ) (front : List ℕ) (info : BundleInfo)
     → (if beyond then Err (Longer limit) else refused_by (verdict front)) ≡ Ok info
@@ -146,7 +146,7 @@ enough_turns (suc count) zero limit [] p q = refl
 enough_turns (suc count) zero limit (byte ∷ bytes) p q = absurd (omega arith)
 enough_turns (suc count) (suc other) limit [] p q = refl
 enough_turns (suc count) (suc other) limit (byte ∷ bytes) p q =
-    let front = front_of (byte ∷ bytes) in
+    let front = bundle_prefix (byte ∷ bytes) in
     divided_by-same (divided_in count limit) (divided_in other limit) front (byte ∷ bytes) (judged_front limit front) (λ info is.
     let fewer = fewer_left limit byte bytes front info is in
     enough_turns count other limit (drop (length front) (byte ∷ bytes)) (omega arith) (omega arith))
@@ -159,7 +159,7 @@ unfolding divided divided_in
 divided_none limit = refl
 
 -- bytes that are not empty are divided by their front
-pub divided_front : (limit : ℕ) (front bytes : List ℕ) → 0 < length bytes → front_of bytes ≡ front
+pub divided_front : (limit : ℕ) (front bytes : List ℕ) → 0 < length bytes → bundle_prefix bytes ≡ front
     → divided limit bytes ≡ divided_by (divided limit) front bytes (judged_front limit front)
 unfolding divided divided_in
 divided_front limit front [] some is = absurd (omega arith)
@@ -170,7 +170,7 @@ divided_front limit front (byte ∷ bytes) some is =
 
 -- the bytes begin with a bundle that the peer takes
 pub divided_whole : (limit : ℕ) (bundle more : List ℕ) (info : BundleInfo)
-    → front_of bundle ≡ bundle → verdict bundle ≡ Ok info → length bundle ≤ limit
+    → bundle_prefix bundle ≡ bundle → verdict bundle ≡ Ok info → length bundle ≤ limit
     → divided limit (bundle ++ more)
     ≡ with_bundle (record { bytes = bundle; info = info }) (divided limit more)
 divided_whole limit bundle more info front is within =
@@ -181,7 +181,7 @@ divided_whole limit bundle more info front is within =
     ∙ ap (λ (left : List ℕ). with_bundle (record { bytes = bundle; info = info }) (divided limit left)) (drop-append_seam bundle more)
 
 -- an incomplete bundle has more bytes than the peer takes
-pub divided_longer : (limit : ℕ) (part : List ℕ) (byte : ℕ) (more : List ℕ) → front_of part ≡ part
+pub divided_longer : (limit : ℕ) (part : List ℕ) (byte : ℕ) (more : List ℕ) → bundle_prefix part ≡ part
     → bundle_goes part ≡ true → length part ≡ limit
     → divided limit (part ++ byte ∷ more)
     ≡ record { bundles = []; rest = Some (record { accepted = part; refusal = Longer limit }) }
@@ -193,40 +193,40 @@ divided_longer limit part byte more front goes full =
     ∙ ap (refused_with (Longer limit)) (ap (λ count. take count (part ++ byte ∷ rest)) (sym full) ∙ take-append_seam part (byte ∷ rest))
 
 -- the last byte of the prefix shows a fault
-pub divided_faulty : (limit : ℕ) (front more : List ℕ) (fault : BundleFault) (place : ℕ)
-    → front_of front ≡ front → verdict front ≡ Err (fault, place)
+pub divided_faulty : (limit : ℕ) (front more : List ℕ) (fault : BundleFault) (offset : ℕ)
+    → bundle_prefix front ≡ front → verdict front ≡ Err (fault, offset)
     → lasts fault ≡ true → length front ≤ limit
     → divided limit (front ++ more)
     ≡ record {
       bundles = [];
       rest = Some (record {
         accepted = take (length front - 1) front;
-        refusal = Faulty fault place;
+        refusal = Faulty fault offset;
       });
     }
-divided_faulty limit front more fault place is said stays within =
-    let stops = faulty_stops front fault place said stays in
+divided_faulty limit front more fault offset is said stays within =
+    let stops = faulty_stops front fault offset said stays in
     let some = some_stopped front stops in
     divided_front limit front (front ++ more) (omega (arith, length-append front more)) (front_stopped front more is stops)
     ∙ ap (divided_by (divided limit) front (front ++ more)) (within_limit limit front within ∙ ap refused_by said)
-    ∙ ap (λ test. refused_with (Faulty fault place) (if test then take (length front - 1) front else front)) stays
+    ∙ ap (λ test. refused_with (Faulty fault offset) (if test then take (length front - 1) front else front)) stays
 
 -- the bytes end inside a bundle
-pub divided_open : (limit : ℕ) (part : List ℕ) (fault : BundleFault) (place : ℕ)
-    → front_of part ≡ part → bundle_goes part ≡ true → 0 < length part → length part ≤ limit
-    → verdict part ≡ Err (fault, place)
+pub divided_open : (limit : ℕ) (part : List ℕ) (fault : BundleFault) (offset : ℕ)
+    → bundle_prefix part ≡ part → bundle_goes part ≡ true → 0 < length part → length part ≤ limit
+    → verdict part ≡ Err (fault, offset)
     → divided limit part
     ≡ record {
       bundles = [];
-      rest = Some (record { accepted = part; refusal = Faulty fault place });
+      rest = Some (record { accepted = part; refusal = Faulty fault offset });
     }
-divided_open limit part fault place front goes some within said =
+divided_open limit part fault offset front goes some within said =
     divided_front limit part part some front
     ∙ ap (divided_by (divided limit) part part) (within_limit limit part within ∙ ap refused_by said)
-    ∙ ap (λ test. refused_with (Faulty fault place) (if test then take (length part - 1) part else part)) (open_mends part fault place said goes)
+    ∙ ap (λ test. refused_with (Faulty fault offset) (if test then take (length part - 1) part else part)) (open_mends part fault offset said goes)
 
 -- ---- the bundles so far
 
 pub joined_push : (bundles : List Packed) (bundle : Packed) (more : Divided)
-    → joined bundles (with_bundle bundle more) ≡ joined (bundles ++ bundle ∷ []) more
+    → with_bundles bundles (with_bundle bundle more) ≡ with_bundles (bundles ++ bundle ∷ []) more
 joined_push bundles bundle more = ap (λ (all : List Packed). record { bundles = all; rest = more.rest }) (sym (append_assoc bundles (bundle ∷ []) more.bundles))

@@ -10,21 +10,21 @@ use Rattle.link_bundle.specs.Bundle.{verdict, bundle_goes}
 use Rattle.link_bundle_types.specs.declared.info.BundleInfo.{BundleInfo}
 use Rattle.link_report.specs.Fault.{fault_text}
 use Rattle.link_report.specs.declared.fault.Fault.{Fault}
-use Rattle.link_run.specs.Made.{Made, with_fault, is_shown}
+use Rattle.link_run.specs.Made.{Made, with_fault, shows_fault}
 use Rattle.link_run.specs.Run.{Texts, Outcome, ◌then◌, Looks, Devices, devices_at, LastStep, progress_after}
-use Rattle.link_run.specs.Stages.{Stands, GivesStage}
-use Rattle.link_run.specs.Writers.{place_of, on_output, on_report, GivesTexts, GivesLast}
+use Rattle.link_run.specs.Stages.{Stands, AfterStage}
+use Rattle.link_run.specs.Writers.{place_of, on_output, on_report, AfterWrite, AfterLastWrite}
 use Rattle.link_run.specs.declared.run.Progress.{Progress}
 use Rattle.link_run.specs.declared.run.Status.{Status}
 use Rattle.link_run.specs.declared.writers.Writers.{Writers}
 use Rattle.link_run.proofs.Runs.{few_over}
 use Rattle.link_run.proofs.Sessions.{then_fault}
 use Rattle.link_run.proofs.Stands.{goes_on, loses, ends, last_step, written}
-use Rattle.link_pack.specs.Bundles.{Packed, Faulty, front_of, divided, joined}
-use Rattle.link_pack.specs.Packing.{prelude_bytes, end_bytes, line_of, refusal_fault, packing_of, packing_by, pack_tool}
+use Rattle.link_pack.specs.Bundles.{Packed, Faulty, bundle_prefix, divided, with_bundles}
+use Rattle.link_pack.specs.Packing.{prelude_bytes, end_bytes, report_line, refusal_fault, packing_of, packing_by, pack_tool}
 use Rattle.link_transfer.specs.Cutter.{IsCutterAt}
-use Rattle.link_pack.specs.Packer.{cutting, before_last, Holds, Grows, Refuses, MakesOf, IsCut, CutShort}
-use Rattle.link_pack.specs.PackRun.{texts_of, run_segments, Packs, IsPacking, WritesOn, WritesLast, GivesFound, GivesShort, GivesFinish}
+use Rattle.link_pack.specs.Packer.{cutting, before_last, Holds, Grows, Refuses, MakesOf, EndsInBundle, CutShort}
+use Rattle.link_pack.specs.PackRun.{texts_of, run_segments, Packs, IsPacking, WritesOn, WritesLast, WritesFound, WritesEnd, WritesFinish}
 use Rattle.link_pack.specs.declared.options.PackOptions.{PackOptions}
 use Rattle.link_pack.specs.declared.packer.Found.{Found}
 use Rattle.link_pack.specs.declared.packer.Found.TheVariants as found
@@ -39,16 +39,16 @@ pub prelude_written : {R W E : Type 0} {look : Looks R W E} {start : Devices R W
     (before after : Writers W E) (packer : Packer) {history : List ℕ}
     → Stands look (packing_of packer.options) start false (place_of source before) history
     → IsPacking look.input packer source history stage.Prelude → (result : Result (Unit {0}) IoFault)
-    → GivesTexts look.output look.report before after (on_output (prelude_bytes packer.options)) result
-    → GivesStage look (packing_of packer.options) start true (place_of source before) (place_of source after) (Packs look.input packer source) 0 history (progress_after result)
+    → AfterWrite look.output look.report before after (on_output (prelude_bytes packer.options)) result
+    → AfterStage look (packing_of packer.options) start true (place_of source before) (place_of source after) (Packs look.input packer source) 0 history (progress_after result)
 prelude_written {look = look} {start = start} source before after packer {history} stood at result gives =
     let P : List ℕ → Type 0 = λ h. Stands look (packing_of packer.options) start false (place_of source before) h in
     let Q : List ℕ → Type 0 = λ h. Packs look.input packer source h in
-    let S : List ℕ → Type 0 = λ h. GivesStage look (packing_of packer.options) start true (place_of source before) (place_of source after) (Packs look.input packer source) 0 h (progress_after result) in
+    let S : List ℕ → Type 0 = λ h. AfterStage look (packing_of packer.options) start true (place_of source before) (place_of source after) (Packs look.input packer source) 0 h (progress_after result) in
     let none = ap length at.1 in
     subst S (sym at.0)
     (written 0 source source before (subst P at.0 stood) (Takes-none look.input source) (omega arith) (omega arith) after (on_output (prelude_bytes packer.options)) (sym (prelude_texts packer.options))
-    (ap (λ (m : Made). is_shown m.stop) (made_none packer.options)) (Packs look.input packer source) (λ is. absurd (cc)) (subst Q at.0 at.2) (λ some. absurd (omega arith)) result gives)
+    (ap (λ (m : Made). shows_fault m.stop) (made_none packer.options)) (Packs look.input packer source) (λ is. absurd (cc)) (subst Q at.0 at.2) (λ some. absurd (omega arith)) result gives)
 
 module _ {R W E : Type 0} {look : Looks R W E} {start : Devices R W E} (most : ℕ) (old : Source R)
     (before after : Writers W E) (packer : Packer) {history : List ℕ}
@@ -70,14 +70,14 @@ module _ {R W E : Type 0} {look : Looks R W E} {start : Devices R W E} (most : �
       (mid : Packer) (same : mid.options ≡ options) (numbered : mid.number ≡ packer.number)
       (packed : Packer) (kept : packed.options ≡ mid.options) (result : Result Progress IoFault) where
     abbrev Gives : Result Progress IoFault → Type 0
-    Gives = GivesStage look (packing_of options) start true (place_of old before) (place_of new after) (Packs look.input packed new) most history
+    Gives = AfterStage look (packing_of options) start true (place_of old before) (place_of new after) (Packs look.input packed new) most history
 
     divides : (rest : List ℕ)
         → divided limit ((history ++ run) ++ rest)
-        ≡ joined at.bundles (divided limit ((at.begun ++ run) ++ rest))
+        ≡ with_bundles at.bundles (divided limit ((at.begun ++ run) ++ rest))
     divides rest =
         ap (divided limit) (append_assoc history run rest) ∙ at.divides (run ++ rest)
-        ∙ ap (λ (bytes : List ℕ). joined at.bundles (divided limit bytes)) (sym (append_assoc at.begun run rest))
+        ∙ ap (λ (bytes : List ℕ). with_bundles at.bundles (divided limit bytes)) (sym (append_assoc at.begun run rest))
 
     -- the new options and number are those before the step
     as_stood : (P : PackOptions → ℕ → Type 0) → P mid.options mid.number
@@ -90,13 +90,13 @@ module _ {R W E : Type 0} {look : Looks R W E} {start : Devices R W E} (most : �
 
     -- the run goes on
     module _ (more : Texts) (bundles : List Packed) (begun : List ℕ)
-        (front : front_of begun ≡ begun) (goes : bundle_goes begun ≡ true) (fits : length begun ≤ limit)
+        (front : bundle_prefix begun ≡ begun) (goes : bundle_goes begun ≡ true) (fits : length begun ≤ limit)
         (grown : texts_of options at.bundles at.begun then more ≡ texts_of options bundles begun)
-        (come : (rest : List ℕ) → divided limit ((history ++ run) ++ rest) ≡ joined bundles (divided limit (begun ++ rest)))
+        (come : (rest : List ℕ) → divided limit ((history ++ run) ++ rest) ≡ with_bundles bundles (divided limit (begun ++ rest)))
         (few : length bundles + length begun ≤ length (history ++ run)) where
       packs : Holds packed bundles begun → Packs look.input packed new (history ++ run)
       packs holds =
-          let Q : PackOptions → Type 0 = λ o. (rest : List ℕ) → divided o.peer_transfer ((history ++ run) ++ rest) ≡ joined bundles (divided o.peer_transfer (begun ++ rest)) in
+          let Q : PackOptions → Type 0 = λ o. (rest : List ℕ) → divided o.peer_transfer ((history ++ run) ++ rest) ≡ with_bundles bundles (divided o.peer_transfer (begun ++ rest)) in
           record {
             source = IsSourceAt-then look.input old new history run takes at.source;
             live = live;
@@ -110,7 +110,7 @@ module _ {R W E : Type 0} {look : Looks R W E} {start : Devices R W E} (most : �
       due : (packing_of options history).texts then more ≡ (packing_of options (history ++ run)).texts
       due = ap (λ t. t then more) texts_now ∙ grown ∙ sym (texts_going options (history ++ run) bundles begun front goes fits come)
 
-      by_write : (write : Result (Unit {0}) IoFault) → GivesTexts look.output look.report before after more write
+      by_write : (write : Result (Unit {0}) IoFault) → AfterWrite look.output look.report before after more write
           → OnOk write (Holds packed bundles begun) → Gives (progress_after write)
       by_write (Ok done) writes holds =
           goes_on most old new before stood takes size (takes.window.less some) after more due (unshown_going options (history ++ run) bundles begun front goes fits come)
@@ -135,16 +135,16 @@ module _ {R W E : Type 0} {look : Looks R W E} {start : Devices R W E} (most : �
     bundle_of info = record { bytes = at.begun ++ run; info = info }
 
     whole_came : Grows mid at.begun run → (info : BundleInfo) → verdict (at.begun ++ run) ≡ Ok info
-        → WritesOn look.output look.report before after (record { output = run_segments mid.options mid.number at.begun run true; report = line_of mid.options mid.number (bundle_of info) })
+        → WritesOn look.output look.report before after (record { output = run_segments mid.options mid.number at.begun run true; report = report_line mid.options mid.number (bundle_of info) })
         (Holds packed (at.bundles ++ bundle_of info ∷ []) []) result
         → Gives result
     whole_came grows info is gave =
         let few = at.few in
-        going (record { output = run_segments options (length at.bundles) at.begun run true; report = line_of options (length at.bundles) (bundle_of info) })
+        going (record { output = run_segments options (length at.bundles) at.begun run true; report = report_line options (length at.bundles) (bundle_of info) })
         (at.bundles ++ bundle_of info ∷ []) [] none_front none_goes (omega arith) (texts_whole options at.bundles at.begun run (bundle_of info) refl some)
-        (λ rest. divides rest ∙ ap (joined at.bundles) (divided_whole limit (at.begun ++ run) rest info grows.front is (within grows.within)) ∙ joined_push at.bundles (bundle_of info) (divided limit rest))
+        (λ rest. divides rest ∙ ap (with_bundles at.bundles) (divided_whole limit (at.begun ++ run) rest info grows.front is (within grows.within)) ∙ joined_push at.bundles (bundle_of info) (divided limit rest))
         (omega (arith, length-append at.bundles (bundle_of info ∷ []), length-append history run))
-        (as_stood (λ o n. WritesOn look.output look.report before after (record { output = run_segments o n at.begun run true; report = line_of o n (bundle_of info) }) (Holds packed (at.bundles ++ bundle_of info ∷ []) []) result) gave)
+        (as_stood (λ o n. WritesOn look.output look.report before after (record { output = run_segments o n at.begun run true; report = report_line o n (bundle_of info) }) (Holds packed (at.bundles ++ bundle_of info ∷ []) []) result) gave)
 
     module _ (fault : Fault) (refuses : Refuses mid at.begun run fault) where
       made_refused : (rest : List ℕ)
@@ -152,7 +152,7 @@ module _ {R W E : Type 0} {look : Looks R W E} {start : Devices R W E} (most : �
           ≡ packing_by options (refused_so options at.bundles (at.begun ++ before_last run) refuses.refusal)
       made_refused rest =
           made_as options _ _ (divides rest
-          ∙ ap (joined at.bundles) (subst (λ (o : PackOptions). divided o.peer_transfer ((at.begun ++ run) ++ rest) ≡ refused_so options [] (at.begun ++ before_last run) refuses.refusal) same (refuses.divides rest))
+          ∙ ap (with_bundles at.bundles) (subst (λ (o : PackOptions). divided o.peer_transfer ((at.begun ++ run) ++ rest) ≡ refused_so options [] (at.begun ++ before_last run) refuses.refusal) same (refuses.divides rest))
           ∙ ap (λ (all : List Packed). refused_so options all (at.begun ++ before_last run) refuses.refusal) (append-nil at.bundles))
 
       made_now : packing_of options (history ++ run)
@@ -165,18 +165,18 @@ module _ {R W E : Type 0} {look : Looks R W E} {start : Devices R W E} (most : �
           let line : fault ≡ refusal_fault (length at.bundles) refuses.refusal = refuses.is ∙ ap (λ n. refusal_fault n refuses.refusal) (numbered ∙ at.holds.number) in
           let now = ap whole_of made_now in
           let texts : Texts = record { output = run_segments options (length at.bundles) at.begun (before_last run) false; report = fault_text fault } in
-          let gave_now = as_stood (λ o n. GivesLast look.output look.report before after (record { output = run_segments o n at.begun (before_last run) false; report = fault_text fault }) 3 gave.answer) gave.gives in
-          let P : ℕ → Type 0 = λ status. GivesLast look.output look.report before after texts status gave.answer in
+          let gave_now = as_stood (λ o n. AfterLastWrite look.output look.report before after (record { output = run_segments o n at.begun (before_last run) false; report = fault_text fault }) 3 gave.answer) gave.gives in
+          let P : ℕ → Type 0 = λ status. AfterLastWrite look.output look.report before after texts status gave.answer in
           subst Gives (sym gave.is)
           (last_step (packing_of options) (place_of old before) (place_of new after) _ gave.answer
           (ends most old new before stood takes size (takes.window.less some) after texts
           (ap (λ t. t then texts) texts_now ∙ texts_refused options at.bundles at.begun (before_last run) (fault_text fault) ∙ then_fault fault _
           ∙ ap (λ f. with_fault f (texts_of options at.bundles (at.begun ++ before_last run))) line ∙ sym (ap (λ (o : Outcome). o.texts) now))
-          (inr (ap (λ (m : Made). is_shown m.stop) made_now ∙ refuses.lasts, λ rest. made_refused rest ∙ sym made_now))
+          (inr (ap (λ (m : Made). shows_fault m.stop) made_now ∙ refuses.lasts, λ rest. made_refused rest ∙ sym made_now))
           gave.answer (subst P (sym (ap (λ (o : Outcome). o.status) now)) gave_now)))
 
     pub came : (what : Found) (took : MakesOf mid at.begun run what)
-        → GivesFound look.output look.report before after mid at.bundles at.begun run packed what took result
+        → WritesFound look.output look.report before after mid at.bundles at.begun run packed what took result
         → Gives result
     came found.Part took gave = part_came took.0 took.1 gave
     came found.Whole took gave = whole_came took.0 took.1.0 took.1.1 gave
@@ -188,29 +188,29 @@ module _ {R W E : Type 0} {look : Looks R W E} {start : Devices R W E} (most : �
       (answer : Result Status IoFault) where
     ended_by : (more : Texts) (outcome : Outcome) → whole_of (packing_of options history) ≡ outcome
         → texts_of options at.bundles at.begun then more ≡ outcome.texts
-        → GivesLast look.output look.report before after more outcome.status answer
+        → AfterLastWrite look.output look.report before after more outcome.status answer
         → LastStep look (pack_tool options) start (devices_at (place_of new after)) most history answer
     ended_by more outcome is same gives =
         let now : whole_of (packing_of options (history ++ [])) ≡ outcome = ap (λ bytes. whole_of (packing_of options bytes)) (append-nil history) ∙ is in
-        let P : ℕ → Type 0 = λ status. GivesLast look.output look.report before after more status answer in
+        let P : ℕ → Type 0 = λ status. AfterLastWrite look.output look.report before after more status answer in
         ends most old new before stood takes (omega arith) (few_over look.input new over) after more
         (ap (λ t. t then more) texts_now ∙ same ∙ sym (ap (λ (o : Outcome). o.texts) now)) (inl over)
         answer (subst P (sym (ap (λ (o : Outcome). o.status) now)) gives)
 
     ended_short : (short : Option Fault) → CutShort packer.number at.begun short
-        → GivesShort look.output look.report before after options short answer
+        → WritesEnd look.output look.report before after options short answer
         → LastStep look (pack_tool options) start (devices_at (place_of new after)) most history answer
     ended_short None why gives =
         ended_by (on_output (end_bytes options)) (clean options at.bundles at.begun)
         (whole_clean options history at.bundles at.begun at.holds.front at.holds.goes at.holds.within at.divides why) refl gives
     ended_short (Some fault) why gives =
-        let cut : IsCut at.begun = why.1.0 in
-        let line : fault ≡ refusal_fault (length at.bundles) (Faulty cut.fault cut.place) = why.1.1 ∙ ap (λ n. refusal_fault n (Faulty cut.fault cut.place)) at.holds.number in
-        ended_by (on_report (fault_text fault)) (stopped options at.bundles at.begun (Faulty cut.fault cut.place))
+        let cut : EndsInBundle at.begun = why.1.0 in
+        let line : fault ≡ refusal_fault (length at.bundles) (Faulty cut.fault cut.offset) = why.1.1 ∙ ap (λ n. refusal_fault n (Faulty cut.fault cut.offset)) at.holds.number in
+        ended_by (on_report (fault_text fault)) (stopped options at.bundles at.begun (Faulty cut.fault cut.offset))
         (whole_cut options history at.bundles at.begun at.holds.front at.holds.goes at.holds.within at.divides cut why.0)
         (then_fault fault _ ∙ ap (λ f. with_fault f (texts_of options at.bundles at.begun)) line) gives
 
-    pub finished : GivesFinish look.output look.report before after packer at.begun answer
+    pub finished : WritesFinish look.output look.report before after packer at.begun answer
         → LastStep look (pack_tool options) start (devices_at (place_of new after)) most history answer
     finished gives = ended_short gives.short gives.why gives.gave
 

@@ -11,16 +11,16 @@ use Rattle.link_transfer.specs.Cutter.{IsCutterAt}
 use Rattle.link_transfer.specs.Cutting.{with_bytes}
 use Rattle.link_run.specs.Run.{Texts, ◌then◌, Looks, answer_of, progress_after}
 use Rattle.link_run.specs.Stages.{HandedOn}
-use Rattle.link_run.specs.Writers.{place_of, on_output, on_report, Writes, WritesPart, GivesTexts, GivesLast, HasHandedOn}
+use Rattle.link_run.specs.Writers.{place_of, on_output, on_report, Writes, WritesPart, AfterWrite, AfterLastWrite, HasHandedOn}
 use Rattle.link_run.specs.declared.run.Progress.{Progress}
 use Rattle.link_run.specs.declared.run.Status.{Status}
 use Rattle.link_run.specs.declared.writers.Writers.{Writers}
 use Rattle.link_run.proofs.Handing.{handed_by, handed_written}
 use Rattle.link_run.proofs.Runs.{texts_as, writes_then, part_of_more, part_behind}
 use Rattle.link_pack.specs.Bundles.{Packed}
-use Rattle.link_pack.specs.Packing.{segment_size, line_of}
+use Rattle.link_pack.specs.Packing.{segment_size, report_line}
 use Rattle.link_pack.specs.Packer.{cutting, before_last, accepted_of, is_whole, Holds, MakesOf}
-use Rattle.link_pack.specs.PackRun.{GivesFound, GivesShort, GivesFinish}
+use Rattle.link_pack.specs.PackRun.{WritesFound, WritesEnd, WritesFinish}
 use Rattle.link_pack.specs.Segments.{segments_left, all_given}
 use Rattle.link_pack.specs.declared.packer.Found.{Found}
 use Rattle.link_pack.specs.declared.packer.Found.TheVariants as found
@@ -43,14 +43,14 @@ module _ {W E : Type 0} (out_look : W → Output) (report_look : E → Output) w
   module _ (old mid new : Writers W E) (segments line : List ℕ)
       (writes : Writes out_look report_look old mid (on_output segments)) where
     line_given : (result : Result (Unit {0}) IoFault)
-        → GivesTexts out_look report_look mid new (on_report line) result
-        → GivesTexts out_look report_look old new (record { output = segments; report = line }) result
+        → AfterWrite out_look report_look mid new (on_report line) result
+        → AfterWrite out_look report_look old new (record { output = segments; report = line }) result
     line_given (Ok done) more = rw (sym (segments_then segments line)) (writes_then out_look report_look old mid new (on_output segments) (on_report line) writes more)
     line_given (Err fault) part = rw (sym (segments_then segments line)) (part_behind out_look report_look old mid new segments (on_report line) fault writes part)
 
     last_given : (answer : Result Status IoFault)
-        → GivesLast out_look report_look mid new (on_report line) 3 answer
-        → GivesLast out_look report_look old new (record { output = segments; report = line }) 3 answer
+        → AfterLastWrite out_look report_look mid new (on_report line) 3 answer
+        → AfterLastWrite out_look report_look old new (record { output = segments; report = line }) 3 answer
     last_given (Ok status) gives = (line_given (Ok tt) gives.0, gives.1)
     last_given (Err fault) part = line_given (Err fault) part
 
@@ -63,7 +63,7 @@ module _ {W E : Type 0} (out_look : W → Output) (report_look : E → Output) w
         → WritesPart out_look report_look before mid
         (on_output (segments_left old.number
         (with_bytes (accepted_of what run) (is_whole what) (cutting old.options begun)))) fault
-        → GivesFound out_look report_look before mid old bundles begun run packed what took
+        → WritesFound out_look report_look before mid old bundles begun run packed what took
         (Err fault)
     lost found.Part took packed fault gives =
         record { written = Err fault; is = refl; gives = gives; holds = tt }
@@ -107,9 +107,9 @@ module _ {W E : Type 0} (out_look : W → Output) (report_look : E → Output) w
         → OnOk written (Holds packed (bundles ++ record { bytes = begun ++ run; info = took.1.0 } ∷ []) [])
         → Writes out_look report_look before mid
         (on_output (segments_left old.number (with_bytes run true (cutting old.options begun))))
-        → GivesTexts out_look report_look mid after
-        (on_report (line_of old.options old.number (record { bytes = begun ++ run; info = took.1.0 }))) written
-        → GivesFound out_look report_look before after old bundles begun run packed found.Whole took result
+        → AfterWrite out_look report_look mid after
+        (on_report (report_line old.options old.number (record { bytes = begun ++ run; info = took.1.0 }))) written
+        → WritesFound out_look report_look before after old bundles begun run packed found.Whole took result
     ended took after packed written result is holds writes gives =
         record { written = written; is = is; gives = line_given before mid after _ _ writes written gives; holds = holds }
 
@@ -120,8 +120,8 @@ module _ {W E : Type 0} (out_look : W → Output) (report_look : E → Output) w
         → Writes out_look report_look before mid
         (on_output (segments_left old.number
         (with_bytes (before_last run) false (cutting old.options begun))))
-        → GivesLast out_look report_look mid after (on_report (fault_text why)) 3 answer
-        → GivesFound out_look report_look before after old bundles begun run packed (found.Refused why) took result
+        → AfterLastWrite out_look report_look mid after (on_report (fault_text why)) 3 answer
+        → WritesFound out_look report_look before after old bundles begun run packed (found.Refused why) took result
     refused why took after packed answer result is writes gives =
         record { answer = answer; is = is; gives = last_given before mid after _ _ writes answer gives }
 
@@ -135,7 +135,7 @@ module _ {R W E : Type 0} (look : Looks R W E) {out_handed : W → Option (List 
   Handed = HandedOn look out_handed report_handed enough (place_of old before) (place_of new after)
 
   handed_last : (texts : Texts) (status : ℕ) (answer : Result Status IoFault)
-      → GivesLast look.output look.report mid after texts status answer
+      → AfterLastWrite look.output look.report mid after texts status answer
       → (answer_of answer ≡ Err io.Write → ⊥) → Handed
   handed_last texts status (Ok ended) gives other = handed_by look old new before mid after texts kept held gives.0
   handed_last texts status (Err fault) part other = absurd (other (ap Err part.kind))
@@ -143,7 +143,7 @@ module _ {R W E : Type 0} (look : Looks R W E) {out_handed : W → Option (List 
   module _ (packer : Packer) where
     pub found_handed : (bundles : List Packed) (begun run : List ℕ) (packed : Packer) (what : Found)
         (took : MakesOf packer begun run what) (result : Result Progress IoFault)
-        → GivesFound look.output look.report mid after packer bundles begun run packed what took result
+        → WritesFound look.output look.report mid after packer bundles begun run packed what took result
         → (result ≡ Err io.Write → ⊥) → Handed
     found_handed bundles begun run packed found.Part took result gave other =
         handed_written look old new before mid after _ gave.written kept held gave.gives (λ e. other (gave.is ∙ e))
@@ -153,12 +153,12 @@ module _ {R W E : Type 0} (look : Looks R W E) {out_handed : W → Option (List 
         handed_last _ 3 gave.answer gave.gives (λ e. other (gave.is ∙ e))
 
     short_handed : (short : Option Fault) (answer : Result Status IoFault)
-        → GivesShort look.output look.report mid after packer.options short answer
+        → WritesEnd look.output look.report mid after packer.options short answer
         → (answer_of answer ≡ Err io.Write → ⊥) → Handed
     short_handed None answer gives other = handed_last _ 0 answer gives other
     short_handed (Some fault) answer gives other = handed_last _ 3 answer gives other
 
     pub finish_handed : (begun : List ℕ) (answer : Result Status IoFault)
-        → GivesFinish look.output look.report mid after packer begun answer
+        → WritesFinish look.output look.report mid after packer begun answer
         → (answer_of answer ≡ Err io.Write → ⊥) → Handed
     finish_handed begun answer gives other = short_handed gives.short answer gives.gave other

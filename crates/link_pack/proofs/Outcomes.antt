@@ -1,14 +1,14 @@
 -- What `pack` makes of an input, from its bundles and the bytes of the next one.
 use Rattle.std.proofs.Common.{◌≡◌, ℕ, ◌<◌, ◌≤◌, true, false, List, [], ◌∷◌, ◌++◌, length, Option, Some, None, refl, ap, sym, ◌∙◌, append-nil, arith}
 use Rattle.link_bundle.specs.Bundle.{bundle_goes}
-use Rattle.link_run.specs.Made.{Made, with_fault, whole_by, is_shown}
+use Rattle.link_run.specs.Made.{Made, with_fault, whole_by, shows_fault}
 use Rattle.link_run.specs.Run.{Texts, Outcome, ◌then◌}
 use Rattle.link_run.specs.Stages.{MayBegin}
 use Rattle.link_run.specs.Writers.{on_output}
 use Rattle.link_run.proofs.Runs.{texts_as}
-use Rattle.link_pack.specs.Bundles.{Packed, Refusal, Faulty, Rest, Divided, front_of, divided, joined}
-use Rattle.link_pack.specs.Packing.{prelude_bytes, segment_size, sending, transfers_of, rest_segments, end_bytes, lines_of, refusal_fault, stop_by, packing_of, packing_by}
-use Rattle.link_pack.specs.Packer.{IsCut}
+use Rattle.link_pack.specs.Bundles.{Packed, Refusal, Faulty, Rest, Divided, bundle_prefix, divided, with_bundles}
+use Rattle.link_pack.specs.Packing.{prelude_bytes, segment_size, sending, transfer_bytes, rest_segments, end_bytes, report_lines, refusal_fault, stop_by, packing_of, packing_by}
+use Rattle.link_pack.specs.Packer.{EndsInBundle}
 use Rattle.link_pack.specs.PackRun.{texts_of}
 use Rattle.link_pack.specs.Segments.{segments_of}
 use Rattle.link_pack.specs.declared.options.PackOptions.{PackOptions}
@@ -16,21 +16,21 @@ use Rattle.link_pack.proofs.Dividing.{divided_none, divided_open, goes_cut}
 use Rattle.link_pack.proofs.Sending.{segments_none}
 
 -- the end of an input, after the bytes `begun` of a bundle
-abbrev pub rest_of : (begun : List ℕ) → IsCut begun → Option Rest
+abbrev pub rest_of : (begun : List ℕ) → EndsInBundle begun → Option Rest
 rest_of [] cut = None
-rest_of (byte ∷ bytes) cut = Some (record { accepted = byte ∷ bytes; refusal = Faulty cut.fault cut.place })
+rest_of (byte ∷ bytes) cut = Some (record { accepted = byte ∷ bytes; refusal = Faulty cut.fault cut.offset })
 
-abbrev pub ends_so : List Packed → (begun : List ℕ) → IsCut begun → Divided
+abbrev pub ends_so : List Packed → (begun : List ℕ) → EndsInBundle begun → Divided
 ends_so bundles begun cut = record { bundles = bundles; rest = rest_of begun cut }
 
-divided_begun : (limit : ℕ) (begun : List ℕ) (cut : IsCut begun) → front_of begun ≡ begun
+divided_begun : (limit : ℕ) (begun : List ℕ) (cut : EndsInBundle begun) → bundle_prefix begun ≡ begun
     → bundle_goes begun ≡ true → length begun ≤ limit
     → divided limit begun ≡ ends_so [] begun cut
 divided_begun limit [] cut front goes within = divided_none limit
-divided_begun limit (byte ∷ bytes) cut front goes within = divided_open limit (byte ∷ bytes) cut.fault cut.place front goes (omega arith) within cut.is
+divided_begun limit (byte ∷ bytes) cut front goes within = divided_open limit (byte ∷ bytes) cut.fault cut.offset front goes (omega arith) within cut.is
 
-unshown_rest : (number : ℕ) (begun : List ℕ) (cut : IsCut begun)
-    → is_shown (stop_by number (rest_of begun cut)) ≡ false
+unshown_rest : (number : ℕ) (begun : List ℕ) (cut : EndsInBundle begun)
+    → shows_fault (stop_by number (rest_of begun cut)) ≡ false
 unshown_rest number [] cut = refl
 unshown_rest number (byte ∷ bytes) cut = cut.mends
 
@@ -50,24 +50,24 @@ module _ (options : PackOptions) where
   made_none = made_as [] _ (divided_none options.peer_transfer)
 
   pub may_begin : MayBegin (packing_of options) false
-  may_begin = record { texts = refl; unshown = ap (λ (m : Made). is_shown m.stop) made_none }
+  may_begin = record { texts = refl; unshown = ap (λ (m : Made). shows_fault m.stop) made_none }
 
   pub prelude_texts : (packing_of options []).texts ≡ on_output (prelude_bytes options)
-  unfolding transfers_of lines_of
+  unfolding transfer_bytes report_lines
   prelude_texts = ap (λ (m : Made). m.texts) made_none ∙ texts_as (append-nil _ ∙ append-nil (prelude_bytes options)) refl
 
   -- ---- a bundle that has begun
 
-  rest_written : (number : ℕ) (begun : List ℕ) (cut : IsCut begun)
+  rest_written : (number : ℕ) (begun : List ℕ) (cut : EndsInBundle begun)
       → rest_segments options number (rest_of begun cut)
       ≡ segments_of number (sending options false begun)
   rest_written number [] cut = sym (segments_none number (segment_size options) options.announce)
   rest_written number (byte ∷ bytes) cut = refl
 
-  texts_begun : (bundles : List Packed) (begun : List ℕ) (cut : IsCut begun)
+  texts_begun : (bundles : List Packed) (begun : List ℕ) (cut : EndsInBundle begun)
       → (packing_by options (ends_so bundles begun cut)).texts ≡ texts_of options bundles begun
   texts_begun bundles begun cut =
-      ap (λ (xs : List ℕ). record { output = prelude_bytes options ++ transfers_of options 0 bundles ++ xs; report = lines_of options 0 bundles })
+      ap (λ (xs : List ℕ). record { output = prelude_bytes options ++ transfer_bytes options 0 bundles ++ xs; report = report_lines options 0 bundles })
       (rest_written (length bundles) begun cut)
 
   abbrev pub clean : List Packed → (begun : List ℕ) → Outcome
@@ -79,17 +79,17 @@ module _ (options : PackOptions) where
     status = 3;
   }
 
-  clean_by : (bundles : List Packed) (begun : List ℕ) (cut : IsCut begun) → begun ≡ []
+  clean_by : (bundles : List Packed) (begun : List ℕ) (cut : EndsInBundle begun) → begun ≡ []
       → whole_of (packing_by options (ends_so bundles begun cut)) ≡ clean bundles begun
   clean_by bundles [] cut none =
-      ap (λ (xs : List ℕ). record { texts = record { output = (prelude_bytes options ++ transfers_of options 0 bundles ++ xs) ++ end_bytes options; report = lines_of options 0 bundles }; status = 0 })
+      ap (λ (xs : List ℕ). record { texts = record { output = (prelude_bytes options ++ transfer_bytes options 0 bundles ++ xs) ++ end_bytes options; report = report_lines options 0 bundles }; status = 0 })
       (rest_written (length bundles) [] cut)
-      ∙ ap (λ (xs : List ℕ). record { texts = record { output = (texts_of options bundles []).output ++ end_bytes options; report = xs }; status = 0 }) (sym (append-nil (lines_of options 0 bundles)))
+      ∙ ap (λ (xs : List ℕ). record { texts = record { output = (texts_of options bundles []).output ++ end_bytes options; report = xs }; status = 0 }) (sym (append-nil (report_lines options 0 bundles)))
   clean_by bundles (byte ∷ bytes) cut none = absurd (omega (arith, ap length none))
 
-  cut_by : (bundles : List Packed) (begun : List ℕ) (cut : IsCut begun) → 0 < length begun
+  cut_by : (bundles : List Packed) (begun : List ℕ) (cut : EndsInBundle begun) → 0 < length begun
       → whole_of (packing_by options (ends_so bundles begun cut))
-      ≡ stopped bundles begun (Faulty cut.fault cut.place)
+      ≡ stopped bundles begun (Faulty cut.fault cut.offset)
   cut_by bundles [] cut some = absurd (omega arith)
   cut_by bundles (byte ∷ bytes) cut some = refl
 
@@ -97,28 +97,28 @@ module _ (options : PackOptions) where
   refused_so bundles accepted refusal = record { bundles = bundles; rest = Some (record { accepted = accepted; refusal = refusal }) }
 
   module _ (history : List ℕ) (bundles : List Packed) (begun : List ℕ)
-      (front : front_of begun ≡ begun) (goes : bundle_goes begun ≡ true)
+      (front : bundle_prefix begun ≡ begun) (goes : bundle_goes begun ≡ true)
       (within : length begun ≤ options.peer_transfer)
-      (divides : (more : List ℕ) → divided options.peer_transfer (history ++ more) ≡ joined bundles (divided options.peer_transfer (begun ++ more))) where
-    made_going : (cut : IsCut begun)
+      (divides : (more : List ℕ) → divided options.peer_transfer (history ++ more) ≡ with_bundles bundles (divided options.peer_transfer (begun ++ more))) where
+    made_going : (cut : EndsInBundle begun)
         → packing_of options history ≡ packing_by options (ends_so bundles begun cut)
     made_going cut =
         made_as history _ (ap (divided options.peer_transfer) (sym (append-nil history)) ∙ divides []
-        ∙ ap (λ (bytes : List ℕ). joined bundles (divided options.peer_transfer bytes)) (append-nil begun)
-        ∙ ap (joined bundles) (divided_begun options.peer_transfer begun cut front goes within)
+        ∙ ap (λ (bytes : List ℕ). with_bundles bundles (divided options.peer_transfer bytes)) (append-nil begun)
+        ∙ ap (with_bundles bundles) (divided_begun options.peer_transfer begun cut front goes within)
         ∙ ap (λ (all : List Packed). record { bundles = all; rest = rest_of begun cut }) (append-nil bundles))
 
     pub texts_going : (packing_of options history).texts ≡ texts_of options bundles begun
     texts_going = let cut = goes_cut begun goes in ap (λ (m : Made). m.texts) (made_going cut) ∙ texts_begun bundles begun cut
 
-    pub unshown_going : is_shown (packing_of options history).stop ≡ false
-    unshown_going = let cut = goes_cut begun goes in ap (λ (m : Made). is_shown m.stop) (made_going cut) ∙ unshown_rest (length bundles) begun cut
+    pub unshown_going : shows_fault (packing_of options history).stop ≡ false
+    unshown_going = let cut = goes_cut begun goes in ap (λ (m : Made). shows_fault m.stop) (made_going cut) ∙ unshown_rest (length bundles) begun cut
 
     -- the input ends between two bundles
     pub whole_clean : begun ≡ [] → whole_of (packing_of options history) ≡ clean bundles begun
     whole_clean none = let cut = goes_cut begun goes in ap whole_of (made_going cut) ∙ clean_by bundles begun cut none
 
     -- the input ends inside a bundle
-    pub whole_cut : (cut : IsCut begun) → 0 < length begun
-        → whole_of (packing_of options history) ≡ stopped bundles begun (Faulty cut.fault cut.place)
+    pub whole_cut : (cut : EndsInBundle begun) → 0 < length begun
+        → whole_of (packing_of options history) ≡ stopped bundles begun (Faulty cut.fault cut.offset)
     whole_cut cut some = ap whole_of (made_going cut) ∙ cut_by bundles begun cut some

@@ -16,9 +16,9 @@ use Rattle.link_transfer.specs.Chunks.{chunk_count}
 use Rattle.link_transfer.proofs.Due.{fits, fits_back}
 use Rattle.link_report.specs.declared.fault.Fault.TheVariants.{TooLong}
 use Rattle.link_report.specs.Packed.{packed_text}
-use Rattle.link_pack.specs.Bundles.{Packed, Longer, Faulty, front_of}
+use Rattle.link_pack.specs.Bundles.{Packed, Longer, Faulty, bundle_prefix}
 use Rattle.link_pack.specs.Packer.{Holds, Grows, Refuses, MakesOf, found_by, accepted_of}
-use Rattle.link_pack.specs.Packing.{segment_size, line_of}
+use Rattle.link_pack.specs.Packing.{segment_size, report_line}
 use Rattle.link_pack.specs.declared.options.PackOptions.{PackOptions}
 use Rattle.link_pack.specs.declared.packer.Found.{Found}
 use Rattle.link_pack.specs.declared.packer.Found.TheVariants as found
@@ -69,14 +69,14 @@ module _ (begun piece : List ℕ) (size count : ℕ)
 record Comes (packer : Packer) (begun run : List ℕ) : Type 0 where
   pub some : 0 < length run
   pub scanned : HasScanned packer.scan (begun ++ run)
-  pub front : front_of (begun ++ run) ≡ begun ++ run
+  pub front : bundle_prefix (begun ++ run) ≡ begun ++ run
   pub within : length (begun ++ run) ≤ packer.options.peer_transfer
 
 -- the run is the bytes that a scan takes of the first `size` bytes of a piece
 comes : (packer : Packer) (begun piece : List ℕ) (size count : ℕ)
     → count ≡ length (taken bundle_goes begun (take size piece))
     → 0 < count → HasScanned packer.scan (begun ++ taken bundle_goes begun (take size piece))
-    → front_of begun ≡ begun
+    → bundle_prefix begun ≡ begun
     → length begun + size ≤ packer.options.peer_transfer → Comes packer begun (take count piece)
 comes packer begun piece size count counted some scanned kept within =
     let is = taken_front begun piece size count counted in
@@ -84,7 +84,7 @@ comes packer begun piece size count counted some scanned kept within =
     record {
       some = omega (arith, length-take count piece);
       scanned = subst (λ run. HasScanned packer.scan (begun ++ run)) is scanned;
-      front = subst (λ run. front_of (begun ++ run) ≡ begun ++ run) is (front_kept begun (take size piece) kept);
+      front = subst (λ run. bundle_prefix (begun ++ run) ≡ begun ++ run) is (front_kept begun (take size piece) kept);
       within = omega (arith, length-append begun (take count piece), length-take count piece);
     }
 
@@ -99,26 +99,26 @@ module _ (packer : Packer) (begun run : List ℕ) (here : Comes packer begun run
   grows : Grows packer begun run
   grows = record { scanned = here.scanned; front = here.front; within = here.within }
 
-  took_fault : (fault : BundleFault) (place : ℕ) (test : Bool) → lasts fault ≡ test
-      → verdict (begun ++ run) ≡ Err (fault, place)
+  took_fault : (fault : BundleFault) (offset : ℕ) (test : Bool) → lasts fault ≡ test
+      → verdict (begun ++ run) ≡ Err (fault, offset)
       → MakesOf packer begun run (found_by packer.number (if test
-      then state.Failed fault place else state.Going))
-  took_fault fault place true lasting outcome = record {
-    refusal = Faulty fault place;
+      then state.Failed fault offset else state.Going))
+  took_fault fault offset true lasting outcome = record {
+    refusal = Faulty fault offset;
     is = refl;
     lasts = lasting;
     divides = λ more. rw (sym (but_last begun run here.some))
-        (divided_faulty packer.options.peer_transfer (begun ++ run) more fault place here.front outcome lasting here.within);
+        (divided_faulty packer.options.peer_transfer (begun ++ run) more fault offset here.front outcome lasting here.within);
   }
-  took_fault fault place false lasting outcome = (
+  took_fault fault offset false lasting outcome = (
     grows,
-    ap (λ outcome. is_going (state_of outcome)) outcome ∙ ap (λ test. is_going (if test then state.Failed fault place else state.Going)) lasting,
+    ap (λ outcome. is_going (state_of outcome)) outcome ∙ ap (λ test. is_going (if test then state.Failed fault offset else state.Going)) lasting,
   )
 
   took_told : (outcome : Result BundleInfo (BundleFault × ℕ)) → verdict (begun ++ run) ≡ outcome
       → MakesOf packer begun run (found_by packer.number (state_of outcome))
   took_told (Ok info) outcome = (grows, (info, outcome))
-  took_told (Err (fault, place)) outcome = took_fault fault place (lasts fault) refl outcome
+  took_told (Err (fault, offset)) outcome = took_fault fault offset (lasts fault) refl outcome
 
   took : (found : Found) → found ≡ found_by packer.number (state_of (verdict (begun ++ run)))
       → MakesOf packer begun run found
@@ -128,7 +128,7 @@ module _ (packer : Packer) (begun run : List ℕ) (here : Comes packer begun run
 pub judged : (packer : Packer) (begun piece : List ℕ) (size count : ℕ) (found : Found)
     → count ≡ length (taken bundle_goes begun (take size piece))
     → 0 < count → HasScanned packer.scan (begun ++ taken bundle_goes begun (take size piece))
-    → front_of begun ≡ begun → length begun + size ≤ packer.options.peer_transfer
+    → bundle_prefix begun ≡ begun → length begun + size ≤ packer.options.peer_transfer
     → ((seen : List ℕ) → HasScanned packer.scan seen
     → found ≡ found_by packer.number (state_of (verdict seen)))
     → MakesOf packer begun (take count piece) found
@@ -161,7 +161,7 @@ pub line_is : (options : PackOptions) (number segments size : ℕ) (bytes : List
     (seen info : BundleInfo) → segments ≡ chunk_count (segment_size options) size
     → size ≡ length bytes → ◌≡◌ {A = Result BundleInfo (BundleFault × ℕ)} (Ok seen) (Ok info)
     → packed_text (record { number = number; segments = segments; length = size; info = seen })
-    ≡ line_of options number (record { bytes = bytes; info = info })
+    ≡ report_line options number (record { bytes = bytes; info = info })
 line_is options number segments size bytes seen info counted sized is =
     let same : seen ≡ info = cc in
     rw (counted, sized, same) refl

@@ -9,14 +9,14 @@ use Rattle.link_wire.specs.Spelled.{be}
 use Rattle.link_wire.specs.Spelling.{total_bytes, announce_bytes, list_bytes, segment_head_bytes}
 use Rattle.link_wire.specs.declared.IoFault.{IoFault}
 use Rattle.link_transfer.specs.Chunks.{chunk_at, first_chunks}
-use Rattle.link_transfer.specs.Cutting.{Cutting, beginning, due, announcement, is_last, next_chunk, next_cut, after_cut, unshown, shown, with_bytes}
+use Rattle.link_transfer.specs.Cutting.{Cutting, beginning, due, announcement, is_last, next_chunk, next_cut, after_cut, without_chunk, shown, with_bytes}
 use Rattle.link_transfer.specs.Cutter.{IsCutterAt, cut_waits, wanted_by}
 use Rattle.link_transfer.specs.declared.cut.Cut.{Cut}
 use Rattle.link_transfer.specs.declared.cutter.Cutter.{Cutter}
 use Rattle.link_transfer.proofs.Chunking.{first_chunks-zero}
 use Rattle.link_transfer.proofs.Giving.{next_cut-none}
 use Rattle.link_transfer.proofs.Steps.{next_cut-is}
-use Rattle.link_run.specs.Writers.{on_output, Writes, WritesPart, GivesTexts}
+use Rattle.link_run.specs.Writers.{on_output, Writes, WritesPart, AfterWrite}
 use Rattle.link_run.specs.declared.writers.Writers.{Writers}
 use Rattle.link_run.proofs.Runs.{writes_then, part_of_more, part_behind}
 use Rattle.link_pack.specs.Segments.{flags_of, segment_bytes, Sending, cut_at, segments_from, sending_of, segments_left, all_given}
@@ -49,8 +49,8 @@ module _ {W E : Type 0} (out_look : W → Output) (report_look : E → Output) w
   pub gives_then : (old mid new : Writers W E) (first second : List ℕ)
       (result : Result (Unit {0}) IoFault)
       → Writes out_look report_look old mid (on_output first)
-      → GivesTexts out_look report_look mid new (on_output second) result
-      → GivesTexts out_look report_look old new (on_output (first ++ second)) result
+      → AfterWrite out_look report_look mid new (on_output second) result
+      → AfterWrite out_look report_look old new (on_output (first ++ second)) result
   gives_then old mid new first second (Ok done) one two = writes_then out_look report_look old mid new (on_output first) (on_output second) one two
   gives_then old mid new first second (Err fault) one part = part_behind out_look report_look old mid new first (on_output second) fault one part
 
@@ -158,7 +158,7 @@ quiet_left : (id : ℕ) (cutter : Cutter) (now : Cutting)
 quiet_left id cutter now at is = left_none id (sending_of now) (length now.given) (due now) (all_due cutter now at is)
 
 quiet_all : (cutter : Cutter) (now : Cutting) → IsCutterAt cutter now → next_cut now ≡ None
-    → unshown now ≡ all_given now
+    → without_chunk now ≡ all_given now
 quiet_all cutter now at is =
     let all = all_due cutter now at is in
     let goes_on = false_from_ne_true now.whole (λ whole. absurd (omega (arith, at.left whole))) in
@@ -174,22 +174,22 @@ quiet_ends cutter now at is = rw is (quiet_all cutter now at is)
 
 pub one_left : (id : ℕ) (now : Cutting) (cut : Cut) (chunk : List ℕ) (after : Cutter)
     → next_cut now ≡ Some cut → next_chunk now ≡ chunk
-    → IsCutterAt after (unshown (after_cut now)) → cut_waits after ≡ false
+    → IsCutterAt after (without_chunk (after_cut now)) → cut_waits after ≡ false
     → segment_bytes id cut chunk ≡ segments_left id now
 unfolding due
 one_left id now cut chunk after is same at quiet =
-    let none = quiet_left id after (unshown (after_cut now)) at (sym (next_cut-none after (unshown (after_cut now)) at quiet)) in
+    let none = quiet_left id after (without_chunk (after_cut now)) at (sym (next_cut-none after (without_chunk (after_cut now)) at quiet)) in
     let shows = ap shown (after_is now cut is) ∙ shown_after now (is_last now) ∙ same in
     sym (cut_left id now cut is
     ∙ ap₂ (λ (chunk more : List ℕ). segment_bytes id cut chunk ++ more) shows none
     ∙ append-nil (segment_bytes id cut chunk))
 
 pub one_ends : (now : Cutting) (cut : Cut) (after : Cutter) → next_cut now ≡ Some cut
-    → IsCutterAt after (unshown (after_cut now)) → cut_waits after ≡ false
+    → IsCutterAt after (without_chunk (after_cut now)) → cut_waits after ≡ false
     → IsCutterAt after (all_given now)
 unfolding due
 one_ends now cut after is at quiet =
-    let ends = quiet_all after (unshown (after_cut now)) at (sym (next_cut-none after (unshown (after_cut now)) at quiet)) in
+    let ends = quiet_all after (without_chunk (after_cut now)) at (sym (next_cut-none after (without_chunk (after_cut now)) at quiet)) in
     subst (IsCutterAt after) (ends ∙ cut_ends now cut is) at
 
 -- the cutter took a whole run

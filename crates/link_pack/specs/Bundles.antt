@@ -10,7 +10,7 @@ use Rattle.link_bundle.specs.Bundle.{verdict, bundle_goes}
 -- limit, or it has this fault.
 pub data Refusal : Type 0 where
   Longer : (limit : ℕ) → Refusal
-  Faulty : (fault : BundleFault) (place : ℕ) → Refusal
+  Faulty : (fault : BundleFault) (offset : ℕ) → Refusal
 
 -- a bundle, and what its blocks say about it
 pub record Packed : Type 0 where
@@ -30,12 +30,12 @@ pub record Divided : Type 0 where
 
 -- The shortest prefix that is a bundle, or that shows that the bytes do not begin with one. If
 -- there is no such prefix, it is all bytes.
-abbrev pub front_of : List ℕ → List ℕ
-front_of bytes = taken bundle_goes [] bytes
+abbrev pub bundle_prefix : List ℕ → List ℕ
+bundle_prefix bytes = taken bundle_goes [] bytes
 
 abbrev pub refused_by : Result BundleInfo (BundleFault × ℕ) → Result BundleInfo Refusal
 refused_by (Ok info) = Ok info
-refused_by (Err (fault, place)) = Err (Faulty fault place)
+refused_by (Err (fault, offset)) = Err (Faulty fault offset)
 
 -- whether they are a bundle that the peer takes, of at most `limit` bytes (RFC 9174 section 4.6)
 abbrev pub judged_front : (limit : ℕ) → (front : List ℕ) → Result BundleInfo Refusal
@@ -45,7 +45,7 @@ judged_front limit front =
 -- the bytes that are accepted; the byte that shows a fault is not one of them
 abbrev pub accepted_by : Refusal → (front : List ℕ) → List ℕ
 accepted_by (Longer limit) front = take limit front
-accepted_by (Faulty fault place) front =
+accepted_by (Faulty fault offset) front =
     if lasts fault then take (length front - 1) front else front
 
 abbrev pub with_bundle : Packed → Divided → Divided
@@ -68,12 +68,12 @@ unfoldable pub divided_in : (count limit : ℕ) → List ℕ → Divided
 divided_in count limit [] = record { bundles = []; rest = None }
 divided_in zero limit (byte ∷ bytes) = record { bundles = []; rest = None }
 divided_in (suc count) limit (byte ∷ bytes) =
-    divided_by (divided_in count limit) (front_of (byte ∷ bytes)) (byte ∷ bytes)
-    (judged_front limit (front_of (byte ∷ bytes)))
+    divided_by (divided_in count limit) (bundle_prefix (byte ∷ bytes)) (byte ∷ bytes)
+    (judged_front limit (bundle_prefix (byte ∷ bytes)))
 
 unfoldable pub divided : (limit : ℕ) → List ℕ → Divided
 divided limit bytes = divided_in (length bytes) limit bytes
 
 -- these bundles, and then those of `more`
-abbrev pub joined : List Packed → Divided → Divided
-joined bundles more = record { bundles = bundles ++ more.bundles; rest = more.rest }
+abbrev pub with_bundles : List Packed → Divided → Divided
+with_bundles bundles more = record { bundles = bundles ++ more.bundles; rest = more.rest }

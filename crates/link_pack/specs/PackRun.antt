@@ -9,13 +9,13 @@ use Rattle.link_transfer.specs.Cutting.{with_bytes}
 use Rattle.link_report.specs.Fault.{fault_text}
 use Rattle.link_report.specs.declared.fault.Fault.{Fault}
 use Rattle.link_run.specs.Run.{Texts, Devices, answer_of, progress_after}
-use Rattle.link_run.specs.Writers.{on_output, on_report, GivesTexts, GivesLast}
+use Rattle.link_run.specs.Writers.{on_output, on_report, AfterWrite, AfterLastWrite}
 use Rattle.link_run.specs.declared.run.Progress.{Progress}
 use Rattle.link_run.specs.declared.run.Status.{Status}
 use Rattle.link_run.specs.declared.writers.Writers.{Writers}
-use Rattle.link_pack.specs.Bundles.{Packed, divided, joined}
+use Rattle.link_pack.specs.Bundles.{Packed, divided, with_bundles}
 use Rattle.link_pack.specs.Segments.{segments_of, segments_left}
-use Rattle.link_pack.specs.Packing.{prelude_bytes, sending, transfers_of, end_bytes, line_of, lines_of}
+use Rattle.link_pack.specs.Packing.{prelude_bytes, sending, transfer_bytes, end_bytes, report_line, report_lines}
 use Rattle.link_pack.specs.Packer.{cutting, before_last, Holds, MakesOf, CutShort}
 use Rattle.link_pack.specs.declared.options.PackOptions.{PackOptions}
 use Rattle.link_pack.specs.declared.packer.Found.{Found}
@@ -30,17 +30,17 @@ most_given stage.Prelude = 0
 most_given stage.Bundles = 4096
 
 -- whether the contact header and SESS_INIT were written
-abbrev pub is_begun : Stage → Bool
-is_begun stage.Prelude = false
-is_begun stage.Bundles = true
+abbrev pub has_prelude : Stage → Bool
+has_prelude stage.Prelude = false
+has_prelude stage.Bundles = true
 
 -- the texts for these bundles, and for the bytes `begun` of the next one
 abbrev pub texts_of : PackOptions → List Packed → (begun : List ℕ) → Texts
 texts_of options bundles begun = record {
   output =
-      prelude_bytes options ++ transfers_of options 0 bundles
+      prelude_bytes options ++ transfer_bytes options 0 bundles
       ++ segments_of (length bundles) (sending options false begun);
-  report = lines_of options 0 bundles;
+  report = report_lines options 0 bundles;
 }
 
 module _ {R : Type 0} (look : R → Input) (packer : Packer) (s : Source R) (history : List ℕ) where
@@ -55,7 +55,7 @@ module _ {R : Type 0} (look : R → Input) (packer : Packer) (s : Source R) (his
     -- whatever bytes follow
     pub divides : (more : List ℕ)
         → divided packer.options.peer_transfer (history ++ more)
-        ≡ joined bundles (divided packer.options.peer_transfer (begun ++ more))
+        ≡ with_bundles bundles (divided packer.options.peer_transfer (begun ++ more))
     pub few : length bundles + length begun ≤ length history
 
   -- a run that has not begun was given nothing, and has read nothing
@@ -79,7 +79,7 @@ module _ {W E : Type 0} (out_look : W → Output) (report_look : E → Output)
       (result : Result Progress IoFault) : Type 0 where
     pub written : Result (Unit {0}) IoFault
     pub is : result ≡ progress_after written
-    pub gives : GivesTexts out_look report_look old new texts written
+    pub gives : AfterWrite out_look report_look old new texts written
     pub holds : OnOk written stands
 
   -- these texts were written, and the run ends with this status; or a writer failed in them
@@ -87,24 +87,24 @@ module _ {W E : Type 0} (out_look : W → Output) (report_look : E → Output)
       (result : Result Progress IoFault) : Type 0 where
     pub answer : Result Status IoFault
     pub is : result ≡ answer_of answer
-    pub gives : GivesLast out_look report_look old new texts status answer
+    pub gives : AfterLastWrite out_look report_look old new texts status answer
 
   -- what is written once the bytes `run` have come, after these bundles and the bytes `begun`
-  abbrev pub GivesFound : (before : Packer) → (bundles : List Packed) → (begun run : List ℕ)
+  abbrev pub WritesFound : (before : Packer) → (bundles : List Packed) → (begun run : List ℕ)
       → (after : Packer) → (what : Found) → MakesOf before begun run what
       → Result Progress IoFault → Type 0
-  GivesFound before bundles begun run after found.Part took result =
+  WritesFound before bundles begun run after found.Part took result =
       WritesOn (on_output (run_segments before.options before.number begun run false))
       (Holds after bundles (begun ++ run)) result
-  GivesFound before bundles begun run after found.Whole took result =
+  WritesFound before bundles begun run after found.Whole took result =
       let bundle : Packed = record { bytes = begun ++ run; info = took.1.0 } in
       WritesOn
       (record {
         output = run_segments before.options before.number begun run true;
-        report = line_of before.options before.number bundle;
+        report = report_line before.options before.number bundle;
       }) (Holds after (bundles ++ bundle ∷ []) [])
       result
-  GivesFound before bundles begun run after (found.Refused fault) took result =
+  WritesFound before bundles begun run after (found.Refused fault) took result =
       WritesLast
       (record {
         output = run_segments before.options before.number begun (before_last run) false;
@@ -112,18 +112,18 @@ module _ {W E : Type 0} (out_look : W → Output) (report_look : E → Output)
       }) 3 result
 
   -- the fault of an input that ends inside a bundle is reported, or else the end is written
-  abbrev pub GivesShort : PackOptions → Option Fault → Result Status IoFault → Type 0
-  GivesShort options None answer =
-      GivesLast out_look report_look old new (on_output (end_bytes options)) 0 answer
-  GivesShort options (Some fault) answer =
-      GivesLast out_look report_look old new (on_report (fault_text fault)) 3 answer
+  abbrev pub WritesEnd : PackOptions → Option Fault → Result Status IoFault → Type 0
+  WritesEnd options None answer =
+      AfterLastWrite out_look report_look old new (on_output (end_bytes options)) 0 answer
+  WritesEnd options (Some fault) answer =
+      AfterLastWrite out_look report_look old new (on_report (fault_text fault)) 3 answer
 
   -- what is written at the end of the input
-  pub record GivesFinish (packer : Packer) (begun : List ℕ)
+  pub record WritesFinish (packer : Packer) (begun : List ℕ)
       (answer : Result Status IoFault) : Type 0 where
     pub short : Option Fault
     pub why : CutShort packer.number begun short
-    pub gave : GivesShort packer.options short answer
+    pub gave : WritesEnd packer.options short answer
 
 -- the request for memory was refused, and nothing was read or written
 pub record LacksMemory {R W E : Type 0} (start now : Devices R W E)

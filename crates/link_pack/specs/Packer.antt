@@ -12,7 +12,7 @@ use Rattle.link_transfer.specs.Cutting.{Cutting, beginning}
 use Rattle.link_transfer.specs.declared.cutter.Cutter.{Cutter}
 use Rattle.link_report.specs.declared.fault.Fault.{Fault}
 use Rattle.link_report.specs.declared.fault.Fault.TheVariants.{Bundle}
-use Rattle.link_pack.specs.Bundles.{Packed, Refusal, Faulty, front_of, divided}
+use Rattle.link_pack.specs.Bundles.{Packed, Refusal, Faulty, bundle_prefix, divided}
 use Rattle.link_pack.specs.Segments.{going}
 use Rattle.link_pack.specs.Packing.{segment_size, lasting, refusal_fault}
 use Rattle.link_pack.specs.declared.options.PackOptions.{PackOptions}
@@ -36,14 +36,14 @@ pub record Holds (packer : Packer) (bundles : List Packed) (begun : List ℕ) : 
   pub number : packer.number ≡ length bundles
   pub scanned : HasScanned packer.scan begun
   pub cut : IsCutterAt packer.cutter (cutting packer.options begun)
-  pub front : front_of begun ≡ begun
+  pub front : bundle_prefix begun ≡ begun
   pub goes : bundle_goes begun ≡ true
   pub within : length begun ≤ packer.options.peer_transfer
 
 -- the bytes `run` have come after the bytes `begun`
 pub record Grows (packer : Packer) (begun run : List ℕ) : Type 0 where
   pub scanned : HasScanned packer.scan (begun ++ run)
-  pub front : front_of (begun ++ run) ≡ begun ++ run
+  pub front : bundle_prefix (begun ++ run) ≡ begun ++ run
   pub within : length (begun ++ run) ≤ packer.options.peer_transfer
 
 -- the bytes of a run before its last byte, which shows a fault
@@ -72,24 +72,24 @@ MakesOf packer begun run found.Whole =
 MakesOf packer begun run (found.Refused fault) = Refuses packer begun run fault
 
 -- the bytes end inside a bundle
-pub record IsCut (bytes : List ℕ) : Type 0 where
+pub record EndsInBundle (bytes : List ℕ) : Type 0 where
   pub fault : BundleFault
-  pub place : ℕ
-  pub is : verdict bytes ≡ Err (fault, place)
+  pub offset : ℕ
+  pub is : verdict bytes ≡ Err (fault, offset)
   pub mends : lasts fault ≡ false
 
 -- the fault of an input that ends after the bytes `begun` of a bundle, if there are any
 abbrev pub CutShort : (number : ℕ) → (begun : List ℕ) → Option Fault → Type 0
 CutShort number begun None = begun ≡ []
 CutShort number begun (Some fault) =
-    (0 < length begun) × ((cut : IsCut begun)
-    × (fault ≡ refusal_fault number (Faulty cut.fault cut.place)))
+    (0 < length begun) × ((cut : EndsInBundle begun)
+    × (fault ≡ refusal_fault number (Faulty cut.fault cut.offset)))
 
 -- what the state of the scan shows of the bundle
 abbrev pub found_by : (number : ℕ) → State → Found
 found_by number state.Going = found.Part
 found_by number state.Ended = found.Whole
-found_by number (state.Failed fault place) = found.Refused (Bundle number place fault)
+found_by number (state.Failed fault offset) = found.Refused (Bundle number offset fault)
 
 -- the accepted bytes of a run: all but the byte that shows a fault
 abbrev pub accepted_of : Found → (run : List ℕ) → List ℕ

@@ -35,10 +35,11 @@ sending options whole bundle =
     }
 
 -- each bundle is a transfer (section 5.2.2), whose ID is the bundle's number
-unfoldable pub transfers_of : PackOptions → (number : ℕ) → List Packed → List ℕ
-transfers_of options number [] = []
-transfers_of options number (bundle ∷ more) =
-    segments_of number (sending options true bundle.bytes) ++ transfers_of options (suc number) more
+unfoldable pub transfer_bytes : PackOptions → (number : ℕ) → List Packed → List ℕ
+transfer_bytes options number [] = []
+transfer_bytes options number (bundle ∷ more) =
+    segments_of number (sending options true bundle.bytes)
+    ++ transfer_bytes options (suc number) more
 
 -- The due segments of the accepted bytes at the end of an input, if these are not a bundle. None of
 -- them is the last of its transfer.
@@ -52,8 +53,8 @@ end_bytes options = if options.send_term then sess_term_bytes 0 0 else []
 
 -- ---- the report
 
-abbrev pub line_of : PackOptions → (number : ℕ) → Packed → List ℕ
-line_of options number bundle = packed_text (record {
+abbrev pub report_line : PackOptions → (number : ℕ) → Packed → List ℕ
+report_line options number bundle = packed_text (record {
   number = number;
   segments = chunk_count (segment_size options) (length bundle.bytes);
   length = length bundle.bytes;
@@ -61,22 +62,22 @@ line_of options number bundle = packed_text (record {
 })
 
 -- a line for each bundle
-unfoldable pub lines_of : PackOptions → (number : ℕ) → List Packed → List ℕ
-lines_of options number [] = []
-lines_of options number (bundle ∷ more) =
-    line_of options number bundle ++ lines_of options (suc number) more
+unfoldable pub report_lines : PackOptions → (number : ℕ) → List Packed → List ℕ
+report_lines options number [] = []
+report_lines options number (bundle ∷ more) =
+    report_line options number bundle ++ report_lines options (suc number) more
 
 -- ---- where an input stops
 
 abbrev pub refusal_fault : (number : ℕ) → Refusal → Fault
 refusal_fault number (Longer limit) = TooLong number limit
-refusal_fault number (Faulty fault place) = Bundle number place fault
+refusal_fault number (Faulty fault offset) = Bundle number offset fault
 
 -- Whether the refusal stays, whatever bytes follow. Only that of bytes that end inside a bundle
 -- does not.
 abbrev pub lasting : Refusal → Bool
 lasting (Longer limit) = true
-lasting (Faulty fault place) = lasts fault
+lasting (Faulty fault offset) = lasts fault
 
 abbrev pub stop_by : (number : ℕ) → Option Rest → Option StreamStop
 stop_by number None = None
@@ -87,19 +88,19 @@ stop_by number (Some rest) =
 
 abbrev pub bundles_output : PackOptions → Divided → List ℕ
 bundles_output options input =
-    prelude_bytes options ++ transfers_of options 0 input.bundles
+    prelude_bytes options ++ transfer_bytes options 0 input.bundles
     ++ rest_segments options (length input.bundles) input.rest
 
 abbrev pub packing_by : PackOptions → Divided → Made
 packing_by options input = record {
   texts = record {
     output = bundles_output options input;
-    report = lines_of options 0 input.bundles;
+    report = report_lines options 0 input.bundles;
   };
   stop = stop_by (length input.bundles) input.rest;
   ended = record {
     output = bundles_output options input ++ end_bytes options;
-    report = lines_of options 0 input.bundles;
+    report = report_lines options 0 input.bundles;
   };
   good = true;
 }

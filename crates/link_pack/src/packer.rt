@@ -95,10 +95,10 @@ impl Packer {
     ghost use Rattle.link_bundle.specs.Scan.{HasScanned, scan_size};
     ghost use Rattle.link_bundle_types.specs.declared.info.BundleInfo.{BundleInfo};
     ghost use Rattle.link_report.specs.Fault.{fault_text};
-    ghost use Rattle.link_run.specs.Writers.{GivesTexts, on_report};
+    ghost use Rattle.link_run.specs.Writers.{AfterWrite, on_report};
     ghost use Rattle.link_transfer.specs.Cutter.{cut_waits, wanted_by};
     ghost use Rattle.link_pack.specs.Bundles.{Packed};
-    ghost use Rattle.link_pack.specs.Packing.{line_of};
+    ghost use Rattle.link_pack.specs.Packing.{report_line};
     ghost use Rattle.link_pack.specs.Packer.{Holds, IsCutterFor, MakesOf, CutShort, found_by};
 
     /// Makes a packer that has packed nothing, with a new cutter for the same options.
@@ -169,8 +169,8 @@ impl Packer {
         match self.scan.state() {
             State::Going => Found::Part,
             State::Ended => Found::Whole,
-            State::Failed(fault, place) => {
-                Found::Refused(Fault::Bundle(self.number, place, fault))
+            State::Failed(fault, offset) => {
+                Found::Refused(Fault::Bundle(self.number, offset, fault))
             }
         }
     }
@@ -182,8 +182,8 @@ impl Packer {
     ) -> Result<(), IoFault>
         ensures { (bytes : List ℕ) (info : BundleInfo) → HasScanned self.now.scan bytes
             → verdict bytes ≡ Ok info
-            → GivesTexts W.state E.state writers.old writers.new
-            (on_report (line_of self.now.options self.now.number
+            → AfterWrite W.state E.state writers.old writers.new
+            (on_report (report_line self.now.options self.now.number
             (record { bytes = bytes; info = info }))) result }
     {
         let info = match self.scan.view() {
@@ -225,7 +225,7 @@ impl Packer {
         }
         match self.scan.view() {
             Ok(_) => None,
-            Err((fault, place)) => Some(Fault::Bundle(self.number, place, fault)),
+            Err((fault, offset)) => Some(Fault::Bundle(self.number, offset, fault)),
         }
     }
 }

@@ -4,17 +4,17 @@ ghost use Rattle.std.specs.Prelude.{◌≡◌, ◌+◌, ◌^◌, ◌<◌, ◌≤
 ghost use Rattle.link_wire.specs.Device.{HasBytes};
 ghost use Rattle.link_wire.specs.Source.{ahead};
 ghost use Rattle.link_run.specs.Reading.{inner_of};
-ghost use Rattle.link_run.specs.Run.{Devices, devices_at, looks, GivesAnswer};
-ghost use Rattle.link_run.specs.Stages.{Stands, GivesStage, HandedOn, IsMore};
-ghost use Rattle.link_run.specs.Writers.{GivesTexts, on_output, on_report, place_of};
+ghost use Rattle.link_run.specs.Run.{Devices, devices_at, looks, AfterRun};
+ghost use Rattle.link_run.specs.Stages.{Stands, AfterStage, HandedOn, IsMore};
+ghost use Rattle.link_run.specs.Writers.{AfterWrite, on_output, on_report, place_of};
 ghost use Rattle.link_bundle.specs.Bundle.{verdict, bundle_goes};
 ghost use Rattle.link_bundle.specs.Scan.{HasScanned};
 ghost use Rattle.link_bundle_types.specs.declared.info.BundleInfo.{BundleInfo};
 ghost use Rattle.link_transfer.specs.Cutter.{IsCutterAt, cut_waits, wanted_by};
 ghost use Rattle.link_pack.specs.Bundles.{Packed};
-ghost use Rattle.link_pack.specs.Packing.{prelude_bytes, end_bytes, line_of, packing_of, pack_tool};
+ghost use Rattle.link_pack.specs.Packing.{prelude_bytes, end_bytes, report_line, packing_of, pack_tool};
 ghost use Rattle.link_pack.specs.Packer.{IsCutterFor, MakesOf, cutting};
-ghost use Rattle.link_pack.specs.PackRun.{Packs, GivesFound, GivesFinish, LacksMemory};
+ghost use Rattle.link_pack.specs.PackRun.{Packs, WritesFound, WritesFinish, LacksMemory};
 
 use crate::options::PackOptions;
 use crate::packer::{Found, Packer};
@@ -51,11 +51,11 @@ impl<R: InDevice, W: OutDevice, E: OutDevice> Stages<Source<R>, W, E> for Packin
     ghost use Rattle.std.specs.Prelude.{not};
     ghost use Rattle.link_transfer.specs.Cutter.{cut_waits};
     ghost use Rattle.link_pack.specs.Packing.{packing_of};
-    ghost use Rattle.link_pack.specs.PackRun.{most_given, is_begun, IsPacking};
+    ghost use Rattle.link_pack.specs.PackRun.{most_given, has_prelude, IsPacking};
 
     ghost made = { λ tool. packing_of tool.packer.options };
 
-    ghost begun = { λ tool. is_begun tool.stage };
+    ghost begun = { λ tool. has_prelude tool.stage };
 
     ghost fits = { λ tool input. not (cut_waits tool.packer.cutter) };
 
@@ -122,7 +122,7 @@ fn write_prelude<W: OutDevice, E: OutDevice>(
     options: &PackOptions,
     head: &mut HeadBuf,
 ) -> Result<(), IoFault>
-    ensures { GivesTexts W.state E.state writers.old writers.new
+    ensures { AfterWrite W.state E.state writers.old writers.new
         (on_output (prelude_bytes options.now)) result }
 {
     head.clear();
@@ -145,7 +145,7 @@ fn take_bundles<R: InDevice, W: OutDevice, E: OutDevice>(
         → Stands (looks R.state W.state E.state) (packing_of packer.old.options) start true
         (place_of (inner_of input.old) writers.old) history
         → Packs R.state packer.old (inner_of input.old) history
-        → GivesStage (looks R.state W.state E.state) (packing_of packer.old.options) start true
+        → AfterStage (looks R.state W.state E.state) (packing_of packer.old.options) start true
         (place_of (inner_of input.old) writers.old) (place_of (inner_of input.new) writers.new)
         (Packs R.state packer.new (inner_of input.new)) most history result }
     ensures handed { (history : List ℕ) → Packs R.state packer.old (inner_of input.old) history
@@ -183,7 +183,7 @@ fn go_on<W: OutDevice, E: OutDevice>(
         → IsCutterAt packer.old.cutter (cutting packer.old.options begun)
         → length run.now ≤ wanted_by packer.old.cutter
         → (took : MakesOf packer.old begun run.now found)
-        → GivesFound W.state E.state writers.old writers.new packer.old bundles begun run.now
+        → WritesFound W.state E.state writers.old writers.new packer.old bundles begun run.now
         packer.new found took result }
     ensures options { packer.new.options ≡ packer.old.options }
 {
@@ -206,8 +206,8 @@ fn end_bundle<W: OutDevice, E: OutDevice>(
 ) -> Result<(), IoFault>
     ensures gives { (bytes : List ℕ) (info : BundleInfo) → HasScanned packer.old.scan bytes
         → verdict bytes ≡ Ok info
-        → GivesTexts W.state E.state writers.old writers.new
-        (on_report (line_of packer.old.options packer.old.number
+        → AfterWrite W.state E.state writers.old writers.new
+        (on_report (report_line packer.old.options packer.old.number
         (record { bytes = bytes; info = info }))) result }
     ensures scanned { OnOk result (HasScanned packer.new.scan []) }
     ensures number { packer.old.number + 1 < 2 ^ 64
@@ -228,7 +228,7 @@ fn finish<W: OutDevice, E: OutDevice>(
     head: &mut HeadBuf,
 ) -> Result<Status, IoFault>
     ensures { (begun : List ℕ) → HasScanned packer.now.scan begun → bundle_goes begun ≡ true
-        → GivesFinish W.state E.state writers.old writers.new packer.now begun result }
+        → WritesFinish W.state E.state writers.old writers.new packer.now begun result }
 {
     if let Some(fault) = packer.cut_short() {
         return writers.report_fault(&fault);
@@ -243,7 +243,7 @@ fn write_end<W: OutDevice, E: OutDevice>(
     options: &PackOptions,
     head: &mut HeadBuf,
 ) -> Result<(), IoFault>
-    ensures { GivesTexts W.state E.state writers.old writers.new
+    ensures { AfterWrite W.state E.state writers.old writers.new
         (on_output (end_bytes options.now)) result }
 {
     if !options.send_term {
@@ -302,7 +302,7 @@ pub fn pack<R: InDevice, W: OutDevice, E: OutDevice>(
     requires reader { (R.state reader).failed ≡ false }
     requires output { (W.state output).failed ≡ false }
     requires report { (E.state report).failed ≡ false }
-    ensures ran { IfOk memory (λ _. GivesAnswer (looks R.state W.state E.state)
+    ensures ran { IfOk memory (λ _. AfterRun (looks R.state W.state E.state)
         (pack_tool options)
         (record { reader = reader; output = output; report = report })
         (record { reader = result.reader; output = result.output; report = result.report })

@@ -1,7 +1,7 @@
 //! The segments of a bundle, written as its chunks are cut.
 
 ghost use Rattle.std.specs.Prelude.{◌≡◌, ◌≤◌, Bool, false, List, ℕ, length, OnOk};
-ghost use Rattle.link_run.specs.Writers.{GivesTexts, on_output};
+ghost use Rattle.link_run.specs.Writers.{AfterWrite, on_output};
 ghost use Rattle.link_transfer.specs.Cutting.{Cutting, with_bytes};
 ghost use Rattle.link_transfer.specs.Cutter.{IsCutterAt, cut_waits, wanted_by};
 ghost use Rattle.link_pack.specs.Segments.{segment_bytes, segments_left, all_given};
@@ -21,7 +21,7 @@ fn write_segment<W: OutDevice, E: OutDevice>(
     chunk: &[u8],
     writers: &mut Writers<W, E>,
 ) -> Result<(), IoFault>
-    ensures gives { GivesTexts W.state E.state writers.old writers.new
+    ensures gives { AfterWrite W.state E.state writers.old writers.new
         (on_output (segment_bytes id cut chunk.now)) result }
 {
     if chunk.len() > CHUNK_MAX {
@@ -39,7 +39,7 @@ fn write_long<W: OutDevice, E: OutDevice>(
     writers: &mut Writers<W, E>,
 ) -> Result<(), IoFault>
     requires size { head.now.size ≡ length chunk.now }
-    ensures gives { GivesTexts W.state E.state writers.old writers.new
+    ensures gives { AfterWrite W.state E.state writers.old writers.new
         (on_output (segment_bytes head.now.id head.now.cut chunk.now)) result }
 {
     writers.write_text(head)?;
@@ -54,7 +54,7 @@ fn write_segments<W: OutDevice, E: OutDevice>(
     writers: &mut Writers<W, E>,
 ) -> Result<(), IoFault>
     ensures gives { (so_far : Cutting) → IsCutterAt cutter.old so_far
-        → GivesTexts W.state E.state writers.old writers.new (on_output (segments_left id so_far))
+        → AfterWrite W.state E.state writers.old writers.new (on_output (segments_left id so_far))
         result }
     ensures after { (so_far : Cutting) → IsCutterAt cutter.old so_far
         → OnOk result (IsCutterAt cutter.new (all_given so_far)) }
@@ -81,7 +81,7 @@ pub fn write_run<W: OutDevice, E: OutDevice>(
     requires quiet { cut_waits cutter.old ≡ false }
     ensures gives { (so_far : Cutting) → IsCutterAt cutter.old so_far
         → length run.now ≤ wanted_by cutter.old
-        → GivesTexts W.state E.state writers.old writers.new
+        → AfterWrite W.state E.state writers.old writers.new
         (on_output (segments_left id (with_bytes run.now last so_far))) result }
     ensures after { (so_far : Cutting) → IsCutterAt cutter.old so_far
         → length run.now ≤ wanted_by cutter.old

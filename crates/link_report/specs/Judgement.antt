@@ -29,8 +29,8 @@ judged_length Malformed size verdict = BadLengthItem
 
 -- The first that holds: another transfer began, the length item is bad, another length is
 -- announced, the data are no bundle, the data are a bundle.
-abbrev pub judged : Bool → Announced → ℕ → Result BundleInfo (BundleFault × ℕ) → Judgement
-judged abandoned announced size verdict =
+abbrev pub judged_transfer : Bool → Announced → ℕ → Result BundleInfo (BundleFault × ℕ) → Judgement
+judged_transfer abandoned announced size verdict =
     if abandoned then Abandoned else judged_length announced size verdict
 
 unfoldable pub judgement_text : Judgement → List ℕ

@@ -5,7 +5,7 @@ ghost use Rattle.link_bundle_types.specs.BundleView.{viewed_info, viewed_verdict
 ghost use Rattle.link_bundle_types.specs.ShortNames.{HasShortNames};
 ghost use Rattle.link_report.specs.BundleFault.{code_text};
 ghost use Rattle.link_report.specs.Text.{number_text};
-ghost use Rattle.link_report.specs.Judgement.{judged, judgement_text, viewed_judgement, IsShortJudgement};
+ghost use Rattle.link_report.specs.Judgement.{judged_transfer, judgement_text, viewed_judgement, IsShortJudgement};
 
 use crate::bundle_fault::code_of;
 use crate::identity::{IDENTITY_MAX, write_identity};
@@ -76,7 +76,7 @@ pub fn judge(
     length: u64,
     verdict: Result<BundleInfo, (BundleFault, u64)>,
 ) -> Judgement
-    ensures { result ≡ judged abandoned announced length verdict }
+    ensures { result ≡ judged_transfer abandoned announced length verdict }
 {
     match (abandoned, announced, verdict) {
         (true, _, _) => Judgement::Abandoned,
@@ -95,7 +95,7 @@ pub fn judge_view<'a>(
     verdict: Result<BundleView<'a>, (BundleFault, u64)>,
 ) -> JudgementView<'a>
     ensures judged { viewed_judgement result
-        ≡ judged abandoned announced length (viewed_verdict verdict.entry) }
+        ≡ judged_transfer abandoned announced length (viewed_verdict verdict.entry) }
     ensures short { IfOk verdict.entry (λ view. HasShortNames (viewed_info view))
         → IsShortJudgement (viewed_judgement result) }
 {

@@ -11,21 +11,21 @@ use Rattle.link_wire.specs.declared.fault.WireFault.TheVariants as wire
 use Rattle.link_report.specs.Fault.{fault_text}
 use Rattle.link_report.specs.declared.fault.Fault.{Fault as ReportedFault}
 use Rattle.link_report.proofs.Faults.{some_fault}
-use Rattle.link_run.specs.Made.{StreamStop, Made, with_fault, whole_by, sofar_by, is_shown, tool_of, is_lasting, stop_of}
+use Rattle.link_run.specs.Made.{StreamStop, Made, with_fault, whole_by, so_far_by, shows_fault, tool_of, is_lasting, stop_of}
 use Rattle.link_run.specs.Run.{Texts}
 use Rattle.link_run.proofs.Runs.{ReportsFaults, few_over}
 
 -- ---- where a recorded stream stops
 
 -- an end that more bytes may change shows no fault
-pub undecided_unshown : (end : End) → IsUndecided end → is_shown (stop_of end) ≡ false
+pub undecided_unshown : (end : End) → IsUndecided end → shows_fault (stop_of end) ≡ false
 undecided_unshown Clean is = refl
 undecided_unshown (Cut offset message content) is = refl
 undecided_unshown (Fault offset fault) is = ap is_lasting is
 
 -- an end at which a session goes on shows no fault
 pub standing_unshown : (offset left : ℕ) (end : End) → IsLeft offset left end
-    → is_shown (stop_of end) ≡ false
+    → shows_fault (stop_of end) ≡ false
 standing_unshown offset left Clean is = refl
 standing_unshown offset left (Cut from message content) is = refl
 standing_unshown offset left (Fault from fault) is = absurd is
@@ -39,11 +39,11 @@ lasts fault = inr (λ is. cc, refl)
 -- if the history showed no fault, at least one byte was given to show this one
 shown_by : (history given : List ℕ) (offset : ℕ) (fault : WireFault) (reading : Reading)
     → is_lasting fault ≡ true → reading_of (history ++ given) ≡ reading
-    → reading.end ≡ Fault offset fault → is_shown (stop_of (reading_of history).end) ≡ false
+    → reading.end ≡ Fault offset fault → shows_fault (stop_of (reading_of history).end) ≡ false
     → 0 < length given
 shown_by history [] offset fault reading lasting is ends unshown =
-    let shown : is_shown (stop_of (reading_of history).end) ≡ true =
-    ap (λ bytes. is_shown (stop_of (reading_of bytes).end)) (sym (append-nil history)) ∙ ap (λ (r : Reading). is_shown (stop_of r.end)) is ∙ ap (λ e. is_shown (stop_of e)) ends ∙ lasting
+    let shown : shows_fault (stop_of (reading_of history).end) ≡ true =
+    ap (λ bytes. shows_fault (stop_of (reading_of bytes).end)) (sym (append-nil history)) ∙ ap (λ (r : Reading). shows_fault (stop_of r.end)) is ∙ ap (λ e. shows_fault (stop_of e)) ends ∙ lasting
     in absurd (cc)
 shown_by history (b ∷ given) offset fault reading lasting is ends unshown = omega arith
 
@@ -51,7 +51,7 @@ shown_by history (b ∷ given) offset fault reading lasting is ends unshown = om
 pub few_at_fault : {R : Type 0} (look : R → Input) (old new : Source R) (history given : List ℕ)
     (offset : ℕ) (fault : WireFault) (reading : Reading)
     → Takes look old new given → IsRead look new (history ++ given) fault reading
-    → reading.end ≡ Fault offset fault → is_shown (stop_of (reading_of history).end) ≡ false
+    → reading.end ≡ Fault offset fault → shows_fault (stop_of (reading_of history).end) ≡ false
     → length (window_of new) < window_size
 few_at_fault look old new history given offset fault reading takes read ends unshown =
     let here : (fault ≡ wire.Truncated → ⊥) → reading_of (history ++ given) ≡ reading =
@@ -64,14 +64,14 @@ few_at_fault look old new history given offset fault reading takes read ends uns
 -- ---- the texts and the status of a tool
 
 -- if no fault is shown, the texts so far have no line of a fault
-pub unshown_sofar : (stop : Option StreamStop) (texts : Texts) → is_shown stop ≡ false
-    → sofar_by stop texts ≡ texts
+pub unshown_sofar : (stop : Option StreamStop) (texts : Texts) → shows_fault stop ≡ false
+    → so_far_by stop texts ≡ texts
 unshown_sofar None texts is = refl
 unshown_sofar (Some stop) texts is = rw is refl
 
 -- if a fault is shown, the texts so far and the whole texts are the same
-pub shown_sofar : (stop : Option StreamStop) (made : Made) → is_shown stop ≡ true
-    → sofar_by stop made.texts ≡ (whole_by stop made).texts
+pub shown_sofar : (stop : Option StreamStop) (made : Made) → shows_fault stop ≡ true
+    → so_far_by stop made.texts ≡ (whole_by stop made).texts
 shown_sofar None made is = absurd (cc)
 shown_sofar (Some stop) made is = rw is refl
 
@@ -86,8 +86,8 @@ line_lasts true fault texts = inl (refl, refl)
 line_lasts false fault texts = inr (omega (arith, length-append texts.report (fault_text fault), some_fault fault))
 
 by_stop : (stop : Option StreamStop) (made : Made) → (whole_by stop made).status ≡ 3
-    → ((is_shown stop ≡ true) × (sofar_by stop made.texts ≡ (whole_by stop made).texts))
-    ⊎ (length (sofar_by stop made.texts).report < length (whole_by stop made).texts.report)
+    → ((shows_fault stop ≡ true) × (so_far_by stop made.texts ≡ (whole_by stop made).texts))
+    ⊎ (length (so_far_by stop made.texts).report < length (whole_by stop made).texts.report)
 by_stop None made is = absurd (no_fault made.good is)
 by_stop (Some stop) made is = line_lasts stop.lasts stop.fault made.texts
 

@@ -12,7 +12,7 @@ use Rattle.std.proofs.KnownBytes.{Appends-trans}
 use Rattle.link_wire.specs.Device.{Input}
 use Rattle.link_run.specs.Run.{Texts, ◌then◌, Looks, progress_after}
 use Rattle.link_run.specs.Stages.{HandedOn}
-use Rattle.link_run.specs.Writers.{place_of, on_output, Writes, GivesTexts, WritesSome, GivesEnd, HasHandedOn}
+use Rattle.link_run.specs.Writers.{place_of, on_output, Writes, AfterWrite, WritesSome, AfterEnd, HasHandedOn}
 use Rattle.link_run.specs.declared.run.Status.{Status}
 use Rattle.link_run.specs.declared.writers.Writers.{Writers}
 use Rattle.link_run.proofs.Runs.{writes_none}
@@ -40,7 +40,7 @@ module _ {R W E : Type 0} (look : Looks R W E) {out_handed : W → Option (List 
   pub handed_written : (texts : Texts) (written : Result (Unit {0}) IoFault)
       → Writes look.output look.report before mid (on_output [])
       → HasHandedOn look.output look.report out_handed report_handed mid ⊎ enough
-      → GivesTexts look.output look.report mid after texts written
+      → AfterWrite look.output look.report mid after texts written
       → (progress_after written ≡ Err io.Write → ⊥)
       → HandedOn look out_handed report_handed enough (place_of old before) (place_of new after)
   handed_written texts (Ok done) kept held writes other = handed_by texts kept held writes
@@ -65,7 +65,7 @@ module _ {R W E : Type 0} (look : Looks R W E) {out_handed : W → Option (List 
   -- the same, by the result of the write, which did not fail
   pub handed_then : {between : Source R} (texts : Texts) (written : Result (Unit {0}) IoFault)
       → HandedOn look out_handed report_handed enough (place_of old before) (place_of between mid)
-      → GivesTexts look.output look.report mid after texts written
+      → AfterWrite look.output look.report mid after texts written
       → (progress_after written ≡ Err io.Write → ⊥)
       → HandedOn look out_handed report_handed enough (place_of old before) (place_of new after)
   handed_then texts (Ok done) handed writes other = handed_later texts handed writes
@@ -88,23 +88,23 @@ enough_by look session held = ⊎_elim (λ all. inl all) (λ next. inr (inr next
 module _ {R W E : Type 0} (look : Looks R W E) (old new : Session R)
     (before mid after : Writers W E) where
   not_on_fails : (why : Stop) (answer : Result Status IoFault)
-      → GivesEnd look.output look.report why mid after answer
+      → AfterEnd look.output look.report why mid after answer
       → NotHandedOn look old new before mid why → answer ≡ Err io.Write
   not_on_fails why answer gives not_on =
-      let P : Stop → Type 0 = λ w. GivesEnd look.output look.report w mid after answer in
+      let P : Stop → Type 0 = λ w. AfterEnd look.output look.report w mid after answer in
       (subst P not_on.is gives).0 ∙ ap Err not_on.unsettled.kind
 
   write_fails : (why : Stop) (answer : Result Status IoFault)
-      → GivesEnd look.output look.report why mid after answer → why ≡ stop.Io io.Write
+      → AfterEnd look.output look.report why mid after answer → why ≡ stop.Io io.Write
       → answer ≡ Err io.Write
   write_fails why answer gives is =
-      let P : Stop → Type 0 = λ w. GivesEnd look.output look.report w mid after answer in
+      let P : Stop → Type 0 = λ w. AfterEnd look.output look.report w mid after answer in
       (subst P is gives).0
 
 module _ {R W E : Type 0} (look : Looks R W E) {out_handed : W → Option (List ℕ)}
     {report_handed : E → Option (List ℕ)} (old new : Session R) (before mid after : Writers W E) where
   ended_on : (why : Stop) (answer : Result Status IoFault)
-      → GivesEnd look.output look.report why mid after answer → (answer ≡ Err io.Write → ⊥)
+      → AfterEnd look.output look.report why mid after answer → (answer ≡ Err io.Write → ⊥)
       → Writes look.output look.report before mid (on_output [])
       → HasHandedOn look.output look.report out_handed report_handed mid ⊎ HasEnough look.input old
       → HandedOn look out_handed report_handed (HasEnough look.input old) (place_of (source_of old) before) (place_of (source_of new) after)
@@ -119,7 +119,7 @@ module _ {R W E : Type 0} (look : Looks R W E) {out_handed : W → Option (List 
   -- the session has stopped, and the run ends
   pub handed_at_end : {A : Type 0} (why : Stop) (answer : Result Status IoFault)
       → (Writes look.output look.report before mid (on_output []) × A) ⊎ NotHandedOn look old new before mid why
-      → GivesEnd look.output look.report why mid after answer → (answer ≡ Err io.Write → ⊥)
+      → AfterEnd look.output look.report why mid after answer → (answer ≡ Err io.Write → ⊥)
       → ((why ≡ stop.Io io.Write → ⊥) → HasHandedOn look.output look.report out_handed report_handed mid ⊎ HasEnough look.input old)
       → HandedOn look out_handed report_handed (HasEnough look.input old) (place_of (source_of old) before) (place_of (source_of new) after)
   handed_at_end why answer got gives other held =

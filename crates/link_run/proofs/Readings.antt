@@ -1,6 +1,6 @@
 -- What a run reads from a session.
 use Rattle.std.proofs.Common.{ℕ, inl, List, [], Option, Result, Ok, Err}
-use Rattle.link_wire.specs.Session.{GivesNext, GivesLoad}
+use Rattle.link_wire.specs.Session.{AfterNext, AfterLoad}
 use Rattle.link_wire.specs.declared.fault.Stop.{Stop}
 use Rattle.link_wire.specs.declared.message.Message.{Message}
 use Rattle.link_wire.specs.declared.session.Session.{Session}
@@ -14,12 +14,12 @@ module _ {R W E : Type 0} (look : Looks R W E)
     (old new : Session R) (before after : Writers W E) (history : List ℕ)
     (writes : Writes look.output look.report before after (on_output [])) where
   pub message_given : (next : Result (Option (ℕ × Message)) Stop)
-      → GivesNext look.input old new history next
+      → AfterNext look.input old new history next
       → ReadsMessage look old new before after history next
   message_given (Ok next) gives = (writes, gives)
   message_given (Err why) gives = inl (writes, gives)
 
-  pub data_given : (next : Result ℕ Stop) → GivesLoad look.input old new history next
+  pub data_given : (next : Result ℕ Stop) → AfterLoad look.input old new history next
       → ReadsData look old new before after history next
   data_given (Ok n) gives = (writes, gives)
   data_given (Err why) gives = inl (writes, gives)

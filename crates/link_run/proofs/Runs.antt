@@ -12,8 +12,8 @@ use Rattle.link_wire.specs.Source.{reader_of, window_of, ahead, Takes, StopsAfte
 use Rattle.link_wire.specs.declared.IoFault.{IoFault}
 use Rattle.link_wire.specs.declared.IoFault.TheVariants as io
 use Rattle.link_wire.specs.declared.Source.{Source}
-use Rattle.link_run.specs.Run.{Texts, no_texts, ◌then◌, Tool, Looks, Devices, Place, devices_at, NoneFailed, Moves, HasWritten, HandedBack, AllGiven, FinishedRun, AreDue, IsBehind, EndedRun, GivesAnswer}
-use Rattle.link_run.specs.Writers.{place_of, on_output, Writes, WritesPart, GivesTexts, WritesSome, Unsettled}
+use Rattle.link_run.specs.Run.{Texts, no_texts, ◌then◌, Tool, Looks, Devices, Place, devices_at, NoneFailed, Moves, HasWritten, HandedBack, AllGiven, FinishedRun, AreDue, IsBehind, EndedRun, AfterRun}
+use Rattle.link_run.specs.Writers.{place_of, on_output, Writes, WritesPart, AfterWrite, WritesSome, Unsettled}
 use Rattle.link_run.specs.declared.run.Status.{Status}
 use Rattle.link_run.specs.declared.writers.Writers.{Writers}
 
@@ -43,8 +43,8 @@ then_none texts = texts_as (append-nil texts.output) (append-nil texts.report)
 abbrev pub ReportsFaults : Tool → Type 0
 ReportsFaults tool =
     (given : List ℕ) → (tool.whole given).status ≡ 3
-    → ((tool.shows given ≡ true) × (tool.sofar given ≡ (tool.whole given).texts))
-    ⊎ (length (tool.sofar given).report < length (tool.whole given).texts.report)
+    → ((tool.shows given ≡ true) × (tool.so_far given ≡ (tool.whole given).texts))
+    ⊎ (length (tool.so_far given).report < length (tool.whole given).texts.report)
 
 module _ {R W E : Type 0} (look : Looks R W E) where
   pub moves_none : (p : Place R W E) → Moves look p p [] no_texts
@@ -99,11 +99,11 @@ module _ {R W E : Type 0} (look : Looks R W E) where
       (answer result : Result Status IoFault)
       → EndedRun look tool start now given answer → tool ≡ other
       → devices ≡ now → result ≡ answer
-      → GivesAnswer look other start devices result
+      → AfterRun look other start devices result
   handed_back tool other start now devices given answer result gave same back is =
-      let P : Tool → Type 0 = λ t. GivesAnswer look t start devices result in
-      let Q : Devices R W E → Type 0 = λ d. GivesAnswer look tool start d result in
-      let S : Result Status IoFault → Type 0 = λ r. GivesAnswer look tool start now r in
+      let P : Tool → Type 0 = λ t. AfterRun look t start devices result in
+      let Q : Devices R W E → Type 0 = λ d. AfterRun look tool start d result in
+      let S : Result Status IoFault → Type 0 = λ r. AfterRun look tool start now r in
       subst P same (subst Q (sym back) (subst S (sym is) (record { given = given; gave = gave })))
 
 -- a source that has ended has given all that it read
@@ -123,7 +123,7 @@ pub record StoodAt (tool : Tool) (given : List ℕ) (texts : Texts) : Type 0 whe
   pub front : List ℕ
   pub rest : List ℕ
   pub parts : given ≡ front ++ rest
-  pub is : texts ≡ tool.sofar front
+  pub is : texts ≡ tool.so_far front
 
 -- the texts written so far: the report is empty, or a prefix of the bytes determines them
 abbrev pub Stood : Tool → (given : List ℕ) → Texts → Type 0
@@ -283,8 +283,8 @@ module _ {R W E : Type 0} (look : Looks R W E) where
         few = few;
         due = due;
         are_due = are_due;
-        output = output;
-        report = report;
+        output_count = output;
+        report_count = report;
         written = written_left look start (place_of s new) given _ cut_off;
         reader = sound.reader;
         failed = ⊎_elim
@@ -303,14 +303,14 @@ module _ {R W E : Type 0} (look : Looks R W E) where
   -- a writer failed to hand on what was written
   pub settle_lost : (tool : Tool) → ReportsFaults tool → (start : Devices R W E) (s : Source R)
       (old new : Writers W E) (given : List ℕ) (fault : IoFault)
-      → HasWritten look start (place_of s old) given (tool.sofar given)
+      → HasWritten look start (place_of s old) given (tool.so_far given)
       → NoneFailed look (devices_at (place_of s old))
       → tool.shows given ≡ false → length (window_of s) < window_size
       → Unsettled look.output look.report old new fault
       → EndedRun look tool start (devices_at (place_of s new)) given
       (Err fault)
   settle_lost tool faults start s old new given fault written sound unshown few part =
-      let due = tool.sofar given in
+      let due = tool.so_far given in
       let kept : Moves look (place_of s old) (place_of s new) [] no_texts = record {
         takes = Consumes-nil (ahead look.input s);
         count = omega arith;
@@ -324,8 +324,8 @@ module _ {R W E : Type 0} (look : Looks R W E) where
         few = few;
         due = due;
         are_due = inl refl;
-        output = length due.output;
-        report = length due.report;
+        output_count = length due.output;
+        report_count = length due.report;
         written = written_left look start (place_of s new) given _
             (written_as (written_then look start (place_of s old) (place_of s new) given [] due no_texts written kept) (append-nil given) all);
         reader = sound.reader;
@@ -342,7 +342,7 @@ module _ {R W E : Type 0} (look : Looks R W E) where
       (history given : List ℕ) (texts : Texts) (fault : IoFault)
       → HasWritten look start (place_of old w) history texts
       → NoneFailed look (devices_at (place_of old w))
-      → texts ≡ tool.sofar (history ++ given) → tool.shows (history ++ given) ≡ false
+      → texts ≡ tool.so_far (history ++ given) → tool.shows (history ++ given) ≡ false
       → StopsAfter look.input old new given fault
       → EndedRun look tool start (devices_at (place_of new w))
       (history ++ given) (Err fault)
@@ -450,8 +450,8 @@ module _ {W E : Type 0} (out_look : W → Output) (report_look : E → Output) (
   -- a text was written to the output, and then another, or a writer failed in it
   pub outputs_then : (first second : List ℕ) (result : Result (Unit {0}) IoFault)
       → Writes out_look report_look old mid (on_output first)
-      → GivesTexts out_look report_look mid new (on_output second) result
-      → GivesTexts out_look report_look old new (on_output (first ++ second)) result
+      → AfterWrite out_look report_look mid new (on_output second) result
+      → AfterWrite out_look report_look old new (on_output (first ++ second)) result
   outputs_then first second (Ok done) one two =
       writes_then out_look report_look old mid new (on_output first) (on_output second) one two
   outputs_then first second (Err fault) one part =
@@ -459,7 +459,7 @@ module _ {W E : Type 0} (out_look : W → Output) (report_look : E → Output) (
 
   -- some texts were written, or a writer failed
   pub wrote_some : (texts : Texts) (result : Result (Unit {0}) IoFault)
-      → GivesTexts out_look report_look old new texts result
+      → AfterWrite out_look report_look old new texts result
       → WritesSome out_look report_look old new result
   wrote_some texts (Ok done) writes = (texts, writes)
   wrote_some texts (Err fault) part = part.kind

@@ -3,7 +3,7 @@ use Rattle.std.proofs.Common.{◌≡◌, ℕ, ◌<◌, ◌≤◌, inl, inr, true
 use Rattle.link_wire.specs.Limits.{window_size, longest_head}
 use Rattle.link_wire.specs.Source.{window_of, Takes, StopsAfter}
 use Rattle.link_wire.specs.Stream.{End, Clean, Cut, Fault, Reading, reading_of, ended}
-use Rattle.link_wire.specs.Session.{source_of, joined, IsSessionAt, IsRead, IsUndecided, SameMessages, GivesContact, GivesNext, GivesLoad}
+use Rattle.link_wire.specs.Session.{source_of, joined, IsSessionAt, IsRead, IsUndecided, SameMessages, AfterOpen, AfterNext, AfterLoad}
 use Rattle.link_wire.specs.declared.IoFault.{IoFault}
 use Rattle.link_wire.specs.declared.Source.{Source}
 use Rattle.link_wire.specs.declared.fault.Stop.{Stop}
@@ -14,11 +14,11 @@ use Rattle.link_wire.proofs.Contacts.{reading-none}
 use Rattle.link_report.specs.Fault.{fault_text}
 use Rattle.link_report.specs.declared.fault.Fault.{Fault as ReportedFault}
 use Rattle.link_report.specs.declared.fault.Fault.TheVariants.{Wire}
-use Rattle.link_run.specs.Made.{Made, with_fault, whole_by, is_shown, tool_of, is_lasting, stop_of}
+use Rattle.link_run.specs.Made.{Made, with_fault, whole_by, shows_fault, tool_of, is_lasting, stop_of}
 use Rattle.link_run.specs.Reading.{NotHandedOn, ReadsMessage, ReadsData}
 use Rattle.link_run.specs.Run.{Texts, ◌then◌, Looks, Devices, devices_at, LastStep}
 use Rattle.link_run.specs.Stages.{Stands}
-use Rattle.link_run.specs.Writers.{place_of, on_report, GivesLast, GivesEnd}
+use Rattle.link_run.specs.Writers.{place_of, on_report, AfterLastWrite, AfterEnd}
 use Rattle.link_run.specs.declared.run.Status.{Status}
 use Rattle.link_run.specs.declared.writers.Writers.{Writers}
 use Rattle.link_run.proofs.Ends.{lasts, few_at_fault, undecided_unshown, standing_unshown}
@@ -59,7 +59,7 @@ module _ {R W E : Type 0} {look : Looks R W E} {made : List ℕ → Made} {start
       → IsRead look.input new (history ++ given) fault reading
       → (of reading).texts ≡ (made history).texts
       → (of reading).stop ≡ Some (record { fault = Wire offset fault; lasts = is_lasting fault })
-      → GivesLast look.output look.report before after (on_report (fault_text (Wire offset fault))) 3 answer
+      → AfterLastWrite look.output look.report before after (on_report (fault_text (Wire offset fault))) 3 answer
       → LastStep look (tool_of made) start (devices_at (place_of new after)) most history answer
   wire_fault {given} offset fault reading answer takes size few read texts stops gives =
       let bytes = history ++ given in
@@ -69,11 +69,11 @@ module _ {R W E : Type 0} {look : Looks R W E} {made : List ℕ → Made} {start
       ap (λ (m : Made). m.stop) m_is ∙ stops in
       let whole : (made history).texts then on_report (fault_text (Wire offset fault)) ≡ (whole_by (made bytes).stop (made bytes)).texts =
       then_fault (Wire offset fault) (made history).texts ∙ ap (with_fault (Wire offset fault)) (sym (ap (λ (m : Made). m.texts) m_is ∙ texts)) ∙ sym (ap (λ s. (whole_by s (made bytes)).texts) stop_is) in
-      let P : ℕ → Type 0 = λ status. GivesLast look.output look.report before after (on_report (fault_text (Wire offset fault))) status answer in
+      let P : ℕ → Type 0 = λ status. AfterLastWrite look.output look.report before after (on_report (fault_text (Wire offset fault))) status answer in
       ends most old new before at takes size few after (on_report (fault_text (Wire offset fault))) whole
       (⊎_elim
       (λ e. inl (read.over e))
-      (λ e. inr (ap is_shown stop_is ∙ e.1, λ more. is (bytes ++ more) ∙ ap of (read.all more (λ cut. absurd (e.0 cut))) ∙ sym m_is))
+      (λ e. inr (ap shows_fault stop_is ∙ e.1, λ more. is (bytes ++ more) ∙ ap of (read.all more (λ cut. absurd (e.0 cut))) ∙ sym m_is))
       (lasts fault))
       answer (subst P (sym (ap (λ s. (whole_by s (made bytes)).status) stop_is)) gives)
 
@@ -81,12 +81,12 @@ module _ {R W E : Type 0} {look : Looks R W E} {made : List ℕ → Made} {start
   reader_fault : {given : List ℕ} (fault : IoFault) (answer : Result Status IoFault)
       → StopsAfter look.input old new given fault → length given ≤ most
       → (of (reading_of (history ++ given))).texts ≡ (made history).texts
-      → is_shown (of (reading_of (history ++ given))).stop ≡ false
+      → shows_fault (of (reading_of (history ++ given))).stop ≡ false
       → answer ≡ Err fault → after ≡ before
       → LastStep look (tool_of made) start (devices_at (place_of new after)) most history answer
   reader_fault {given} fault answer stops size texts unshown gives same =
       let m_is = is (history ++ given) in
-      read_fails most old new before at given after fault answer stops size (sym (ap (λ (m : Made). m.texts) m_is ∙ texts)) (ap (λ (m : Made). is_shown m.stop) m_is ∙ unshown) gives same
+      read_fails most old new before at given after fault answer stops size (sym (ap (λ (m : Made). m.texts) m_is ∙ texts)) (ap (λ (m : Made). shows_fault m.stop) m_is ∙ unshown) gives same
 
 module _ {R W E : Type 0} {look : Looks R W E} {made : List ℕ → Made} {start : Devices R W E}
     {history : List ℕ} (of : Reading → Made) (is : (bytes : List ℕ) → made bytes ≡ of (reading_of bytes)) where
@@ -99,8 +99,8 @@ module _ {R W E : Type 0} {look : Looks R W E} {made : List ℕ → Made} {start
     pub message_stops : (after : Writers W E) → IsSessionAt look.input old history
         → SameTexts of (reading_of history)
         → (why : Stop) (answer : Result Status IoFault)
-        → GivesNext look.input old new history (Err why)
-        → GivesEnd look.output look.report why before after answer
+        → AfterNext look.input old new history (Err why)
+        → AfterEnd look.output look.report why before after answer
         → LastStep look (tool_of made) start (devices_at (place_of (source_of new) after)) longest_head history answer
     message_stops after session same (stop.Wire offset fault) answer got gives =
         let kept = same (joined (reading_of history) (ended (Fault offset fault))) (record { contact = refl; entries = append-nil _ }) tt in
@@ -111,14 +111,14 @@ module _ {R W E : Type 0} {look : Looks R W E} {made : List ℕ → Made} {start
         let kept = same (reading_of (history ++ got.given)) got.same (undecided_uncut _ got.undecided) in
         let size = got.size in
         reader_fault of is longest_head (source_of old) (source_of new) before after at fault answer got.stops (omega arith)
-        (kept.0 ∙ sym here) (ap is_shown kept.1 ∙ undecided_unshown _ got.undecided) gives.0 gives.1
+        (kept.0 ∙ sym here) (ap shows_fault kept.1 ∙ undecided_unshown _ got.undecided) gives.0 gives.1
 
     -- the session stopped inside the data of a segment
     pub data_stops : (most : ℕ) (after : Writers W E) → IsSessionAt look.input old history
         → (of (reading_of history)).stop ≡ stop_of (reading_of history).end
         → (why : Stop) (answer : Result Status IoFault)
-        → GivesLoad look.input old new history (Err why)
-        → GivesEnd look.output look.report why before after answer
+        → AfterLoad look.input old new history (Err why)
+        → AfterEnd look.output look.report why before after answer
         → LastStep look (tool_of made) start (devices_at (place_of (source_of new) after)) most history answer
     data_stops most after session stops (stop.Wire offset fault) answer got gives =
         let cut : (of (reading_of history)).stop ≡ Some (record { fault = Wire offset fault; lasts = is_lasting fault }) =
@@ -130,7 +130,7 @@ module _ {R W E : Type 0} {look : Looks R W E} {made : List ℕ → Made} {start
     data_stops most after session stops (stop.Io fault) answer got gives =
         reader_fault of is most (source_of old) (source_of new) before after at fault answer got.stops (omega arith)
         (ap (λ b. (of (reading_of b)).texts) (append-nil history) ∙ sym here)
-        (ap (λ b. is_shown (of (reading_of b)).stop) (append-nil history) ∙ ap is_shown stops ∙ standing_unshown old.offset old.left _ session.left) gives.0 gives.1
+        (ap (λ b. shows_fault (of (reading_of b)).stop) (append-nil history) ∙ ap shows_fault stops ∙ standing_unshown old.offset old.left _ session.left) gives.0 gives.1
 
   module _ (old new : Session R) (before mid after : Writers W E)
       (at : Stands look made start true (place_of (source_of old) before) history)
@@ -138,16 +138,16 @@ module _ {R W E : Type 0} {look : Looks R W E} {made : List ℕ → Made} {start
     -- a writer failed to hand on what was written before the read
     lost : (most : ℕ) (why : Stop) (answer : Result Status IoFault)
         → NotHandedOn look old new before mid why
-        → GivesEnd look.output look.report why mid after answer
+        → AfterEnd look.output look.report why mid after answer
         → LastStep look (tool_of made) start (devices_at (place_of (source_of new) after)) most history answer
     lost most why answer not_on gives =
-        let P : Stop → Type 0 = λ w. GivesEnd look.output look.report w mid after answer in
+        let P : Stop → Type 0 = λ w. AfterEnd look.output look.report w mid after answer in
         let as_failed = subst P not_on.is gives in
         rw (not_on.unread, as_failed.0, as_failed.1) (not_handed_on (source_of old) before mid at most not_on.fault not_on.few not_on.unsettled)
 
     pub message_ended : SameTexts of (reading_of history) → (why : Stop) (answer : Result Status IoFault)
         → ReadsMessage look old new before mid history (Err why)
-        → GivesEnd look.output look.report why mid after answer
+        → AfterEnd look.output look.report why mid after answer
         → LastStep look (tool_of made) start (devices_at (place_of (source_of new) after)) longest_head history answer
     message_ended same why answer got gives =
         ⊎_elim
@@ -158,7 +158,7 @@ module _ {R W E : Type 0} {look : Looks R W E} {made : List ℕ → Made} {start
     pub data_ended : (most : ℕ) → (of (reading_of history)).stop ≡ stop_of (reading_of history).end
         → (why : Stop) (answer : Result Status IoFault)
         → ReadsData look old new before mid history (Err why)
-        → GivesEnd look.output look.report why mid after answer
+        → AfterEnd look.output look.report why mid after answer
         → LastStep look (tool_of made) start (devices_at (place_of (source_of new) after)) most history answer
     data_ended most stops why answer got gives =
         ⊎_elim
@@ -175,16 +175,16 @@ module _ {R W E : Type 0} {look : Looks R W E} {made : List ℕ → Made} {start
 
   -- the contact header has a fault, or the reader failed inside it
   pub contact_ended : SameTexts of (reading_of []) → (why : Stop) (answer : Result Status IoFault)
-      → GivesContact look.input old new (Err why)
-      → GivesEnd look.output look.report why before after answer
+      → AfterOpen look.input old new (Err why)
+      → AfterEnd look.output look.report why before after answer
       → LastStep look (tool_of made) start (devices_at (place_of (source_of new) after)) 6 [] answer
   contact_ended same (stop.Wire offset fault) answer got gives =
       let kept = same (record { contact = None; entries = []; end = Fault 0 fault }) (rw reading-none (record { contact = refl; entries = refl })) tt in
       wire_fault of is 6 (source_of old) (source_of new) before after at offset fault _ answer got.takes got.size
-      (few_at_fault look.input (source_of old) (source_of new) [] got.given 0 fault _ got.takes got.is_read refl (ap (λ (r : Reading). is_shown (stop_of r.end)) reading-none))
-      got.is_read (kept.0 ∙ sym none) (kept.1 ∙ ap (λ n. Some (record { fault = Wire n fault; lasts = is_lasting fault })) (sym got.place)) gives
+      (few_at_fault look.input (source_of old) (source_of new) [] got.given 0 fault _ got.takes got.is_read refl (ap (λ (r : Reading). shows_fault (stop_of r.end)) reading-none))
+      got.is_read (kept.0 ∙ sym none) (kept.1 ∙ ap (λ n. Some (record { fault = Wire n fault; lasts = is_lasting fault })) (sym got.offset_is)) gives
   contact_ended same (stop.Io fault) answer got gives =
       let kept = same (reading_of got.given) (rw (got.reading, reading-none) (record { contact = refl; entries = refl })) (rw got.reading tt) in
       let size = got.size in
       reader_fault of is 6 (source_of old) (source_of new) before after at fault answer got.stops (omega arith)
-      (kept.0 ∙ sym none) (ap is_shown kept.1 ∙ ap (λ (r : Reading). is_shown (stop_of r.end)) got.reading) gives.0 gives.1
+      (kept.0 ∙ sym none) (ap shows_fault kept.1 ∙ ap (λ (r : Reading). shows_fault (stop_of r.end)) got.reading) gives.0 gives.1

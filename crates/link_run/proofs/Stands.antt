@@ -4,10 +4,10 @@ use Rattle.link_wire.specs.Limits.{window_size}
 use Rattle.link_wire.specs.Source.{window_of, Takes, StopsAfter, IsOver}
 use Rattle.link_wire.specs.declared.IoFault.{IoFault}
 use Rattle.link_wire.specs.declared.Source.{Source}
-use Rattle.link_run.specs.Made.{Made, whole_by, is_shown, tool_of}
-use Rattle.link_run.specs.Run.{Texts, no_texts, ◌then◌, Looks, Devices, Place, devices_at, NoneFailed, HasWritten, AreDue, LastStep, WentOn, EndedRun, GivesStep, answer_of, progress_after}
-use Rattle.link_run.specs.Stages.{Stands, GivesStage, written_by}
-use Rattle.link_run.specs.Writers.{place_of, Writes, WritesPart, GivesTexts, GivesLast, Unsettled}
+use Rattle.link_run.specs.Made.{Made, whole_by, shows_fault, tool_of}
+use Rattle.link_run.specs.Run.{Texts, no_texts, ◌then◌, Looks, Devices, Place, devices_at, NoneFailed, HasWritten, AreDue, LastStep, WentOn, EndedRun, AfterStep, answer_of, progress_after}
+use Rattle.link_run.specs.Stages.{Stands, AfterStage, written_by}
+use Rattle.link_run.specs.Writers.{place_of, Writes, WritesPart, AfterWrite, AfterLastWrite, Unsettled}
 use Rattle.link_run.specs.declared.run.Status.{Status}
 use Rattle.link_run.specs.declared.writers.Writers.{Writers}
 use Rattle.link_run.proofs.Ends.{unshown_sofar, shown_sofar, made_reports}
@@ -15,7 +15,7 @@ use Rattle.link_run.proofs.Runs.{Stood, written_as, written_given, written_more,
 
 -- the bytes so far determine what was written, or the report is empty
 stood_by : (begun : Bool) (made : List ℕ → Made) (history given : List ℕ)
-    → is_shown (made history).stop ≡ false
+    → shows_fault (made history).stop ≡ false
     → Stood (tool_of made) (history ++ given) (written_by begun (made history))
 stood_by true made history given unshown = inr (record {
   front = history;
@@ -46,7 +46,7 @@ module _ {R W E : Type 0} {look : Looks R W E} {made : List ℕ → Made} {start
     -- these texts are written, and the run goes on
     module _ (after : Writers W E) (texts : Texts)
         (due : had then texts ≡ (made bytes).texts)
-        (unshown : is_shown (made bytes).stop ≡ false) where
+        (unshown : shows_fault (made bytes).stop ≡ false) where
       pub stands_on : Writes look.output look.report before after texts
           → Stands look made start true (place_of new after) bytes
       stands_on writes = record {
@@ -82,8 +82,8 @@ module _ {R W E : Type 0} {look : Looks R W E} {made : List ℕ → Made} {start
       -- the same, by the result of the write
       pub written : (knows : List ℕ → Type 0) → (begun ≡ true → 0 < length given) → knows bytes
           → (0 < most → begun ≡ true) → (result : Result (Unit {0}) IoFault)
-          → GivesTexts look.output look.report before after texts result
-          → GivesStage look made start true (place_of old before) (place_of new after) knows most history (progress_after result)
+          → AfterWrite look.output look.report before after texts result
+          → AfterStage look made start true (place_of old before) (place_of new after) knows most history (progress_after result)
       written knows some known only (Ok done) writes = goes_on knows some known writes only
       written knows some known only (Err fault) part = loses fault part
 
@@ -91,7 +91,7 @@ module _ {R W E : Type 0} {look : Looks R W E} {made : List ℕ → Made} {start
     -- bytes change what is made of them.
     module _ (after : Writers W E) (texts : Texts)
         (whole : had then texts ≡ (whole_by (made bytes).stop (made bytes)).texts)
-        (over : IsOver look.input new ⊎ ((is_shown (made bytes).stop ≡ true) × ((more : List ℕ) → made (bytes ++ more) ≡ made bytes))) where
+        (over : IsOver look.input new ⊎ ((shows_fault (made bytes).stop ≡ true) × ((more : List ℕ) → made (bytes ++ more) ≡ made bytes))) where
       due_last : AreDue look (tool_of made) (devices_at (place_of new after)) bytes (window_of new) (had then texts)
       due_last =
           ⊎_elim
@@ -100,7 +100,7 @@ module _ {R W E : Type 0} {look : Looks R W E} {made : List ℕ → Made} {start
           over
 
       end_by : (answer : Result Status IoFault)
-          → GivesLast look.output look.report before after texts (whole_by (made bytes).stop (made bytes)).status answer
+          → AfterLastWrite look.output look.report before after texts (whole_by (made bytes).stop (made bytes)).status answer
           → EndedRun look (tool_of made) start (devices_at (place_of new after)) bytes answer
       end_by (Ok status) gives =
           answered look (tool_of made) start new after bytes status
@@ -117,7 +117,7 @@ module _ {R W E : Type 0} {look : Looks R W E} {made : List ℕ → Made} {start
           due_last few (λ some. stood_by begun made history given at.unshown) gives
 
       pub ends : (answer : Result Status IoFault)
-          → GivesLast look.output look.report before after texts (whole_by (made bytes).stop (made bytes)).status answer
+          → AfterLastWrite look.output look.report before after texts (whole_by (made bytes).stop (made bytes)).status answer
           → LastStep look (tool_of made) start (devices_at (place_of new after)) most history answer
       ends answer gives = record { given = given; size = size; gave = end_by answer gives }
 
@@ -126,7 +126,7 @@ module _ {R W E : Type 0} {look : Looks R W E} {made : List ℕ → Made} {start
       (answer : Result Status IoFault)
       → StopsAfter look.input old new given fault → length given ≤ most
       → written_by begun (made history) ≡ (made (history ++ given)).texts
-      → is_shown (made (history ++ given)).stop ≡ false → answer ≡ Err fault → after ≡ before
+      → shows_fault (made (history ++ given)).stop ≡ false → answer ≡ Err fault → after ≡ before
       → LastStep look (tool_of made) start (devices_at (place_of new after)) most history answer
   read_fails given after fault answer stops size due unshown is same =
       let bytes = history ++ given in
@@ -166,6 +166,6 @@ pub last_step : {R W E : Type 0} {look : Looks R W E} (made : List ℕ → Made)
     (old new : Place R W E) (stands : List ℕ → Type 0) {most : ℕ} {history : List ℕ}
     (answer : Result Status IoFault)
     → LastStep look (tool_of made) start (devices_at new) most history answer
-    → GivesStep look (tool_of made) start old new stands most history (answer_of answer)
+    → AfterStep look (tool_of made) start old new stands most history (answer_of answer)
 last_step made old new stands (Ok status) gives = gives
 last_step made old new stands (Err fault) gives = gives

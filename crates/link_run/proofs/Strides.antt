@@ -4,8 +4,8 @@ use Rattle.std.proofs.lemmas.Bool.{cases_lt}
 use Rattle.link_wire.specs.declared.IoFault.{IoFault}
 use Rattle.link_wire.specs.declared.Source.{Source}
 use Rattle.link_run.specs.Made.{Made, tool_of}
-use Rattle.link_run.specs.Run.{Tool, Looks, Devices, Place, EndedRun, WentOn, LastStep, GivesStep, GivesStride}
-use Rattle.link_run.specs.Stages.{Stands, GivesStage, IsMore}
+use Rattle.link_run.specs.Run.{Tool, Looks, Devices, Place, EndedRun, WentOn, LastStep, AfterStep, AfterStride}
+use Rattle.link_run.specs.Stages.{Stands, AfterStage, IsMore}
 use Rattle.link_run.specs.declared.run.Progress.{Progress}
 use Rattle.link_run.specs.declared.run.Progress.TheVariants.{More, Done}
 use Rattle.link_run.specs.declared.run.Status.{Status}
@@ -51,8 +51,8 @@ module _ {R W E : Type 0} (look : Looks R W E) (tool : Tool) (start : Devices R 
     -- a step that went on, and then another step
     pub step_then : (first second : ℕ) (result : Result Progress IoFault)
         → (went : WentOn old.source mid.source between first history)
-        → GivesStep look tool start mid new stands second (history ++ went.given) result
-        → GivesStep look tool start old new stands (first + second) history result
+        → AfterStep look tool start mid new stands second (history ++ went.given) result
+        → AfterStep look tool start old new stands (first + second) history result
     step_then first second (Ok More) went gives = went_later went gives
     step_then first second (Ok (Done status)) went gives = last_later went.given went.size gives
     step_then first second (Err fault) went gives = last_later went.given went.size gives
@@ -60,9 +60,9 @@ module _ {R W E : Type 0} (look : Looks R W E) (tool : Tool) (start : Devices R 
     -- A stride that went on, and then another, are one stride. A step is a stride, too: its size is
     -- its bound.
     pub stride_then : (most later : ℕ) (result : Result Progress IoFault)
-        → (strode : GivesStride look tool start old mid between most history (Ok More))
-        → GivesStride look tool start mid new stands later (history ++ strode.2.given) result
-        → GivesStride look tool start old new stands most history result
+        → (strode : AfterStride look tool start old mid between most history (Ok More))
+        → AfterStride look tool start mid new stands later (history ++ strode.2.given) result
+        → AfterStride look tool start old new stands most history result
     stride_then most later result strode more = (
       strode.0 + more.0,
       λ some. let first = strode.1 some in omega arith,
@@ -74,8 +74,8 @@ pub stage_kept : {R W E : Type 0} (look : Looks R W E) (made later : List ℕ �
     (start : Devices R W E) (begun : Bool) (old new : Place R W E) (knows : List ℕ → Type 0)
     (most : ℕ) (history : List ℕ) (answer : Option (Result Status IoFault))
     (result : Result Progress IoFault) → later ≡ made → (IsMore result → answer ≡ None)
-    → GivesStage look made start begun old new knows most history result
-    → GivesStep look (tool_of made) start old new
+    → AfterStage look made start begun old new knows most history result
+    → AfterStep look (tool_of made) start old new
     (λ bytes. (answer ≡ None) × (Stands look later start begun new bytes × knows bytes))
     most history result
 stage_kept look made later start begun old new knows most history answer (Ok More) same none went =

@@ -36,20 +36,20 @@ whole_by None made = record { texts = made.ended; status = if made.good then 0 e
 whole_by (Some stop) made = record { texts = with_fault stop.fault made.texts; status = 3 }
 
 -- the texts that are determined already; they have the line of a fault that lasts
-abbrev pub sofar_by : Option StreamStop → Texts → Texts
-sofar_by None texts = texts
-sofar_by (Some stop) texts = if stop.lasts then with_fault stop.fault texts else texts
+abbrev pub so_far_by : Option StreamStop → Texts → Texts
+so_far_by None texts = texts
+so_far_by (Some stop) texts = if stop.lasts then with_fault stop.fault texts else texts
 
 -- whether the bytes show a fault: one that lasts
-abbrev pub is_shown : Option StreamStop → Bool
-is_shown None = false
-is_shown (Some stop) = stop.lasts
+abbrev pub shows_fault : Option StreamStop → Bool
+shows_fault None = false
+shows_fault (Some stop) = stop.lasts
 
 abbrev pub tool_of : (List ℕ → Made) → Tool
 tool_of made = record {
   whole = λ bytes. whole_by (made bytes).stop (made bytes);
-  sofar = λ bytes. sofar_by (made bytes).stop (made bytes).texts;
-  shows = λ bytes. is_shown (made bytes).stop;
+  so_far = λ bytes. so_far_by (made bytes).stop (made bytes).texts;
+  shows = λ bytes. shows_fault (made bytes).stop;
 }
 
 -- ---- a recorded stream

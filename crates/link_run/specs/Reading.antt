@@ -2,8 +2,8 @@
 use Rattle.std.specs.Prelude.{◌≡◌, ℕ, ◌<◌, ◌⊎◌, true, List, [], length, Option, Result, Ok, Err}
 use Rattle.link_wire.specs.Device.{Input as Seen, HasBytes}
 use Rattle.link_wire.specs.Limits.{window_size}
-use Rattle.link_wire.specs.Session.{source_of, may_open, IsSessionAt, HasNext, GivesNext, GivesLoad}
-use Rattle.link_wire.specs.Source.{window_of, ahead, GivesFront}
+use Rattle.link_wire.specs.Session.{source_of, may_open, IsSessionAt, HasNext, AfterNext, AfterLoad}
+use Rattle.link_wire.specs.Source.{window_of, ahead, AfterReadyFront}
 use Rattle.link_wire.specs.declared.IoFault.{IoFault}
 use Rattle.link_wire.specs.declared.Source.{Source}
 use Rattle.link_wire.specs.declared.fault.Stop.{Stop}
@@ -39,29 +39,31 @@ module _ {R W E : Type 0} (look : Looks R W E)
   abbrev pub ReadsMessage : (history : List ℕ) → Result (Option (ℕ × Message)) Stop → Type 0
   ReadsMessage history (Ok next) =
       Writes look.output look.report before after (on_output [])
-      × GivesNext look.input old new history (Ok next)
+      × AfterNext look.input old new history (Ok next)
   ReadsMessage history (Err why) =
       (Writes look.output look.report before after (on_output [])
-      × GivesNext look.input old new history (Err why))
+      × AfterNext look.input old new history (Err why))
       ⊎ NotHandedOn why
 
   -- as `ReadsMessage`, for the data of the open segment
   abbrev pub ReadsData : (history : List ℕ) → Result ℕ Stop → Type 0
   ReadsData history (Ok n) =
       Writes look.output look.report before after (on_output [])
-      × GivesLoad look.input old new history (Ok n)
+      × AfterLoad look.input old new history (Ok n)
   ReadsData history (Err why) =
       (Writes look.output look.report before after (on_output [])
-      × GivesLoad look.input old new history (Err why))
+      × AfterLoad look.input old new history (Err why))
       ⊎ NotHandedOn why
 
 -- Nothing was written, and the source made bytes ready, ended or stopped; or a writer failed to
 -- hand on what was written, and nothing was read.
 abbrev pub ReadsBytes : {R W E : Type 0} → Looks R W E → (old new : Source R) → (before after : Writers W E) → Result ℕ IoFault → Type 0
 ReadsBytes look old new before after (Ok n) =
-    Writes look.output look.report before after (on_output []) × GivesFront look.input old new (Ok n)
+    Writes look.output look.report before after (on_output [])
+    × AfterReadyFront look.input old new (Ok n)
 ReadsBytes look old new before after (Err fault) =
-    (Writes look.output look.report before after (on_output []) × GivesFront look.input old new (Err fault))
+    (Writes look.output look.report before after (on_output [])
+    × AfterReadyFront look.input old new (Err fault))
     ⊎ ((new ≡ old) × (length (window_of old) < window_size)
     × Unsettled look.output look.report before after fault)
 

@@ -30,12 +30,12 @@ pub record Outcome : Type 0 where
   pub texts : Texts
   pub status : ℕ
 
--- What a tool makes of an input. `whole` is the outcome of an input of exactly these bytes. `sofar`
--- is the texts that these bytes determine, whatever bytes follow. `shows` is whether these bytes
--- show a fault that ends the run.
+-- What a tool makes of an input. `whole` is the outcome of an input of exactly these bytes.
+-- `so_far` is the texts that these bytes determine, whatever bytes follow. `shows` is whether these
+-- bytes show a fault that ends the run.
 pub record Tool : Type 0 where
   pub whole : List ℕ → Outcome
-  pub sofar : List ℕ → Texts
+  pub so_far : List ℕ → Texts
   pub shows : List ℕ → Bool
 
 -- the devices of a run
@@ -80,8 +80,8 @@ pub record IsBehind (tool : Tool) (given : List ℕ) (output_count report_count 
   pub front : List ℕ
   pub rest : List ℕ
   pub parts : given ≡ front ++ rest
-  pub output : length (tool.sofar front).output ≤ output_count
-  pub report : report_count ≤ length (tool.sofar front).report
+  pub output : length (tool.so_far front).output ≤ output_count
+  pub report : report_count ≤ length (tool.so_far front).report
 
 module _ {R : Type 0} where
   -- A step was not the last. It was given at most `most` bytes, and at least one if `most` is not
@@ -148,7 +148,7 @@ module _ {R W E : Type 0} (look : Looks R W E) where
   -- and the texts are those that they determine.
   pub record LostReader (tool : Tool) (start now : Devices R W E) (given : List ℕ) : Type 0 where
     pub unshown : tool.shows given ≡ false
-    pub written : HandedBack start now given (tool.sofar given)
+    pub written : HandedBack start now given (tool.so_far given)
     pub failed : (look.input now.reader).failed ≡ true
     pub output : (look.output now.output).failed ≡ false
     pub report : (look.report now.report).failed ≡ false
@@ -161,7 +161,7 @@ module _ {R W E : Type 0} (look : Looks R W E) where
     pub past : List ℕ
     pub few : length past ≤ window_size
     pub limit : longest_input < length given + length past
-    pub written : HandedBack start now (given ++ past) (tool.sofar given)
+    pub written : HandedBack start now (given ++ past) (tool.so_far given)
     pub reader : (look.input now.reader).failed ≡ false
     pub output : (look.output now.output).failed ≡ false
     pub report : (look.report now.report).failed ≡ false
@@ -170,39 +170,40 @@ module _ {R W E : Type 0} (look : Looks R W E) where
   -- of the whole input may be due instead.
   abbrev pub AreDue : Tool → Devices R W E → (given unread : List ℕ) → Texts → Type 0
   AreDue tool now given unread texts =
-      (texts ≡ tool.sofar given) ⊎ (AllGiven now unread × (texts ≡ (tool.whole given).texts))
+      (texts ≡ tool.so_far given) ⊎ (AllGiven now unread × (texts ≡ (tool.whole given).texts))
 
   -- Exactly one writer failed. If it is the output, no line of the report is about bytes that the
   -- output lacks. If it is the report, the output is whole.
   abbrev pub IsLost : Tool → Devices R W E → (given : List ℕ) → (due : Texts)
-      → (output report : ℕ) → Type 0
-  IsLost tool now given due output report =
+      → (output_count report_count : ℕ) → Type 0
+  IsLost tool now given due output_count report_count =
       (((look.output now.output).failed ≡ true) × ((look.report now.report).failed ≡ false)
-      × ((report ≡ 0) ⊎ IsBehind tool given output report))
+      × ((report_count ≡ 0) ⊎ IsBehind tool given output_count report_count))
       ⊎ (((look.report now.report).failed ≡ true) × ((look.output now.output).failed ≡ false)
-      × (length due.output ≤ output))
+      × (length due.output ≤ output_count))
 
-  -- One writer failed, and the reader did not. The texts are prefixes of those that are due
-  -- (`AreDue`). If the bytes given show a fault, the writer that failed lacks some of its text. If
-  -- they are the whole of an input that ends in a fault, the texts of that input are incomplete. So
-  -- a write failure never replaces a fault that was reported.
+  -- One writer failed, and the reader did not. Of the texts that are due (`AreDue`), the first
+  -- `output_count` bytes of the output and `report_count` bytes of the report were written. If the
+  -- bytes given show a fault, the writer that failed lacks some of its text. If they are the whole
+  -- of an input that ends in a fault, the texts of that input are incomplete. So a write failure
+  -- never replaces a fault that was reported.
   pub record LostWriter (tool : Tool) (start now : Devices R W E) (given : List ℕ) : Type 0 where
     pub unread : List ℕ
     pub few : length unread < window_size
     pub due : Texts
     pub are_due : AreDue tool now given unread due
-    pub output : ℕ
-    pub report : ℕ
+    pub output_count : ℕ
+    pub report_count : ℕ
     pub written : HandedBack start now (given ++ unread)
-        (record { output = take output due.output; report = take report due.report })
+        (record { output = take output_count due.output; report = take report_count due.report })
     pub reader : (look.input now.reader).failed ≡ false
-    pub failed : IsLost tool now given due output report
+    pub failed : IsLost tool now given due output_count report_count
     pub unended : tool.shows given ≡ true
-        → (output < length due.output)
-        ⊎ (((look.report now.report).failed ≡ true) × (report < length due.report))
+        → (output_count < length due.output)
+        ⊎ (((look.report now.report).failed ≡ true) × (report_count < length due.report))
     pub unreported : AllGiven now unread → (tool.whole given).status ≡ 3
-        → (output < length (tool.whole given).texts.output)
-        ⊎ (report < length (tool.whole given).texts.report)
+        → (output_count < length (tool.whole given).texts.output)
+        ⊎ (report_count < length (tool.whole given).texts.report)
 
   -- what holds after each failure; a run never fails for lack of memory
   abbrev pub FailedRun : Tool → Devices R W E → Devices R W E → List ℕ → IoFault → Type 0
@@ -218,7 +219,7 @@ module _ {R W E : Type 0} (look : Looks R W E) where
   EndedRun tool start now given (Err fault) = FailedRun tool start now given fault
 
   -- what holds after a whole run
-  pub record GivesAnswer (tool : Tool) (start now : Devices R W E)
+  pub record AfterRun (tool : Tool) (start now : Devices R W E)
       (answer : Result Status IoFault) : Type 0 where
     pub given : List ℕ
     pub gave : EndedRun tool start now given answer
@@ -231,25 +232,25 @@ module _ {R W E : Type 0} (look : Looks R W E) where
     pub gave : EndedRun tool start now (history ++ given) answer
 
   -- what holds after a step, by its result
-  abbrev pub GivesStep : Tool → Devices R W E → (old new : Place R W E) → (stands : List ℕ → Type 0)
+  abbrev pub AfterStep : Tool → Devices R W E → (old new : Place R W E) → (stands : List ℕ → Type 0)
       → (most : ℕ) → (history : List ℕ) → Result Progress IoFault → Type 0
-  GivesStep tool start old new stands most history (Ok More) =
+  AfterStep tool start old new stands most history (Ok More) =
       WentOn old.source new.source stands most history
-  GivesStep tool start old new stands most history (Ok (Done status)) =
+  AfterStep tool start old new stands most history (Ok (Done status)) =
       LastStep tool start (devices_at new) most history (Ok status)
-  GivesStep tool start old new stands most history (Err fault) =
+  AfterStep tool start old new stands most history (Err fault) =
       LastStep tool start (devices_at new) most history (Err fault)
 
   -- what holds after a stride: what holds after a step, without its bound
-  abbrev pub GivesStride : Tool → Devices R W E → (old new : Place R W E)
+  abbrev pub AfterStride : Tool → Devices R W E → (old new : Place R W E)
       → (stands : List ℕ → Type 0) → (most : ℕ) → (history : List ℕ)
       → Result Progress IoFault → Type 0
-  GivesStride tool start old new stands most history result =
+  AfterStride tool start old new stands most history result =
       (size : ℕ) × (0 < most → 0 < size)
-      × GivesStep tool start old new stands size history result
+      × AfterStep tool start old new stands size history result
 
 -- this is the result of a run's last step
-abbrev pub IsEnd : Result Progress IoFault → Type 0
-IsEnd (Ok More) = ⊥
-IsEnd (Ok (Done status)) = Unit {0}
-IsEnd (Err fault) = Unit {0}
+abbrev pub EndsRun : Result Progress IoFault → Type 0
+EndsRun (Ok More) = ⊥
+EndsRun (Ok (Done status)) = Unit {0}
+EndsRun (Err fault) = Unit {0}

@@ -2,8 +2,8 @@
 use Rattle.std.specs.Prelude.{◌≡◌, ℕ, ◌<◌, ◌⊎◌, Bool, true, false, List, [], Option, Some, None, Result, Ok}
 use Rattle.std.specs.Io.KnownBytes.{Appends}
 use Rattle.link_wire.specs.declared.IoFault.{IoFault}
-use Rattle.link_run.specs.Run.{Texts, no_texts, Looks, Devices, Place, devices_at, NoneFailed, HasWritten, GivesStep, answer_of}
-use Rattle.link_run.specs.Made.{Made, is_shown, tool_of}
+use Rattle.link_run.specs.Run.{Texts, no_texts, Looks, Devices, Place, devices_at, NoneFailed, HasWritten, AfterStep, answer_of}
+use Rattle.link_run.specs.Made.{Made, shows_fault, tool_of}
 use Rattle.link_run.specs.declared.run.Progress.{Progress}
 use Rattle.link_run.specs.declared.run.Progress.TheVariants.{More}
 use Rattle.link_run.specs.declared.run.Status.{Status}
@@ -19,30 +19,30 @@ pub record Stands {R W E : Type 0} (look : Looks R W E) (made : List ℕ → Mad
     (start : Devices R W E) (begun : Bool) (now : Place R W E) (history : List ℕ) : Type 0 where
   pub written : HasWritten look start now history (written_by begun (made history))
   pub sound : NoneFailed look (devices_at now)
-  pub unshown : is_shown (made history).stop ≡ false
+  pub unshown : shows_fault (made history).stop ≡ false
 
 -- before the first byte, nothing is written, and no fault is shown
 pub record MayBegin (made : List ℕ → Made) (begun : Bool) : Type 0 where
   pub texts : written_by begun (made []) ≡ no_texts
-  pub unshown : is_shown (made []).stop ≡ false
+  pub unshown : shows_fault (made []).stop ≡ false
 
 -- what holds after a step; if it is not the last, `Stands` and `knows` hold of the bytes so far
-abbrev pub GivesStage : {R W E : Type 0} → Looks R W E → (made : List ℕ → Made)
+abbrev pub AfterStage : {R W E : Type 0} → Looks R W E → (made : List ℕ → Made)
     → (start : Devices R W E) → (begun : Bool) → (old new : Place R W E)
     → (knows : List ℕ → Type 0) → (most : ℕ) → (history : List ℕ)
     → Result Progress IoFault → Type 0
-GivesStage look made start begun old new knows most history result =
-    GivesStep look (tool_of made) start old new
+AfterStage look made start begun old new knows most history result =
+    AfterStep look (tool_of made) start old new
     (λ bytes. Stands look made start begun new bytes × knows bytes) most history result
 
 -- what holds after a stride of stages: what holds after a step, without its bound
-abbrev pub GivesStageStride : {R W E : Type 0} → Looks R W E → (made : List ℕ → Made)
+abbrev pub AfterStageStride : {R W E : Type 0} → Looks R W E → (made : List ℕ → Made)
     → (start : Devices R W E) → (begun : Bool) → (old new : Place R W E)
     → (knows : List ℕ → Type 0) → (most : ℕ) → (history : List ℕ)
     → Result Progress IoFault → Type 0
-GivesStageStride look made start begun old new knows most history result =
+AfterStageStride look made start begun old new knows most history result =
     (size : ℕ) × (0 < most → 0 < size)
-    × GivesStage look made start begun old new knows size history result
+    × AfterStage look made start begun old new knows size history result
 
 -- Nothing was held back while a step waited for input. At its read the writers were `output` and
 -- `report`. By then everything written had been handed on, or the input had enough bytes left. The
@@ -65,11 +65,11 @@ IsMore (Ok More) = Unit {0}
 IsMore other = ⊥
 
 -- a run that has ended is given no more bytes
-abbrev pub most_by : Option (Result Status IoFault) → ℕ → ℕ
-most_by None most = most
-most_by (Some answer) most = 0
+abbrev pub most_unless_ended : Option (Result Status IoFault) → ℕ → ℕ
+most_unless_ended None most = most
+most_unless_ended (Some answer) most = 0
 
 -- the run has ended, and each further step returns this
-abbrev pub HasEnded : Option (Result Status IoFault) → Result Progress IoFault → Type 0
-HasEnded ended answer =
+abbrev pub RunHasEnded : Option (Result Status IoFault) → Result Progress IoFault → Type 0
+RunHasEnded ended answer =
     (given : Result Status IoFault) × (ended ≡ Some given) × (answer ≡ answer_of given)

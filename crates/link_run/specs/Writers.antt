@@ -13,6 +13,8 @@ use Rattle.link_run.specs.Run.{Texts, Place}
 use Rattle.link_run.specs.declared.run.Status.{Status}
 use Rattle.link_run.specs.declared.writers.Writers.{Writers}
 
+-- a text for one of the two writers
+
 abbrev pub on_output : List ℕ → Texts
 on_output text = record { output = text; report = [] }
 
@@ -66,9 +68,10 @@ module _ {W E : Type 0} (out_look : W → Output) (report_look : E → Output) w
     pub failed : LostOutput old new texts output_count report_count
         ⊎ LostReport old new texts output_count report_count
 
-  abbrev pub GivesTexts : Writers W E → Writers W E → Texts → Result (Unit {0}) IoFault → Type 0
-  GivesTexts old new texts (Ok done) = Writes old new texts
-  GivesTexts old new texts (Err fault) = WritesPart old new texts fault
+  -- these texts were written, or a writer failed in them
+  abbrev pub AfterWrite : Writers W E → Writers W E → Texts → Result (Unit {0}) IoFault → Type 0
+  AfterWrite old new texts (Ok done) = Writes old new texts
+  AfterWrite old new texts (Err fault) = WritesPart old new texts fault
 
   -- some texts were written, or a writer failed
   abbrev pub WritesSome : {A : Type 0} → Writers W E → Writers W E → Result A IoFault → Type 0
@@ -76,16 +79,16 @@ module _ {W E : Type 0} (out_look : W → Output) (report_look : E → Output) w
   WritesSome old new (Err fault) = fault ≡ io.Write
 
   -- these texts were written, and the run ends with this status; or a writer failed in them
-  abbrev pub GivesLast : Writers W E → Writers W E → Texts → (status : ℕ)
+  abbrev pub AfterLastWrite : Writers W E → Writers W E → Texts → (status : ℕ)
       → Result Status IoFault → Type 0
-  GivesLast old new texts status (Ok ended) = Writes old new texts × (ended.0 ≡ status)
-  GivesLast old new texts status (Err fault) = WritesPart old new texts fault
+  AfterLastWrite old new texts status (Ok ended) = Writes old new texts × (ended.0 ≡ status)
+  AfterLastWrite old new texts status (Err fault) = WritesPart old new texts fault
 
   -- for a fault of the wire, its line was written; any other failure is returned as it is
-  abbrev pub GivesEnd : Stop → Writers W E → Writers W E → Result Status IoFault → Type 0
-  GivesEnd (stop.Wire offset fault) old new answer =
-      GivesLast old new (on_report (fault_text (Wire offset fault))) 3 answer
-  GivesEnd (stop.Io fault) old new answer = (answer ≡ Err fault) × (new ≡ old)
+  abbrev pub AfterEnd : Stop → Writers W E → Writers W E → Result Status IoFault → Type 0
+  AfterEnd (stop.Wire offset fault) old new answer =
+      AfterLastWrite old new (on_report (fault_text (Wire offset fault))) 3 answer
+  AfterEnd (stop.Io fault) old new answer = (answer ≡ Err fault) × (new ≡ old)
 
   -- A writer failed to hand on what was written, and no text was added. The output is handed on
   -- before the report.
@@ -99,9 +102,9 @@ module _ {W E : Type 0} (out_look : W → Output) (report_look : E → Output) w
         × ((out_look new.output).failed ≡ (out_look old.output).failed))
 
   -- everything written was handed on, or a writer failed
-  abbrev pub GivesHandedOn : Writers W E → Writers W E → Result (Unit {0}) IoFault → Type 0
-  GivesHandedOn old new (Ok done) = Writes old new (on_output [])
-  GivesHandedOn old new (Err fault) = Unsettled old new fault
+  abbrev pub AfterSettle : Writers W E → Writers W E → Result (Unit {0}) IoFault → Type 0
+  AfterSettle old new (Ok done) = Writes old new (on_output [])
+  AfterSettle old new (Err fault) = Unsettled old new fault
 
 -- No writer holds back anything that was written. The functions `out_handed` and `report_handed`
 -- give what a writer has handed on.

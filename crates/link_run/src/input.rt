@@ -93,7 +93,7 @@ impl<S> Input<S> {
 /// The calls that read a recorded session.
 impl<R: InDevice> Input<Session<R>> {
     ghost use Rattle.std.specs.Prelude.{◌≤◌, None, take};
-    ghost use Rattle.link_wire.specs.Session.{source_of, may_open, HasNext, PassedBytes, GivesContact};
+    ghost use Rattle.link_wire.specs.Session.{source_of, may_open, HasNext, PassedBytes, AfterOpen};
     ghost use Rattle.link_wire.specs.Whole.{ReadWhole, PassedQuiet};
     ghost use Rattle.link_run.specs.Reading.{inner_of};
 
@@ -103,7 +103,7 @@ impl<R: InDevice> Input<Session<R>> {
     #[inline(always)]
     pub fn open(&mut self) -> Result<Contact, Stop>
         requires { IsTrue (may_open (inner_of self.old)) }
-        ensures gives { GivesContact R.state (inner_of self.old) (inner_of self.new) result }
+        ensures gives { AfterOpen R.state (inner_of self.old) (inner_of self.new) result }
         ensures opened { IsTrue (is_opened (inner_of self.new)) }
         ensures may_read { IsTrue (may_read (inner_of self.new)) }
         ensures left { IfErr result (λ _. left_of (inner_of self.new) ≡ left_of (inner_of self.old)) }

@@ -2,7 +2,7 @@
 
 ghost use Rattle.std.specs.Prelude.{◌≡◌, ◌<◌, ℕ, List, [], Result, Err};
 ghost use Rattle.link_wire.specs.declared.IoFault.{IoFault};
-ghost use Rattle.link_run.specs.Run.{Tool, Devices, Place, devices_at, looks, GivesStep, GivesStride, GivesAnswer, IsEnd};
+ghost use Rattle.link_run.specs.Run.{Tool, Devices, Place, devices_at, looks, AfterStep, AfterStride, AfterRun, EndsRun};
 ghost use Rattle.link_run.specs.Stages.{HandedOn};
 ghost use Rattle.link_run.specs.declared.run.Progress.{Progress};
 
@@ -103,14 +103,14 @@ pub trait Run<R: InDevice, W: OutDevice, E: OutDevice>: Sized {
     fn step(&mut self) -> Result<Progress, IoFault>
         ensures tool { tool self.new ≡ tool self.old }
         ensures gives { (start : Devices R W E) (history : List ℕ) → stands self.old start history
-            → GivesStep (looks R.state W.state E.state) (tool self.old) start (place self.old)
+            → AfterStep (looks R.state W.state E.state) (tool self.old) start (place self.old)
             (place self.new) (stands self.new start) (most self.old) history result }
         ensures handed { (start : Devices R W E) (history : List ℕ) → stands self.old start history
             → 0 < most self.old → (result ≡ Err IoFault.Write → ⊥)
             → HandedOn (looks R.state W.state E.state) W.handed E.handed (has_next self.old)
             (place self.old) (place self.new) }
-        ensures goes_on { most self.new ≡ 0 → IsEnd result }
-        ensures ends { IsEnd result → has_ended self.new result }
+        ensures goes_on { most self.new ≡ 0 → EndsRun result }
+        ensures ends { EndsRun result → has_ended self.new result }
         ensures again { (answer : _) → has_ended self.old answer
             → (self.new ≡ self.old) × (result ≡ answer) };
 
@@ -126,14 +126,14 @@ pub trait Run<R: InDevice, W: OutDevice, E: OutDevice>: Sized {
     fn stride(&mut self) -> Result<Progress, IoFault>
         ensures tool { tool self.new ≡ tool self.old }
         ensures gives { (start : Devices R W E) (history : List ℕ) → stands self.old start history
-            → GivesStride (looks R.state W.state E.state) (tool self.old) start (place self.old)
+            → AfterStride (looks R.state W.state E.state) (tool self.old) start (place self.old)
             (place self.new) (stands self.new start) (most self.old) history result }
         ensures handed { (start : Devices R W E) (history : List ℕ) → stands self.old start history
             → 0 < most self.old → (result ≡ Err IoFault.Write → ⊥)
             → HandedOn (looks R.state W.state E.state) W.handed E.handed (has_next self.old)
             (place self.old) (place self.new) }
-        ensures goes_on { most self.new ≡ 0 → IsEnd result }
-        ensures ends { IsEnd result → has_ended self.new result }
+        ensures goes_on { most self.new ≡ 0 → EndsRun result }
+        ensures ends { EndsRun result → has_ended self.new result }
         ensures again { (answer : _) → has_ended self.old answer
             → (self.new ≡ self.old) × (result ≡ answer) };
 
@@ -146,7 +146,7 @@ pub trait Run<R: InDevice, W: OutDevice, E: OutDevice>: Sized {
     /// Takes strides until the run has ended.
     final fn run(self) -> RunEnd<R, W, E>
         requires { stands self (devices_at (place self)) [] }
-        ensures { GivesAnswer (looks R.state W.state E.state) (tool self) (devices_at (place self))
+        ensures { AfterRun (looks R.state W.state E.state) (tool self) (devices_at (place self))
             (record { reader = result.reader; output = result.output; report = result.report })
             result.answer }
     {

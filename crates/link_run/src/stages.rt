@@ -2,10 +2,10 @@
 
 ghost use Rattle.std.specs.Prelude.{◌≡◌, ◌<◌, ℕ, Bool, List, IsTrue, Err, None};
 ghost use Rattle.link_wire.specs.declared.IoFault.{IoFault};
-ghost use Rattle.link_run.specs.Run.{Devices, looks, IsEnd};
+ghost use Rattle.link_run.specs.Run.{Devices, looks, EndsRun};
 ghost use Rattle.link_run.specs.Made.{Made, tool_of};
 ghost use Rattle.link_run.specs.Reading.{inner_of};
-ghost use Rattle.link_run.specs.Stages.{Stands, GivesStage, GivesStageStride, HandedOn, IsMore, HasEnded};
+ghost use Rattle.link_run.specs.Stages.{Stands, AfterStage, AfterStageStride, HandedOn, IsMore, RunHasEnded};
 ghost use Rattle.link_run.specs.Writers.{place_of};
 
 use crate::input::{Feed, Input};
@@ -46,11 +46,11 @@ pub trait Stages<S: Feed, W: OutDevice, E: OutDevice>: Sized {
             → Stands (looks S.Reader.state W.state E.state) (made self.old) start
             (begun self.old) (place_of (S.source (inner_of input.old)) writers.old) history
             → knows self.old (inner_of input.old) history
-            → GivesStage (looks S.Reader.state W.state E.state) (made self.old) start
+            → AfterStage (looks S.Reader.state W.state E.state) (made self.old) start
             (begun self.new) (place_of (S.source (inner_of input.old)) writers.old)
             (place_of (S.source (inner_of input.new)) writers.new)
             (knows self.new (inner_of input.new)) (most self.old) history result }
-        ensures goes_on { most self.new ≡ 0 → IsEnd result }
+        ensures goes_on { most self.new ≡ 0 → EndsRun result }
         ensures handed { (history : List ℕ) → knows self.old (inner_of input.old) history
             → 0 < most self.old → (result ≡ Err IoFault.Write → ⊥)
             → HandedOn (looks S.Reader.state W.state E.state) W.handed E.handed
@@ -74,11 +74,11 @@ pub trait Stages<S: Feed, W: OutDevice, E: OutDevice>: Sized {
             → Stands (looks S.Reader.state W.state E.state) (made self.old) start
             (begun self.old) (place_of (S.source (inner_of input.old)) writers.old) history
             → knows self.old (inner_of input.old) history
-            → GivesStageStride (looks S.Reader.state W.state E.state) (made self.old) start
+            → AfterStageStride (looks S.Reader.state W.state E.state) (made self.old) start
             (begun self.new) (place_of (S.source (inner_of input.old)) writers.old)
             (place_of (S.source (inner_of input.new)) writers.new)
             (knows self.new (inner_of input.new)) (most self.old) history result }
-        ensures goes_on { most self.new ≡ 0 → IsEnd result }
+        ensures goes_on { most self.new ≡ 0 → EndsRun result }
         ensures handed { (history : List ℕ) → knows self.old (inner_of input.old) history
             → 0 < most self.old → (result ≡ Err IoFault.Write → ⊥)
             → HandedOn (looks S.Reader.state W.state E.state) W.handed E.handed
@@ -149,7 +149,7 @@ impl<S: Feed, W: OutDevice, E: OutDevice, T: Stages<S, W, E> + Drop> ToolRun<S, 
 
 impl<S: Feed, W: OutDevice, E: OutDevice, T: Stages<S, W, E> + Drop> Run<S::Reader, W, E>
     for ToolRun<S, W, E, T> {
-    ghost use Rattle.link_run.specs.Stages.{most_by};
+    ghost use Rattle.link_run.specs.Stages.{most_unless_ended};
 
     ghost tool = { λ run. tool_of (T.made run.tool) };
 
@@ -160,11 +160,11 @@ impl<S: Feed, W: OutDevice, E: OutDevice, T: Stages<S, W, E> + Drop> Run<S::Read
         (T.begun run.tool) (place_of (S.source (inner_of run.input)) run.writers) history
         × T.knows run.tool (inner_of run.input) history) };
 
-    ghost most = { λ run. most_by run.answer (T.most run.tool) };
+    ghost most = { λ run. most_unless_ended run.answer (T.most run.tool) };
 
     ghost has_next = { λ run. S.has_next (inner_of run.input) };
 
-    ghost has_ended = { λ run. HasEnded run.answer };
+    ghost has_ended = { λ run. RunHasEnded run.answer };
 
     #[inline(always)]
     fn step(&mut self) -> Result<Progress, IoFault> {
@@ -207,7 +207,7 @@ impl<S: Feed, W: OutDevice, E: OutDevice, T: Stages<S, W, E> + Drop> Run<S::Read
 fn keep(answer: &mut Option<Result<Status, IoFault>>, progress: Result<Progress, IoFault>)
     ensures more { IsMore progress → answer.new ≡ answer.old }
     ensures going { answer.new ≡ None → IsMore progress }
-    ensures ends { IsEnd progress → HasEnded answer.new progress }
+    ensures ends { EndsRun progress → RunHasEnded answer.new progress }
 {
     match progress {
         Ok(Progress::More) => {}

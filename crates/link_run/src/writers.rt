@@ -19,7 +19,7 @@ pub struct Writers<W, E> {
 }
 
 impl<W: OutDevice, E: OutDevice> Writers<W, E> {
-    ghost use Rattle.link_run.specs.Writers.{GivesTexts, GivesLast, GivesEnd, GivesHandedOn, next_line, on_output, on_report};
+    ghost use Rattle.link_run.specs.Writers.{AfterWrite, AfterLastWrite, AfterEnd, AfterSettle, next_line, on_output, on_report};
 
     /// Makes the writers of a run, with an empty line.
     pub fn new(output: W, report: E) -> Writers<W, E>
@@ -60,7 +60,7 @@ impl<W: OutDevice, E: OutDevice> Writers<W, E> {
 
     /// Writes the line to the output. The line stays as it is.
     pub fn write_line(&mut self) -> Result<(), IoFault>
-        ensures gives { GivesTexts W.state E.state self.old self.new
+        ensures gives { AfterWrite W.state E.state self.old self.new
             (on_output (next_line self.old)) result }
         ensures report { self.new.report ≡ self.old.report }
         ensures line { next_line self.new ≡ next_line self.old }
@@ -73,7 +73,7 @@ impl<W: OutDevice, E: OutDevice> Writers<W, E> {
     /// The text is made in the output's own memory if that has room for it. This saves a copy.
     #[inline(always)]
     pub fn write_text<T: Text>(&mut self, text: &T) -> Result<(), IoFault>
-        ensures gives { GivesTexts W.state E.state self.old self.new
+        ensures gives { AfterWrite W.state E.state self.old self.new
             (on_output (T.text text.now)) result }
         ensures report { self.new.report ≡ self.old.report }
         ensures line { next_line self.new ≡ next_line self.old }
@@ -83,7 +83,7 @@ impl<W: OutDevice, E: OutDevice> Writers<W, E> {
 
     /// Writes bytes to the output.
     pub fn write_output(&mut self, bytes: &[u8]) -> Result<(), IoFault>
-        ensures gives { GivesTexts W.state E.state self.old self.new (on_output bytes.now) result }
+        ensures gives { AfterWrite W.state E.state self.old self.new (on_output bytes.now) result }
         ensures report { self.new.report ≡ self.old.report }
         ensures line { next_line self.new ≡ next_line self.old }
     {
@@ -92,7 +92,7 @@ impl<W: OutDevice, E: OutDevice> Writers<W, E> {
 
     /// Writes the line to the report. The line stays as it is.
     pub fn report_line(&mut self) -> Result<(), IoFault>
-        ensures gives { GivesTexts W.state E.state self.old self.new
+        ensures gives { AfterWrite W.state E.state self.old self.new
             (on_report (next_line self.old)) result }
         ensures output { self.new.output ≡ self.old.output }
         ensures line { next_line self.new ≡ next_line self.old }
@@ -103,7 +103,7 @@ impl<W: OutDevice, E: OutDevice> Writers<W, E> {
     /// Writes a text to the report, in which it is made if the device has room for it.
     #[inline(always)]
     pub fn report_text<T: Text>(&mut self, text: &T) -> Result<(), IoFault>
-        ensures gives { GivesTexts W.state E.state self.old self.new
+        ensures gives { AfterWrite W.state E.state self.old self.new
             (on_report (T.text text.now)) result }
         ensures output { self.new.output ≡ self.old.output }
         ensures line { next_line self.new ≡ next_line self.old }
@@ -114,7 +114,7 @@ impl<W: OutDevice, E: OutDevice> Writers<W, E> {
     /// Hands on what was written and is still held back, first by the output and then by the
     /// report.
     pub fn settle(&mut self) -> Result<(), IoFault>
-        ensures gives { GivesHandedOn W.state E.state self.old self.new result }
+        ensures gives { AfterSettle W.state E.state self.old self.new result }
         ensures output { OnOk result (W.handed self.new.output
             ≡ (W.state self.new.output).written) }
         ensures report { OnOk result (E.handed self.new.report
@@ -133,7 +133,7 @@ impl<W: OutDevice, E: OutDevice> Writers<W, E> {
     /// Writes the line of a fault to the report, and returns [`Status::FAULT`].
     #[cold]
     pub fn report_fault(&mut self, fault: &Fault) -> Result<Status, IoFault>
-        ensures gives { GivesLast W.state E.state self.old self.new
+        ensures gives { AfterLastWrite W.state E.state self.old self.new
             (on_report (fault_text fault.now)) 3 result }
         ensures output { self.new.output ≡ self.old.output }
         ensures line { next_line self.new ≡ fault_text fault.now }
@@ -148,7 +148,7 @@ impl<W: OutDevice, E: OutDevice> Writers<W, E> {
     /// other failure is returned as it is, without a line.
     #[cold]
     pub fn end(&mut self, stop: Stop) -> Result<Status, IoFault>
-        ensures { GivesEnd W.state E.state stop self.old self.new result }
+        ensures { AfterEnd W.state E.state stop self.old self.new result }
     {
         match stop {
             Stop::Wire(offset, fault) => self.report_fault(&Fault::Wire(offset, fault)),

@@ -1,7 +1,7 @@
 -- The tools by their options: when a tool is ready to run, and what a whole run does.
 use Rattle.std.specs.Prelude.{Result, Ok, Err, IfOk, ⊤}
 use Rattle.link_wire.specs.declared.IoFault.{IoFault}
-use Rattle.link_run.specs.Run.{Looks, Devices, GivesAnswer}
+use Rattle.link_run.specs.Run.{Looks, Devices, AfterRun}
 use Rattle.link_run.specs.declared.run.Status.{Status}
 use Rattle.link_list.specs.Listing.{list_tool}
 use Rattle.link_unpack.specs.Unpacking.{unpack_tool}
@@ -27,15 +27,15 @@ IsReady (job.Unpack wanted) = ⊤
 IsReady (job.Pack options memory) = IfOk memory (IsCutterFor options)
 
 -- A whole run of the tool took the devices from `start` to `now`, and returned this answer
--- (`GivesAnswer`). If the memory of `pack` was refused, nothing was read or written, and the answer
+-- (`AfterRun`). If the memory of `pack` was refused, nothing was read or written, and the answer
 -- is that fault.
-abbrev pub GivesRun : {R W E : Type 0} → Looks R W E → Job → (start now : Devices R W E)
+abbrev pub AfterJob : {R W E : Type 0} → Looks R W E → Job → (start now : Devices R W E)
     → Result Status IoFault → Type 0
-GivesRun look job.List start now answer =
-    GivesAnswer look list_tool start now answer
-GivesRun look (job.Unpack wanted) start now answer =
-    GivesAnswer look (unpack_tool wanted) start now answer
-GivesRun look (job.Pack options (Ok cutter)) start now answer =
-    GivesAnswer look (pack_tool options) start now answer
-GivesRun look (job.Pack options (Err refused)) start now answer =
+AfterJob look job.List start now answer =
+    AfterRun look list_tool start now answer
+AfterJob look (job.Unpack wanted) start now answer =
+    AfterRun look (unpack_tool wanted) start now answer
+AfterJob look (job.Pack options (Ok cutter)) start now answer =
+    AfterRun look (pack_tool options) start now answer
+AfterJob look (job.Pack options (Err refused)) start now answer =
     LacksMemory start now answer

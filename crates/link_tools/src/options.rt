@@ -2,7 +2,7 @@
 
 ghost use Rattle.std.specs.Prelude.{◌≡◌, false};
 ghost use Rattle.link_run.specs.Run.{looks};
-ghost use Rattle.link_tools.specs.Options.{GivesRun, IsReady, options_of};
+ghost use Rattle.link_tools.specs.Options.{AfterJob, IsReady, options_of};
 
 use link_list::list;
 use link_pack::{PackOptions, cutter_for, pack};
@@ -67,7 +67,7 @@ pub fn run_tool<R: InDevice, W: OutDevice, E: OutDevice>(
     requires reader { (R.state reader).failed ≡ false }
     requires output { (W.state output).failed ≡ false }
     requires report { (E.state report).failed ≡ false }
-    ensures { GivesRun (looks R.state W.state E.state) job
+    ensures { AfterJob (looks R.state W.state E.state) job
         (record { reader = reader; output = output; report = report })
         (record { reader = result.reader; output = result.output; report = result.report })
         result.answer }

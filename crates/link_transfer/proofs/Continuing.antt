@@ -5,7 +5,7 @@ use Rattle.std.proofs.lemmas.Bool.{eq-eqb}
 use Rattle.link_wire.specs.declared.message.Message.{Message}
 use Rattle.link_transfer.specs.Event.{event_of}
 use Rattle.link_transfer.specs.Joiner.{IsJoinerAt}
-use Rattle.link_transfer.specs.Order.{has_sess_init, has_sess_term, open_of, continuable, refusal, refusal_by, is_stray, is_stray_by, turn_of, turn_by, effect_of, effect_by, with_taken, taken_by}
+use Rattle.link_transfer.specs.Order.{has_sess_init, has_sess_term, open_of, continuable, refusal, refusal_by, is_stray, is_stray_by, turn_of, turn_by, effect_of, effect_by, with_taken, appended_unless}
 use Rattle.link_transfer.specs.declared.event.Event.TheVariants.{Segment}
 use Rattle.link_transfer.specs.declared.joiner.Joiner.{Joiner}
 use Rattle.link_transfer.specs.declared.joiner.Turn.TheVariants as turn
@@ -47,7 +47,7 @@ module _ (before : List Message) (id : ℕ) (is_open : continuable before ≡ So
       let more = IsJoinerAt-then joiner before message (Segment 0 id) is at in
       let J : List Message → Type 0 = IsJoinerAt joiner in
       let stray : is_stray before (event_of message) ≡ false = ap (is_stray before) is ∙ belongs in
-      subst J (sym (ap (λ b. taken_by b before message) stray)) (record {
+      subst J (sym (ap (λ b. appended_unless b before message) stray)) (record {
         initiated = more.initiated;
         terminated = more.terminated;
         transfer = at.transfer ∙ parts.1 ∙ more.transfer;

@@ -4,7 +4,7 @@ use Rattle.std.proofs.Math.Nat.{le-div_iff_mul-le}
 use Rattle.std.proofs.lemmas.Bool.Decides.{nat_tests}
 use Rattle.link_transfer.specs.Chunks.{chunk_count}
 use Rattle.link_transfer.specs.Cutting.{due_of}
-use Rattle.link_transfer.specs.Held.{waits, wanted_of}
+use Rattle.link_transfer.specs.Held.{waits, wanted_size}
 
 -- that many segments fit in the size
 pub fits : (segment count size : ℕ) → 0 < segment → count ≤ size / segment → count * segment ≤ size
@@ -58,12 +58,12 @@ last_of segment count size some within =
 -- at least one byte is needed if no chunk is ready
 pub wanted_some : (begun : Bool) (segment hold size : ℕ)
     → waits begun false segment hold size ≡ false → 0 < segment
-    → 0 < wanted_of begun segment hold size
+    → 0 < wanted_size begun segment hold size
 wanted_some true segment hold size quiet some = grind (arith, nat_tests)
 wanted_some false segment hold size quiet some = grind (arith, nat_tests)
 
 -- a chunk is ready after the last byte that is needed, and not before
 pub waits_when_wanted : (begun : Bool) (segment hold size : ℕ)
-    → waits begun false segment hold (size + 1) ≡ leb (wanted_of begun segment hold size) 1
+    → waits begun false segment hold (size + 1) ≡ leb (wanted_size begun segment hold size) 1
 waits_when_wanted true segment hold size = grind (arith, nat_tests)
 waits_when_wanted false segment hold size = grind (arith, nat_tests)

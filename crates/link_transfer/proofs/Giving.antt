@@ -7,9 +7,9 @@ use Rattle.std.proofs.lemmas.Bool.{false≢true}
 use Rattle.std.proofs.lemmas.Bool.Decides.{nat_tests}
 use Rattle.link_wire.specs.Bytes.{IsByte}
 use Rattle.link_transfer.specs.Chunks.{chunk_count, chunks, first_chunks}
-use Rattle.link_transfer.specs.Cutting.{Cutting, beginning, due, due_of, announcement, is_first, is_last, next_chunk, next_cut, after_cut, unshown, left_of}
+use Rattle.link_transfer.specs.Cutting.{Cutting, beginning, due, due_of, announcement, is_first, is_last, next_chunk, next_cut, after_cut, without_chunk, uncut}
 use Rattle.link_transfer.specs.Cutter.{IsCutterAt, IsGiven, cut_waits}
-use Rattle.link_transfer.specs.Held.{is_last_of, announced_by, cut_of}
+use Rattle.link_transfer.specs.Held.{is_last_of, announcement_of, cut_of}
 use Rattle.link_transfer.specs.declared.cut.Cut.{Cut}
 use Rattle.link_transfer.specs.declared.cutter.Cutter.{Cutter}
 use Rattle.link_transfer.proofs.Chunking.{first_chunks-zero, first_chunks-push}
@@ -25,7 +25,7 @@ last_is true segment hold count size some left = last_of segment count size some
 last_is false segment hold count size some left = refl
 
 announced_is : (whole : Bool) (segment hold count size : ℕ)
-    → announced_by (ltb 0 count) whole segment hold (size - count * segment)
+    → announcement_of (ltb 0 count) whole segment hold (size - count * segment)
     ≡ cond (eqb count 0) (cond (whole && (ltb segment size && leb size hold)) (Some size) None) None
 announced_is whole segment hold zero size =
     let all : size - 0 * segment ≡ size = omega arith in
@@ -48,7 +48,7 @@ last-at cutter so_far at =
     (last_is so_far.whole so_far.segment so_far.hold (length so_far.given) (length so_far.bundle) at.some at.left)
 
 announced-at : (cutter : Cutter) (so_far : Cutting) → IsCutterAt cutter so_far
-    → announced_by cutter.begun cutter.ended cutter.segment cutter.hold (length cutter.held.bytes)
+    → announcement_of cutter.begun cutter.ended cutter.segment cutter.hold (length cutter.held.bytes)
     ≡ cond (is_first so_far) (announcement so_far) None
 unfolding announcement
 announced-at cutter so_far at =
@@ -88,7 +88,7 @@ pub IsCutterAt-unshown : (old new : Cutter) (so_far : Cutting)
     → new.segment ≡ old.segment → new.hold ≡ old.hold
     → new.held.given ≡ [] → new.held.bytes ≡ old.held.bytes → new.begun ≡ old.begun
     → new.ended ≡ old.ended
-    → IsCutterAt old so_far → IsCutterAt new (unshown so_far)
+    → IsCutterAt old so_far → IsCutterAt new (without_chunk so_far)
 unfolding due
 IsCutterAt-unshown old new so_far segment hold given bytes begun ended at = record {
   some = at.some;
@@ -137,7 +137,7 @@ chunk_given : (old new : Cutter) (so_far : Cutting) (last : Bool) → Gives old 
     → length so_far.given < due so_far → IsGiven (Some (next_chunk so_far)) new.held.given
 unfolding due
 chunk_given old new so_far last gives at few =
-    let left = left_of so_far in
+    let left = uncut so_far in
     let within = left_some so_far.whole so_far.segment so_far.hold (length so_far.given) (length so_far.bundle) at.some few in
     let size = length-drop (length so_far.given * so_far.segment) so_far.bundle in (
       gives.given ∙ ap₂ (λ segment bytes. take (min segment (length bytes)) bytes) at.segment at.held ∙ take_min so_far.segment left,
@@ -146,9 +146,9 @@ chunk_given old new so_far last gives at few =
 
 rest_is : (old new : Cutter) (so_far : Cutting) (last : Bool) → Gives old new last
     → IsCutterAt old so_far
-    → new.held.bytes ≡ drop so_far.segment (left_of so_far)
+    → new.held.bytes ≡ drop so_far.segment (uncut so_far)
 rest_is old new so_far last gives at =
-    gives.bytes ∙ ap₂ (λ segment bytes. drop (min segment (length bytes)) bytes) at.segment at.held ∙ drop_min so_far.segment (left_of so_far)
+    gives.bytes ∙ ap₂ (λ segment bytes. drop (min segment (length bytes)) bytes) at.segment at.held ∙ drop_min so_far.segment (uncut so_far)
 
 -- the next chunk is the last if the bundle is whole and has that many chunks
 whole_last : (so_far : Cutting) → is_last so_far ≡ true → so_far.whole ≡ true
@@ -192,7 +192,7 @@ with_next old new so_far true is gives at few =
     let whole = whole_last so_far is in
     let below : length so_far.given < chunk_count so_far.segment (length so_far.bundle) = omega (arith, count_last so_far is) in
     let size = length-drop (length so_far.given * so_far.segment) so_far.bundle in
-    let all : length (left_of so_far) ≤ so_far.segment =
+    let all : length (uncut so_far) ≤ so_far.segment =
     grind (arith, nat_tests, last_of so_far.segment (length so_far.given) (length so_far.bundle) at.some below, count_last so_far is) in
     record {
       some = at.some;
@@ -202,7 +202,7 @@ with_next old new so_far true is gives at few =
       given = sym (first_chunks-zero so_far.segment []);
       few = omega arith;
       left = λ whole. absurd (false≢true whole);
-      held = rest_is old new so_far true gives at ∙ drop_all so_far.segment (left_of so_far) all ∙ sym (drop_all (0 * so_far.segment) [] (omega arith));
+      held = rest_is old new so_far true gives at ∙ drop_all so_far.segment (uncut so_far) all ∙ sym (drop_all (0 * so_far.segment) [] (omega arith));
       chunk = chunk_given old new so_far true gives at few;
       begun = gives.begun;
       ended = gives.ended ∙ and_false old.ended;

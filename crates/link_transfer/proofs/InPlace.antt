@@ -4,7 +4,7 @@ use Rattle.std.proofs.lemmas.Bool.{false≢true}
 use Rattle.std.proofs.lemmas.Bool.Decides.{nat_tests}
 use Rattle.std.proofs.lemmas.List.{take_all, drop_all, nil_from_length}
 use Rattle.link_wire.specs.Bytes.{AreBytes}
-use Rattle.link_transfer.specs.Cutting.{Cutting, with_bytes, is_last, next_chunk, next_cut, after_cut, unshown}
+use Rattle.link_transfer.specs.Cutting.{Cutting, with_bytes, is_last, next_chunk, next_cut, after_cut, without_chunk}
 use Rattle.link_transfer.specs.Cutter.{IsCutterAt, cut_waits}
 use Rattle.link_transfer.specs.Held.{waits, cut_of, is_chunk}
 use Rattle.link_transfer.specs.declared.cut.Cut.{Cut}
@@ -122,6 +122,6 @@ module _ (old : Cutter) (so_far : Cutting) (bytes : List ℕ) (last : Bool)
 
   pub here_after : (new : Cutter) → new.segment ≡ old.segment → new.hold ≡ old.hold
       → new.held.given ≡ [] → length new.held.bytes ≡ 0 → new.begun ≡ not last → new.ended ≡ false
-      → IsCutterAt new (unshown (after_cut now))
+      → IsCutterAt new (without_chunk (after_cut now))
   here_after new segment hold given held begun ended =
       IsCutterAt-unshown cut new (after_cut now) segment hold given (nil_from_length new.held.bytes held) begun ended cut_at

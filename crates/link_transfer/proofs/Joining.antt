@@ -6,7 +6,7 @@ use Rattle.std.specs.List.{list_any, find}
 use Rattle.std.specs.Option.{option_and_then}
 use Rattle.link_wire.specs.declared.message.Message.{Message}
 use Rattle.link_transfer.specs.Event.{event_of}
-use Rattle.link_transfer.specs.Order.{is_sess_init, is_sess_term, is_segment, events_of, has_sess_init, has_sess_term, open_after, open_of, refusal, refusal_by, turn_of, turn_by, judged, judged_by, is_stray, is_stray_by, effect_of, effect_by, with_taken, taken_by}
+use Rattle.link_transfer.specs.Order.{is_sess_init, is_sess_term, is_segment, events_of, has_sess_init, has_sess_term, open_after, open_of, refusal, refusal_by, turn_of, turn_by, judged_message, judged_message_by, is_stray, is_stray_by, effect_of, effect_by, with_taken, appended_unless}
 use Rattle.link_transfer.specs.Joiner.{IsJoinerAt, joiner_after}
 use Rattle.link_transfer.specs.declared.event.Event.{Event}
 use Rattle.link_transfer.specs.declared.event.Event.TheVariants.{SessInit, SessTerm, Segment, Other}
@@ -105,9 +105,9 @@ IsJoinerAt-then joiner before message Other is at = record {
 
 -- the judgement of an event, by the fields of a joiner
 pub judged-at : (joiner : Joiner) (before : List Message) (event : Event) → IsJoinerAt joiner before
-    → judged_by (refusal_by joiner.initiated joiner.terminated joiner.transfer event)
-    (turn_by joiner.transfer event) ≡ judged before event
-unfolding judged refusal turn_of
+    → judged_message_by (refusal_by joiner.initiated joiner.terminated joiner.transfer event)
+    (turn_by joiner.transfer event) ≡ judged_message before event
+unfolding judged_message refusal turn_of
 judged-at joiner before event at = rw (at.initiated, at.terminated, at.transfer) refl
 
 -- ---- a message that is taken whether or not it may come
@@ -147,8 +147,8 @@ module _ (joiner : Joiner) (before : List Message) (event : Event)
 
   pub taken-at : (message : Message) → event_of message ≡ event → (stray : Bool)
       → is_stray_by joiner.transfer event ≡ stray → (after : Joiner)
-      → IsJoinerAt after (taken_by stray before message) → IsJoinerAt after (with_taken before message)
+      → IsJoinerAt after (appended_unless stray before message) → IsJoinerAt after (with_taken before message)
   unfolding with_taken
   taken-at message same stray is after holds =
-      let P : Bool → Type 0 = λ b. IsJoinerAt after (taken_by b before message) in
+      let P : Bool → Type 0 = λ b. IsJoinerAt after (appended_unless b before message) in
       subst P (sym is ∙ stray-at ∙ ap (is_stray before) (sym same)) holds

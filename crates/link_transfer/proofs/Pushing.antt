@@ -6,7 +6,7 @@ use Rattle.std.proofs.lemmas.Bool.Decides.{nat_tests}
 use Rattle.link_wire.specs.Bytes.{AreBytes}
 use Rattle.link_transfer.specs.Cutting.{Cutting, due, due_of, next_cut, with_bytes, with_each, is_empty}
 use Rattle.link_transfer.specs.Cutter.{IsCutterAt, cut_waits}
-use Rattle.link_transfer.specs.Held.{waits, wanted_of}
+use Rattle.link_transfer.specs.Held.{waits, wanted_size}
 use Rattle.link_transfer.specs.declared.cutter.Cutter.{Cutter}
 use Rattle.link_transfer.proofs.Due.{waits_as_due, given_within, due_more, wanted_some, waits_when_wanted}
 use Rattle.link_transfer.proofs.Steps.{IsCutterAt-push, Pushes, next_cut-is, goes_on, waits-at, size_of}
@@ -31,7 +31,7 @@ abbrev held : Cutting → ℕ
 held so_far = length so_far.bundle - length so_far.given * so_far.segment
 
 abbrev pub wanted : Cutting → ℕ
-wanted so_far = wanted_of (ltb 0 (length so_far.given)) so_far.segment so_far.hold (held so_far)
+wanted so_far = wanted_size (ltb 0 (length so_far.given)) so_far.segment so_far.hold (held so_far)
 
 wanted_first : (so_far : Cutting) → Quiet so_far → 0 < wanted so_far
 wanted_first so_far quiet =
@@ -186,10 +186,10 @@ Quiet-at cutter so_far at quiet =
     }
 
 pub wanted-at : (cutter : Cutter) (so_far : Cutting) → IsCutterAt cutter so_far
-    → wanted_of cutter.begun cutter.segment cutter.hold (length cutter.held.bytes) ≡ wanted so_far
+    → wanted_size cutter.begun cutter.segment cutter.hold (length cutter.held.bytes) ≡ wanted so_far
 wanted-at cutter so_far at = rw (at.begun, at.segment, at.hold, size_of cutter so_far at) refl
 
 pub wanted_some-at : (cutter : Cutter) (so_far : Cutting) → IsCutterAt cutter so_far
     → cut_waits cutter ≡ false
-    → 0 < wanted_of cutter.begun cutter.segment cutter.hold (length cutter.held.bytes)
+    → 0 < wanted_size cutter.begun cutter.segment cutter.hold (length cutter.held.bytes)
 wanted_some-at cutter so_far at quiet = omega (arith, wanted_first so_far (Quiet-at cutter so_far at quiet), wanted-at cutter so_far at)

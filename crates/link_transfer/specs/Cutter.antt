@@ -2,8 +2,8 @@
 use Rattle.std.specs.Prelude.{◌≡◌, ℕ, ◌<◌, ◌≤◌, Bool, true, nat_lt, List, [], length, Option, Some, None}
 use Rattle.link_wire.specs.Bytes.{AreBytes}
 use Rattle.link_transfer.specs.Chunks.{first_chunks}
-use Rattle.link_transfer.specs.Cutting.{Cutting, due, left_of}
-use Rattle.link_transfer.specs.Held.{waits, wanted_of}
+use Rattle.link_transfer.specs.Cutting.{Cutting, due, uncut}
+use Rattle.link_transfer.specs.Held.{waits, wanted_size}
 use Rattle.link_transfer.specs.declared.cutter.Cutter.{Cutter}
 
 -- whether a chunk is ready
@@ -13,7 +13,7 @@ cut_waits cutter =
 
 -- the number of further bytes after which a chunk is ready, if none of them is the bundle's last
 abbrev pub wanted_by : Cutter → ℕ
-wanted_by cutter = wanted_of cutter.begun cutter.segment cutter.hold (length cutter.held.bytes)
+wanted_by cutter = wanted_size cutter.begun cutter.segment cutter.hold (length cutter.held.bytes)
 
 -- the number of bytes that were not cut
 abbrev pub held_size : Cutter → ℕ
@@ -36,7 +36,7 @@ pub record IsCutterAt (cutter : Cutter) (so_far : Cutting) : Type 0 where
   pub few : length so_far.given ≤ due so_far
   pub left : so_far.whole ≡ true → length so_far.given < due so_far
   -- the rest is held, and the chunk of the last cut is kept
-  pub held : cutter.held.bytes ≡ left_of so_far
+  pub held : cutter.held.bytes ≡ uncut so_far
   pub chunk : IsGiven so_far.chunk cutter.held.given
   pub begun : cutter.begun ≡ nat_lt 0 (length so_far.given)
   pub ended : cutter.ended ≡ so_far.whole

@@ -87,12 +87,12 @@ after_cut so_far =
     if is_some (next_cut so_far) then with_chunk so_far else record so_far { chunk = None }
 
 -- the chunk of the last cut is no longer shown
-abbrev pub unshown : Cutting → Cutting
-unshown so_far = record so_far { chunk = None }
+abbrev pub without_chunk : Cutting → Cutting
+without_chunk so_far = record so_far { chunk = None }
 
 -- the bytes of the bundle that were not cut
-abbrev pub left_of : Cutting → List ℕ
-left_of so_far = drop (length so_far.given * so_far.segment) so_far.bundle
+abbrev pub uncut : Cutting → List ℕ
+uncut so_far = drop (length so_far.given * so_far.segment) so_far.bundle
 
 -- the bytes that are shown: the chunk of the last cut, or else the bytes that were not cut
 abbrev pub shown_by : Option (List ℕ) → List ℕ → List ℕ
@@ -100,7 +100,7 @@ shown_by (Some chunk) left = chunk
 shown_by None left = left
 
 unfoldable pub shown : Cutting → List ℕ
-shown so_far = shown_by so_far.chunk (left_of so_far)
+shown so_far = shown_by so_far.chunk (uncut so_far)
 
 abbrev pub is_empty : List ℕ → Bool
 is_empty [] = true

@@ -14,8 +14,8 @@ abbrev pub waits : (begun ended : Bool) (segment hold size : ℕ) → Bool
 waits begun ended segment hold size = ended || (nat_le segment size && (begun || nat_lt hold size))
 
 -- the number of further bytes after which a chunk is ready, if none of them is the bundle's last
-abbrev pub wanted_of : (begun : Bool) (segment hold size : ℕ) → ℕ
-wanted_of begun segment hold size = (if begun then segment else max segment (hold + 1)) - size
+abbrev pub wanted_size : (begun : Bool) (segment hold size : ℕ) → ℕ
+wanted_size begun segment hold size = (if begun then segment else max segment (hold + 1)) - size
 
 -- Whether `size` bytes are exactly the next chunk, if nothing is held. `last` is whether the bundle
 -- ends with them.
@@ -29,8 +29,8 @@ abbrev pub is_last_of : (ended : Bool) (segment size : ℕ) → Bool
 is_last_of ended segment size = ended && nat_le size segment
 
 -- the length that the next cut announces
-abbrev pub announced_by : (begun ended : Bool) (segment hold size : ℕ) → Option ℕ
-announced_by begun ended segment hold size =
+abbrev pub announcement_of : (begun ended : Bool) (segment hold size : ℕ) → Option ℕ
+announcement_of begun ended segment hold size =
     if not begun && (ended && (nat_lt segment size && nat_le size hold)) then Some size else None
 
 -- the description of the next chunk, if one is ready
@@ -39,5 +39,5 @@ cut_of begun ended segment hold size =
     record {
       first = not begun;
       last = is_last_of ended segment size;
-      announce = announced_by begun ended segment hold size;
+      announce = announcement_of begun ended segment hold size;
     }

@@ -115,12 +115,12 @@ unfoldable pub turn_of : List Message → Event → Turn
 turn_of before event = turn_by (open_of before) event
 
 -- a message is refused, or has this effect
-abbrev pub judged_by : Option OrderFault → Turn → Result Turn OrderFault
-judged_by (Some fault) done = Err fault
-judged_by None done = Ok done
+abbrev pub judged_message_by : Option OrderFault → Turn → Result Turn OrderFault
+judged_message_by (Some fault) done = Err fault
+judged_message_by None done = Ok done
 
-unfoldable pub judged : List Message → Event → Result Turn OrderFault
-judged before event = judged_by (refusal before event) (turn_of before event)
+unfoldable pub judged_message : List Message → Event → Result Turn OrderFault
+judged_message before event = judged_message_by (refusal before event) (turn_of before event)
 
 -- ---- going on after a fault of the order
 
@@ -142,9 +142,9 @@ effect_of before event = effect_by (is_stray before event) (turn_of before event
 
 -- The messages that the order of the next one depends on, if all are taken: all but the stray
 -- segments.
-abbrev pub taken_by : (stray : Bool) → List Message → Message → List Message
-taken_by true before message = before
-taken_by false before message = before ++ message ∷ []
+abbrev pub appended_unless : (stray : Bool) → List Message → Message → List Message
+appended_unless true before message = before
+appended_unless false before message = before ++ message ∷ []
 
 unfoldable pub with_taken : List Message → Message → List Message
-with_taken before message = taken_by (is_stray before (event_of message)) before message
+with_taken before message = appended_unless (is_stray before (event_of message)) before message

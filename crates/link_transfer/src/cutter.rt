@@ -30,9 +30,9 @@ pub struct Cutter {
 
 impl Cutter {
     ghost use Rattle.link_transfer.specs.Chunks.{chunks};
-    ghost use Rattle.link_transfer.specs.Cutting.{Cutting, beginning, with_bytes, with_each, due, next_chunk, next_cut, after_cut, unshown, shown};
+    ghost use Rattle.link_transfer.specs.Cutting.{Cutting, beginning, with_bytes, with_each, due, next_chunk, next_cut, after_cut, without_chunk, shown};
     ghost use Rattle.link_transfer.specs.Cutter.{IsCutterAt, cut_waits, wanted_by, held_size};
-    ghost use Rattle.link_transfer.specs.Held.{cut_of, is_chunk, is_last_of, announced_by};
+    ghost use Rattle.link_transfer.specs.Held.{cut_of, is_chunk, is_last_of, announcement_of};
 
     /// A cutter for segments of at most `segment` bytes, that announces up to `hold` bytes.
     ///
@@ -169,7 +169,7 @@ impl Cutter {
             → OnSome result (next_chunk (with_bytes bytes.now last so_far) ≡ bytes.now) }
         ensures after { (so_far : Cutting) → IsCutterAt self.old so_far
             → OnSome result (IsCutterAt self.new
-            (unshown (after_cut (with_bytes bytes.now last so_far)))) }
+            (without_chunk (after_cut (with_bytes bytes.now last so_far)))) }
         ensures quiet { cut_waits self.new ≡ false }
         ensures none { IfNone result (self.new ≡ self.old) }
     {
@@ -274,7 +274,7 @@ impl Cutter {
     /// The length that the next chunk announces.
     fn announcement(&self) -> Option<u64>
         ensures { result
-            ≡ announced_by self.now.begun self.now.ended self.now.segment self.now.hold
+            ≡ announcement_of self.now.begun self.now.ended self.now.segment self.now.hold
             (held_size self.now) }
     {
         let size = self.held.len();

@@ -57,7 +57,7 @@ pub struct Joiner {
 impl Joiner {
     ghost use Rattle.std.specs.Option.{option_eq};
     ghost use Rattle.link_transfer.specs.Event.{event_of};
-    ghost use Rattle.link_transfer.specs.Order.{judged, open_of, continuable, refusal, refusal_by, turn_by, is_stray_by, effect_of, with_taken};
+    ghost use Rattle.link_transfer.specs.Order.{judged_message, open_of, continuable, refusal, refusal_by, turn_by, is_stray_by, effect_of, with_taken};
     ghost use Rattle.link_transfer.specs.Joiner.{IsJoinerAt, joiner_after};
 
     /// A joiner that has accepted no message.
@@ -89,11 +89,7 @@ impl Joiner {
         ensures { (before : List Message) → IsJoinerAt self.now before
             → result ≡ continuable before }
     {
-        if self.initiated {
-            self.open()
-        } else {
-            None
-        }
+        if self.initiated { self.open() } else { None }
     }
 
     /// The first reason why the event may not come now.
@@ -171,7 +167,7 @@ impl Joiner {
     /// The error is the first reason that holds. A refused message changes nothing.
     pub fn message(&mut self, message: &Message) -> Result<Turn, OrderFault>
         ensures judged { (before : List Message) → IsJoinerAt self.old before
-            → result ≡ judged before (event_of message.now) }
+            → result ≡ judged_message before (event_of message.now) }
         ensures accepted { (before : List Message) → IsJoinerAt self.old before
             → OnOk result (IsJoinerAt self.new (before ++ message.now ∷ [])) }
         ensures refused { OnErr result (self.new ≡ self.old) }
@@ -182,7 +178,7 @@ impl Joiner {
     /// Judges any message with this event, as `message` does.
     pub fn event(&mut self, event: Event) -> Result<Turn, OrderFault>
         ensures judged { (before : List Message) → IsJoinerAt self.old before
-            → result ≡ judged before event }
+            → result ≡ judged_message before event }
         ensures accepted { (before : List Message) (message : Message) → event_of message ≡ event
             → IsJoinerAt self.old before
             → OnOk result (IsJoinerAt self.new (before ++ message ∷ [])) }

@@ -19,7 +19,7 @@ use Rattle.link_run.proofs.Ends.{made_reports}
 use Rattle.link_run.proofs.Runs.{texts_as, written_as, written_more, sound_written, writer_lost, part_of_more}
 use Rattle.link_unpack.specs.Transfers.{Transfer, settled}
 use Rattle.link_unpack.specs.Unpacking.{parts_of, are_good, judgement_of, is_good, Unpacked, abandoned_line, closed_line, unpack_tool, unpacking_of}
-use Rattle.link_unpack.specs.TransferScan.{Follows, begun}
+use Rattle.link_unpack.specs.TransferScan.{IsAtTransfer, begun}
 use Rattle.link_unpack.specs.UnpackRun.{unpacked_from, IsJoining, IsBeginning}
 use Rattle.link_unpack.specs.declared.unpacking.Unpacker.{Unpacker}
 use Rattle.link_unpack.specs.declared.wanted.Wanted.{Wanted}
@@ -111,9 +111,9 @@ module _ {R W E : Type 0} (look : Looks R W E)
         → Writes look.output look.report w after (on_report gone)
         → v.good ≡ (are_good at.transfers && unpacked.in_order) → v.joiner ≡ u.joiner
         → v.latest.wanted ≡ u.latest.wanted → v.latest.total ≡ u.latest.total
-        → Follows v.latest new at.transfers → IsJoining look start last s after v history
+        → IsAtTransfer v.latest new at.transfers → IsJoining look start last s after v history
     joining after v writes good joiner wanted total follows = record {
-      session = at.session;
+      session_at = at.session_at;
       window = at.window;
       taken = rw wanted at.taken;
       joiner = rw (joiner, wanted) at.joiner;
@@ -143,5 +143,5 @@ module _ {R W E : Type 0} (look : Looks R W E)
         let more = on_report (closed_line u.latest.wanted unpacked.transfers) in
         writer_lost look (unpack_tool u.latest.wanted) (made_reports (unpacking_of u.latest.wanted)) start (source_of s) w after history _ _ _ fault at.written at.sound
         (texts_as (append-nil _ ∙ parts_same ∙ ap (parts_of u.latest.wanted) (sym at.are)) (sym at.reports)
-        ∙ sym (sofar_here look start s u history at.session at.taken))
+        ∙ sym (sofar_here look start s u history at.session_at at.taken))
         (inl refl) at.window (λ none. absurd (omega arith)) (part_of_more look.output look.report w after _ more fault (λ some. refl) part)

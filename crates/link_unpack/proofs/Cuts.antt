@@ -11,14 +11,14 @@ use Rattle.link_transfer.specs.Event.{event_of}
 use Rattle.link_transfer.specs.Order.{is_stray}
 use Rattle.link_unpack.specs.Transfers.{heads_of}
 use Rattle.link_unpack.specs.Unpacking.{Unpacked, unpacked_of, with_head}
-use Rattle.link_unpack.specs.UnpackRun.{AreInOrder, AreTaken, unpacked_from, IsCut}
+use Rattle.link_unpack.specs.UnpackRun.{AreInOrder, AreTaken, unpacked_from, EndsInSegment}
 use Rattle.link_unpack.specs.declared.wanted.Wanted.{Wanted}
 use Rattle.link_unpack.proofs.GoingOn.{unpacked_push}
 use Rattle.link_unpack.proofs.Heads.{entry, heads_cut, heads_with_data}
 use Rattle.link_unpack.proofs.Orders.{in_order_more, in_order_parts}
 
 module _ (wanted : Wanted) (stray : Bool) (history : List ℕ)
-    (at : IsCut wanted stray (reading_of history)) where
+    (at : EndsInSegment wanted stray (reading_of history)) where
   abbrev pub before : Unpacked
   before = unpacked_of wanted (reading_of history).entries
 
@@ -77,7 +77,7 @@ module _ (wanted : Wanted) (stray : Bool) (history : List ℕ)
           else with_entry (head_with (at.content ++ bytes)) (ended Clean)))
           (lt-ltb 0 (left_of new) some)
 
-      abbrev pub still_cut : IsCut wanted stray (reading_of (history ++ bytes))
+      abbrev pub still_cut : EndsInSegment wanted stray (reading_of (history ++ bytes))
       still_cut = record {
         offset = at.offset;
         sent = at.sent;

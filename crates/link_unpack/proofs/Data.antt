@@ -18,8 +18,8 @@ use Rattle.link_run.proofs.Ends.{made_reports}
 use Rattle.link_run.proofs.Runs.{texts_as, written_as, written_given, written_more, sound_given, sound_written, writer_lost, part_of_more, Stood}
 use Rattle.link_unpack.specs.Transfers.{heads_of, Transfer, closes, continued, after_segment, settled}
 use Rattle.link_unpack.specs.Unpacking.{parts_of, part_of, are_good, Unpacked, abandoned_line, closed_line, with_head, unpack_tool, unpacking_of}
-use Rattle.link_unpack.specs.TransferScan.{Follows, grown}
-use Rattle.link_unpack.specs.UnpackRun.{AreTaken, unpacked_from, texts_of, GoesOn, IsInData, Unpacks, IsJoining}
+use Rattle.link_unpack.specs.TransferScan.{IsAtTransfer, grown}
+use Rattle.link_unpack.specs.UnpackRun.{AreTaken, unpacked_from, texts_of, IsAtOpen, IsInData, Unpacks, IsJoining}
 use Rattle.link_unpack.specs.declared.unpacking.Stage.TheVariants as stage
 use Rattle.link_unpack.specs.declared.unpacking.Unpacker.{Unpacker}
 use Rattle.link_unpack.specs.declared.wanted.Wanted.{Wanted}
@@ -48,11 +48,11 @@ module _ {R W E : Type 0} (look : Looks R W E)
     abbrev pub here : IsInData wanted last (reading_of history)
     here = at.waits.0
 
-    abbrev pub goes : GoesOn u.latest (unpacked_from wanted history).transfers
+    abbrev pub goes : IsAtOpen u.latest (unpacked_from wanted history).transfers
     goes = at.waits.2
 
     pub some_left : 0 < left_of old
-    some_left = (size_left wanted false history here.cut old.offset old.left at.session.left).0
+    some_left = (size_left wanted false history here.cut old.offset old.left at.session_at.left).0
 
     abbrev pub transfer : Transfer
     transfer = goes.transfer
@@ -84,7 +84,7 @@ module _ {R W E : Type 0} (look : Looks R W E)
       room =
           let total = at.total in
           let count = takes.count in
-          let given = at.session.at.given in
+          let given = at.session_at.at.given in
           let within = (source_of new).within in
           omega arith
 
@@ -99,7 +99,7 @@ module _ {R W E : Type 0} (look : Looks R W E)
 
       sizes : head.length ≡ length (content ++ bytes) + left_of new
       sizes =
-          let size : head.length ≡ length content + left_of old = ap data_length (sym here.segment.is) ∙ (size_left wanted false history here.cut old.offset old.left at.session.left).1 in
+          let size : head.length ≡ length content + left_of old = ap data_length (sym here.segment.is) ∙ (size_left wanted false history here.cut old.offset old.left at.session_at.left).1 in
           let parts = gave.left in
           omega (arith, length-append content bytes)
 
@@ -172,12 +172,12 @@ module _ {R W E : Type 0} (look : Looks R W E)
 
         pub grows : (written : Writers W E) (v : Unpacker)
             → Writes look.output look.report before_read written (on_output part)
-            → Follows v.latest (grown transfer bytes closing) earlier
+            → IsAtTransfer v.latest (grown transfer bytes closing) earlier
             → v.latest.wanted ≡ wanted → v.latest.total ≤ u.latest.total + length bytes
             → v.joiner ≡ u.joiner → v.good ≡ u.good
             → IsJoining look start last new written v (history ++ bytes)
         grows written v writes follows same total joiner good = record {
-          session = gave.at;
+          session_at = gave.at;
           window = takes.window.less some;
           taken = rw same new_taken;
           joiner = rw (joiner, same, same_messages wanted false history here.cut look.input old new bytes gave) at.joiner;
@@ -209,7 +209,7 @@ module _ {R W E : Type 0} (look : Looks R W E)
               front = history;
               rest = bytes;
               parts = refl;
-              is = sym (sofar_here look start old u history at.session at.taken);
+              is = sym (sofar_here look start old u history at.session_at at.taken);
             })
 
         -- The line of the transfer is due too if it is closed.

@@ -10,7 +10,7 @@ use Rattle.link_wire.specs.declared.message.Message.{Message}
 use Rattle.link_wire.specs.declared.message.Message.TheVariants as message
 use Rattle.link_wire.specs.declared.message.SegmentHead.{SegmentHead}
 use Rattle.link_transfer.specs.Event.{event_of}
-use Rattle.link_transfer.specs.Order.{begins, is_segment, is_stray, is_stray_by, has_sess_init, has_sess_term, open_of, refusal, taken_by, with_taken}
+use Rattle.link_transfer.specs.Order.{begins, is_segment, is_stray, is_stray_by, has_sess_init, has_sess_term, open_of, refusal, appended_unless, with_taken}
 use Rattle.link_transfer.specs.declared.event.Event.{Event}
 use Rattle.link_transfer.specs.declared.event.Event.TheVariants as event
 use Rattle.link_transfer.proofs.Joining.{after-segment, after-other, not_stray as never_stray}
@@ -55,7 +55,7 @@ not_stray before happened may =
 pub taken_more : (before : List Message) (sent : Message)
     → is_stray before (event_of sent) ≡ false → with_taken before sent ≡ before ++ sent ∷ []
 unfolding with_taken
-taken_more before sent taken = ap (λ stray. taken_by stray before sent) taken
+taken_more before sent taken = ap (λ stray. appended_unless stray before sent) taken
 
 open_taken : (transfer : Option ℕ) (flags id : ℕ) → is_start flags ≡ false
     → is_stray_by transfer (event.Segment flags id) ≡ false → is_some transfer ≡ true
@@ -134,7 +134,7 @@ module _ (transfers : List Transfer) (before : List Message)
       (kind_of sent)
 
   knows_by : (stray : Bool) (head : Entry) → is_stray before (event_of head.message) ≡ stray
-      → KnowsOpen (transfers_with stray transfers head) (taken_by stray before head.message)
+      → KnowsOpen (transfers_with stray transfers head) (appended_unless stray before head.message)
   knows_by true head is = knows
   knows_by false head is = knows_more head.message head.content is
 

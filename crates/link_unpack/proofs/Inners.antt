@@ -25,8 +25,8 @@ use Rattle.link_run.specs.declared.writers.Writers.{Writers}
 use Rattle.link_unpack.specs.InnerRun.{TakesInner}
 use Rattle.link_unpack.specs.Transfers.{Transfer}
 use Rattle.link_unpack.specs.Unpacking.{part_of, Unpacked, unpack_tool, unpacking_of}
-use Rattle.link_unpack.specs.TransferScan.{Follows, grown}
-use Rattle.link_unpack.specs.UnpackRun.{unpacked_from, GoesOn, Unpacks, StandsAt, StandsNext, IsTaken, IsJoining, GivesFar}
+use Rattle.link_unpack.specs.TransferScan.{IsAtTransfer, grown}
+use Rattle.link_unpack.specs.UnpackRun.{unpacked_from, IsAtOpen, Unpacks, StandsAt, StandsNext, IsTaken, IsJoining, AfterUnpackStride}
 use Rattle.link_unpack.specs.declared.transfer.TransferScan.{TransferScan}
 use Rattle.link_unpack.specs.declared.unpacking.Next.{Next}
 use Rattle.link_unpack.specs.declared.unpacking.Next.TheVariants as next
@@ -40,10 +40,10 @@ use Rattle.link_unpack.proofs.Messages.{come, continued_by}
 -- what is known of the scan after it has taken these bytes of data, of which it returned a part
 pub record TakesPart (old new : TransferScan) (content part : List ℕ) : Type 0 where
   pub follows : (transfer : Transfer) (closed : Bool) (earlier : List Transfer)
-      → old.total + length content < 2 ^ 63 → Follows old transfer earlier
-      → Follows new (grown transfer content closed) earlier
+      → old.total + length content < 2 ^ 63 → IsAtTransfer old transfer earlier
+      → IsAtTransfer new (grown transfer content closed) earlier
   pub part : (transfer : Transfer) (closed : Bool) (earlier : List Transfer)
-      → old.total + length content < 2 ^ 63 → Follows old transfer earlier
+      → old.total + length content < 2 ^ 63 → IsAtTransfer old transfer earlier
       → part_of old.wanted (grown transfer content closed) ≡ part_of old.wanted transfer ++ part
   pub wanted : new.wanted ≡ old.wanted
   pub total : new.total ≤ old.total + length content
@@ -93,7 +93,7 @@ module _ {R W E : Type 0} (look : Looks R W E) (start : Devices R W E)
       let some = got.some in
       data_comes look start false got.mid before u headed head_joins (omega arith)
 
-  abbrev going : GoesOn u.latest (unpacked_from wanted headed).transfers
+  abbrev going : IsAtOpen u.latest (unpacked_from wanted headed).transfers
   going = goes look start false got.mid before u headed head_stands.0 head_stands.1
 
   abbrev closes : Bool
@@ -179,7 +179,7 @@ module _ {R W E : Type 0} (look : Looks R W E) where
       at_here = so_far.stands.1
 
       abbrev got : PassedInner look.input old new here id content
-      got = passes here at_here.session
+      got = passes here at_here.session_at
 
       is_continued : continuable (unpacked_from u.latest.wanted here).taken ≡ Some id
       is_continued = sym (open_is (unpacked_from u.latest.wanted here).taken (rw joiner at at_here.joiner))
@@ -232,7 +232,7 @@ module _ {R W E : Type 0} (look : Looks R W E) (start : Devices R W E) (wanted :
   pub far_inner : (result : Next) → 0 < most
       → (went : WentOn (source_of old) (source_of mid) stands most history)
       → TakesInner look start wanted mid new after u (history ++ went.given) result
-      → GivesFar look start wanted old new before after u history result
+      → AfterUnpackStride look start wanted old new before after u history result
   far_inner (next.Stage now) some went taken =
       let P : List ℕ → Type 0 = StandsAt look start wanted now new after u in
       let fits = went.size in

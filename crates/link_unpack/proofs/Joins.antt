@@ -13,7 +13,7 @@ use Rattle.link_run.proofs.Ends.{standing_unshown, made_reports}
 use Rattle.link_run.proofs.Runs.{texts_as, written_as, written_more, sound_written, writer_lost}
 use Rattle.link_unpack.specs.Transfers.{heads_of, Transfer, settled}
 use Rattle.link_unpack.specs.Unpacking.{parts_of, line_of, are_good, judgement_of, is_good, Unpacked, unpack_tool, unpacking_of}
-use Rattle.link_unpack.specs.UnpackRun.{AreTaken, unpacked_from, texts_of, is_good_so_far, GoesOn, IsOpen, IsWaiting, StandsAt, IsJoining}
+use Rattle.link_unpack.specs.UnpackRun.{AreTaken, unpacked_from, texts_of, is_good_so_far, IsAtOpen, IsOpen, IsWaiting, StandsAt, IsJoining}
 use Rattle.link_unpack.specs.declared.unpacking.Stage.{Stage}
 use Rattle.link_unpack.specs.declared.unpacking.Stage.TheVariants as stage
 use Rattle.link_unpack.specs.declared.unpacking.Unpacker.{Unpacker}
@@ -48,7 +48,7 @@ module _ {R W E : Type 0} (look : Looks R W E)
       unshown = unshown_taken u.latest.wanted history taken (standing_unshown s.offset s.left _ session.left);
     },
     record {
-      session = session;
+      session_at = session;
       taken = taken;
       joiner = joiner;
       sum = sum;
@@ -61,7 +61,7 @@ module _ {R W E : Type 0} (look : Looks R W E)
   -- the texts that the bytes so far determine
   pub sofar_here : (s : Session R) (u : Unpacker) (history : List ℕ)
       → IsSessionAt look.input s history → AreTaken u.latest.wanted (heads_of (reading_of history))
-      → (unpack_tool u.latest.wanted).sofar history
+      → (unpack_tool u.latest.wanted).so_far history
       ≡ texts_of u.latest.wanted (unpacked_from u.latest.wanted history)
   sofar_here s u history session taken =
       sofar_taken u.latest.wanted history taken (standing_unshown s.offset s.left _ session.left)
@@ -77,7 +77,7 @@ module _ {R W E : Type 0} (look : Looks R W E)
         ∙ ap (λ ts. length (parts_of u.latest.wanted ts)) (sym at.are)
 
     clean : left_of s ≡ 0 → (reading_of history).end ≡ Clean
-    clean none = left_none s.offset s.left (reading_of history).end at.session.left none
+    clean none = left_none s.offset s.left (reading_of history).end at.session_at.left none
 
     -- the transfers that are over, and whether they are good
     settled_good : (over : List Transfer) → settled (at.transfer ∷ at.earlier) ≡ over
@@ -88,7 +88,7 @@ module _ {R W E : Type 0} (look : Looks R W E)
 
     -- the transfer goes on
     module _ (now : Stage) (unclosed : at.transfer.closed ≡ false) where
-      going : GoesOn u.latest unpacked.transfers
+      going : IsAtOpen u.latest unpacked.transfers
       going = record { transfer = at.transfer; earlier = at.earlier; are = at.are; is_open = unclosed; follows = at.follows }
 
       all_written : record { output = parts_of u.latest.wanted (at.transfer ∷ at.earlier); report = at.report }
@@ -102,7 +102,7 @@ module _ {R W E : Type 0} (look : Looks R W E)
       still : IsWaiting now u.latest unpacked (reading_of history)
           → StandsAt look start u.latest.wanted now s w u history
       still waits =
-          stands now s w u history at.session at.taken at.joiner (written_as look at.written refl all_written) at.sound sum at.total
+          stands now s w u history at.session_at at.taken at.joiner (written_as look at.written refl all_written) at.sound sum at.total
           (at.good ∙ sym (settled_good at.earlier (settled_open at.transfer at.earlier unclosed))) waits
 
     pub data_comes : 0 < left_of s
@@ -145,7 +145,7 @@ module _ {R W E : Type 0} (look : Looks R W E)
           let opened = at.opened ∙ ap not is_last in
           let P : Bool → Type 0 = λ b. IsOpen b u.latest unpacked.transfers in
           rw latest (stands stage.Message s after
-          (record { joiner = v.joiner; latest = u.latest; good = v.good }) history at.session at.taken (rw joiner at.joiner)
+          (record { joiner = v.joiner; latest = u.latest; good = v.good }) history at.session_at at.taken (rw joiner at.joiner)
           (written_as look (written_more look start (source_of s) w after history _ _ at.written writes) refl with_line)
           (sound_written look (source_of s) w after _ at.sound writes) sum at.total
           (good ∙ ap (λ g. is_good (judgement_of at.transfer) && g) at.good
@@ -161,5 +161,5 @@ module _ {R W E : Type 0} (look : Looks R W E)
           (devices_at (place_of (source_of s) after)) history (Err fault)
       line_lost after fault part =
           writer_lost look (unpack_tool u.latest.wanted) (made_reports (unpacking_of u.latest.wanted)) start (source_of s) w after history _ _ _ fault at.written at.sound
-          (with_line ∙ sym (sofar_here s u history at.session at.taken))
+          (with_line ∙ sym (sofar_here s u history at.session_at at.taken))
           (inl refl) at.window (λ none. absurd (omega arith)) part

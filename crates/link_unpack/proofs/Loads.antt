@@ -10,7 +10,7 @@ use Rattle.link_run.specs.Run.{Looks, Devices}
 use Rattle.link_run.specs.Stages.{Stands}
 use Rattle.link_run.specs.Writers.{place_of}
 use Rattle.link_run.specs.declared.writers.Writers.{Writers}
-use Rattle.link_unpack.specs.UnpackRun.{Unpacks, GivesNext}
+use Rattle.link_unpack.specs.UnpackRun.{Unpacks, AfterUnpackStep}
 use Rattle.link_unpack.specs.declared.unpacking.Next.{Next}
 use Rattle.link_unpack.specs.declared.unpacking.Next.TheVariants as next
 use Rattle.link_unpack.specs.declared.unpacking.Stage.TheVariants as stage
@@ -43,7 +43,7 @@ module _ {R W E : Type 0} (look : Looks R W E) (start : Devices R W E) (old mid 
       → Unpacks look.input (stage.Data last) old u history
       → Unpacks look.input (stage.Data last) mid u history
   unpacks_ready last u at = record {
-    session = ready.at;
+    session_at = ready.at;
     taken = at.taken;
     joiner = at.joiner;
     sum = at.sum;
@@ -55,8 +55,8 @@ module _ {R W E : Type 0} (look : Looks R W E) (start : Devices R W E) (old mid 
   -- the step that takes it is the step that made it ready
   pub given_ready : (wanted : Wanted) (size piece : ℕ) (last : Bool) (new : Session R)
       (after : Writers W E) (u : Unpacker) (result : Next) → 0 < size → size ≤ piece
-      → GivesNext look start wanted size (stage.Data last) mid new after u history result
-      → GivesNext look start wanted piece (stage.Data last) old new after u history result
+      → AfterUnpackStep look start wanted size (stage.Data last) mid new after u history result
+      → AfterUnpackStep look start wanted piece (stage.Data last) old new after u history result
   given_ready wanted size piece last new after u (next.Stage now) some within went =
       let count = ready.readies.count in
       let later = went.count in

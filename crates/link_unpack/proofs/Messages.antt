@@ -27,8 +27,8 @@ use Rattle.link_run.specs.declared.writers.Writers.{Writers}
 use Rattle.link_run.proofs.Runs.{texts_as, written_as, written_given, sound_given}
 use Rattle.link_unpack.specs.Transfers.{heads_of, Transfer, closes, continued, after_segment, after_message, settled}
 use Rattle.link_unpack.specs.Unpacking.{parts_of, part_of, is_selected, are_good, Unpacked, unpacked_of, order_line, abandoned_line, closed_line, transfers_with, with_head, unpacking_of}
-use Rattle.link_unpack.specs.TransferScan.{Follows, begun, grown}
-use Rattle.link_unpack.specs.UnpackRun.{messages_of, AreInOrder, AreTaken, unpacked_from, is_open_after, GoesOn, IsOpen, IsCut, IsInData, IsWaiting, IsWaitingAfter, Unpacks, StandsAt, HasCome, IsTaken, IsJoining, IsBeginning}
+use Rattle.link_unpack.specs.TransferScan.{IsAtTransfer, begun, grown}
+use Rattle.link_unpack.specs.UnpackRun.{messages_of, AreInOrder, AreTaken, unpacked_from, is_open_after, IsAtOpen, IsOpen, EndsInSegment, IsInData, IsWaiting, IsWaitingAfter, Unpacks, StandsAt, HeadHasCome, IsTaken, IsJoining, IsBeginning}
 use Rattle.link_unpack.specs.declared.transfer.TransferScan.{TransferScan}
 use Rattle.link_unpack.specs.declared.unpacking.Stage.{Stage}
 use Rattle.link_unpack.specs.declared.unpacking.Stage.TheVariants as stage
@@ -77,8 +77,8 @@ same_part : (wanted : Wanted) (transfer : Transfer) (closed : Bool)
 same_part wanted transfer closed = ap (λ (xs : List ℕ). if is_selected wanted.only transfer.first.id then (if wanted.payload then payload_in xs else xs) else []) (append-nil transfer.content)
 
 pub follows_same : (now : TransferScan) (transfer : Transfer) (closed : Bool)
-    (earlier : List Transfer) → Follows now transfer earlier
-    → Follows now (grown transfer [] closed) earlier
+    (earlier : List Transfer) → IsAtTransfer now transfer earlier
+    → IsAtTransfer now (grown transfer [] closed) earlier
 follows_same now transfer closed earlier follows = record {
   id = follows.id;
   announced = follows.announced;
@@ -136,7 +136,7 @@ module _ {R W E : Type 0} (look : Looks R W E)
     pub alone : IsAlone (reading_of (history ++ got.given)).end
     alone = let P : Reading → Type 0 = λ r. IsAlone r.end in subst P (sym got.reading) (alone_by (nat_lt 0 (data_length (message_of message))) offset (message_of message))
 
-    pub come : (joiner : Joiner) → HasCome look start had offset None new before
+    pub come : (joiner : Joiner) → HeadHasCome look start had offset None new before
         (record { joiner = joiner; latest = u.latest; good = u.good }) message (history ++ got.given)
     come joiner =
         let clean = at.waits.0 in
@@ -144,7 +144,7 @@ module _ {R W E : Type 0} (look : Looks R W E)
         let T : List Entry → Type 0 = AreTaken u.latest.wanted in
         let total = at.total in
         record {
-          session = got.at;
+          session_at = got.at;
           window = got.takes.window.less got.some;
           had = reading_of history;
           clean = clean;
@@ -164,7 +164,7 @@ module _ {R W E : Type 0} (look : Looks R W E)
   -- ---- what comes of it
 
   module _ (before : Unpacked) (offset : ℕ) (line : Option OrderFault) (s : Session R) (w : Writers W E) (u : Unpacker) (message : MessageBuffer) (history : List ℕ)
-      (at : HasCome look start before offset line s w u message history) where
+      (at : HeadHasCome look start before offset line s w u message history) where
     abbrev pub wanted : Wanted
     wanted = u.latest.wanted
 
@@ -199,7 +199,7 @@ module _ {R W E : Type 0} (look : Looks R W E)
           ∙ ap (λ b. joined at.had (if b then ended (Cut offset sent []) else with_entry head_of (ended Clean)))
           (lt-ltb 0 (data_length sent) (omega (arith, at.left)))
 
-      abbrev is_cut : IsCut wanted stray (reading_of history)
+      abbrev is_cut : EndsInSegment wanted stray (reading_of history)
       is_cut = record {
         offset = offset;
         sent = sent;
@@ -281,7 +281,7 @@ module _ {R W E : Type 0} (look : Looks R W E)
             → abandoned ≡ is_open_after before
             → IsBeginning look start abandoned last s w u message history
         beginning abandoned starts was = record {
-          session = at.session;
+          session_at = at.session_at;
           window = at.window;
           taken = taken;
           joiner = joiner_is;
@@ -305,7 +305,7 @@ module _ {R W E : Type 0} (look : Looks R W E)
         }
 
         module _ (starts : is_start head.flags ≡ false) where
-          going : GoesOn u.latest before.transfers
+          going : IsAtOpen u.latest before.transfers
           going =
               let stray = ap (λ m. is_stray before.taken (event_of m)) (sym is) ∙ belongs in
               let is_open = open_where_taken before.taken head.flags head.id starts stray in
@@ -321,7 +321,7 @@ module _ {R W E : Type 0} (look : Looks R W E)
 
           continuing : IsJoining look start last s w u history
           continuing = record {
-            session = at.session;
+            session_at = at.session_at;
             window = at.window;
             taken = taken;
             joiner = joiner_is;
@@ -360,14 +360,14 @@ module _ {R W E : Type 0} (look : Looks R W E)
             ap (λ (un : Unpacked). un.transfers) unpacked_is ∙ none.transfers in
             let report : unpacked.report ≡ lines =
             ap (λ (un : Unpacked). un.report) unpacked_is ∙ none.report ∙ lines_are in
-            stands look start now s w u history at.session taken joiner_is
+            stands look start now s w u history at.session_at taken joiner_is
             (written_as look at.written refl (texts_as (ap (parts_of wanted) (sym transfers)) (sym report)))
             at.sound (at.sum ∙ ap (λ ts. length (parts_of wanted ts)) (sym transfers)) at.total
             (good_is (settled unpacked.transfers) (ap settled (sym transfers))) waits
 
         passed_all : left_of s ≡ 0 → StandsAt look start wanted stage.Message s w u history
         passed_all all =
-            passed stage.Message (left_none s.offset s.left (reading_of history).end at.session.left all, still_open)
+            passed stage.Message (left_none s.offset s.left (reading_of history).end at.session_at.left all, still_open)
 
         passed_head : is_stray before.taken (event_of sent) ≡ true → 0 < left_of s
             → StandsAt look start wanted stage.Stray s w u history

@@ -38,59 +38,59 @@ drop-append count front back = ⊎_elim
     (cases_lt count (length front))
 
 -- the bytes of the part that the piece has
-piece_part : (piece : List ℕ) (before place size count : ℕ)
-    → count ≡ min size (before + length piece - place)
-    → take (size - (before - place)) (drop (place - before) piece)
-    ≡ part_in piece before place count
-piece_part piece before place size count all = ⊎_elim
-    (λ (inside : place < before + length piece).
-    let end = min (place + count - before) (length piece) in
-    let start : min (place - before) end ≡ place - before = omega arith in
-    take_same (size - (before - place)) (end - (place - before)) (drop (place - before) piece)
-    (omega (arith, length-drop (place - before) piece))
+piece_part : (piece : List ℕ) (before offset size count : ℕ)
+    → count ≡ min size (before + length piece - offset)
+    → take (size - (before - offset)) (drop (offset - before) piece)
+    ≡ part_in piece before offset count
+piece_part piece before offset size count all = ⊎_elim
+    (λ (inside : offset < before + length piece).
+    let end = min (offset + count - before) (length piece) in
+    let start : min (offset - before) end ≡ offset - before = omega arith in
+    take_same (size - (before - offset)) (end - (offset - before)) (drop (offset - before) piece)
+    (omega (arith, length-drop (offset - before) piece))
     ∙ ap (λ n. take (end - n) (drop n piece)) (sym start))
-    (λ (past : before + length piece ≤ place).
-    let end = min (place + count - before) (length piece) in
-    let none : end - min (place - before) end ≡ 0 = omega arith in
-    ap (take (size - (before - place))) (drop_of_length-le piece (omega arith)) ∙ take-nil (size - (before - place))
-    ∙ ap (λ n. take n (drop (min (place - before) end) piece)) {x = 0} (sym none))
-    (cases_lt place (before + length piece))
+    (λ (past : before + length piece ≤ offset).
+    let end = min (offset + count - before) (length piece) in
+    let none : end - min (offset - before) end ≡ 0 = omega arith in
+    ap (take (size - (before - offset))) (drop_of_length-le piece (omega arith)) ∙ take-nil (size - (before - offset))
+    ∙ ap (λ n. take n (drop (min (offset - before) end) piece)) {x = 0} (sym none))
+    (cases_lt offset (before + length piece))
 
--- The data has `count` of the `size` bytes at `place`. The piece has those of them that the data
+-- The data has `count` of the `size` bytes at `offset`. The piece has those of them that the data
 -- before it does not have.
-pub part_more : (content piece : List ℕ) (place size count : ℕ)
-    → count ≡ length (take size (drop place (content ++ piece)))
-    → take size (drop place (content ++ piece))
-    ≡ take size (drop place content) ++ part_in piece (length content) place count
-part_more content piece place size count all =
-    let left : size - length (drop place content) ≡ size - (length content - place) = ap (λ n. size - n) (length-drop place content) in
-    let there : count ≡ min size (length content + length piece - place) =
-    all ∙ length-take size (drop place (content ++ piece))
-    ∙ ap (min size) (length-drop place (content ++ piece) ∙ ap (λ n. n - place) (length-append content piece)) in
-    ap (take size) (drop-append place content piece)
-    ∙ take-append size (drop place content) (drop (place - length content) piece)
-    ∙ ap (λ n. take size (drop place content) ++ take n (drop (place - length content) piece)) left
-    ∙ ap (λ rest. take size (drop place content) ++ rest) (piece_part piece (length content) place size count there)
+pub part_more : (content piece : List ℕ) (offset size count : ℕ)
+    → count ≡ length (take size (drop offset (content ++ piece)))
+    → take size (drop offset (content ++ piece))
+    ≡ take size (drop offset content) ++ part_in piece (length content) offset count
+part_more content piece offset size count all =
+    let left : size - length (drop offset content) ≡ size - (length content - offset) = ap (λ n. size - n) (length-drop offset content) in
+    let there : count ≡ min size (length content + length piece - offset) =
+    all ∙ length-take size (drop offset (content ++ piece))
+    ∙ ap (min size) (length-drop offset (content ++ piece) ∙ ap (λ n. n - offset) (length-append content piece)) in
+    ap (take size) (drop-append offset content piece)
+    ∙ take-append size (drop offset content) (drop (offset - length content) piece)
+    ∙ ap (λ n. take size (drop offset content) ++ take n (drop (offset - length content) piece)) left
+    ∙ ap (λ rest. take size (drop offset content) ++ rest) (piece_part piece (length content) offset size count there)
 
 -- if the whole has no bytes of the part, neither has a prefix
-pub no_part : (content piece : List ℕ) (place size : ℕ)
-    → take size (drop place (content ++ piece)) ≡ []
-    → take size (drop place content) ≡ []
-no_part content piece place size none =
-    nil_from_length (take size (drop place content))
+pub no_part : (content piece : List ℕ) (offset size : ℕ)
+    → take size (drop offset (content ++ piece)) ≡ []
+    → take size (drop offset content) ≡ []
+no_part content piece offset size none =
+    nil_from_length (take size (drop offset content))
     (omega (
       arith,
       ap length none,
-      length-take size (drop place (content ++ piece)),
-      length-drop place (content ++ piece),
+      length-take size (drop offset (content ++ piece)),
+      length-drop offset (content ++ piece),
       length-append content piece,
-      length-take size (drop place content),
-      length-drop place content,
+      length-take size (drop offset content),
+      length-drop offset content,
     ))
 
 -- the bytes of a part that are there end within the data
-pub part_fits : (bytes : List ℕ) (place size count limit : ℕ)
-    → count ≡ length (take size (drop place bytes))
-    → length bytes < limit → 0 < count → place + count < limit
-part_fits bytes place size count limit all short some =
-    omega (arith, length-take size (drop place bytes), length-drop place bytes)
+pub part_fits : (bytes : List ℕ) (offset size count limit : ℕ)
+    → count ≡ length (take size (drop offset bytes))
+    → length bytes < limit → 0 < count → offset + count < limit
+part_fits bytes offset size count limit all short some =
+    omega (arith, length-take size (drop offset bytes), length-drop offset bytes)

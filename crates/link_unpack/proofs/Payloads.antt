@@ -1,6 +1,6 @@
 -- The payload's bytes of a piece of a transfer's data, which a scan has judged.
 use Rattle.std.proofs.Common.{◌≡◌, ℕ, ◌+◌, ◌<◌, List, [], ◌++◌, length, take, drop, Option, Some, None, sym, ap, ◌∙◌, append-nil}
-use Rattle.link_bundle.specs.Bundle.{judged, payload_of, bytes_of, payload_in, spanned, payload_span}
+use Rattle.link_bundle.specs.Bundle.{judged_bundle, payload_of, bytes_of, payload_in, spanned, payload_seen}
 use Rattle.link_bundle.specs.Scan.{HasScanned, HasJudged}
 use Rattle.link_bundle.specs.declared.scan.BundleScan.{BundleScan}
 use Rattle.link_bundle.proofs.Payloads.{PayloadLasts-holds, PayloadPlaced-holds}
@@ -30,7 +30,7 @@ span_none : (outcome : Option (ℕ × ℕ)) (there : ℕ) → None ≡ spanned o
 span_none None there is = refl
 span_none (Some (at, size)) there is = cc
 
-payload_in-known : (bytes : List ℕ) (payload : Option (ℕ × ℕ)) → payload_of (judged bytes) ≡ payload
+payload_in-known : (bytes : List ℕ) (payload : Option (ℕ × ℕ)) → payload_of (judged_bundle bytes) ≡ payload
     → payload_in bytes ≡ bytes_of payload bytes
 unfolding payload_in
 payload_in-known bytes payload is = ap (λ (outcome : Option (ℕ × ℕ)). bytes_of outcome bytes) is
@@ -39,17 +39,17 @@ module _ (scan : BundleScan) (content piece : List ℕ)
     (now : HasJudged scan (content ++ piece)) where
   -- the payload's offset is known
   pub part_some : (place count limit : ℕ)
-      → ((seen : List ℕ) → HasScanned scan seen → Some (place, count) ≡ payload_span seen)
+      → ((seen : List ℕ) → HasScanned scan seen → Some (place, count) ≡ payload_seen seen)
       → length (content ++ piece) < limit
       → (0 < count → place + count < limit)
       × (payload_in (content ++ piece) ≡ payload_in content
       ++ part_in piece (length content) place count)
-  unfolding payload_span
+  unfolding payload_seen
   part_some place count limit span short =
       let whole = content ++ piece in
-      let here = span_known (payload_of (judged now.seen)) place count (length (payload_in now.seen)) (span now.seen now.scanned) in
-      let where_now : payload_of (judged whole) ≡ Some (place, here.size) =
-      ap (λ xs. payload_of (judged xs)) (sym now.parts) ∙ PayloadLasts-holds now.seen now.rest (place, here.size) here.is in
+      let here = span_known (payload_of (judged_bundle now.seen)) place count (length (payload_in now.seen)) (span now.seen now.scanned) in
+      let where_now : payload_of (judged_bundle whole) ≡ Some (place, here.size) =
+      ap (λ xs. payload_of (judged_bundle xs)) (sym now.parts) ∙ PayloadLasts-holds now.seen now.rest (place, here.size) here.is in
       let after : payload_in whole ≡ take here.size (drop place whole) = payload_in-known whole (Some (place, here.size)) where_now in
       let count_is : count ≡ length (take here.size (drop place whole)) =
       here.all ∙ ap length (payload_judged scan whole now ∙ after) in (
@@ -61,18 +61,18 @@ module _ (scan : BundleScan) (content piece : List ℕ)
 
   -- the data with the piece has no payload bytes, so the data before the piece had none
   earlier_none : payload_in (content ++ piece) ≡ [] → (known : Option (ℕ × ℕ))
-      → payload_of (judged content) ≡ known → payload_in content ≡ []
+      → payload_of (judged_bundle content) ≡ known → payload_in content ≡ []
   earlier_none none None is = payload_in-known content None is
   earlier_none none (Some (place, size)) is =
       let later = PayloadLasts-holds content piece (place, size) is in
       payload_in-known content (Some (place, size)) is
       ∙ no_part content piece place size (sym (payload_in-known (content ++ piece) (Some (place, size)) later) ∙ none)
 
-  pub part_none : ((seen : List ℕ) → HasScanned scan seen → None ≡ payload_span seen)
+  pub part_none : ((seen : List ℕ) → HasScanned scan seen → None ≡ payload_seen seen)
       → payload_in (content ++ piece) ≡ payload_in content ++ []
-  unfolding payload_span
+  unfolding payload_seen
   part_none span =
       let none : payload_in (content ++ piece) ≡ [] =
       sym (payload_judged scan (content ++ piece) now)
-      ∙ payload_in-known now.seen None (span_none (payload_of (judged now.seen)) (length (payload_in now.seen)) (span now.seen now.scanned)) in
-      none ∙ sym (append-nil (payload_in content) ∙ earlier_none none (payload_of (judged content)) refl)
+      ∙ payload_in-known now.seen None (span_none (payload_of (judged_bundle now.seen)) (length (payload_in now.seen)) (span now.seen now.scanned)) in
+      none ∙ sym (append-nil (payload_in content) ∙ earlier_none none (payload_of (judged_bundle content)) refl)

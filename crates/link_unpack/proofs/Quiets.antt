@@ -141,7 +141,7 @@ module _ {R W E : Type 0} (look : Looks R W E) (old mid : Session R) (u : Unpack
       let Q : Bool → Type 0 = λ b. IsOpen b u.latest (unpacked_from wanted history).transfers in
       let total = at.total in
       record {
-        session = got.passed.at;
+        session_at = got.passed.at;
         taken = same.taken at.taken;
         joiner = same.joins u.joiner at.joiner;
         sum = at.sum ∙ ap (λ ts. length (parts_of wanted ts)) (sym same.transfers);

@@ -20,14 +20,14 @@ use Rattle.link_run.proofs.Ends.{made_reports}
 use Rattle.link_run.proofs.Runs.{texts_as, written_as, written_more, sound_written, writer_lost, part_of_more}
 use Rattle.link_unpack.specs.Transfers.{heads_of, settled}
 use Rattle.link_unpack.specs.Unpacking.{parts_of, are_good, Unpacked, order_line, transfer_lines, unpack_tool, unpacking_of}
-use Rattle.link_unpack.specs.UnpackRun.{AreTaken, HasCome}
+use Rattle.link_unpack.specs.UnpackRun.{AreTaken, HeadHasCome}
 use Rattle.link_unpack.specs.declared.unpacking.Unpacker.{Unpacker}
 use Rattle.link_unpack.proofs.Joins.{sofar_here}
 use Rattle.link_unpack.proofs.Messages.{after, unpacked, unpacked_is, parts_head}
 
 module _ {R W E : Type 0} (look : Looks R W E) (start : Devices R W E) (before : Unpacked)
     (offset : ℕ) (s : Session R) (w : Writers W E) (u : Unpacker) (message : MessageBuffer)
-    (history : List ℕ) (at : HasCome look start before offset None s w u message history)
+    (history : List ℕ) (at : HeadHasCome look start before offset None s w u message history)
     (order : OrderFault)
     (refused : refusal before.taken (event_of (message_of message)) ≡ Some order) where
   abbrev line : List ℕ
@@ -36,10 +36,10 @@ module _ {R W E : Type 0} (look : Looks R W E) (start : Devices R W E) (before :
   -- the line of the fault is written
   pub lined : (joiner : Joiner) (after : Writers W E)
       → Writes look.output look.report w after (on_report line)
-      → HasCome look start before offset (Some order) s after
+      → HeadHasCome look start before offset (Some order) s after
       (record { joiner = joiner; latest = u.latest; good = false }) message history
   lined joiner after writes = record {
-    session = at.session;
+    session_at = at.session_at;
     window = at.window;
     had = at.had;
     clean = at.clean;
@@ -87,6 +87,6 @@ module _ {R W E : Type 0} (look : Looks R W E) (start : Devices R W E) (before :
         (append-nil _ ∙ sym (parts_head (is_stray before.taken (event_of (message_of message))) u.latest.wanted before.transfers offset (message_of message))
         ∙ sym (ap (λ (un : Unpacked). parts_of u.latest.wanted un.transfers) now_is))
         (reports ∙ sym (ap (λ (un : Unpacked). un.report) now_is))
-        ∙ sym (sofar_here look start s u history at.session taken))
+        ∙ sym (sofar_here look start s u history at.session_at taken))
         (inl refl) at.window (λ none. absurd (omega arith))
         (part_of_more look.output look.report w written _ (on_report rest) fault (λ some. refl) part)

@@ -15,10 +15,10 @@ use Rattle.link_transfer.specs.Order.{refusal, open_of}
 use Rattle.link_transfer.specs.declared.fault.OrderFault.{OrderFault}
 use Rattle.link_report.specs.Fault.{fault_text}
 use Rattle.link_report.specs.declared.fault.Fault.TheVariants.{Order}
-use Rattle.link_run.specs.Made.{Made, whole_by, is_shown, stop_of}
+use Rattle.link_run.specs.Made.{Made, whole_by, shows_fault, stop_of}
 use Rattle.link_run.specs.Run.{Texts, no_texts, ◌then◌, Looks, Devices, devices_at, LastStep}
 use Rattle.link_run.specs.Stages.{Stands, MayBegin}
-use Rattle.link_run.specs.Writers.{place_of, on_report, GivesLast}
+use Rattle.link_run.specs.Writers.{place_of, on_report, AfterLastWrite}
 use Rattle.link_run.specs.declared.run.Status.{Status}
 use Rattle.link_run.specs.declared.writers.Writers.{Writers}
 use Rattle.link_run.proofs.Runs.{few_over, texts_as, writes_none, then_none}
@@ -26,7 +26,7 @@ use Rattle.link_run.proofs.Sessions.{SameTexts, then_fault}
 use Rattle.link_run.proofs.Stands.{ends, goes_on}
 use Rattle.link_unpack.specs.Transfers.{cut_heads, heads_of, transfers_of, settled}
 use Rattle.link_unpack.specs.Unpacking.{parts_of, lines_of, are_good, Unpacked, none_unpacked, unpacked_of, abandoned_line, going_on_by, unpack_tool, unpacking_of, unpacking_by}
-use Rattle.link_unpack.specs.UnpackRun.{most_by, messages_of, AreInOrder, AreTaken, unpacked_from, texts_of, is_open_after, is_good_so_far, IsOpen, IsWaitingAfter, Begins, Unpacks, StandsNext, GivesNext, GivesFinish, EndsWith}
+use Rattle.link_unpack.specs.UnpackRun.{most_by, messages_of, AreInOrder, AreTaken, unpacked_from, texts_of, is_open_after, is_good_so_far, IsOpen, IsWaitingAfter, Begins, Unpacks, StandsNext, AfterUnpackStep, AfterFinish, EndsWith}
 use Rattle.link_unpack.specs.declared.unpacking.Next.{Next}
 use Rattle.link_unpack.specs.declared.unpacking.Next.TheVariants as next
 use Rattle.link_unpack.specs.declared.unpacking.Stage.{Stage}
@@ -40,14 +40,14 @@ use Rattle.link_unpack.proofs.Outcomes.{refused_at, made_refused, HasHead, head_
 use Rattle.link_unpack.proofs.Taken.{made_from, texts_taken, unshown_taken, same_texts}
 use Rattle.link_unpack.proofs.Texts.{by_reading}
 
--- `StandsNext` for the bytes given implies `GivesNext` for the step
+-- `StandsNext` for the bytes given implies `AfterUnpackStep` for the step
 pub stage_given : {R W E : Type 0} (look : Looks R W E) (start : Devices R W E) (wanted : Wanted)
     (piece : ℕ) (now : Stage) (old new : Session R) (after : Writers W E) (u : Unpacker)
     (history given : List ℕ) (result : Next)
     → Takes look.input (source_of old) (source_of new) given → 0 < length given
     → length given ≤ most_by piece now → IsWaitingAfter now (reading_of (history ++ given)).end
     → StandsNext look start wanted new after u (history ++ given) result
-    → GivesNext look start wanted piece now old new after u history result
+    → AfterUnpackStep look start wanted piece now old new after u history result
 stage_given look start wanted piece now old new after u history given (next.Stage stage) takes some size waiting stood =
     record { given = given; some = λ may. some; size = size; count = takes.count; window = takes.window.less some; at = (stood, waiting) }
 stage_given look start wanted piece now old new after u history given (next.Ended answer) takes some size waiting stood =
@@ -75,11 +75,11 @@ module _ {R W E : Type 0} {look : Looks R W E} {start : Devices R W E} (old new 
         ∙ ap (λ e. going_on_by u.latest.wanted e unpacked) at.waits.0
 
     pub finished : (answer : Result Status IoFault)
-        → GivesFinish look.output look.report u unpacked before after answer
+        → AfterFinish look.output look.report u unpacked before after answer
         → LastStep look (unpack_tool u.latest.wanted) start (devices_at (place_of (source_of new) after)) longest_head history answer
     finished answer gives =
         let line = on_report (abandoned_line u.latest.wanted unpacked.transfers) in
-        let P : ℕ → Type 0 = λ status. GivesLast look.output look.report before after line status answer in
+        let P : ℕ → Type 0 = λ status. AfterLastWrite look.output look.report before after line status answer in
         ends longest_head (source_of old) (source_of new) before stood got.takes (omega arith) (few_over look.input (source_of new) got.over) after line
         (ap (λ (t : Texts). t then line) had_texts
         ∙ texts_as (append-nil (parts_of u.latest.wanted unpacked.transfers)) refl
@@ -127,19 +127,19 @@ module _ {R W E : Type 0} {look : Looks R W E} {start : Devices R W E} (old new 
     made_now = ap (unpacking_of u.latest.wanted) (sym (append-nil (history ++ got.given))) ∙ made_order []
 
     order_reported : (answer : Result Status IoFault)
-        → GivesLast look.output look.report before after (on_report (fault_text (Order offset fault))) 3 answer
+        → AfterLastWrite look.output look.report before after (on_report (fault_text (Order offset fault))) 3 answer
         → LastStep look (unpack_tool u.latest.wanted) start (devices_at (place_of (source_of new) after)) longest_head history answer
     order_reported answer gives =
-        let P : ℕ → Type 0 = λ status. GivesLast look.output look.report before after (on_report (fault_text (Order offset fault))) status answer in
+        let P : ℕ → Type 0 = λ status. AfterLastWrite look.output look.report before after (on_report (fault_text (Order offset fault))) status answer in
         ends longest_head (source_of old) (source_of new) before stood got.takes got.size (got.takes.window.less got.some) after (on_report (fault_text (Order offset fault)))
         (ap (λ (t : Texts). t then on_report (fault_text (Order offset fault))) (had_texts ∙ ap (texts_of u.latest.wanted) here) ∙ then_fault (Order offset fault) (refused_made.texts) ∙ sym (ap (λ (m : Made). (whole_by m.stop m).texts) made_now))
-        (inr (ap (λ (m : Made). is_shown m.stop) made_now, λ more. made_order more ∙ sym made_now))
+        (inr (ap (λ (m : Made). shows_fault m.stop) made_now, λ more. made_order more ∙ sym made_now))
         answer (subst P (sym (ap (λ (m : Made). (whole_by m.stop m).status) made_now)) gives)
 
     -- the same, by what comes next
     pub order_ended : (piece : ℕ) (v : Unpacker) (result : Next)
         → EndsWith look.output look.report before after (on_report (fault_text (Order offset fault))) 3 result
-        → GivesNext look start u.latest.wanted piece stage.Message old new after v history result
+        → AfterUnpackStep look start u.latest.wanted piece stage.Message old new after v history result
     order_ended piece v (next.Stage stage) gives = absurd gives
     order_ended piece v (next.Ended answer) gives = order_reported answer gives
 
@@ -181,7 +181,7 @@ before_all wanted = same_texts wanted (reading_of []) (none_taken wanted [] head
 pub may_begin : (wanted : Wanted) → MayBegin (unpacking_of wanted) true
 may_begin wanted = record {
   texts = nothing_yet wanted [] heads_none;
-  unshown = unshown_taken wanted [] (none_taken wanted [] heads_none) (ap (λ (r : Reading). is_shown (stop_of r.end)) reading-none);
+  unshown = unshown_taken wanted [] (none_taken wanted [] heads_none) (ap (λ (r : Reading). shows_fault (stop_of r.end)) reading-none);
 }
 
 module _ {R W E : Type 0} {look : Looks R W E} {start : Devices R W E} (old new : Session R)
@@ -200,7 +200,7 @@ module _ {R W E : Type 0} {look : Looks R W E} {start : Devices R W E} (old new 
       let size = got.size in
       let total = fresh.total in
       record {
-        session = got.at;
+        session_at = got.at;
         taken = none_taken u.latest.wanted got.given heads_read;
         joiner = subst J (sym nothing) fresh.joiner;
         sum = fresh.sum ∙ sym (ap (λ (un : Unpacked). length (parts_of u.latest.wanted un.transfers)) nothing ∙ no_parts u.latest.wanted);
@@ -209,11 +209,11 @@ module _ {R W E : Type 0} {look : Looks R W E} {start : Devices R W E} (old new 
         waits = (ap (λ (r : Reading). r.end) got.reading, subst O (sym nothing) (subst B (sym none_open) refl));
       }
 
-  pub contact_step : (piece : ℕ) → GivesNext look start u.latest.wanted piece stage.Contact old new before u [] (next.Stage stage.Message)
+  pub contact_step : (piece : ℕ) → AfterUnpackStep look start u.latest.wanted piece stage.Contact old new before u [] (next.Stage stage.Message)
   contact_step piece =
       let size = got.size in
       let went = goes_on 6 (source_of old) (source_of new) before stood got.takes (omega arith) (got.takes.window.less (omega arith)) before no_texts
       (then_none _ ∙ nothing_yet u.latest.wanted [] heads_none ∙ sym (nothing_yet u.latest.wanted got.given heads_read))
-      (unshown_taken u.latest.wanted got.given (none_taken u.latest.wanted got.given heads_read) (ap (λ (r : Reading). is_shown (stop_of r.end)) got.reading))
+      (unshown_taken u.latest.wanted got.given (none_taken u.latest.wanted got.given heads_read) (ap (λ (r : Reading). shows_fault (stop_of r.end)) got.reading))
       (λ bytes. Unpacks look.input stage.Message new u bytes) (λ begun. omega arith) contact_known (writes_none look.output look.report before) (λ some. refl) in
       record { given = went.given; some = went.some; size = went.size; count = went.count; window = went.window; at = (went.at, tt) }

@@ -11,7 +11,7 @@ use Rattle.link_run.specs.Writers.{place_of}
 use Rattle.link_run.specs.declared.writers.Writers.{Writers}
 use Rattle.link_run.proofs.Runs.{written_as, written_given, sound_given}
 use Rattle.link_unpack.specs.Unpacking.{Unpacked, unpacking_of}
-use Rattle.link_unpack.specs.UnpackRun.{unpacked_from, texts_of, is_open_after, IsCut, IsOpen, IsWaiting, Unpacks, StandsAt}
+use Rattle.link_unpack.specs.UnpackRun.{unpacked_from, texts_of, is_open_after, EndsInSegment, IsOpen, IsWaiting, Unpacks, StandsAt}
 use Rattle.link_unpack.specs.declared.unpacking.Stage.{Stage}
 use Rattle.link_unpack.specs.declared.unpacking.Stage.TheVariants as stage
 use Rattle.link_unpack.specs.declared.unpacking.Unpacker.{Unpacker}
@@ -28,11 +28,11 @@ module _ {R W E : Type 0} (look : Looks R W E) (start : Devices R W E) (old : Se
   abbrev wanted : Wanted
   wanted = u.latest.wanted
 
-  abbrev cut : IsCut wanted true (reading_of history)
+  abbrev cut : EndsInSegment wanted true (reading_of history)
   cut = at.waits.0
 
   pub some_left : 0 < left_of old
-  some_left = (size_left wanted true history cut old.offset old.left at.session.left).0
+  some_left = (size_left wanted true history cut old.offset old.left at.session_at.left).0
 
   module _ (mid new : Session R) (bytes : List ℕ) (n : ℕ)
       (ready : LoadedData look.input old mid history n)

@@ -8,7 +8,7 @@ use Rattle.link_wire.specs.declared.Source.{Source}
 use Rattle.link_wire.specs.declared.session.Session.{Session}
 use Rattle.link_run.specs.Reading.{HasEnough}
 use Rattle.link_run.specs.Run.{Looks, Devices, Place, WentOn, answer_of}
-use Rattle.link_run.specs.Stages.{Stands, HandedOn, GivesStageStride}
+use Rattle.link_run.specs.Stages.{Stands, HandedOn, AfterStageStride}
 use Rattle.link_run.specs.Writers.{place_of}
 use Rattle.link_run.specs.declared.run.Progress.TheVariants.{More}
 use Rattle.link_run.specs.declared.run.Status.{Status}
@@ -16,7 +16,7 @@ use Rattle.link_run.specs.declared.writers.Writers.{Writers}
 use Rattle.link_run.proofs.Handing.{handed_later}
 use Rattle.link_run.proofs.Strides.{step_then}
 use Rattle.link_unpack.specs.Unpacking.{unpacking_of, unpack_tool}
-use Rattle.link_unpack.specs.UnpackRun.{most_by, progress_of, Unpacks, IsUnpacking, StandsAt, StandsIf, PassesQuiet, WritesNext, GivesNext, GivesFar}
+use Rattle.link_unpack.specs.UnpackRun.{most_by, progress_of, Unpacks, IsUnpacking, StandsAt, StandsIf, PassesQuiet, WritesNext, AfterUnpackStep, AfterUnpackStride}
 use Rattle.link_unpack.specs.declared.unpacking.Next.{Next}
 use Rattle.link_unpack.specs.declared.unpacking.Next.TheVariants as next
 use Rattle.link_unpack.specs.declared.unpacking.Stage.{Stage}
@@ -36,8 +36,8 @@ module _ {R W E : Type 0} (look : Looks R W E) (start : Devices R W E) (wanted :
   -- a step is a stride
   pub far_step : (piece : ℕ) (now : Stage) (old new : Session R) (before after : Writers W E)
       (u : Unpacker) (history : List ℕ) (result : Next) → 0 < most_by piece now
-      → GivesNext look start wanted piece now old new after u history result
-      → GivesFar look start wanted old new before after u history result
+      → AfterUnpackStep look start wanted piece now old new after u history result
+      → AfterUnpackStride look start wanted old new before after u history result
   far_step piece now old new before after u history (next.Stage stage) some went = (
     most_by piece now,
     some,
@@ -59,8 +59,8 @@ module _ {R W E : Type 0} (look : Looks R W E) (start : Devices R W E) (wanted :
   pub far_later : (old mid new : Session R) (before between after : Writers W E) (u : Unpacker)
       (stands : List ℕ → Type 0) (first : ℕ) (history : List ℕ) (result : Next)
       → (went : WentOn (source_of old) (source_of mid) stands first history)
-      → GivesFar look start wanted mid new between after u (history ++ went.given) result
-      → GivesFar look start wanted old new before after u history result
+      → AfterUnpackStride look start wanted mid new between after u (history ++ went.given) result
+      → AfterUnpackStride look start wanted old new before after u history result
   far_later old mid new before between after u stands first history result went far = (
     first + far.0,
     (let some = far.1 in omega arith),
@@ -73,11 +73,11 @@ module _ {R W E : Type 0} (look : Looks R W E) (start : Devices R W E) (wanted :
       (u : Unpacker) (history : List ℕ) (result : Next) → 0 < most_by piece now
       → u.latest.wanted ≡ wanted → ((result ≡ next.Stage stage.Message → ⊥) → new ≡ mid)
       → ((bytes : List ℕ) → IsSessionAt look.input mid bytes → PassesQuiet look.input mid new bytes)
-      → GivesNext look start wanted piece now old mid after u history result
-      → GivesFar look start wanted old new before after u history result
+      → AfterUnpackStep look start wanted piece now old mid after u history result
+      → AfterUnpackStride look start wanted old new before after u history result
   far_quiet piece now old mid new before after u history (next.Stage stage.Message) some same other passed went =
       let P : Wanted → Type 0 = λ w. Stands look (unpacking_of w) start true (place_of (source_of mid) after) (history ++ went.given) in
-      let Q : Session R → Type 0 = λ s. GivesFar look start wanted old s before after u history (next.Stage stage.Message) in
+      let Q : Session R → Type 0 = λ s. AfterUnpackStride look start wanted old s before after u history (next.Stage stage.Message) in
       ⊎_elim
       (λ unchanged. subst Q (sym unchanged) (far_step piece now old mid before after u history (next.Stage stage.Message) some went))
       (λ got.
@@ -95,7 +95,7 @@ module _ {R W E : Type 0} (look : Looks R W E) (start : Devices R W E) (wanted :
           at = quiet.at;
         },
       ))
-      (passed _ went.at.0.1.session)
+      (passed _ went.at.0.1.session_at)
   far_quiet piece now old mid new before after u history (next.Stage stage.Contact) some same other passed went =
       rw (other (λ e. absurd (cc))) (far_step piece now old mid before after u history (next.Stage stage.Contact) some went)
   far_quiet piece now old mid new before after u history (next.Stage (stage.Data last)) some same other passed went =
@@ -116,8 +116,8 @@ module _ {R W E : Type 0} (look : Looks R W E) (start : Devices R W E) (wanted :
     (old new : Session R) (before after : Writers W E) (u : Unpacker) (most : ℕ) (history : List ℕ) where
   -- a stride of the tool, from what comes next
   pub far_stage : (now : Stage)
-      → GivesFar look start wanted old new before after u history (next.Stage now)
-      → GivesStageStride look (unpacking_of wanted) start true (place_of (source_of old) before)
+      → AfterUnpackStride look start wanted old new before after u history (next.Stage now)
+      → AfterStageStride look (unpacking_of wanted) start true (place_of (source_of old) before)
       (place_of (source_of new) after) (IsUnpacking look.input now u new) most history (Ok More)
   far_stage now far = (
     far.0,
@@ -133,8 +133,8 @@ module _ {R W E : Type 0} (look : Looks R W E) (start : Devices R W E) (wanted :
   )
 
   pub far_ended : (knows : List ℕ → Type 0) (answer : Result Status IoFault)
-      → GivesFar look start wanted old new before after u history (next.Ended answer)
-      → GivesStageStride look (unpacking_of wanted) start true (place_of (source_of old) before)
+      → AfterUnpackStride look start wanted old new before after u history (next.Ended answer)
+      → AfterStageStride look (unpacking_of wanted) start true (place_of (source_of old) before)
       (place_of (source_of new) after) knows most history (answer_of answer)
   far_ended knows (Ok status) far = (far.0, λ some. far.1, far.2)
   far_ended knows (Err fault) far = (far.0, λ some. far.1, far.2)

@@ -2,7 +2,7 @@
 -- are in order.
 use Rattle.std.proofs.Common.{◌≡◌, ℕ, false, List, [], ◌++◌, refl, ap, sym, ◌∙◌, subst}
 use Rattle.link_wire.specs.Stream.{Entry, End, Clean, Cut, Fault, Reading, reading_of}
-use Rattle.link_run.specs.Made.{Made, is_shown, stop_of}
+use Rattle.link_run.specs.Made.{Made, shows_fault, stop_of}
 use Rattle.link_run.proofs.Ends.{unshown_sofar}
 use Rattle.link_run.proofs.Sessions.{IsUncut, SameTexts}
 use Rattle.link_unpack.specs.Transfers.{cut_heads, heads_of}
@@ -33,13 +33,13 @@ module _ (wanted : Wanted) (bytes : List ℕ)
   pub texts_taken : (unpacking_of wanted bytes).texts ≡ texts_of wanted (unpacked_from wanted bytes)
   texts_taken = ap (λ (m : Made). m.texts) made_from
 
-  pub unshown_taken : is_shown (stop_of (reading_of bytes).end) ≡ false
-      → is_shown (unpacking_of wanted bytes).stop ≡ false
-  unshown_taken none = ap (λ (m : Made). is_shown m.stop) made_from ∙ none
+  pub unshown_taken : shows_fault (stop_of (reading_of bytes).end) ≡ false
+      → shows_fault (unpacking_of wanted bytes).stop ≡ false
+  unshown_taken none = ap (λ (m : Made). shows_fault m.stop) made_from ∙ none
 
   -- the texts that these bytes determine, if no fault is shown
-  pub sofar_taken : is_shown (stop_of (reading_of bytes).end) ≡ false
-      → (unpack_tool wanted).sofar bytes ≡ texts_of wanted (unpacked_from wanted bytes)
+  pub sofar_taken : shows_fault (stop_of (reading_of bytes).end) ≡ false
+      → (unpack_tool wanted).so_far bytes ≡ texts_of wanted (unpacked_from wanted bytes)
   sofar_taken none =
       unshown_sofar (unpacking_of wanted bytes).stop (unpacking_of wanted bytes).texts (unshown_taken none)
       ∙ texts_taken

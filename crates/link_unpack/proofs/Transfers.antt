@@ -3,10 +3,10 @@ use Rattle.std.proofs.Common.{◌≡◌, ℕ, Bool, true, false, not, List, [], 
 use Rattle.std.specs.Prelude.{if◌then◌else◌}
 use Rattle.link_bundle_types.specs.declared.fault.BundleFault.{BundleFault}
 use Rattle.link_bundle_types.specs.declared.info.BundleInfo.{BundleInfo}
-use Rattle.link_bundle.specs.Bundle.{judged as judged_bytes, bundle_at, opening_at, verdict, payload_in}
+use Rattle.link_bundle.specs.Bundle.{judged_bundle as judged_bytes, bundle_at, opening_at, verdict, payload_in}
 use Rattle.link_bundle.specs.Scan.{HasScanned}
 use Rattle.link_bundle.proofs.Pieces.{verdict_judged}
-use Rattle.link_report.specs.Judgement.{judged, viewed_judgement}
+use Rattle.link_report.specs.Judgement.{judged_transfer, viewed_judgement}
 use Rattle.link_report.specs.Transfer.{transfer_text}
 use Rattle.link_report.specs.declared.judgement.Judgement.{Judgement}
 use Rattle.link_report.specs.declared.judgement.JudgementView.{JudgementView}
@@ -14,7 +14,7 @@ use Rattle.link_report.specs.declared.transfer.TransferEntry.{TransferEntry}
 use Rattle.link_transfer.specs.Announced.{announced_of}
 use Rattle.link_wire.specs.declared.message.SegmentHead.{SegmentHead}
 use Rattle.link_unpack.specs.Transfers.{Transfer}
-use Rattle.link_unpack.specs.TransferScan.{Follows, begun, grown}
+use Rattle.link_unpack.specs.TransferScan.{IsAtTransfer, begun, grown}
 use Rattle.link_unpack.specs.Unpacking.{is_selected, part_of, parts_of, judgement_of, entry_of}
 use Rattle.link_unpack.specs.declared.transfer.TransferScan.{TransferScan}
 use Rattle.link_unpack.specs.declared.wanted.Wanted.{Wanted}
@@ -55,18 +55,18 @@ same_entry : (id start written size : ℕ) (judgement : Judgement)
 same_entry id start written size judgement id' start' written' size' judgement' a b c d e = cc
 
 module _ (now : TransferScan) (transfer : Transfer) (earlier : List Transfer)
-    (follows : Follows now transfer earlier)
+    (follows : IsAtTransfer now transfer earlier)
     (abandoned : Bool) (over : abandoned ≡ not transfer.closed)
     (outcome : Result BundleInfo (BundleFault × ℕ)) (seen : (seen : List ℕ) → HasScanned now.scan seen → outcome ≡ verdict seen)
-    (shown : JudgementView) (judges : viewed_judgement shown ≡ judged abandoned now.announced now.size outcome) where
+    (shown : JudgementView) (judges : viewed_judgement shown ≡ judged_transfer abandoned now.announced now.size outcome) where
   pub judgement_is : viewed_judgement shown ≡ judgement_of transfer
   judgement_is =
       let bytes = follows.judged.seen in
       judges
-      ∙ ap (λ gone. judged gone now.announced now.size outcome) over
-      ∙ ap (λ announced. judged (not transfer.closed) announced now.size outcome) follows.announced
-      ∙ ap (λ size. judged (not transfer.closed) (announced_of transfer.first.items.items) size outcome) follows.size
-      ∙ ap (judged (not transfer.closed) (announced_of transfer.first.items.items) (length transfer.content))
+      ∙ ap (λ gone. judged_transfer gone now.announced now.size outcome) over
+      ∙ ap (λ announced. judged_transfer (not transfer.closed) announced now.size outcome) follows.announced
+      ∙ ap (λ size. judged_transfer (not transfer.closed) (announced_of transfer.first.items.items) size outcome) follows.size
+      ∙ ap (judged_transfer (not transfer.closed) (announced_of transfer.first.items.items) (length transfer.content))
       (seen bytes follows.judged.scanned ∙ verdict_judged now.scan transfer.content follows.judged)
 
   pub line_is : transfer_text

@@ -5,7 +5,7 @@ use Rattle.link_wire.specs.declared.message.Message.{Message}
 use Rattle.link_wire.specs.declared.message.Message.TheVariants as message
 use Rattle.link_wire.specs.declared.message.SegmentHead.{SegmentHead}
 use Rattle.link_transfer.specs.Event.{event_of}
-use Rattle.link_transfer.specs.Order.{is_segment, is_stray, effect_of, effect_by, turn_of, turn_by, open_of, refusal, with_taken, taken_by, judged, judged_by}
+use Rattle.link_transfer.specs.Order.{is_segment, is_stray, effect_of, effect_by, turn_of, turn_by, open_of, refusal, with_taken, appended_unless, judged_message, judged_message_by}
 use Rattle.link_transfer.specs.declared.event.Event.{Event}
 use Rattle.link_transfer.specs.declared.event.Event.TheVariants as event
 use Rattle.link_transfer.specs.declared.fault.OrderFault.{OrderFault}
@@ -42,21 +42,21 @@ module _ (before : List Message) (happened : Event) where
 -- ---- what a judged message does
 
 accepted_by : (refused : Option OrderFault) (done turn : Turn)
-    → judged_by refused done ≡ Ok turn → (refused ≡ None) × (done ≡ turn)
+    → judged_message_by refused done ≡ Ok turn → (refused ≡ None) × (done ≡ turn)
 accepted_by (Some fault) done turn is = absurd (cc)
 accepted_by None done turn is = (refl, cc)
 
 refused_by : (refused : Option OrderFault) (done : Turn) (fault : OrderFault)
-    → judged_by refused done ≡ Err fault → refused ≡ Some fault
+    → judged_message_by refused done ≡ Err fault → refused ≡ Some fault
 refused_by (Some fault) done other is = cc
 refused_by None done other is = absurd (cc)
 
 -- an accepted message has its effect, since it is not stray
 pub accepted : (before : List Message) (sent : Message) (turn : Turn)
-    → judged before (event_of sent) ≡ Ok turn → (refusal before (event_of sent) ≡ None)
+    → judged_message before (event_of sent) ≡ Ok turn → (refusal before (event_of sent) ≡ None)
     × (effect_of before (event_of sent) ≡ Some turn)
     × (with_taken before sent ≡ before ++ sent ∷ [])
-unfolding judged effect_of
+unfolding judged_message effect_of
 accepted before sent turn is =
     let parts = accepted_by (refusal before (event_of sent)) (turn_of before (event_of sent)) turn is in
     let belongs = not_stray before (event_of sent) parts.0 in (
@@ -66,8 +66,8 @@ accepted before sent turn is =
     )
 
 pub refused_for : (before : List Message) (happened : Event) (fault : OrderFault)
-    → judged before happened ≡ Err fault → refusal before happened ≡ Some fault
-unfolding judged
+    → judged_message before happened ≡ Err fault → refusal before happened ≡ Some fault
+unfolding judged_message
 refused_for before happened fault is =
     refused_by (refusal before happened) (turn_of before happened) fault is
 
@@ -101,7 +101,7 @@ module _ (wanted : Wanted) (before : Unpacked) (offset : ℕ) (sent : Message)
   module _ (stray : is_stray before.taken (event_of sent) ≡ true) where
     pub stray_taken : after.taken ≡ before.taken
     unfolding with_taken
-    stray_taken = ap (λ b. taken_by b before.taken sent) stray
+    stray_taken = ap (λ b. appended_unless b before.taken sent) stray
 
     pub stray_changes : ChangesNone wanted before after due
     stray_changes = record {

@@ -6,7 +6,7 @@ use Rattle.link_wire.specs.declared.IoFault.TheVariants as io
 use Rattle.link_wire.specs.declared.Source.{Source}
 use Rattle.link_run.specs.Run.{Texts, ◌then◌, Looks}
 use Rattle.link_run.specs.Stages.{HandedOn}
-use Rattle.link_run.specs.Writers.{place_of, on_output, Writes, WritesSome, GivesTexts, GivesLast, HasHandedOn}
+use Rattle.link_run.specs.Writers.{place_of, on_output, Writes, WritesSome, AfterWrite, AfterLastWrite, HasHandedOn}
 use Rattle.link_run.specs.declared.run.Status.{Status}
 use Rattle.link_run.specs.declared.writers.Writers.{Writers}
 use Rattle.link_run.proofs.Handing.{handed_by}
@@ -19,13 +19,13 @@ use Rattle.link_unpack.specs.declared.unpacking.Stage.{Stage}
 module _ {W E : Type 0} (out_look : W → Output) (report_look : E → Output)
     (old new : Writers W E) where
   pub some_texts : (texts : Texts) (result : Result (Unit {0}) IoFault)
-      → GivesTexts out_look report_look old new texts result
+      → AfterWrite out_look report_look old new texts result
       → WritesSome out_look report_look old new result
   some_texts texts (Ok done) writes = (texts, writes)
   some_texts texts (Err fault) part = part.kind
 
   pub some_last : (texts : Texts) (status : ℕ) (answer : Result Status IoFault)
-      → GivesLast out_look report_look old new texts status answer
+      → AfterLastWrite out_look report_look old new texts status answer
       → WritesSome out_look report_look old new answer
   some_last texts status (Ok ended) writes = (texts, writes.0)
   some_last texts status (Err fault) part = part.kind

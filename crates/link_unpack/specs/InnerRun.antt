@@ -12,8 +12,8 @@ use Rattle.link_unpack.specs.declared.wanted.Wanted.{Wanted}
 
 -- Some bytes were given, or none. Then a stage comes next, or the run has ended.
 pub record TakesInner {R W E : Type 0} (look : Looks R W E) (start : Devices R W E)
-    (wanted : Wanted) (old new : Session R) (after : Writers W E) (u : Unpacker)
+    (wanted : Wanted) (old new : Session R) (after : Writers W E) (unpacker : Unpacker)
     (history : List ℕ) (result : Next) : Type 0 where
   pub given : List ℕ
   pub takes : Takes look.input (source_of old) (source_of new) given
-  pub stands : StandsNext look start wanted new after u (history ++ given) result
+  pub stands : StandsNext look start wanted new after unpacker (history ++ given) result

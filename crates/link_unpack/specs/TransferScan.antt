@@ -17,7 +17,7 @@ grown transfer content closed =
     record { first = transfer.first; content = transfer.content ++ content; closed = closed }
 
 -- the scan is at the transfer `transfer`, which comes after those of `earlier`
-pub record Follows (now : TransferScan) (transfer : Transfer)
+pub record IsAtTransfer (now : TransferScan) (transfer : Transfer)
     (earlier : List Transfer) : Type 0 where
   pub id : now.id ≡ transfer.first.id
   pub announced : now.announced ≡ announced_of transfer.first.items.items

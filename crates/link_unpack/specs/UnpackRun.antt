@@ -21,16 +21,16 @@ use Rattle.link_transfer.specs.Joiner.{IsJoinerAt}
 use Rattle.link_transfer.specs.Order.{open_of, is_stray, refusal, effect_of, with_taken}
 use Rattle.link_transfer.specs.declared.fault.OrderFault.{OrderFault}
 use Rattle.link_transfer.specs.declared.joiner.Turn.{Turn}
-use Rattle.link_run.specs.Run.{Texts, Looks, Devices, devices_at, NoneFailed, HasWritten, WentOn, LastStep, GivesStep, EndedRun, answer_of}
+use Rattle.link_run.specs.Run.{Texts, Looks, Devices, devices_at, NoneFailed, HasWritten, WentOn, LastStep, AfterStep, EndedRun, answer_of}
 use Rattle.link_run.specs.Stages.{Stands}
-use Rattle.link_run.specs.Writers.{place_of, on_report, Writes, GivesLast}
+use Rattle.link_run.specs.Writers.{place_of, on_report, Writes, AfterLastWrite}
 use Rattle.link_run.specs.declared.run.Progress.{Progress}
 use Rattle.link_run.specs.declared.run.Progress.TheVariants.{More}
 use Rattle.link_run.specs.declared.run.Status.{Status}
 use Rattle.link_run.specs.declared.writers.Writers.{Writers}
 use Rattle.link_unpack.specs.Transfers.{ordered, heads_of, Transfer, settled}
 use Rattle.link_unpack.specs.Unpacking.{parts_of, are_good, Unpacked, unpacked_of, order_line, abandoned_line, closed_line, unpacking_of, unpack_tool}
-use Rattle.link_unpack.specs.TransferScan.{Follows}
+use Rattle.link_unpack.specs.TransferScan.{IsAtTransfer}
 use Rattle.link_unpack.specs.declared.transfer.TransferScan.{TransferScan}
 use Rattle.link_unpack.specs.declared.unpacking.Next.{Next}
 use Rattle.link_unpack.specs.declared.unpacking.Next.TheVariants as next
@@ -103,16 +103,16 @@ abbrev pub is_good_so_far : Unpacked → Bool
 is_good_so_far unpacked = are_good (settled unpacked.transfers) && unpacked.in_order
 
 -- the latest transfer is open, and the scan is at it
-pub record GoesOn (latest : TransferScan) (transfers : List Transfer) : Type 0 where
+pub record IsAtOpen (latest : TransferScan) (transfers : List Transfer) : Type 0 where
   pub transfer : Transfer
   pub earlier : List Transfer
   pub are : transfers ≡ transfer ∷ earlier
   pub is_open : transfer.closed ≡ false
-  pub follows : Follows latest transfer earlier
+  pub follows : IsAtTransfer latest transfer earlier
 
 -- the latest transfer is open, or none is
 abbrev pub IsOpen : Bool → TransferScan → List Transfer → Type 0
-IsOpen true latest transfers = GoesOn latest transfers
+IsOpen true latest transfers = IsAtOpen latest transfers
 IsOpen false latest transfers = settled transfers ≡ transfers
 
 -- the message is a segment whose data is being read; `last` is whether it has END
@@ -123,7 +123,7 @@ pub record IsInSegment (last : Bool) (message : Message) : Type 0 where
 
 -- The reading ends inside the data of a segment. `stray` is whether that segment is stray after the
 -- messages before it.
-pub record IsCut (wanted : Wanted) (stray : Bool) (reading : Reading) : Type 0 where
+pub record EndsInSegment (wanted : Wanted) (stray : Bool) (reading : Reading) : Type 0 where
   pub offset : ℕ
   pub sent : Message
   pub content : List ℕ
@@ -132,19 +132,20 @@ pub record IsCut (wanted : Wanted) (stray : Bool) (reading : Reading) : Type 0 w
 
 -- the reading ends inside the data of a segment of the open transfer; `last` is whether it has END
 pub record IsInData (wanted : Wanted) (last : Bool) (reading : Reading) : Type 0 where
-  pub cut : IsCut wanted false reading
+  pub cut : EndsInSegment wanted false reading
   pub segment : IsInSegment last cut.sent
 
--- How the reading of the bytes so far ends at a stage, and the latest transfer.
+-- How the reading of the bytes so far ends at a stage, and whether the latest transfer is open.
 abbrev pub IsWaiting : Stage → TransferScan → Unpacked → Reading → Type 0
 IsWaiting stage.Contact latest unpacked reading = ⊥
 IsWaiting stage.Message latest unpacked reading =
     (reading.end ≡ Clean) × IsOpen (is_open_after unpacked) latest unpacked.transfers
 IsWaiting (stage.Data last) latest unpacked reading =
     IsInData latest.wanted last reading × (is_open_after unpacked ≡ not last)
-    × GoesOn latest unpacked.transfers
+    × IsAtOpen latest unpacked.transfers
 IsWaiting stage.Stray latest unpacked reading =
-    IsCut latest.wanted true reading × IsOpen (is_open_after unpacked) latest unpacked.transfers
+    EndsInSegment latest.wanted true reading
+    × IsOpen (is_open_after unpacked) latest unpacked.transfers
 
 -- quiet messages were passed over, or nothing was given
 abbrev pub PassesQuiet : {R : Type 0} → (R → Input) → (old new : Session R) → (history : List ℕ)
@@ -161,32 +162,35 @@ IsWaitingAfter now end = Unit {0}
 -- The message is taken after the messages of `before`. This is its fault, if it is not in order,
 -- and its effect. Only a run that goes on takes a message that is not in order.
 pub record IsTaken (before : Unpacked) (fault : Option OrderFault) (turn : Option Turn)
-    (u : Unpacker) (message : Message) : Type 0 where
+    (unpacker : Unpacker) (message : Message) : Type 0 where
   pub refused : refusal before.taken (event_of message) ≡ fault
-  pub only : u.latest.wanted.keep_going ≡ false → fault ≡ None
+  pub only : unpacker.latest.wanted.keep_going ≡ false → fault ≡ None
   pub effect : turn ≡ effect_of before.taken (event_of message)
-  pub joiner : IsJoinerAt u.joiner (with_taken before.taken message)
+  pub joiner : IsJoinerAt unpacker.joiner (with_taken before.taken message)
 
 module _ {R : Type 0} (look : R → Input) where
   -- a run that begins was given nothing
-  pub record Begins (s : Session R) (u : Unpacker) (history : List ℕ) : Type 0 where
+  pub record Begins (session : Session R) (unpacker : Unpacker) (history : List ℕ) : Type 0 where
     pub nothing : history ≡ []
-    pub opens : may_open s ≡ true
-    pub joiner : IsJoinerAt u.joiner []
-    pub sum : u.latest.start + u.latest.written ≡ 0
-    pub total : u.latest.total ≡ 0
-    pub good : u.good ≡ true
+    pub opens : may_open session ≡ true
+    pub joiner : IsJoinerAt unpacker.joiner []
+    pub sum : unpacker.latest.start + unpacker.latest.written ≡ 0
+    pub total : unpacker.latest.total ≡ 0
+    pub good : unpacker.good ≡ true
 
   -- the state of a run that was given these bytes
-  pub record Unpacks (now : Stage) (s : Session R) (u : Unpacker) (history : List ℕ) : Type 0 where
-    pub session : IsSessionAt look s history
-    pub taken : AreTaken u.latest.wanted (heads_of (reading_of history))
-    pub joiner : IsJoinerAt u.joiner (unpacked_from u.latest.wanted history).taken
-    pub sum : u.latest.start + u.latest.written
-        ≡ length (parts_of u.latest.wanted (unpacked_from u.latest.wanted history).transfers)
-    pub total : u.latest.total ≤ length history
-    pub good : u.good ≡ is_good_so_far (unpacked_from u.latest.wanted history)
-    pub waits : IsWaiting now u.latest (unpacked_from u.latest.wanted history) (reading_of history)
+  pub record Unpacks (now : Stage) (session : Session R) (unpacker : Unpacker)
+      (history : List ℕ) : Type 0 where
+    pub session_at : IsSessionAt look session history
+    pub taken : AreTaken unpacker.latest.wanted (heads_of (reading_of history))
+    pub joiner : IsJoinerAt unpacker.joiner (unpacked_from unpacker.latest.wanted history).taken
+    pub sum : unpacker.latest.start + unpacker.latest.written
+        ≡ length (parts_of unpacker.latest.wanted
+        (unpacked_from unpacker.latest.wanted history).transfers)
+    pub total : unpacker.latest.total ≤ length history
+    pub good : unpacker.good ≡ is_good_so_far (unpacked_from unpacker.latest.wanted history)
+    pub waits : IsWaiting now unpacker.latest (unpacked_from unpacker.latest.wanted history)
+        (reading_of history)
 
   abbrev pub IsUnpacking : Stage → Unpacker → Session R → List ℕ → Type 0
   IsUnpacking stage.Contact unpacker session history = Begins session unpacker history
@@ -199,133 +203,142 @@ module _ {R : Type 0} (look : R → Input) where
 module _ {R W E : Type 0} (look : Looks R W E) (start : Devices R W E) where
   -- `Stands` and `Unpacks` hold of a run
   abbrev pub StandsAt : Wanted → Stage → Session R → Writers W E → Unpacker → List ℕ → Type 0
-  StandsAt wanted now s w u history =
-      Stands look (unpacking_of wanted) start true (place_of (source_of s) w) history
-      × Unpacks look.input now s u history
+  StandsAt wanted now session writers unpacker history =
+      Stands look (unpacking_of wanted) start true (place_of (source_of session) writers) history
+      × Unpacks look.input now session unpacker history
 
   -- what holds after these bytes were given: a stage comes next, or the run has ended
   abbrev pub StandsNext : Wanted → Session R → Writers W E → Unpacker → (history : List ℕ)
       → Next → Type 0
-  StandsNext wanted s w u history (next.Stage now) = StandsAt wanted now s w u history
-  StandsNext wanted s w u history (next.Ended answer) =
-      EndedRun look (unpack_tool wanted) start (devices_at (place_of (source_of s) w)) history
+  StandsNext wanted session writers unpacker history (next.Stage now) =
+      StandsAt wanted now session writers unpacker history
+  StandsNext wanted session writers unpacker history (next.Ended answer) =
+      EndedRun look (unpack_tool wanted) start
+      (devices_at (place_of (source_of session) writers)) history
       answer
 
   -- what holds after a step at the stage `now`
-  abbrev pub GivesNext : Wanted → (piece : ℕ) → (now : Stage) → (old new : Session R)
+  abbrev pub AfterUnpackStep : Wanted → (piece : ℕ) → (now : Stage) → (old new : Session R)
       → Writers W E → Unpacker → (history : List ℕ) → Next → Type 0
-  GivesNext wanted piece now old new after u history (next.Stage stage) =
+  AfterUnpackStep wanted piece now old new after unpacker history (next.Stage stage) =
       WentOn (source_of old) (source_of new)
-      (λ bytes. StandsAt wanted stage new after u bytes
+      (λ bytes. StandsAt wanted stage new after unpacker bytes
       × IsWaitingAfter now (reading_of bytes).end) (most_by piece now) history
-  GivesNext wanted piece now old new after u history (next.Ended answer) =
+  AfterUnpackStep wanted piece now old new after unpacker history (next.Ended answer) =
       LastStep look (unpack_tool wanted) start (devices_at (place_of (source_of new) after))
       (most_by piece now) history answer
 
   -- the state of the run if a stage comes next
   abbrev pub StandsIf : Wanted → Session R → Writers W E → Unpacker → Next → (history : List ℕ)
       → Type 0
-  StandsIf wanted s w u (next.Stage stage) history = StandsAt wanted stage s w u history
-  StandsIf wanted s w u (next.Ended answer) history = Unit {0}
+  StandsIf wanted session writers unpacker (next.Stage stage) history =
+      StandsAt wanted stage session writers unpacker history
+  StandsIf wanted session writers unpacker (next.Ended answer) history = Unit {0}
 
   -- what holds after a stride, which was given at most some number of bytes
-  abbrev pub GivesFar : Wanted → (old new : Session R) → (before after : Writers W E) → Unpacker
+  abbrev pub AfterUnpackStride : Wanted → (old new : Session R) → (before after : Writers W E)
+      → Unpacker
       → (history : List ℕ) → Next → Type 0
-  GivesFar wanted old new before after u history next =
+  AfterUnpackStride wanted old new before after unpacker history next =
       (size : ℕ) × (0 < size)
-      × GivesStep look (unpack_tool wanted) start (place_of (source_of old) before)
-      (place_of (source_of new) after) (StandsIf wanted new after u next) size history
+      × AfterStep look (unpack_tool wanted) start (place_of (source_of old) before)
+      (place_of (source_of new) after) (StandsIf wanted new after unpacker next) size history
       (progress_of next)
 
   -- The head of a message has come at this offset, after the heads that have made `before`.
   -- Nothing is written of what comes of it, except the line of this fault, if there is one.
-  pub record HasCome (before : Unpacked) (offset : ℕ) (line : Option OrderFault)
-      (s : Session R) (w : Writers W E) (u : Unpacker) (message : MessageBuffer)
+  pub record HeadHasCome (before : Unpacked) (offset : ℕ) (line : Option OrderFault)
+      (session : Session R) (writers : Writers W E) (unpacker : Unpacker) (message : MessageBuffer)
       (history : List ℕ) : Type 0 where
-    pub session : IsSessionAt look.input s history
-    pub window : length (window_of (source_of s)) < window_size
+    pub session_at : IsSessionAt look.input session history
+    pub window : length (window_of (source_of session)) < window_size
     pub had : Reading
     pub clean : had.end ≡ Clean
-    pub is_before : unpacked_of u.latest.wanted had.entries ≡ before
-    pub taken : AreTaken u.latest.wanted had.entries
+    pub is_before : unpacked_of unpacker.latest.wanted had.entries ≡ before
+    pub taken : AreTaken unpacker.latest.wanted had.entries
     pub reading : reading_of history ≡ with_message offset (message_of message) had
-    pub left : left_of s ≡ data_length (message_of message)
-    pub is_open : IsOpen (is_open_after before) u.latest before.transfers
-    pub written : HasWritten look start (place_of (source_of s) w) history
+    pub left : left_of session ≡ data_length (message_of message)
+    pub is_open : IsOpen (is_open_after before) unpacker.latest before.transfers
+    pub written : HasWritten look start (place_of (source_of session) writers) history
         (record {
-          output = parts_of u.latest.wanted before.transfers;
+          output = parts_of unpacker.latest.wanted before.transfers;
           report = before.report ++ order_line offset line;
         })
-    pub sound : NoneFailed look (devices_at (place_of (source_of s) w))
-    pub sum : u.latest.start + u.latest.written
-        ≡ length (parts_of u.latest.wanted before.transfers)
-    pub total : u.latest.total ≤ length history
-    pub good : u.good
+    pub sound : NoneFailed look (devices_at (place_of (source_of session) writers))
+    pub sum : unpacker.latest.start + unpacker.latest.written
+        ≡ length (parts_of unpacker.latest.wanted before.transfers)
+    pub total : unpacker.latest.total ≤ length history
+    pub good : unpacker.good
         ≡ (are_good (settled before.transfers) && (before.in_order && not (is_some line)))
 
   -- The head of a segment, or data of it, has come. Everything that is due for its transfer is
   -- written, except the line.
-  pub record IsJoining (last : Bool) (s : Session R) (w : Writers W E) (u : Unpacker)
+  pub record IsJoining (last : Bool) (session : Session R) (writers : Writers W E)
+      (unpacker : Unpacker)
       (history : List ℕ) : Type 0 where
-    pub session : IsSessionAt look.input s history
-    pub window : length (window_of (source_of s)) < window_size
-    pub taken : AreTaken u.latest.wanted (heads_of (reading_of history))
-    pub joiner : IsJoinerAt u.joiner (unpacked_from u.latest.wanted history).taken
+    pub session_at : IsSessionAt look.input session history
+    pub window : length (window_of (source_of session)) < window_size
+    pub taken : AreTaken unpacker.latest.wanted (heads_of (reading_of history))
+    pub joiner : IsJoinerAt unpacker.joiner (unpacked_from unpacker.latest.wanted history).taken
     pub transfer : Transfer
     pub earlier : List Transfer
-    pub are : (unpacked_from u.latest.wanted history).transfers ≡ transfer ∷ earlier
-    pub closed : transfer.closed ≡ (last && (left_of s == 0))
-    pub follows : Follows u.latest transfer earlier
+    pub are : (unpacked_from unpacker.latest.wanted history).transfers ≡ transfer ∷ earlier
+    pub closed : transfer.closed ≡ (last && (left_of session == 0))
+    pub follows : IsAtTransfer unpacker.latest transfer earlier
     pub report : List ℕ
-    pub reports : (unpacked_from u.latest.wanted history).report
-        ≡ report ++ closed_line u.latest.wanted (transfer ∷ earlier)
-    pub written : HasWritten look start (place_of (source_of s) w) history
-        (record { output = parts_of u.latest.wanted (transfer ∷ earlier); report = report })
-    pub sound : NoneFailed look (devices_at (place_of (source_of s) w))
-    pub total : u.latest.total ≤ length history
-    pub good : u.good ≡ (are_good earlier && (unpacked_from u.latest.wanted history).in_order)
-    pub opened : is_open_after (unpacked_from u.latest.wanted history) ≡ not last
-    pub in_data : 0 < left_of s → IsInData u.latest.wanted last (reading_of history)
+    pub reports : (unpacked_from unpacker.latest.wanted history).report
+        ≡ report ++ closed_line unpacker.latest.wanted (transfer ∷ earlier)
+    pub written : HasWritten look start (place_of (source_of session) writers) history
+        (record { output = parts_of unpacker.latest.wanted (transfer ∷ earlier); report = report })
+    pub sound : NoneFailed look (devices_at (place_of (source_of session) writers))
+    pub total : unpacker.latest.total ≤ length history
+    pub good : unpacker.good ≡ (are_good earlier
+        && (unpacked_from unpacker.latest.wanted history).in_order)
+    pub opened : is_open_after (unpacked_from unpacker.latest.wanted history) ≡ not last
+    pub in_data : 0 < left_of session → IsInData unpacker.latest.wanted last (reading_of history)
 
   -- The head of a transfer's first segment has come. The transfers before it are `transfers`. Their
   -- latest is abandoned, or none of them is open.
-  pub record IsBeginning (abandoned last : Bool) (s : Session R) (w : Writers W E) (u : Unpacker)
+  pub record IsBeginning (abandoned last : Bool) (session : Session R) (writers : Writers W E)
+      (unpacker : Unpacker)
       (message : MessageBuffer) (history : List ℕ) : Type 0 where
-    pub session : IsSessionAt look.input s history
-    pub window : length (window_of (source_of s)) < window_size
-    pub taken : AreTaken u.latest.wanted (heads_of (reading_of history))
-    pub joiner : IsJoinerAt u.joiner (unpacked_from u.latest.wanted history).taken
+    pub session_at : IsSessionAt look.input session history
+    pub window : length (window_of (source_of session)) < window_size
+    pub taken : AreTaken unpacker.latest.wanted (heads_of (reading_of history))
+    pub joiner : IsJoinerAt unpacker.joiner (unpacked_from unpacker.latest.wanted history).taken
     pub head : SegmentHead
     pub is : message_of message ≡ Segment head
     pub begins : is_start head.flags ≡ true
     pub transfers : List Transfer
-    pub are : (unpacked_from u.latest.wanted history).transfers
-        ≡ record { first = head; content = []; closed = last && (left_of s == 0) } ∷ transfers
-    pub before : IsOpen abandoned u.latest transfers
+    pub are : (unpacked_from unpacker.latest.wanted history).transfers
+        ≡ record { first = head; content = []; closed = last && (left_of session == 0) } ∷ transfers
+    pub before : IsOpen abandoned unpacker.latest transfers
     pub report : List ℕ
-    pub reports : (unpacked_from u.latest.wanted history).report
-        ≡ report ++ (abandoned_line u.latest.wanted transfers
-        ++ closed_line u.latest.wanted (unpacked_from u.latest.wanted history).transfers)
-    pub written : HasWritten look start (place_of (source_of s) w) history
-        (record { output = parts_of u.latest.wanted transfers; report = report })
-    pub sound : NoneFailed look (devices_at (place_of (source_of s) w))
-    pub sum : u.latest.start + u.latest.written ≡ length (parts_of u.latest.wanted transfers)
-    pub total : u.latest.total ≤ length history
-    pub good : u.good
-        ≡ (are_good (settled transfers) && (unpacked_from u.latest.wanted history).in_order)
-    pub opened : is_open_after (unpacked_from u.latest.wanted history) ≡ not last
-    pub in_data : 0 < left_of s → IsInData u.latest.wanted last (reading_of history)
+    pub reports : (unpacked_from unpacker.latest.wanted history).report
+        ≡ report ++ (abandoned_line unpacker.latest.wanted transfers
+        ++ closed_line unpacker.latest.wanted
+        (unpacked_from unpacker.latest.wanted history).transfers)
+    pub written : HasWritten look start (place_of (source_of session) writers) history
+        (record { output = parts_of unpacker.latest.wanted transfers; report = report })
+    pub sound : NoneFailed look (devices_at (place_of (source_of session) writers))
+    pub sum : unpacker.latest.start + unpacker.latest.written
+        ≡ length (parts_of unpacker.latest.wanted transfers)
+    pub total : unpacker.latest.total ≤ length history
+    pub good : unpacker.good
+        ≡ (are_good (settled transfers) && (unpacked_from unpacker.latest.wanted history).in_order)
+    pub opened : is_open_after (unpacked_from unpacker.latest.wanted history) ≡ not last
+    pub in_data : 0 < left_of session → IsInData unpacker.latest.wanted last (reading_of history)
 
 -- ---- what the parts of a step do
 
 module _ {W E : Type 0} (out_look : W → Output) (report_look : E → Output) where
   -- The line of a transfer that is still open is written. Then the run ends with status 0 if all
   -- transfers are good and all heads are in order, and else with 1.
-  abbrev pub GivesFinish : Unpacker → Unpacked → (old new : Writers W E)
+  abbrev pub AfterFinish : Unpacker → Unpacked → (old new : Writers W E)
       → Result Status IoFault → Type 0
-  GivesFinish unpacker unpacked old new answer =
+  AfterFinish unpacker unpacked old new answer =
       unpacker.good ≡ is_good_so_far unpacked
-      → GivesLast out_look report_look old new
+      → AfterLastWrite out_look report_look old new
       (on_report (abandoned_line unpacker.latest.wanted unpacked.transfers))
       (if (are_good unpacked.transfers && unpacked.in_order) then 0 else 1) answer
 
@@ -333,7 +346,7 @@ module _ {W E : Type 0} (out_look : W → Output) (report_look : E → Output) w
   abbrev pub EndsWith : (old new : Writers W E) → Texts → (status : ℕ) → Next → Type 0
   EndsWith old new texts status (next.Stage stage) = ⊥
   EndsWith old new texts status (next.Ended answer) =
-      GivesLast out_look report_look old new texts status answer
+      AfterLastWrite out_look report_look old new texts status answer
 
   -- some texts were written, or a writer failed
   abbrev pub WritesNext : (old new : Writers W E) → Next → Type 0

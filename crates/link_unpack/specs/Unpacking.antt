@@ -11,7 +11,7 @@ use Rattle.link_transfer.specs.declared.event.Event.{Event}
 use Rattle.link_transfer.specs.declared.fault.OrderFault.{OrderFault}
 use Rattle.link_report.specs.Fault.{fault_text}
 use Rattle.link_report.specs.declared.fault.Fault.TheVariants.{Order}
-use Rattle.link_report.specs.Judgement.{judged}
+use Rattle.link_report.specs.Judgement.{judged_transfer}
 use Rattle.link_report.specs.Transfer.{transfer_text}
 use Rattle.link_report.specs.declared.judgement.Judgement.{Judgement}
 use Rattle.link_report.specs.declared.judgement.Judgement.TheVariants.{Abandoned, BadLengthItem, LengthDiffers, Bad, Good}
@@ -46,7 +46,8 @@ parts_of wanted (latest ∷ earlier) = parts_of wanted earlier ++ part_of wanted
 -- a transfer that has a line and is not closed was abandoned
 abbrev pub judgement_of : Transfer → Judgement
 judgement_of transfer =
-    judged (not transfer.closed) (announced_of transfer.first.items.items) (length transfer.content)
+    judged_transfer (not transfer.closed) (announced_of transfer.first.items.items)
+    (length transfer.content)
     (verdict transfer.content)
 
 -- the entry for the line of a transfer, whose bytes begin at offset `start` of the output

@@ -36,17 +36,17 @@ pub struct TransferScan {
 }
 
 /// Returns the payload bytes in a piece of a bundle. The piece comes after the first `before` bytes
-/// of the bundle. The payload bytes so far are the `count` bytes at offset `place` of the bundle.
-fn payload_part(piece: &[u8], before: u64, place: u64, count: u64) -> &[u8]
-    ensures part { (0 < count → place + count < 2 ^ 64) → result.now ≡ part_in piece.now before
-        place count }
+/// of the bundle. The payload bytes so far are the `count` bytes from `offset` on in the bundle.
+fn payload_part(piece: &[u8], before: u64, offset: u64, count: u64) -> &[u8]
+    ensures part { (0 < count → offset + count < 2 ^ 64) → result.now ≡ part_in piece.now before
+        offset count }
     ensures size { length result.now ≤ length piece.now }
 {
-    let end = place
+    let end = offset
         .saturating_add(count)
         .saturating_sub(before)
         .min(piece.len() as u64);
-    let start = place.saturating_sub(before).min(end);
+    let start = offset.saturating_sub(before).min(end);
     &piece[start as usize..end as usize]
 }
 
@@ -67,7 +67,7 @@ impl TransferScan {
     ghost use Rattle.link_bundle.specs.Scan.{HasJudged};
     ghost use Rattle.link_unpack.specs.Transfers.{Transfer};
     ghost use Rattle.link_unpack.specs.Unpacking.{is_selected, parts_of, part_of, entry_of, judgement_of, is_good};
-    ghost use Rattle.link_unpack.specs.TransferScan.{Follows, begun, grown};
+    ghost use Rattle.link_unpack.specs.TransferScan.{IsAtTransfer, begun, grown};
 
     /// Makes a scan for the first transfer of a stream.
     pub fn new(wanted: Wanted) -> TransferScan
@@ -100,7 +100,7 @@ impl TransferScan {
         ensures follows { (head : SegmentHead) (closed : _) (earlier : List Transfer) → head.id ≡
             id → announced_of head.items.items ≡ announced
             → self.old.start + self.old.written ≡ length (parts_of self.old.wanted earlier)
-            → Follows self.new (begun head closed) earlier }
+            → IsAtTransfer self.new (begun head closed) earlier }
         ensures wanted { self.new.wanted ≡ self.old.wanted }
         ensures total { self.new.total ≡ self.old.total }
     {
@@ -120,11 +120,12 @@ impl TransferScan {
     pub fn take<'a>(&mut self, piece: &'a [u8]) -> &'a [u8]
         ensures follows { (transfer : Transfer) (closed : _) (earlier : List Transfer)
             → self.old.total + length piece.now < 2 ^ 63
-            → Follows self.old transfer earlier → Follows self.new (grown transfer piece.now
+            → IsAtTransfer self.old transfer earlier
+            → IsAtTransfer self.new (grown transfer piece.now
             closed) earlier }
         ensures part { (transfer : Transfer) (closed : _) (earlier : List Transfer)
             → self.old.total + length piece.now < 2 ^ 63
-            → Follows self.old transfer earlier
+            → IsAtTransfer self.old transfer earlier
             → part_of self.old.wanted (grown transfer piece.now closed) ≡ part_of self.old.wanted
             transfer ++ result.now }
         ensures wanted { self.new.wanted ≡ self.old.wanted }
@@ -169,8 +170,8 @@ impl TransferScan {
             return piece;
         }
         match self.scan.payload_seen() {
-            Some((place, count)) => {
-                payload_part(piece, self.size - piece.len() as u64, place, count)
+            Some((offset, count)) => {
+                payload_part(piece, self.size - piece.len() as u64, offset, count)
             }
             None => &[],
         }
@@ -179,11 +180,13 @@ impl TransferScan {
     /// The line of the transfer. A transfer that was not abandoned is closed.
     #[inline(always)]
     pub fn line(&self, abandoned: bool) -> TransferText<'_>
-        ensures text { (transfer : Transfer) (earlier : List Transfer) → Follows self.now transfer
+        ensures text { (transfer : Transfer) (earlier : List Transfer)
+            → IsAtTransfer self.now transfer
             earlier → abandoned ≡ not transfer.closed
             → transfer_text (viewed_transfer result.entry) ≡ transfer_text (entry_of self.now.wanted
             transfer (length (parts_of self.now.wanted earlier))) }
-        ensures good { (transfer : Transfer) (earlier : List Transfer) → Follows self.now transfer
+        ensures good { (transfer : Transfer) (earlier : List Transfer)
+            → IsAtTransfer self.now transfer
             earlier → abandoned ≡ not transfer.closed
             → is_good (viewed_judgement result.entry.judgement) ≡ is_good (judgement_of transfer) }
     {

@@ -3,9 +3,9 @@
 ghost use Rattle.std.specs.Prelude.{◌≡◌, ◌+◌, ◌&&◌, ◌<◌, ◌≤◌, true, false, not, [], is_some, if◌then◌else◌, IsTrue, List, length, ℕ, IfSome, Ok, Err, Option, Some, None};
 ghost use Rattle.link_wire.specs.Session.{may_open, may_read, is_opened, left_of, source_of, data_in, IsSessionAt};
 ghost use Rattle.link_run.specs.Reading.{inner_of, HasEnough};
-ghost use Rattle.link_run.specs.Run.{Devices, devices_at, looks, GivesAnswer};
+ghost use Rattle.link_run.specs.Run.{Devices, devices_at, looks, AfterRun};
 ghost use Rattle.link_run.specs.Stages.{Stands, HandedOn};
-ghost use Rattle.link_run.specs.Writers.{GivesTexts, WritesSome, on_report, place_of};
+ghost use Rattle.link_run.specs.Writers.{AfterWrite, WritesSome, on_report, place_of};
 ghost use Rattle.link_report.specs.Fault.{fault_text};
 ghost use Rattle.link_wire.specs.Codes.{is_start};
 ghost use Rattle.link_wire.specs.MessageBuffer.{SegmentHasTotals, message_of};
@@ -17,8 +17,8 @@ ghost use Rattle.link_transfer.specs.Order.{refusal};
 ghost use Rattle.link_transfer.specs.declared.fault.OrderFault.{OrderFault};
 ghost use Rattle.link_unpack.specs.Transfers.{Transfer, settled};
 ghost use Rattle.link_unpack.specs.Unpacking.{unpacking_of, unpack_tool, parts_of, line_of, is_good, are_good, judgement_of, Unpacked, abandoned_line};
-ghost use Rattle.link_unpack.specs.TransferScan.{Follows, begun};
-ghost use Rattle.link_unpack.specs.UnpackRun.{may_go_on, may_follow, next_of, is_open_after, IsUnpacking, Begins, Unpacks, HasCome, IsTaken, IsBeginning, IsJoining, IsOpen, GivesNext, GivesFar, PassesQuiet, StandsNext, GivesFinish, EndsWith, WritesNext};
+ghost use Rattle.link_unpack.specs.TransferScan.{IsAtTransfer, begun};
+ghost use Rattle.link_unpack.specs.UnpackRun.{may_go_on, may_follow, next_of, is_open_after, IsUnpacking, Begins, Unpacks, HeadHasCome, IsTaken, IsBeginning, IsJoining, IsOpen, AfterUnpackStep, AfterUnpackStride, PassesQuiet, StandsNext, AfterFinish, EndsWith, WritesNext};
 
 use self::inner::take_on;
 use crate::transfer::{TransferScan, is_bundle};
@@ -162,7 +162,7 @@ fn stride_from<R: InDevice, W: OutDevice, E: OutDevice>(
         → Stands (looks R.state W.state E.state) (unpacking_of unpacker.old.latest.wanted) start true
         (place_of (source_of (inner_of input.old)) writers.old) history
         → IsUnpacking R.state stage unpacker.old (inner_of input.old) history
-        → GivesFar (looks R.state W.state E.state) start unpacker.old.latest.wanted
+        → AfterUnpackStride (looks R.state W.state E.state) start unpacker.old.latest.wanted
         (inner_of input.old) (inner_of input.new) writers.old writers.new unpacker.new history
         result }
     ensures handed { (history : List ℕ)
@@ -196,7 +196,7 @@ fn stride_message<R: InDevice, W: OutDevice, E: OutDevice>(
         → Stands (looks R.state W.state E.state) (unpacking_of unpacker.old.latest.wanted) start true
         (place_of (source_of (inner_of input.old)) writers.old) history
         → Unpacks R.state Stage.Message (inner_of input.old) unpacker.old history
-        → GivesFar (looks R.state W.state E.state) start unpacker.old.latest.wanted
+        → AfterUnpackStride (looks R.state W.state E.state) start unpacker.old.latest.wanted
         (inner_of input.old) (inner_of input.new) writers.old writers.new unpacker.new history
         result }
     ensures handed { (history : List ℕ)
@@ -263,7 +263,8 @@ fn advance<R: InDevice, W: OutDevice, E: OutDevice>(
         → Stands (looks R.state W.state E.state) (unpacking_of unpacker.old.latest.wanted) start true
         (place_of (source_of (inner_of input.old)) writers.old) history
         → IsUnpacking R.state stage unpacker.old (inner_of input.old) history
-        → GivesNext (looks R.state W.state E.state) start unpacker.old.latest.wanted piece stage
+        → AfterUnpackStep (looks R.state W.state E.state) start unpacker.old.latest.wanted piece
+        stage
         (inner_of input.old) (inner_of input.new) writers.new unpacker.new history result }
     ensures handed { (history : List ℕ)
         → IsUnpacking R.state stage unpacker.old (inner_of input.old) history
@@ -294,7 +295,7 @@ fn open<R: InDevice, W: OutDevice, E: OutDevice>(
         → Stands (looks R.state W.state E.state) (unpacking_of unpacker.now.latest.wanted) start true
         (place_of (source_of (inner_of input.old)) writers.old) history
         → Begins R.state (inner_of input.old) unpacker.now history
-        → GivesNext (looks R.state W.state E.state) start unpacker.now.latest.wanted piece
+        → AfterUnpackStep (looks R.state W.state E.state) start unpacker.now.latest.wanted piece
         Stage.Contact (inner_of input.old) (inner_of input.new) writers.new unpacker.now history result }
     ensures handed { (result ≡ Next.Ended (Err IoFault.Write) → ⊥)
         → HandedOn (looks R.state W.state E.state) W.handed E.handed
@@ -322,7 +323,7 @@ fn take_message<R: InDevice, W: OutDevice, E: OutDevice>(
         → Stands (looks R.state W.state E.state) (unpacking_of unpacker.old.latest.wanted) start true
         (place_of (source_of (inner_of input.old)) writers.old) history
         → Unpacks R.state Stage.Message (inner_of input.old) unpacker.old history
-        → GivesNext (looks R.state W.state E.state) start unpacker.old.latest.wanted piece
+        → AfterUnpackStep (looks R.state W.state E.state) start unpacker.old.latest.wanted piece
         Stage.Message (inner_of input.old) (inner_of input.new) writers.new unpacker.new history result }
     ensures handed { (history : List ℕ)
         → Unpacks R.state Stage.Message (inner_of input.old) unpacker.old history
@@ -365,7 +366,7 @@ fn refuse<R: InDevice, W: OutDevice, E: OutDevice>(
         result }
     ensures gives { (start : Devices R W E) (history : List ℕ) (before : Unpacked)
         (offset : ℕ) (order : OrderFault)
-        → HasCome (looks R.state W.state E.state) start before offset None (inner_of input.now)
+        → HeadHasCome (looks R.state W.state E.state) start before offset None (inner_of input.now)
         writers.old unpacker.old message.now history
         → IsJoinerAt unpacker.old.joiner before.taken
         → unpacker.old.latest.wanted.keep_going ≡ true
@@ -405,7 +406,7 @@ fn follow<R: InDevice, W: OutDevice, E: OutDevice>(
     ensures fits { IsTrue (may_follow result (inner_of input.now)) }
     ensures gives { (start : Devices R W E) (history : List ℕ) (before : Unpacked)
         (offset : ℕ) (line : Option OrderFault)
-        → HasCome (looks R.state W.state E.state) start before offset line (inner_of input.now)
+        → HeadHasCome (looks R.state W.state E.state) start before offset line (inner_of input.now)
         writers.old unpacker.old message.now history
         → IsTaken before line (Some turn) unpacker.old (message_of message.now)
         → StandsNext (looks R.state W.state E.state) start unpacker.old.latest.wanted
@@ -454,7 +455,7 @@ fn pass_stray<R: InDevice, W: OutDevice, E: OutDevice>(
         → Stands (looks R.state W.state E.state) (unpacking_of unpacker.now.latest.wanted) start true
         (place_of (source_of (inner_of input.old)) writers.old) history
         → Unpacks R.state Stage.Stray (inner_of input.old) unpacker.now history
-        → GivesNext (looks R.state W.state E.state) start unpacker.now.latest.wanted piece
+        → AfterUnpackStep (looks R.state W.state E.state) start unpacker.now.latest.wanted piece
         Stage.Stray (inner_of input.old) (inner_of input.new) writers.new unpacker.now history result }
     ensures handed { (history : List ℕ)
         → Unpacks R.state Stage.Stray (inner_of input.old) unpacker.now history
@@ -507,7 +508,7 @@ fn begin_latest(latest: &mut TransferScan, message: &MessageBuffer)
     ensures follows { (head : SegmentHead) (closed : _) (earlier : List Transfer) → message_of
         message.now ≡ Message.Segment head → is_start head.flags ≡ true
         → latest.old.start + latest.old.written ≡ length (parts_of latest.old.wanted earlier)
-        → Follows latest.new (begun head closed) earlier }
+        → IsAtTransfer latest.new (begun head closed) earlier }
     ensures wanted { latest.new.wanted ≡ latest.old.wanted }
     ensures total { latest.new.total ≡ latest.old.total }
 {
@@ -532,7 +533,7 @@ fn take_data<R: InDevice, W: OutDevice, E: OutDevice>(
         → Stands (looks R.state W.state E.state) (unpacking_of unpacker.old.latest.wanted) start true
         (place_of (source_of (inner_of input.old)) writers.old) history
         → Unpacks R.state (Stage.Data last) (inner_of input.old) unpacker.old history
-        → GivesNext (looks R.state W.state E.state) start unpacker.old.latest.wanted piece
+        → AfterUnpackStep (looks R.state W.state E.state) start unpacker.old.latest.wanted piece
         (Stage.Data last) (inner_of input.old) (inner_of input.new) writers.new unpacker.new history
         result }
     ensures handed { (history : List ℕ)
@@ -567,7 +568,7 @@ fn take_loaded<R: InDevice, W: OutDevice, E: OutDevice>(
         → Stands (looks R.state W.state E.state) (unpacking_of unpacker.old.latest.wanted) start true
         (place_of (source_of (inner_of input.old)) writers.old) history
         → Unpacks R.state (Stage.Data last) (inner_of input.old) unpacker.old history
-        → GivesNext (looks R.state W.state E.state) start unpacker.old.latest.wanted size
+        → AfterUnpackStep (looks R.state W.state E.state) start unpacker.old.latest.wanted size
         (Stage.Data last) (inner_of input.old) (inner_of input.new) writers.new unpacker.new history
         result }
     ensures writes { WritesNext W.state E.state writers.old writers.new result }
@@ -618,11 +619,13 @@ fn report<W: OutDevice, E: OutDevice>(
     unpacker: &mut Unpacker,
     abandoned: bool,
 ) -> Result<(), IoFault>
-    ensures gives { (transfer : Transfer) (earlier : List Transfer) → Follows unpacker.old.latest
+    ensures gives { (transfer : Transfer) (earlier : List Transfer)
+        → IsAtTransfer unpacker.old.latest
         transfer earlier → abandoned ≡ not transfer.closed
-        → GivesTexts W.state E.state writers.old writers.new (on_report (line_of
+        → AfterWrite W.state E.state writers.old writers.new (on_report (line_of
         unpacker.old.latest.wanted transfer earlier)) result }
-    ensures good { (transfer : Transfer) (earlier : List Transfer) → Follows unpacker.old.latest
+    ensures good { (transfer : Transfer) (earlier : List Transfer)
+        → IsAtTransfer unpacker.old.latest
         transfer earlier → abandoned ≡ not transfer.closed
         → unpacker.new.good ≡ (is_good (judgement_of transfer) && unpacker.old.good) }
     ensures writes { WritesSome W.state E.state writers.old writers.new result }
@@ -643,7 +646,7 @@ fn abandon<W: OutDevice, E: OutDevice>(
     unpacker: &mut Unpacker,
 ) -> Result<(), IoFault>
     ensures gives { (transfers : List Transfer) → IsOpen abandoned unpacker.old.latest transfers
-        → GivesTexts W.state E.state writers.old writers.new (on_report (abandoned_line
+        → AfterWrite W.state E.state writers.old writers.new (on_report (abandoned_line
         unpacker.old.latest.wanted transfers)) result }
     ensures good { (transfers : List Transfer) (in_order : _)
         → IsOpen abandoned unpacker.old.latest transfers
@@ -668,7 +671,7 @@ fn finish<W: OutDevice, E: OutDevice>(
     ensures latest { unpacker.new.latest ≡ unpacker.old.latest }
     ensures gives { (unpacked : Unpacked) → IsJoinerAt unpacker.old.joiner unpacked.taken
         → IsOpen (is_open_after unpacked) unpacker.old.latest unpacked.transfers
-        → GivesFinish W.state E.state unpacker.old unpacked writers.old writers.new result }
+        → AfterFinish W.state E.state unpacker.old unpacked writers.old writers.new result }
     ensures writes { WritesSome W.state E.state writers.old writers.new result }
 {
     let is_open = unpacker.joiner.open().is_some();
@@ -738,7 +741,7 @@ pub fn unpack<R: InDevice, W: OutDevice, E: OutDevice>(
     requires reader { (R.state reader).failed ≡ false }
     requires output { (W.state output).failed ≡ false }
     requires report { (E.state report).failed ≡ false }
-    ensures { GivesAnswer (looks R.state W.state E.state) (unpack_tool wanted)
+    ensures { AfterRun (looks R.state W.state E.state) (unpack_tool wanted)
         (record { reader = reader; output = output; report = report })
         (record { reader = result.reader; output = result.output; report = result.report })
         result.answer }

@@ -18,7 +18,7 @@ use Rattle.link_wire.specs.declared.message.ListOf.{ListOf}
 use Rattle.link_wire.specs.declared.message.ListOf.TheVariants.{Session, Transfer}
 use Rattle.link_wire.specs.Codes.{is_start}
 use Rattle.link_wire.specs.Limits.{longest_node, longest_list, most_items}
-use Rattle.link_wire.specs.Message.{contact_at, skipped_at, total_at, item_head_at, items_at, items_of, list_at, node_bytes_at, node_at, segment_items_at, segment_at, ack_at, refuse_at, sess_term_at, msg_reject_at, sess_init_at, fields_at, message_at, gives_total}
+use Rattle.link_wire.specs.Message.{contact_at, skipped_at, total_at, item_head_at, items_at, items_of, list_at, node_bytes_at, node_at, segment_items_at, segment_at, ack_at, refuse_at, sess_term_at, msg_reject_at, sess_init_at, fields_at, message_at, is_total_length}
 use Rattle.link_wire.specs.declared.fault.WireFault.{WireFault}
 use Rattle.link_wire.specs.declared.fault.WireFault.TheVariants.{BadMagic, BadVersion, UnknownType, NodeIdTooLong, ListTooLong, TooManyItems, ItemsOverrun}
 use Rattle.link_wire.specs.declared.message.Item.{Item}
@@ -200,31 +200,31 @@ found_made n make =
     found_pure (make content)
     (subst AreBytes (sym same) is.0, ap length same ∙ is.2, ap make (sym same)))
 
-module _ (of : ListOf) (kind size : ℕ) where
-  known_by : (test : Bool) (value : List ℕ) → gives_total of kind size ≡ test
-      → (if test then Some (big_number 8 value) else None) ≡ total_of of kind size value
+module _ (owner : ListOf) (kind size : ℕ) where
+  known_by : (test : Bool) (value : List ℕ) → is_total_length owner kind size ≡ test
+      → (if test then Some (big_number 8 value) else None) ≡ total_of owner kind size value
   known_by test value known = ap (λ test. if test then Some (big_number 8 value) else None) (sym known)
 
-  found_value : Found (total_at of kind size) (ValueSpelled of kind size)
+  found_value : Found (total_at owner kind size) (ValueSpelled owner kind size)
   unfolding total_at number_at skipped_at
   found_value =
-      found_if _ _ (gives_total of kind size)
+      found_if _ _ (is_total_length owner kind size)
       (λ known. found_then _ _ (found_made 8 (big_number 8)) (λ n before is.
-      found_pure (Some n) (last (ValueSpelled of kind size (Some n)) before
-      (is.0, is.1 ∙ sym (has_total_size of kind size known), ap Some is.2 ∙ known_by true before known))))
+      found_pure (Some n) (last (ValueSpelled owner kind size (Some n)) before
+      (is.0, is.1 ∙ sym (has_total_size owner kind size known), ap Some is.2 ∙ known_by true before known))))
       (λ known. found_then _ _ (found_made size (λ skipped. tt)) (λ nothing before is.
-      found_pure None (last (ValueSpelled of kind size None) before (is.0, is.1, known_by false before known))))
+      found_pure None (last (ValueSpelled owner kind size None) before (is.0, is.1, known_by false before known))))
 
 -- the items of `left` bytes of a list, at most `room` of them
 abbrev ItemsWithin : ListOf → ℕ → ℕ → List Item → Spelling
-ItemsWithin of room left items bytes = ItemsFilling of items left bytes × (length items ≤ room)
+ItemsWithin owner room left items bytes = ItemsFilling owner items left bytes × (length items ≤ room)
 
-module _ (of : ListOf) where
+module _ (owner : ListOf) where
   found_none : (room left : ℕ) → eqb left 0 ≡ true
-      → Found (λ bytes. Ok ([], bytes)) (ItemsWithin of room left)
+      → Found (λ bytes. Ok ([], bytes)) (ItemsWithin owner room left)
   found_none room left none = found_pure [] ((refl, sym (eqb-true left 0 none)), omega arith)
 
-  found_items : (room left : ℕ) → Found (items_at of room left) (ItemsWithin of room left)
+  found_items : (room left : ℕ) → Found (items_at owner room left) (ItemsWithin owner room left)
   unfolding items_at
   found_items zero left =
       found_if _ _ (eqb left 0) (λ none. found_none zero left none) (λ some.
@@ -232,24 +232,24 @@ module _ (of : ListOf) where
   found_items (suc room) left =
       found_if _ _ (eqb left 0) (λ none. found_none (suc room) left none) (λ some.
       found_then _ _ (found_item_head left) (λ head first one.
-      found_then _ _ (found_value of head.kind head.length) (λ total second two.
+      found_then _ _ (found_value owner head.kind head.length) (λ total second two.
       found_then _ _ (found_items room (left - (5 + head.length))) (λ items third three.
       let item : Item = record { flags = head.flags; kind = head.kind; length = head.length; total = total } in
-      let item_is : ItemSpelled of item (first ++ second) = both first second one.0 two in
-      let all_is : ItemsSpelled of (item ∷ items) ((first ++ second) ++ third) = both (first ++ second) third item_is three.0.0 in
+      let item_is : ItemSpelled owner item (first ++ second) = both first second one.0 two in
+      let all_is : ItemsSpelled owner (item ∷ items) ((first ++ second) ++ third) = both (first ++ second) third item_is three.0.0 in
       let all : first ++ (second ++ (third ++ [])) ≡ (first ++ second) ++ third = ap (λ bytes. first ++ (second ++ bytes)) (append-nil third) ∙ sym (append_assoc first second third) in
       let five = length_item_head head.flags head.kind head.length first one.0 in
       let size : length ((first ++ second) ++ third) ≡ left = omega (arith, one.1, two.1, three.0.1, length-append (first ++ second) third, length-append first second) in
-      found_pure (item ∷ items) (subst (ItemsFilling of (item ∷ items) left) (sym all) (all_is, size), omega (arith, three.1))))))
+      found_pure (item ∷ items) (subst (ItemsFilling owner (item ∷ items) left) (sym all) (all_is, size), omega (arith, three.1))))))
 
   found_items_of : (size : ℕ)
-      → Found (items_of of size) (λ items. ItemsWithin of most_items size items.items)
+      → Found (items_of owner size) (λ items. ItemsWithin owner most_items size items.items)
   unfolding items_of
   found_items_of size =
       found_then _ _ (found_items most_items size) (λ items before is.
-      found_pure (record { items = items }) (last (ItemsWithin of most_items size items) before is))
+      found_pure (record { items = items }) (last (ItemsWithin owner most_items size items) before is))
 
-  found_list : Found (list_at of) (ListSpelled of)
+  found_list : Found (list_at owner) (ListSpelled owner)
   unfolding list_at items_of
   found_list =
       found_then _ _ found_u32 (λ size first one.

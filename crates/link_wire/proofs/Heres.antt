@@ -71,14 +71,14 @@ module _ {A : Type 0} where
   here_if after false fault read other is = is
 
 -- a list whose length and items are here
-pub here_list : (of : ListOf) (after : ℕ) (bytes : List ℕ) → 4 ≤ length bytes
-    → 4 + big_number 4 (take 4 bytes) + after ≤ length bytes → IsHere after (list_at of bytes)
+pub here_list : (owner : ListOf) (after : ℕ) (bytes : List ℕ) → 4 ≤ length bytes
+    → 4 + big_number 4 (take 4 bytes) + after ≤ length bytes → IsHere after (list_at owner bytes)
 unfolding list_at
-here_list of after bytes enough room =
+here_list owner after bytes enough room =
     let size = big_number 4 (take 4 bytes) in
     here_number 4 after bytes _ enough
-    (here_if after (nat_lt longest_list size) (ListTooLong size) (items_of of size (drop 4 bytes)) (λ e. cc)
-    (here_within size after (items_of of size) (drop 4 bytes) (within_items_of of size) (omega (arith, length-drop 4 bytes))))
+    (here_if after (nat_lt longest_list size) (ListTooLong size) (items_of owner size (drop 4 bytes)) (λ e. cc)
+    (here_within size after (items_of owner size) (drop 4 bytes) (within_items_of owner size) (omega (arith, length-drop 4 bytes))))
 
 -- six bytes decide the contact header
 pub here_contact : (bytes : List ℕ) → 6 ≤ length bytes → IsHere 0 (contact_at bytes)

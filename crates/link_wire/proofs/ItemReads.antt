@@ -23,10 +23,10 @@ pub with_items-none : (part : Part (List Item)) → part ≡ with_items [] part
 with_items-none (Ok (items, rest)) = refl
 with_items-none (Err fault) = refl
 
-module _ (of : ListOf) where
+module _ (owner : ListOf) where
   -- no bytes of the list are left
   pub items_none : (room left : ℕ) (bytes : List ℕ) → left ≡ 0
-      → items_at of room left bytes ≡ Ok ([], bytes)
+      → items_at owner room left bytes ≡ Ok ([], bytes)
   unfolding items_at
   items_none zero left bytes none = rw none refl
   items_none (suc room) left bytes none = rw none refl
@@ -34,49 +34,49 @@ module _ (of : ListOf) where
   module _ (left : ℕ) (bytes : List ℕ) (some : 0 < left) where
     -- the head of the next item is at fault
     pub items_bad_head : (room : ℕ) (fault : WireFault) → item_head_at left bytes ≡ Err fault
-        → items_at of room left bytes ≡ Err fault
+        → items_at owner room left bytes ≡ Err fault
     unfolding items_at
     items_bad_head zero fault is = rw (some_left left some, is) refl
     items_bad_head (suc room) fault is = rw (some_left left some, is) refl
 
     module _ (head : ItemHead) (value : List ℕ) (is : item_head_at left bytes ≡ Ok (head, value)) where
       -- there is no room for the next item
-      pub items_full : (room : ℕ) → room ≡ 0 → items_at of room left bytes ≡ Err TooManyItems
+      pub items_full : (room : ℕ) → room ≡ 0 → items_at owner room left bytes ≡ Err TooManyItems
       unfolding items_at
       items_full zero none = rw (some_left left some, is) refl
       items_full (suc room) none = absurd (omega arith)
 
       -- the value of the next item is at fault
       pub items_bad_value : (room less : ℕ) (fault : WireFault) → room ≡ suc less
-          → total_at of head.kind head.length value ≡ Err fault
-          → items_at of room left bytes ≡ Err fault
+          → total_at owner head.kind head.length value ≡ Err fault
+          → items_at owner room left bytes ≡ Err fault
       unfolding items_at
       items_bad_value zero less fault one bad = absurd (omega arith)
       items_bad_value (suc room) less fault one bad = rw (some_left left some, is, bad) refl
 
       others : (room : ℕ) (total : Option ℕ) (rest : List ℕ) (part : Part (List Item))
-          → total_at of head.kind head.length value ≡ Ok (total, rest)
-          → items_at of room (left - (5 + head.length)) rest ≡ part
-          → items_at of (suc room) left bytes ≡ with_items (item_of head total ∷ []) part
+          → total_at owner head.kind head.length value ≡ Ok (total, rest)
+          → items_at owner room (left - (5 + head.length)) rest ≡ part
+          → items_at owner (suc room) left bytes ≡ with_items (item_of head total ∷ []) part
       unfolding items_at
       others room total rest (Ok (items, end)) known more = rw (some_left left some, is, known, more) refl
       others room total rest (Err fault) known more = rw (some_left left some, is, known, more) refl
 
       -- the next item, and those after it
       pub items_more : (room less : ℕ) (total : Option ℕ) (rest : List ℕ) → room ≡ suc less
-          → total_at of head.kind head.length value ≡ Ok (total, rest)
-          → items_at of room left bytes
-          ≡ with_items (item_of head total ∷ []) (items_at of less (left - (5 + head.length)) rest)
+          → total_at owner head.kind head.length value ≡ Ok (total, rest)
+          → items_at owner room left bytes
+          ≡ with_items (item_of head total ∷ []) (items_at owner less (left - (5 + head.length)) rest)
       items_more room less total rest one known = rw one (others less total rest _ known refl)
 
 -- the items of a whole list are some items, and then this part
-module _ (of : ListOf) (size : ℕ) (bytes : List ℕ) (before : List Item) (part : Part (List Item))
-    (is : items_at of 64 size bytes ≡ with_items before part) where
-  pub list_at_fault : (fault : WireFault) → part ≡ Err fault → items_of of size bytes ≡ Err fault
+module _ (owner : ListOf) (size : ℕ) (bytes : List ℕ) (before : List Item) (part : Part (List Item))
+    (is : items_at owner 64 size bytes ≡ with_items before part) where
+  pub list_at_fault : (fault : WireFault) → part ≡ Err fault → items_of owner size bytes ≡ Err fault
   unfolding items_of
   list_at_fault fault bad = rw (is, bad) refl
 
   pub list_ended : (rest : List ℕ) → part ≡ Ok ([], rest)
-      → items_of of size bytes ≡ Ok (record { items = before }, rest)
+      → items_of owner size bytes ≡ Ok (record { items = before }, rest)
   unfolding items_of
   list_ended rest none = rw (is, none, append-nil before) refl

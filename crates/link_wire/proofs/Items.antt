@@ -30,53 +30,53 @@ item_of head total = record { flags = head.flags; kind = head.kind; length = hea
 pub some_left : (left : ℕ) → 0 < left → eqb left 0 ≡ false
 some_left left some = ne_eqb left 0 (λ none. omega arith)
 
-module _ {R : Type 0} {look : R → Input} (of : ListOf) where
+module _ {R : Type 0} {look : R → Input} (owner : ListOf) where
   -- no bytes of the list are left
   none_left : (room : ℕ) {source : Source R} → IsLive look source
-      → Gets look (items_at of room 0) source source (Ok [])
+      → Gets look (items_at owner room 0) source source (Ok [])
   unfolding items_at
   none_left zero live = pure live
   none_left (suc room) live = pure live
 
   pub items_none : (room left : ℕ) {source : Source R} → left ≡ 0 → IsLive look source
-      → Gets look (items_at of room left) source source (Ok [])
+      → Gets look (items_at owner room left) source source (Ok [])
   items_none room left none live = rw none (none_left room live)
 
   module _ {old mid : Source R} (left : ℕ) (some : 0 < left) where
     -- the head of the next item was not read
     pub items_exit : (room : ℕ) {stop : Halt} → Gets look (item_head_at left) old mid (Err stop)
-        → Gets look (items_at of room left) old mid (Err stop)
+        → Gets look (items_at owner room left) old mid (Err stop)
     unfolding items_at
     items_exit zero met = if_false _ _ (some_left left some) (exit _ met)
     items_exit (suc room) met = if_false _ _ (some_left left some) (exit _ met)
 
     module _ {head : ItemHead} (got : Gets look (item_head_at left) old mid (Ok head)) where
-      no_room : Gets look (items_at of 0 left) old mid (Err (halt.Wire wire.TooManyItems))
+      no_room : Gets look (items_at owner 0 left) old mid (Err (halt.Wire wire.TooManyItems))
       unfolding items_at
       no_room = if_false _ _ (some_left left some) (after _ got (refuse (λ e. cc)))
 
       -- there is no room for the next item
       pub items_full : (room : ℕ) → room ≡ 0
-          → Gets look (items_at of room left) old mid (Err (halt.Wire wire.TooManyItems))
+          → Gets look (items_at owner room left) old mid (Err (halt.Wire wire.TooManyItems))
       items_full room none = rw none no_room
 
       value_unread : (room : ℕ) {new : Source R} {stop : Halt}
-          → Gets look (total_at of head.kind head.length) mid new (Err stop)
-          → Gets look (items_at of (suc room) left) old new (Err stop)
+          → Gets look (total_at owner head.kind head.length) mid new (Err stop)
+          → Gets look (items_at owner (suc room) left) old new (Err stop)
       unfolding items_at
       value_unread room met = if_false _ _ (some_left left some) (after _ got (exit _ met))
 
       -- the value of the next item was not read
       pub items_exit_total : (room less : ℕ) {new : Source R} {stop : Halt} → room ≡ suc less
-          → Gets look (total_at of head.kind head.length) mid new (Err stop)
-          → Gets look (items_at of room left) old new (Err stop)
+          → Gets look (total_at owner head.kind head.length) mid new (Err stop)
+          → Gets look (items_at owner room left) old new (Err stop)
       items_exit_total room less is met = rw is (value_unread less met)
 
       others_read : (room : ℕ) {next new : Source R} (total : Option ℕ)
           (outcome : Result (List Item) Halt)
-          → Gets look (total_at of head.kind head.length) mid next (Ok total)
-          → Gets look (items_at of room (left - (5 + head.length))) next new outcome
-          → Gets look (items_at of (suc room) left) old new
+          → Gets look (total_at owner head.kind head.length) mid next (Ok total)
+          → Gets look (items_at owner room (left - (5 + head.length))) next new outcome
+          → Gets look (items_at owner (suc room) left) old new
           (with_before (item_of head total ∷ []) outcome)
       unfolding items_at
       others_read room total (Ok items) known others = if_false _ _ (some_left left some) (after _ got (after _ known (after _ others (pure (is_live others)))))
@@ -85,8 +85,8 @@ module _ {R : Type 0} {look : R → Input} (of : ListOf) where
       -- the next item, and those after it
       pub items_more : (room less : ℕ) {next new : Source R} (total : Option ℕ)
           (outcome : Result (List Item) Halt) → room ≡ suc less
-          → Gets look (total_at of head.kind head.length) mid next (Ok total)
-          → Gets look (items_at of less (left - (5 + head.length))) next new outcome
-          → Gets look (items_at of room left) old new
+          → Gets look (total_at owner head.kind head.length) mid next (Ok total)
+          → Gets look (items_at owner less (left - (5 + head.length))) next new outcome
+          → Gets look (items_at owner room left) old new
           (with_before (item_of head total ∷ []) outcome)
       items_more room less total outcome is known others = rw is (others_read less total outcome known others)

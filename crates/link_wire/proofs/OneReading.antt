@@ -51,7 +51,7 @@ only_stream (entry ∷ entries) end offset bytes is =
     ∙ with_data-whole offset entry.message entry.content is.after (λ size. stream_at (offset + length head + size)) is.is_entry.0
     ∙ ap (λ at. with_entry (record { offset = offset; message = entry.message; content = entry.content }) (stream_at at is.after)) place
     ∙ ap (with_entry (record { offset = offset; message = entry.message; content = entry.content })) (only_stream entries end (offset + length is.before) is.after is.is_rest)
-    ∙ ap (λ at. record { entries = record { offset = at; message = entry.message; content = entry.content } ∷ entries; end = end }) (sym is.place)
+    ∙ ap (λ at. record { entries = record { offset = at; message = entry.message; content = entry.content } ∷ entries; end = end }) (sym is.offset_is)
 
 only_by : (contact : Option Contact) (entries : List Entry) (end : End) (bytes : List ℕ)
     → IsReadingBy contact entries end bytes
@@ -103,7 +103,7 @@ module _ (offset : ℕ) (message : Message) (head rest : List ℕ) (spells : Hea
       let next = later (offset + length head + data_length message) after in
       let P : ℕ → Type 0 = λ at. IsStream next.entries next.end at after in
       rw whole (record {
-        place = refl;
+        offset_is = refl;
         before = head ++ content;
         after = after;
         is_entry = (size, both head content spells (All-take IsByte (data_length message) rest are, refl));

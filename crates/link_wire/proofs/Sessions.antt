@@ -10,7 +10,7 @@ use Rattle.link_io.specs.Source.{window_of, is_fresh, IsSourceAt, IsLive, IsOver
 use Rattle.link_wire.specs.Limits.{window_size}
 use Rattle.link_wire.specs.Getting.{Needs, IsPart, IsFault, WholePart, Gets, OneKind}
 use Rattle.link_wire.specs.Stream.{Entry, End, Clean, Cut, Fault, Stream, ended, stream_at, Reading, reading_of}
-use Rattle.link_wire.specs.Session.{joined, data_after, with_data, rest_after, IsLeft, IsUndecided, SameMessages, ShownLast, is_unopened, reads_next, may_open, may_read, left_of, HasStopped, IsSessionAt, ReadContact, GivesContact, ReadMessage, GivesNext, PassedBytes, LoadedData, GivesLoad, GivesData}
+use Rattle.link_wire.specs.Session.{joined, data_after, with_data, rest_after, IsLeft, IsUndecided, SameMessages, ShownLast, is_unopened, reads_next, may_open, may_read, left_of, HasStopped, IsSessionAt, ReadContact, AfterOpen, ReadMessage, AfterNext, PassedBytes, LoadedData, AfterLoad, AfterData}
 use Rattle.link_io.proofs.Sources.{and_true, fresh_at, fresh_live, IsSourceAt-then, Takes-then, Readies-takes, Readies-over, StopsAfter-then}
 use Rattle.link_wire.proofs.Gettings.{after, IsFault-then, cut_then}
 use Rattle.link_wire.proofs.FieldReads.{IsPart-byte}
@@ -121,12 +121,12 @@ module _ {R : Type 0} {look : R → Input} where
 
   refused : (old new : Session R) (why : Halt)
       → Gets look contact_at old.source new.source (Err why) → HasStopped new (stop_at 0 why)
-      → GivesContact look old new (Err (stop_at 0 why))
+      → AfterOpen look old new (Err (stop_at 0 why))
   refused old new (halt.Wire fault) met stopped = record {
     given = met.by.given;
     takes = met.by.takes;
     size = needed_size within_contact met.by.given met.by.is.needs;
-    place = refl;
+    offset_is = refl;
     is_read = record { over = met.by.over; all = λ more may. reading-refused (met.by.given ++ more) fault (met.by.is.is_fault more may) };
     shown_last = contact_shown met.by.given met.by.is.needs;
     stopped = stopped;
@@ -141,7 +141,7 @@ module _ {R : Type 0} {look : R → Input} where
 
   pub contact_refused : (old new : Session R) (source : Source R) (why : Halt) (result : Stop)
       → Gets look contact_at old.source source (Err why) → new.source ≡ source
-      → HasStopped new result → result ≡ stop_at 0 why → GivesContact look old new (Err result)
+      → HasStopped new result → result ≡ stop_at 0 why → AfterOpen look old new (Err result)
   contact_refused old new source why result met same stopped is =
       let P : Source R → Type 0 = λ s. Gets look contact_at old.source s (Err why) in
       rw is (refused old new why (subst P (sym same) met) (stopped ∙ ap phase.Stopped is))
@@ -180,7 +180,7 @@ module _ {R : Type 0} {look : R → Input} where
           takes = got.takes;
           some = some;
           size = part_size within_message given message got.is;
-          place = refl;
+          offset_is = refl;
           left = left;
           reading = settled (reading_of history) (history ++ given) (begun here message) new.offset new.left (length (history ++ given)) is reads;
           at = stands new (history ++ given) (reading_of history) (begun here message) at.contact (IsSourceAt-then look old.source new.source history given got.takes at.at) got.live going at.has_contact is (λ _. got.takes.window.less some) reads;
@@ -224,7 +224,7 @@ module _ {R : Type 0} {look : R → Input} where
             content = content;
             some = omega (arith, shrinks_message.by (head ++ []) message [] (is.is_part []), length-append head [], length-append head content, ap length parts);
             size = room;
-            place = refl;
+            offset_is = refl;
             passed = passed one (subst P (sym parts) (one_message (length history) head content message is size));
           }
 
@@ -270,7 +270,7 @@ module _ {R : Type 0} {look : R → Input} where
       next_refused : (new : Session R) (why : Halt)
           → Gets look (fields_at kind) mid new.source (Err why)
           → HasStopped new (stop_at (length history) why)
-          → GivesNext look old new history (Err (stop_at (length history) why))
+          → AfterNext look old new history (Err (stop_at (length history) why))
       unfolding message_at
       next_refused new (halt.Wire fault) met stopped =
           let given = met.by.given in
@@ -279,7 +279,7 @@ module _ {R : Type 0} {look : R → Input} where
             given = kind ∷ given;
             takes = Takes-then look old.source mid new.source (kind ∷ []) given first.takes met.by.takes;
             size = needed_size within_message (kind ∷ given) is.needs;
-            place = refl;
+            offset_is = refl;
             is_read = record { over = met.by.over; all = λ more may. fault_here kind given more fault (is.is_fault more may) };
             shown_last = λ count fewer. (cut_here (take count (kind ∷ given)) (is.needs count fewer)).1;
             stopped = stopped;
@@ -300,7 +300,7 @@ module _ {R : Type 0} {look : R → Input} where
       pub message_refused : (new : Session R) (source : Source R) (why : Halt) (offset : ℕ)
           (result : Stop) → Gets look (fields_at kind) mid source (Err why) → new.source ≡ source
           → HasStopped new result → result ≡ stop_at offset why → offset ≡ length history
-          → GivesNext look old new history (Err result)
+          → AfterNext look old new history (Err result)
       message_refused new source why offset result met same stopped is here =
           let P : Source R → Type 0 = λ s. Gets look (fields_at kind) mid s (Err why) in
           let named : result ≡ stop_at (length history) why = is ∙ ap (λ n. stop_at n why) here in
@@ -383,7 +383,7 @@ module _ {R : Type 0} {look : R → Input} where
   pub data_cut : (old new : Session R) (mid : Source R) (history : List ℕ) (why : Stop)
       → IsSessionAt look old history → Readies look old.source mid → IsOver look mid → 0 < old.left
       → new.source ≡ mid → HasStopped new why
-      → why ≡ stop_at old.offset (halt.Wire wire.Truncated) → GivesLoad look old new history (Err why)
+      → why ≡ stop_at old.offset (halt.Wire wire.Truncated) → AfterLoad look old new history (Err why)
   data_cut old new mid history why at ready over some same stopped is =
       let P : Source R → Type 0 = λ s. Takes look old.source s [] × IsOver look s in
       let ended = subst P (sym same) (Readies-over look old.source mid ready over, over) in
@@ -407,13 +407,13 @@ module _ {R : Type 0} {look : R → Input} where
 
 module _ {R : Type 0} (look : R → Input) where
   stopped_load : (old new : Session R) (history buffer : List ℕ) (why : Stop)
-      → GivesLoad look old new history (Err why) → GivesData look old new history buffer (Err why)
+      → AfterLoad look old new history (Err why) → AfterData look old new history buffer (Err why)
   stopped_load old new history buffer (stop.Wire offset fault) gives = gives
   stopped_load old new history buffer (stop.Io fault) gives = gives
 
   -- a stop while data is made ready is also the stop of copying it
   pub data_stopped : (old new : Session R) (history buffer : List ℕ) (result : Result ℕ Stop)
-      (why : Stop) → IsErrAnd result (λ e. e ≡ why) → GivesLoad look old new history (Err why)
-      → GivesData look old new history buffer result
+      (why : Stop) → IsErrAnd result (λ e. e ≡ why) → AfterLoad look old new history (Err why)
+      → AfterData look old new history buffer result
   data_stopped old new history buffer (Ok n) why is gives = absurd is
   data_stopped old new history buffer (Err e) why is gives = rw is (stopped_load old new history buffer why gives)

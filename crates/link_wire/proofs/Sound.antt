@@ -13,7 +13,7 @@ use Rattle.link_wire.specs.declared.message.ListOf.{ListOf}
 use Rattle.link_wire.specs.declared.message.ListOf.TheVariants.{Session, Transfer}
 use Rattle.link_wire.specs.Codes.{is_start}
 use Rattle.link_wire.specs.Limits.{longest_node, longest_list, most_items}
-use Rattle.link_wire.specs.Message.{contact_at, skipped_at, total_at, item_head_at, items_at, items_of, list_at, node_bytes_at, node_at, segment_items_at, segment_at, ack_at, refuse_at, sess_term_at, msg_reject_at, sess_init_at, fields_at, message_at, gives_total, data_length}
+use Rattle.link_wire.specs.Message.{contact_at, skipped_at, total_at, item_head_at, items_at, items_of, list_at, node_bytes_at, node_at, segment_items_at, segment_at, ack_at, refuse_at, sess_term_at, msg_reject_at, sess_init_at, fields_at, message_at, is_total_length, data_length}
 use Rattle.link_wire.specs.declared.message.Contact.{Contact}
 use Rattle.link_wire.specs.declared.message.Item.{Item}
 use Rattle.link_wire.specs.declared.message.Message.{Message}
@@ -147,28 +147,28 @@ only_item_head left flags kind size fits =
     (only_last _ _ (only_u16 size) (λ more.
     let within : nat_lt (left - 5) size ≡ false = le-ltb (left - 5) size (omega arith) in rw within refl))))
 
-pub has_total_size : (of : ListOf) (kind size : ℕ) → gives_total of kind size ≡ true → size ≡ 8
+pub has_total_size : (owner : ListOf) (kind size : ℕ) → is_total_length owner kind size ≡ true → size ≡ 8
 has_total_size Session kind size is = absurd (cc)
 has_total_size Transfer kind size is = grind (arith, nat_tests)
 
-module _ (of : ListOf) (kind size : ℕ) (total : Option ℕ) where
-  value_by : (test : Bool) → gives_total of kind size ≡ test
-      → Only (total_at of kind size) total (ValueSpelled of kind size total)
+module _ (owner : ListOf) (kind size : ℕ) (total : Option ℕ) where
+  value_by : (test : Bool) → is_total_length owner kind size ≡ test
+      → Only (total_at owner kind size) total (ValueSpelled owner kind size total)
   unfolding total_at number_at skipped_at
   value_by true known = only_such (λ value is.
       let number : total ≡ Some (big_number 8 value) = is.2 ∙ ap (λ test. if test then Some (big_number 8 value) else None) known in
-      only_if _ _ (gives_total of kind size) known
+      only_if _ _ (is_total_length owner kind size) known
       (only_last _ _
-      (only_last _ _ (only_bytes value 8 (is.1 ∙ has_total_size of kind size known)) (λ rest. refl))
+      (only_last _ _ (only_bytes value 8 (is.1 ∙ has_total_size owner kind size known)) (λ rest. refl))
       (λ rest. ap (λ t. Ok (t, rest)) (sym number))))
   value_by false known = only_such (λ value is.
       let number : total ≡ None = is.2 ∙ ap (λ test. if test then Some (big_number 8 value) else None) known in
-      only_else _ _ (gives_total of kind size) known
+      only_else _ _ (is_total_length owner kind size) known
       (only_last _ _ (only_last _ _ (only_bytes value size is.1) (λ rest. refl))
       (λ rest. ap (λ t. Ok (t, rest)) (sym number))))
 
-  pub only_value : Only (total_at of kind size) total (ValueSpelled of kind size total)
-  only_value = value_by (gives_total of kind size) refl
+  pub only_value : Only (total_at owner kind size) total (ValueSpelled owner kind size total)
+  only_value = value_by (is_total_length owner kind size) refl
 
 -- the head of an item has five bytes
 pub length_item_head : (flags kind size : ℕ) (bytes : List ℕ)
@@ -183,11 +183,11 @@ length_item_head flags kind size bytes is =
 
 -- items that fill `left` bytes of a list
 abbrev pub ItemsFilling : ListOf → List Item → ℕ → Spelling
-ItemsFilling of items left bytes = ItemsSpelled of items bytes × (length bytes ≡ left)
+ItemsFilling owner items left bytes = ItemsSpelled owner items bytes × (length bytes ≡ left)
 
-module _ (of : ListOf) where
+module _ (owner : ListOf) where
   pub only_items : (items : List Item) (room left : ℕ) → length items ≤ room
-      → Only (items_at of room left) items (ItemsFilling of items left)
+      → Only (items_at owner room left) items (ItemsFilling owner items left)
   unfolding items_at
   only_items [] zero left few = record { by = λ bytes is more. let none : left ≡ 0 = sym is.1 ∙ ap length is.0 in rw (none, is.0) refl }
   only_items [] (suc room) left few = record { by = λ bytes is more. let none : left ≡ 0 = sym is.1 ∙ ap length is.0 in rw (none, is.0) refl }
@@ -201,26 +201,26 @@ module _ (of : ListOf) where
         let size : length is.0.after ≡ left - (5 + item.length) = omega arith in
         let fits : 5 + item.length ≤ left = omega arith in
         let some : 0 < left = omega arith in
-        let only : Only (items_at of (suc room) left) (item ∷ items) (ItemHeadSpelled item.flags item.kind item.length ⨾ ValueSpelled of item.kind item.length item.total ⨾ ItemsFilling of items (left - (5 + item.length))) =
+        let only : Only (items_at owner (suc room) left) (item ∷ items) (ItemHeadSpelled item.flags item.kind item.length ⨾ ValueSpelled owner item.kind item.length item.total ⨾ ItemsFilling owner items (left - (5 + item.length))) =
         only_else _ _ (eqb left 0) (ne_eqb left 0 (λ none. absurd (omega arith)))
         (only_then _ _ (only_item_head left item.flags item.kind item.length fits)
-        (only_then _ _ (only_value of item.kind item.length item.total)
+        (only_then _ _ (only_value owner item.kind item.length item.total)
         (only_last _ _ (only_items items room (left - (5 + item.length)) (omega arith)) (λ rest. refl)))) in
         only.by bytes (then_assoc bytes (record { before = is.0.before; after = is.0.after; is_first = is.0.is_first; is_second = (is.0.is_second, size); parts = is.0.parts })) more;
   }
 
   only_items_of : (items : ArrayVec Item) (left : ℕ) → length items.items ≤ most_items
-      → Only (items_of of left) items (ItemsFilling of items.items left)
+      → Only (items_of owner left) items (ItemsFilling owner items.items left)
   unfolding items_of
   only_items_of items left few = only_last _ _ (only_items items.items most_items left few) (λ rest. refl)
 
-  pub only_list : (items : ArrayVec Item) → Only (list_at of) items (ListSpelled of items)
+  pub only_list : (items : ArrayVec Item) → Only (list_at owner) items (ListSpelled owner items)
   unfolding list_at
   only_list items = record {
     by = λ bytes is more.
         let size = length is.body in
-        let body : ItemsFilling of items.items size is.is_list.after = rw is.is_list.is_second.1 (is.is_body, refl) in
-        let only : Only (list_at of) items (U32 size ⨾ ItemsFilling of items.items size) =
+        let body : ItemsFilling owner items.items size is.is_list.after = rw is.is_list.is_second.1 (is.is_body, refl) in
+        let only : Only (list_at owner) items (U32 size ⨾ ItemsFilling owner items.items size) =
         only_then _ _ (only_u32 size) (only_else _ _ (nat_lt longest_list size) (le-ltb longest_list size is.short) (only_items_of items size is.few)) in
         only.by bytes (record { before = is.is_list.before; after = is.is_list.after; is_first = is.is_list.is_first; is_second = body; parts = is.is_list.parts }) more;
   }

@@ -31,8 +31,8 @@ unfolding contact_bytes
 contact_spelled flags fits = (fits, refl)
 
 -- an empty list
-none_spelled : (of : ListOf) → ListSpelled of (record { items = [] }) (be 4 0)
-none_spelled of = record {
+none_spelled : (owner : ListOf) → ListSpelled owner (record { items = [] }) (be 4 0)
+none_spelled owner = record {
   body = [];
   is_body = refl;
   few = omega arith;

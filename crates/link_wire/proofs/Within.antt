@@ -8,7 +8,7 @@ use Rattle.link_wire.specs.Codes.{is_start}
 use Rattle.link_wire.specs.Getting.{Needs, IsPart}
 use Rattle.link_wire.specs.Limits.{longest_node, longest_list, most_items, longest_head}
 use Rattle.link_wire.specs.Part.{Part, ◌>>=◌, bytes_at, number_at}
-use Rattle.link_wire.specs.Message.{contact_at, skipped_at, gives_total, total_at, item_head_at, items_at, items_of, list_at, node_bytes_at, node_at, segment_items_at, segment_at, ack_at, refuse_at, sess_term_at, msg_reject_at, sess_init_at, fields_at, message_at}
+use Rattle.link_wire.specs.Message.{contact_at, skipped_at, is_total_length, total_at, item_head_at, items_at, items_of, list_at, node_bytes_at, node_at, segment_items_at, segment_at, ack_at, refuse_at, sess_term_at, msg_reject_at, sess_init_at, fields_at, message_at}
 use Rattle.link_wire.proofs.FieldReads.{bytes_at-short, bytes_at-enough, bytes_gone, both_read, same_part}
 use Rattle.link_wire.proofs.Sound.{has_total_size}
 use Rattle.link_wire.specs.declared.fault.WireFault.{WireFault}
@@ -172,11 +172,11 @@ within_contact =
     (λ is. within_err _ (λ e. cc)))
     (λ is. within_err _ (λ e. cc)))
 
-within_total : (of : ListOf) (kind size : ℕ) → Within size (total_at of kind size)
+within_total : (owner : ListOf) (kind size : ℕ) → Within size (total_at owner kind size)
 unfolding total_at
-within_total of kind size =
-    within_if (gives_total of kind size) _ _
-    (λ is. let eight : size ≡ 8 = has_total_size of kind size is in
+within_total owner kind size =
+    within_if (is_total_length owner kind size) _ _
+    (λ is. let eight : size ≡ 8 = has_total_size owner kind size is in
     within_field 8 _ (omega arith) (λ total. within_pure _))
     (λ is. within_then size _ _ (omega arith) (within_skipped size) (λ value. within_pure _))
 
@@ -228,30 +228,30 @@ module _ {B : Type 0} (left : ℕ) (next : ItemHead × List ℕ → Part B) wher
       (λ head bytes rest is. two head (item_fits left bytes head rest is)))
       (cases_lt left 5)
 
-within_items : (of : ListOf) (room left : ℕ) → Within left (items_at of room left)
+within_items : (owner : ListOf) (room left : ℕ) → Within left (items_at owner room left)
 unfolding items_at
-within_items of zero left =
+within_items owner zero left =
     within_if (eqb left 0) _ _ (λ is. within_pure _)
     (λ is. within_headed left _ (λ head fits. within_err _ (λ e. cc)))
-within_items of (suc room) left =
+within_items owner (suc room) left =
     within_if (eqb left 0) _ _ (λ is. within_pure _)
     (λ is. within_headed left _ (λ head fits.
-    within_then head.length _ _ (omega arith) (within_total of head.kind head.length) (λ total.
-    within_then (left - (5 + head.length)) _ _ (omega arith) (within_items of room _) (λ others.
+    within_then head.length _ _ (omega arith) (within_total owner head.kind head.length) (λ total.
+    within_then (left - (5 + head.length)) _ _ (omega arith) (within_items owner room _) (λ others.
     within_pure _))))
 
-pub within_items_of : (of : ListOf) (size : ℕ) → Within size (items_of of size)
+pub within_items_of : (owner : ListOf) (size : ℕ) → Within size (items_of owner size)
 unfolding items_of
-within_items_of of size =
-    within_then size _ _ (omega arith) (within_items of most_items size) (λ items. within_pure _)
+within_items_of owner size =
+    within_then size _ _ (omega arith) (within_items owner most_items size) (λ items. within_pure _)
 
-within_list : (of : ListOf) → Within 65540 (list_at of)
+within_list : (owner : ListOf) → Within 65540 (list_at owner)
 unfolding list_at
-within_list of =
+within_list owner =
     within_field 4 _ (omega arith) (λ size.
     within_if (nat_lt longest_list size) _ _ (λ long. within_err _ (λ e. cc))
     (λ short. let fits = ltb-false longest_list size short in
-    loosely size _ (omega (arith, fits)) (within_items_of of size)))
+    loosely size _ (omega (arith, fits)) (within_items_of owner size)))
 
 within_node : Within 1026 node_at
 unfolding node_at node_bytes_at

@@ -6,8 +6,8 @@ use Rattle.std.specs.Prelude.{ℕ, Bool, ◌==◌, bit_and}
 abbrev pub magic : ℕ
 magic = 0x64746e21
 
-abbrev pub version : ℕ
-version = 4
+abbrev pub tcpcl_version : ℕ
+tcpcl_version = 4
 
 -- message types (section 4.5)
 abbrev pub xfer_segment : ℕ

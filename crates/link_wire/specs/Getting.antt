@@ -54,16 +54,16 @@ module _ {R A : Type 0} where
     pub stops : StopsAfter look old new given fault
     pub is_cut : part given ≡ Err Truncated
 
-  abbrev pub AnswersPart : (R → Input) → (List ℕ → Part A) → Source R
+  abbrev pub GetsPart : (R → Input) → (List ℕ → Part A) → Source R
       → Source R → Result A Halt → Type 0
-  AnswersPart look part old new (Ok value) = WholePart look part old new value
-  AnswersPart look part old new (Err (halt.Wire fault)) = MetFault look part old new fault
-  AnswersPart look part old new (Err (halt.Io fault)) = MetStop look part old new fault
+  GetsPart look part old new (Ok value) = WholePart look part old new value
+  GetsPart look part old new (Err (halt.Wire fault)) = MetFault look part old new fault
+  GetsPart look part old new (Err (halt.Io fault)) = MetStop look part old new fault
 
   -- the outcome of a function that reads the part
   pub record Gets (look : R → Input) (part : List ℕ → Part A) (old new : Source R)
       (outcome : Result A Halt) : Type 0 where
-    pub by : AnswersPart look part old new outcome
+    pub by : GetsPart look part old new outcome
 
 -- the outcome of a function that leaves the value with its caller, joined with that value
 abbrev pub with_value : {A : Type 0} → A → Result (Unit {0}) Halt → Result A Halt

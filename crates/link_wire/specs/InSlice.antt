@@ -23,12 +23,12 @@ read_part bytes (Ok (value, next)) = Ok (value, drop next bytes)
 read_part bytes (Err fault) = Err fault
 
 -- the bytes of a span
-abbrev pub spanned : List ℕ → Span → List ℕ
-spanned bytes span = take span.length (drop span.offset bytes)
+abbrev pub span_bytes : List ℕ → Span → List ℕ
+span_bytes bytes span = take span.length (drop span.offset bytes)
 
 -- a node ID that was read where it lies
 abbrev pub read_node : List ℕ → Result (Span × ℕ) WireFault → Part (ArrayVec ℕ)
-read_node bytes (Ok (span, next)) = Ok (record { items = spanned bytes span }, drop next bytes)
+read_node bytes (Ok (span, next)) = Ok (record { items = span_bytes bytes span }, drop next bytes)
 read_node bytes (Err fault) = Err fault
 
 -- the head of an item, which was read as an item whose total is not known
@@ -41,16 +41,18 @@ read_head bytes (Err fault) = Err fault
 
 -- The head of the item is read at the offset, and its value after the head. The list has `left`
 -- more bytes.
-pub record ItemLies (of : ListOf) (bytes : List ℕ) (left offset : ℕ) (place : ItemAt) : Type 0 where
-  pub head : item_head_at left (drop offset bytes) ≡ Ok (head_of place.item, drop place.value bytes)
-  pub total : total_at of place.item.kind place.item.length (drop place.value bytes)
-      ≡ Ok (place.item.total, drop (place.value + place.item.length) bytes)
-  pub within : place.value + place.item.length ≤ length bytes
+pub record ItemLies (owner : ListOf) (bytes : List ℕ) (left offset : ℕ)
+    (found : ItemAt) : Type 0 where
+  pub head : item_head_at left (drop offset bytes) ≡ Ok (head_of found.item, drop found.value bytes)
+  pub total : total_at owner found.item.kind found.item.length (drop found.value bytes)
+      ≡ Ok (found.item.total, drop (found.value + found.item.length) bytes)
+  pub within : found.value + found.item.length ≤ length bytes
 
-abbrev pub GivesItem : ListOf → List ℕ → (left offset : ℕ) → Result ItemAt WireFault → Type 0
-GivesItem of bytes left offset (Ok place) = ItemLies of bytes left offset place
-GivesItem of bytes left offset (Err fault) =
-    (item_head_at left (drop offset bytes) >>= λ (head, rest). total_at of head.kind head.length rest)
+abbrev pub LocatesItem : ListOf → List ℕ → (left offset : ℕ) → Result ItemAt WireFault → Type 0
+LocatesItem owner bytes left offset (Ok found) = ItemLies owner bytes left offset found
+LocatesItem owner bytes left offset (Err fault) =
+    (item_head_at left (drop offset bytes)
+    >>= λ (head, rest). total_at owner head.kind head.length rest)
     ≡ Err fault
 
 -- the items end before the offset `end`, and nothing else is read
@@ -61,27 +63,28 @@ pub record EndsBefore (bytes : List ℕ) (end : ℕ) (part : Part (ArrayVec Item
   pub ends : next ≡ end
 
 -- the items end before the offset `end`, or there is a fault
-abbrev pub GivesEnd : List ℕ → (end : ℕ) → Part (ArrayVec Item) → Result ℕ WireFault → Type 0
-GivesEnd bytes end part (Ok next) = EndsBefore bytes end part next
-GivesEnd bytes end part (Err fault) = part ≡ Err fault
+abbrev pub LocatesEnd : List ℕ → (end : ℕ) → Part (ArrayVec Item) → Result ℕ WireFault → Type 0
+LocatesEnd bytes end part (Ok next) = EndsBefore bytes end part next
+LocatesEnd bytes end part (Err fault) = part ≡ Err fault
 
 -- the items of a list whose bytes after its length begin at the span
-pub record ListAt (of : ListOf) (bytes : List ℕ) (span : Span) (items : ArrayVec Item)
+pub record ListAt (owner : ListOf) (bytes : List ℕ) (span : Span) (items : ArrayVec Item)
     (next : ℕ) : Type 0 where
-  pub reads : items_of of span.length (drop span.offset bytes) ≡ Ok (items, drop next bytes)
+  pub reads : items_of owner span.length (drop span.offset bytes) ≡ Ok (items, drop next bytes)
 
 -- the part is these items, which lie at the span
-pub record GivesSpan (of : ListOf) (bytes : List ℕ) (part : Part (ArrayVec Item)) (span : Span)
+pub record ListLies (owner : ListOf) (bytes : List ℕ) (part : Part (ArrayVec Item)) (span : Span)
     (next : ℕ) : Type 0 where
   pub items : ArrayVec Item
   pub is : part ≡ Ok (items, drop next bytes)
-  pub list : ListAt of bytes span items next
+  pub list : ListAt owner bytes span items next
   pub within : next ≤ length bytes
   pub ends : span.offset + span.length ≡ next
 
-abbrev pub GivesList : ListOf → List ℕ → Part (ArrayVec Item) → Result (Span × ℕ) WireFault → Type 0
-GivesList of bytes part (Ok (span, next)) = GivesSpan of bytes part span next
-GivesList of bytes part (Err fault) = part ≡ Err fault
+abbrev pub LocatesList : ListOf → List ℕ → Part (ArrayVec Item) → Result (Span × ℕ) WireFault
+    → Type 0
+LocatesList owner bytes part (Ok (span, next)) = ListLies owner bytes part span next
+LocatesList owner bytes part (Err fault) = part ≡ Err fault
 
 -- the items of a segment, which have a list only with START
 pub record SegmentList (flags : ℕ) (bytes : List ℕ) (span : Span)
@@ -97,35 +100,35 @@ HasList (fields.Segment flags id size) bytes span items = SegmentList flags byte
 HasList others bytes span items = Unit {0}
 
 -- the list is after the node ID and its own length, and ends where the message ends
-pub record SessionPlaces (node items : Span) (end : ℕ) : Type 0 where
+pub record SessionSpans (node items : Span) (end : ℕ) : Type 0 where
   pub node_ends : node.offset + node.length + 4 ≡ items.offset
   pub items_end : items.offset + items.length ≡ end
 
 -- the list ends before the length of the data, where the head ends
-pub record SegmentPlaces (flags : ℕ) (items : Span) (end : ℕ) : Type 0 where
+pub record SegmentSpans (flags : ℕ) (items : Span) (end : ℕ) : Type 0 where
   pub with_start : is_start flags ≡ true → items.offset + items.length + 8 ≡ end
   pub without_start : is_start flags ≡ false → items ≡ record { offset = 0; length = 0 }
 
 -- the node ID and the items lie within the message
-abbrev pub HasPlaces : Fields → (node items : Span) → (end : ℕ) → Type 0
-HasPlaces (fields.SessInit interval segment_mru transfer_mru) node items end =
-    SessionPlaces node items end
-HasPlaces (fields.Segment flags id size) node items end = SegmentPlaces flags items end
-HasPlaces others node items end = Unit {0}
+abbrev pub HasSpans : Fields → (node items : Span) → (end : ℕ) → Type 0
+HasSpans (fields.SessInit interval segment_mru transfer_mru) node items end =
+    SessionSpans node items end
+HasSpans (fields.Segment flags id size) node items end = SegmentSpans flags items end
+HasSpans others node items end = Unit {0}
 
 -- The part is the message whose numbers, node ID and items the value has: the node ID and the items
 -- by where they lie. The bytes after it begin at its end.
-pub record LiesAt (bytes : List ℕ) (part : Part Message) (place : MessageAt) : Type 0 where
+pub record LiesAt (bytes : List ℕ) (part : Part Message) (found : MessageAt) : Type 0 where
   pub items : ArrayVec Item
   pub is : part ≡ Ok (
-    message_with place.fields (record { items = spanned bytes place.node }) items,
-    drop place.end bytes,
+    message_with found.fields (record { items = span_bytes bytes found.node }) items,
+    drop found.end bytes,
   )
-  pub list : HasList place.fields bytes place.items items
-  pub places : HasPlaces place.fields place.node place.items place.end
-  pub within : place.end ≤ length bytes
+  pub list : HasList found.fields bytes found.items items
+  pub spans : HasSpans found.fields found.node found.items found.end
+  pub within : found.end ≤ length bytes
 
 -- the part is the message that lies there, or the fault
-abbrev pub GivesMessage : List ℕ → Part Message → Result MessageAt WireFault → Type 0
-GivesMessage bytes part (Ok place) = LiesAt bytes part place
-GivesMessage bytes part (Err fault) = part ≡ Err fault
+abbrev pub LocatesMessage : List ℕ → Part Message → Result MessageAt WireFault → Type 0
+LocatesMessage bytes part (Ok found) = LiesAt bytes part found
+LocatesMessage bytes part (Err fault) = part ≡ Err fault

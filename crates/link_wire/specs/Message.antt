@@ -3,7 +3,7 @@
 use Rattle.std.specs.Prelude.{◌≡◌, ℕ, zero, suc, ◌+◌, ◌-◌, Bool, false, ◌&&◌, List, [], ◌∷◌, All, slice_index, Option, Some, None, IsSome, Ok, Err, nat_lt, ◌==◌, if◌then◌else◌}
 use Rattle.arrayvec.specs.ArrayVec.{ArrayVec}
 use Rattle.byteorder.specs.Endian.{big_number}
-use Rattle.link_wire.specs.Codes.{magic, version, xfer_segment, xfer_ack, xfer_refuse, keepalive, sess_term, msg_reject, sess_init, is_start, item_head, transfer_length, total_size}
+use Rattle.link_wire.specs.Codes.{magic, tcpcl_version, xfer_segment, xfer_ack, xfer_refuse, keepalive, sess_term, msg_reject, sess_init, is_start, item_head, transfer_length, total_size}
 use Rattle.link_wire.specs.Limits.{longest_node, longest_list, most_items}
 use Rattle.link_wire.specs.Part.{Part, ◌>>=◌, bytes_at, number_at}
 use Rattle.link_wire.specs.declared.fault.WireFault.TheVariants.{BadMagic, BadVersion, UnknownType, NodeIdTooLong, ListTooLong, TooManyItems, ItemsOverrun}
@@ -15,15 +15,18 @@ use Rattle.link_wire.specs.declared.list.ItemHead.{ItemHead}
 use Rattle.link_wire.specs.declared.message.Message.{Message}
 use Rattle.link_wire.specs.declared.message.Message.TheVariants.{SessInit, Segment, Ack, Refuse, Keepalive, SessTerm, MsgReject}
 
+-- the version and the flags of a contact header; `bytes` follow it
+abbrev pub contact_by : (header bytes : List ℕ) → Part Contact
+contact_by header bytes =
+    if slice_index header 4 == tcpcl_version
+    then Ok (record { flags = slice_index header 5 }, bytes)
+    else Err (BadVersion (slice_index header 4))
+
 -- the contact header (section 4.2), of six bytes: `dtn!`, the version, and the flags
 unfoldable pub contact_at : List ℕ → Part Contact
 contact_at bytes = do
   (header, bytes) ← bytes_at 6 bytes
-  if big_number 4 header == magic
-      then (if slice_index header 4 == version
-      then Ok (record { flags = slice_index header 5 }, bytes)
-      else Err (BadVersion (slice_index header 4)))
-      else Err BadMagic
+  if big_number 4 header == magic then contact_by header bytes else Err BadMagic
 
 -- the bytes of a node ID
 unfoldable pub node_bytes_at : ℕ → List ℕ → Part (ArrayVec ℕ)
@@ -43,16 +46,18 @@ skipped_at n bytes = do
   (skipped, bytes) ← bytes_at n bytes
   Ok (tt, bytes)
 
+-- `owner` is what an extension list belongs to: a session (SESS_INIT) or a transfer (XFER_SEGMENT)
+
 -- whether the value of an item is a total length: the item is in a transfer's list, and has the
 -- type and the size of a Transfer Length item (section 5.2.5.1)
-abbrev pub gives_total : ListOf → ℕ → ℕ → Bool
-gives_total Session kind size = false
-gives_total Transfer kind size = kind == transfer_length && size == total_size
+abbrev pub is_total_length : ListOf → ℕ → ℕ → Bool
+is_total_length Session kind size = false
+is_total_length Transfer kind size = kind == transfer_length && size == total_size
 
 -- the value of an extension item, which is kept only if it is a total length
 unfoldable pub total_at : ListOf → ℕ → ℕ → List ℕ → Part (Option ℕ)
-total_at of kind size bytes =
-    if gives_total of kind size
+total_at owner kind size bytes =
+    if is_total_length owner kind size
     then (do
       (total, bytes) ← number_at total_size bytes
       Ok (Some total, bytes))
@@ -60,11 +65,12 @@ total_at of kind size bytes =
       (value, bytes) ← skipped_at size bytes
       Ok (None, bytes))
 
--- a Transfer Length item of 8 bytes has its total
+-- If an item of a transfer's list has the type and the size of a Transfer Length item, the total in
+-- its value was kept. Nothing is said of other items.
 abbrev pub HasTotal : Item → Type 0
 HasTotal item = item.kind ≡ transfer_length → item.length ≡ total_size → IsSome item.total
 
--- each Transfer Length item of 8 bytes in a list has its total
+-- the same for each item of a transfer's list
 abbrev pub HasTotals : List Item → Type 0
 HasTotals items = All HasTotal items
 
@@ -85,19 +91,19 @@ item_head_at left bytes =
 -- The items of a list that has `left` more bytes; at most `room` items may come. They fill these
 -- bytes exactly.
 unfoldable pub items_at : ListOf → ℕ → ℕ → List ℕ → Part (List Item)
-items_at of zero left bytes =
+items_at owner zero left bytes =
     if left == 0
     then Ok ([], bytes)
     else (do
       _ ← item_head_at left bytes
       Err TooManyItems)
-items_at of (suc room) left bytes =
+items_at owner (suc room) left bytes =
     if left == 0
     then Ok ([], bytes)
     else (do
       (head, bytes) ← item_head_at left bytes
-      (total, bytes) ← total_at of head.kind head.length bytes
-      (others, bytes) ← items_at of room (left - (item_head + head.length)) bytes
+      (total, bytes) ← total_at owner head.kind head.length bytes
+      (others, bytes) ← items_at owner room (left - (item_head + head.length)) bytes
       Ok (
         record {
           flags = head.flags;
@@ -110,15 +116,15 @@ items_at of (suc room) left bytes =
 
 -- the items of a list of `size` bytes
 unfoldable pub items_of : ListOf → ℕ → List ℕ → Part (ArrayVec Item)
-items_of of size bytes = do
-  (items, bytes) ← items_at of most_items size bytes
+items_of owner size bytes = do
+  (items, bytes) ← items_at owner most_items size bytes
   Ok (record { items = items }, bytes)
 
 -- an extension list (section 4.8): its length in bytes, which is limited, and its items
 unfoldable pub list_at : ListOf → List ℕ → Part (ArrayVec Item)
-list_at of bytes = do
+list_at owner bytes = do
   (size, bytes) ← number_at 4 bytes
-  if nat_lt longest_list size then Err (ListTooLong size) else items_of of size bytes
+  if nat_lt longest_list size then Err (ListTooLong size) else items_of owner size bytes
 
 -- the extension list of a segment (section 5.2.2), which has one only with START
 unfoldable pub segment_items_at : ℕ → List ℕ → Part (ArrayVec Item)
@@ -196,7 +202,7 @@ abbrev pub data_length : Message → ℕ
 data_length (Segment head) = head.length
 data_length message = 0
 
--- the items of a segment have their totals
+-- the totals in the items of a segment were kept
 abbrev pub MessageHasTotals : Message → Type 0
 MessageHasTotals (Segment head) = HasTotals head.items.items
 MessageHasTotals message = Unit {0}

@@ -29,8 +29,8 @@ message_with (fields.MsgReject reason header) node items = MsgReject reason head
 abbrev pub message_of : MessageBuffer → Message
 message_of buffer = message_with buffer.fields buffer.node buffer.items
 
--- The items in the buffer have their totals if the message is a segment. This holds without START
--- too, where the segment shows no items.
+-- If the message is a segment, the totals in the items of the buffer were kept (`HasTotals`). This
+-- holds without START too, where the segment shows no items.
 abbrev pub SegmentHasTotalsWith : Fields → ArrayVec Item → Type 0
 SegmentHasTotalsWith (fields.Segment flags id size) items = HasTotals items.items
 SegmentHasTotalsWith others items = Unit {0}

@@ -45,20 +45,20 @@ data_after left bytes (Fault offset fault) = ended (Fault offset fault)
 abbrev pub with_data : ℕ → List ℕ → Reading → Reading
 with_data left bytes reading = joined reading (data_after left bytes reading.end)
 
--- The stream that is read from the bytes after those given, from the offset `place` on. Between two
+-- The stream that is read from the bytes after those given, from the offset `next` on. Between two
 -- messages, it is messages. Inside a segment, it is the last `left` bytes of the segment's data,
 -- and then messages. After a fault, nothing more is read.
 abbrev pub rest_after : ℕ → ℕ → End → List ℕ → Stream
-rest_after place left Clean bytes = stream_at place bytes
-rest_after place left (Cut offset message content) bytes =
+rest_after next left Clean bytes = stream_at next bytes
+rest_after next left (Cut offset message content) bytes =
     if nat_lt (length bytes) left
     then ended (Cut offset message (content ++ bytes))
     else with_entry (record {
       offset = offset;
       message = message;
       content = content ++ take left bytes;
-    }) (stream_at (place + left) (drop left bytes))
-rest_after place left (Fault offset fault) bytes = ended (Fault offset fault)
+    }) (stream_at (next + left) (drop left bytes))
+rest_after next left (Fault offset fault) bytes = ended (Fault offset fault)
 
 -- between two messages no data is to come; inside the segment at `offset`, its last `left` bytes
 -- are to come
@@ -117,59 +117,59 @@ reads_next (phase.Stopped why) left = true
 module _ {R : Type 0} where
   -- the source that the session reads
   abbrev pub source_of : Session R → Source R
-  source_of s = s.source
+  source_of session = session.source
 
   -- the number of bytes of data that are to come
   abbrev pub left_of : Session R → ℕ
-  left_of s = s.left
+  left_of session = session.left
 
   -- The contact header may be read: it is read once, before all else.
   abbrev pub may_open : Session R → Bool
-  may_open s = is_unopened s.phase && (s.left == 0 && is_fresh s.source)
+  may_open session = is_unopened session.phase && (session.left == 0 && is_fresh session.source)
 
   -- The next message may be read: the contact header was read and no data is to come, or the
   -- session has stopped. In the second case that stop is returned again.
   abbrev pub may_read : Session R → Bool
-  may_read s = reads_next s.phase s.left
+  may_read session = reads_next session.phase session.left
 
   -- `open` was called
   abbrev pub is_opened : Session R → Bool
-  is_opened s = past_opening s.phase
+  is_opened session = past_opening session.phase
 
   -- the session has stopped for this reason
   abbrev pub HasStopped : Session R → Stop → Type 0
-  HasStopped s why = s.phase ≡ phase.Stopped why
+  HasStopped session why = session.phase ≡ phase.Stopped why
 
   -- the input has ended, and the session has not stopped
   abbrev pub HasEndedBetween : Session R → Type 0
-  HasEndedBetween s = (s.phase ≡ phase.Reading) × HasEnded s.source
+  HasEndedBetween session = (session.phase ≡ phase.Reading) × HasEnded session.source
 
   -- the data of the open segment that is at hand
   abbrev pub data_in : (R → Input) → Session R → List ℕ
-  data_in look s = take s.left (front_of look s.source)
+  data_in look session = take session.left (front_of look session.source)
 
   -- The session was given exactly these bytes, and met no fault. It is at the end of their reading:
   -- whatever bytes follow, they are read from there. If no data is to come, the window is not full.
-  pub record IsSessionAt (look : R → Input) (s : Session R) (history : List ℕ) : Type 0 where
-    pub at : IsSourceAt s.source history
-    pub live : IsLive look s.source
-    pub going : s.phase ≡ phase.Reading
+  pub record IsSessionAt (look : R → Input) (session : Session R) (history : List ℕ) : Type 0 where
+    pub at : IsSourceAt session.source history
+    pub live : IsLive look session.source
+    pub going : session.phase ≡ phase.Reading
     pub contact : Contact
     pub has_contact : (reading_of history).contact ≡ Some contact
-    pub left : IsLeft s.offset s.left (reading_of history).end
-    pub few : s.left ≡ 0 → length (window_of s.source) < window_size
+    pub left : IsLeft session.offset session.left (reading_of history).end
+    pub few : session.left ≡ 0 → length (window_of session.source) < window_size
     pub goes_on : (more : List ℕ)
         → reading_of (history ++ more)
         ≡ joined (reading_of history)
-        (rest_after (length history) s.left (reading_of history).end more)
+        (rest_after (length history) session.left (reading_of history).end more)
 
   -- the input has enough bytes left for the contact header
   abbrev pub HasContact : (R → Input) → Session R → Type 0
-  HasContact look s = IsEnoughFor contact_at (ahead look s.source)
+  HasContact look session = IsEnoughFor contact_at (ahead look session.source)
 
   -- the input has enough bytes left for what comes next
   abbrev pub HasNext : (R → Input) → Session R → Type 0
-  HasNext look s = IsEnough s.left (ahead look s.source)
+  HasNext look session = IsEnough session.left (ahead look session.source)
 
   -- The whole input is read as `reading`: so are these bytes, with any bytes that may follow them
   -- (`MayFollow`). If the fault is a missing field, no byte of the input is left.
@@ -202,7 +202,7 @@ module _ {R : Type 0} where
     pub given : List ℕ
     pub takes : Takes look old.source new.source given
     pub size : length given ≤ 6
-    pub place : offset ≡ 0
+    pub offset_is : offset ≡ 0
     pub is_read : IsRead look new.source given fault
         (record { contact = None; entries = []; end = Fault 0 fault })
     pub shown_last : ShownLast [] given
@@ -218,11 +218,11 @@ module _ {R : Type 0} where
         ≡ record { contact = None; entries = []; end = Fault 0 wire.Truncated }
     pub stopped : HasStopped new (stop.Io fault)
 
-  abbrev pub GivesContact : (R → Input) → Session R → Session R → Result Contact Stop → Type 0
-  GivesContact look old new (Ok contact) = ReadContact look old new contact
-  GivesContact look old new (Err (stop.Wire offset fault)) =
+  abbrev pub AfterOpen : (R → Input) → Session R → Session R → Result Contact Stop → Type 0
+  AfterOpen look old new (Ok contact) = ReadContact look old new contact
+  AfterOpen look old new (Err (stop.Wire offset fault)) =
       RefusedContact look old new offset fault
-  GivesContact look old new (Err (stop.Io fault)) = StoppedContact look old new fault
+  AfterOpen look old new (Err (stop.Io fault)) = StoppedContact look old new fault
 
   -- the head of a message was read
   pub record ReadMessage (look : R → Input) (old new : Session R) (history : List ℕ) (offset : ℕ)
@@ -231,7 +231,7 @@ module _ {R : Type 0} where
     pub takes : Takes look old.source new.source given
     pub some : 0 < length given
     pub size : length given ≤ longest_head
-    pub place : offset ≡ length history
+    pub offset_is : offset ≡ length history
     pub left : left_of new ≡ data_length message
     pub reading : reading_of (history ++ given) ≡ with_message offset message (reading_of history)
     pub at : IsSessionAt look new (history ++ given)
@@ -249,7 +249,7 @@ module _ {R : Type 0} where
     pub given : List ℕ
     pub takes : Takes look old.source new.source given
     pub size : length given ≤ longest_head
-    pub place : offset ≡ length history
+    pub offset_is : offset ≡ length history
     pub is_read : IsRead look new.source (history ++ given) fault
         (joined (reading_of history) (ended (Fault offset fault)))
     pub shown_last : ShownLast history given
@@ -266,14 +266,14 @@ module _ {R : Type 0} where
     pub undecided : IsUndecided (reading_of (history ++ given)).end
     pub stopped : HasStopped new (stop.Io fault)
 
-  abbrev pub GivesNext : (R → Input) → Session R → Session R → List ℕ
+  abbrev pub AfterNext : (R → Input) → Session R → Session R → List ℕ
       → Result (Option (ℕ × Message)) Stop → Type 0
-  GivesNext look old new history (Ok None) = CleanEnd look old new history
-  GivesNext look old new history (Ok (Some (offset, message))) =
+  AfterNext look old new history (Ok None) = CleanEnd look old new history
+  AfterNext look old new history (Ok (Some (offset, message))) =
       ReadMessage look old new history offset message
-  GivesNext look old new history (Err (stop.Wire offset fault)) =
+  AfterNext look old new history (Err (stop.Wire offset fault)) =
       RefusedMessage look old new history offset fault
-  GivesNext look old new history (Err (stop.Io fault)) = StoppedMessage look old new history fault
+  AfterNext look old new history (Err (stop.Io fault)) = StoppedMessage look old new history fault
 
   -- these bytes of the open segment's data were given
   pub record PassedBytes (look : R → Input) (old new : Session R)
@@ -316,15 +316,15 @@ module _ {R : Type 0} where
     pub stops : StopsAfter look old.source new.source [] fault
     pub stopped : HasStopped new (stop.Io fault)
 
-  abbrev pub GivesData : (R → Input) → Session R → Session R → List ℕ
+  abbrev pub AfterData : (R → Input) → Session R → Session R → List ℕ
       → List ℕ → Result ℕ Stop → Type 0
-  GivesData look old new history buffer (Ok n) = ReadData look old new history buffer n
-  GivesData look old new history buffer (Err (stop.Wire offset fault)) =
+  AfterData look old new history buffer (Ok n) = ReadData look old new history buffer n
+  AfterData look old new history buffer (Err (stop.Wire offset fault)) =
       CutData look old new history offset fault
-  GivesData look old new history buffer (Err (stop.Io fault)) = StoppedData look old new fault
+  AfterData look old new history buffer (Err (stop.Io fault)) = StoppedData look old new fault
 
-  abbrev pub GivesLoad : (R → Input) → Session R → Session R → List ℕ → Result ℕ Stop → Type 0
-  GivesLoad look old new history (Ok n) = LoadedData look old new history n
-  GivesLoad look old new history (Err (stop.Wire offset fault)) =
+  abbrev pub AfterLoad : (R → Input) → Session R → Session R → List ℕ → Result ℕ Stop → Type 0
+  AfterLoad look old new history (Ok n) = LoadedData look old new history n
+  AfterLoad look old new history (Err (stop.Wire offset fault)) =
       CutData look old new history offset fault
-  GivesLoad look old new history (Err (stop.Io fault)) = StoppedData look old new fault
+  AfterLoad look old new history (Err (stop.Io fault)) = StoppedData look old new fault

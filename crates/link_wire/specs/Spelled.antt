@@ -4,9 +4,9 @@ use Rattle.std.specs.Prelude.{◌≡◌, ℕ, ◌^◌, ◌<◌, ◌≤◌, Bool,
 use Rattle.arrayvec.specs.ArrayVec.{ArrayVec}
 use Rattle.byteorder.specs.Endian.{big_bytes, big_number}
 use Rattle.link_io.specs.Bytes.{AreBytes}
-use Rattle.link_wire.specs.Codes.{version, xfer_segment, xfer_ack, xfer_refuse, keepalive, sess_term, msg_reject, sess_init, is_start, total_size}
+use Rattle.link_wire.specs.Codes.{tcpcl_version, xfer_segment, xfer_ack, xfer_refuse, keepalive, sess_term, msg_reject, sess_init, is_start, total_size}
 use Rattle.link_wire.specs.Limits.{longest_node, longest_list, most_items}
-use Rattle.link_wire.specs.Message.{gives_total, data_length}
+use Rattle.link_wire.specs.Message.{is_total_length, data_length}
 use Rattle.link_wire.specs.declared.message.Contact.{Contact}
 use Rattle.link_wire.specs.declared.message.Item.{Item}
 use Rattle.link_wire.specs.declared.message.ListOf.{ListOf}
@@ -54,7 +54,8 @@ These content bytes = AreBytes content × (bytes ≡ content)
 -- the contact header (section 4.2): `dtn!`, version 4, and the flags
 abbrev pub ContactSpelled : Contact → Spelling
 ContactSpelled contact bytes =
-    (contact.flags < 2 ^ 8) × (bytes ≡ 0x64 ∷ 0x74 ∷ 0x6e ∷ 0x21 ∷ version ∷ contact.flags ∷ [])
+    (contact.flags < 2 ^ 8)
+    × (bytes ≡ 0x64 ∷ 0x74 ∷ 0x6e ∷ 0x21 ∷ tcpcl_version ∷ contact.flags ∷ [])
 
 -- a node ID (section 4.6): its length, and its bytes
 abbrev pub NodeSpelled : ArrayVec ℕ → Spelling
@@ -66,30 +67,30 @@ abbrev pub ItemHeadSpelled : (flags kind size : ℕ) → Spelling
 ItemHeadSpelled flags kind size = U8 flags ⨾ U16 kind ⨾ U16 size
 
 -- the number in the value of a Transfer Length item (section 5.2.5.1); no other item has one
-abbrev pub total_of : (of : ListOf) (kind size : ℕ) → List ℕ → Option ℕ
-total_of of kind size value =
-    if gives_total of kind size then Some (big_number total_size value) else None
+abbrev pub total_of : (owner : ListOf) (kind size : ℕ) → List ℕ → Option ℕ
+total_of owner kind size value =
+    if is_total_length owner kind size then Some (big_number total_size value) else None
 
 -- an extension item's value: any bytes, as many as the item's length
-abbrev pub ValueSpelled : (of : ListOf) (kind size : ℕ) → Option ℕ → Spelling
-ValueSpelled of kind size total value =
-    AreBytes value × (length value ≡ size) × (total ≡ total_of of kind size value)
+abbrev pub ValueSpelled : (owner : ListOf) (kind size : ℕ) → Option ℕ → Spelling
+ValueSpelled owner kind size total value =
+    AreBytes value × (length value ≡ size) × (total ≡ total_of owner kind size value)
 
 -- an extension item, of a transfer's list or of a session's
-abbrev pub ItemSpelled : (of : ListOf) → Item → Spelling
-ItemSpelled of item =
-    ItemHeadSpelled item.flags item.kind item.length ⨾ ValueSpelled of
+abbrev pub ItemSpelled : (owner : ListOf) → Item → Spelling
+ItemSpelled owner item =
+    ItemHeadSpelled item.flags item.kind item.length ⨾ ValueSpelled owner
     item.kind item.length item.total
 
 -- items one after another
-abbrev pub ItemsSpelled : (of : ListOf) → List Item → Spelling
-ItemsSpelled of [] bytes = bytes ≡ []
-ItemsSpelled of (item ∷ items) bytes = (ItemSpelled of item ⨾ ItemsSpelled of items) bytes
+abbrev pub ItemsSpelled : (owner : ListOf) → List Item → Spelling
+ItemsSpelled owner [] bytes = bytes ≡ []
+ItemsSpelled owner (item ∷ items) bytes = (ItemSpelled owner item ⨾ ItemsSpelled owner items) bytes
 
 -- an extension list: its length in bytes, and its items, which fill those bytes
-pub record ListSpelled (of : ListOf) (items : ArrayVec Item) (bytes : List ℕ) : Type 0 where
+pub record ListSpelled (owner : ListOf) (items : ArrayVec Item) (bytes : List ℕ) : Type 0 where
   pub body : List ℕ
-  pub is_body : ItemsSpelled of items.items body
+  pub is_body : ItemsSpelled owner items.items body
   pub few : length items.items ≤ most_items
   pub short : length body ≤ longest_list
   pub is_list : (U32 (length body) ⨾ These body) bytes

@@ -27,7 +27,7 @@ IsEnd (Fault at fault) offset bytes =
 -- a message at an offset with its data, and the rest after it
 pub record EntrySpelled (entry : Entry) (rest : ℕ → Spelling) (offset : ℕ)
     (bytes : List ℕ) : Type 0 where
-  pub place : entry.offset ≡ offset
+  pub offset_is : entry.offset ≡ offset
   pub before : List ℕ
   pub after : List ℕ
   pub is_entry : Spelled entry.message entry.content before

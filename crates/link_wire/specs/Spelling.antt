@@ -1,7 +1,7 @@
 -- The bytes that the `put_` calls append (RFC 9174), one spelling for each message. The only
 -- extension item that they append is a Transfer Length item without flags.
 use Rattle.std.specs.Prelude.{ℕ, ◌+◌, Bool, true, false, List, [], ◌∷◌, ◌++◌, length, Option, Some, None}
-use Rattle.link_wire.specs.Codes.{version, xfer_segment, sess_term, sess_init, is_start, transfer_length, total_size}
+use Rattle.link_wire.specs.Codes.{tcpcl_version, xfer_segment, sess_term, sess_init, is_start, transfer_length, total_size}
 use Rattle.link_wire.specs.Spelled.{be}
 use Rattle.link_wire.specs.declared.message.Item.{Item}
 use Rattle.link_wire.specs.declared.message.Message.{Message}
@@ -9,7 +9,7 @@ use Rattle.link_wire.specs.declared.message.Message.TheVariants.{SessInit, Segme
 
 -- a contact header (section 4.2): `dtn!`, the version, and the flags
 unfoldable pub contact_bytes : (flags : ℕ) → List ℕ
-contact_bytes flags = 0x64 ∷ 0x74 ∷ 0x6e ∷ 0x21 ∷ version ∷ flags ∷ []
+contact_bytes flags = 0x64 ∷ 0x74 ∷ 0x6e ∷ 0x21 ∷ tcpcl_version ∷ flags ∷ []
 
 -- a SESS_INIT (section 4.6) with this node ID, and with an empty list of session extension items
 unfoldable pub sess_init_bytes : (interval segment_mru transfer_mru : ℕ) (node : List ℕ) → List ℕ

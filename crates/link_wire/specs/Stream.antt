@@ -55,9 +55,9 @@ stream_by next offset size (Ok (message, bytes)) =
 -- has at least one byte.
 unfoldable pub messages_at : ℕ → ℕ → List ℕ → Stream
 messages_at count offset [] = ended Clean
-messages_at zero offset (b ∷ bytes) = ended Clean
-messages_at (suc count) offset (b ∷ bytes) =
-    stream_by (messages_at count) offset (length (b ∷ bytes)) (message_at (b ∷ bytes))
+messages_at zero offset (byte ∷ bytes) = ended Clean
+messages_at (suc count) offset (byte ∷ bytes) =
+    stream_by (messages_at count) offset (length (byte ∷ bytes)) (message_at (byte ∷ bytes))
 
 -- the messages from an offset on
 unfoldable pub stream_at : ℕ → List ℕ → Stream

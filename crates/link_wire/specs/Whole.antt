@@ -70,7 +70,7 @@ module _ {R : Type 0} (look : R → Input) (old new : Session R) (history : List
     pub content : List ℕ
     pub some : 0 < length given
     pub size : length given ≤ window_size
-    pub place : offset ≡ length history
+    pub offset_is : offset ≡ length history
     pub passed : PassedMessages given
         (record { offset = offset; message = message; content = content } ∷ [])
 

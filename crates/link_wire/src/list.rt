@@ -2,7 +2,7 @@
 
 ghost use Rattle.std.specs.Prelude.{◌≡◌, ◌≤◌, ◌<◌, ◌+◌, length, IsSome, IsTrue, IfOk, OnOk};
 ghost use Rattle.link_io.specs.Source.{IsLive};
-ghost use Rattle.link_wire.specs.Message.{gives_total, HasTotals, skipped_at, total_at, item_head_at, items_of as items_by, list_at};
+ghost use Rattle.link_wire.specs.Message.{is_total_length, HasTotals, skipped_at, total_at, item_head_at, items_of as items_by, list_at};
 ghost use Rattle.link_wire.specs.Getting.{Gets, with_value};
 
 use crate::codes::{ITEM_HEAD, TOTAL_SIZE, TRANSFER_LENGTH};
@@ -25,10 +25,10 @@ pub struct ItemHead {
 
 impl ItemHead {
     /// Whether the value is a total length: the item is a Transfer Length item of 8 bytes.
-    fn has_total(&self, of: ListOf) -> bool
-        ensures { result ≡ gives_total of self.now.kind self.now.length }
+    fn has_total(&self, owner: ListOf) -> bool
+        ensures { result ≡ is_total_length owner self.now.kind self.now.length }
     {
-        match of {
+        match owner {
             ListOf::Session => false,
             ListOf::Transfer => self.kind == TRANSFER_LENGTH && self.length == TOTAL_SIZE,
         }
@@ -56,14 +56,15 @@ fn skip<R: InDevice>(source: &mut Source<R>, count: u16) -> Result<(), Halt>
 /// other value is skipped.
 fn total<R: InDevice>(
     source: &mut Source<R>,
-    of: ListOf,
+    owner: ListOf,
     head: &ItemHead,
 ) -> Result<Option<u64>, Halt>
     ensures gets { IsLive R.state source.old
-        → Gets R.state (total_at of head.now.kind head.now.length) source.old source.new result }
-    ensures some { IsTrue (gives_total of head.now.kind head.now.length) → IfOk result IsSome }
+        → Gets R.state (total_at owner head.now.kind head.now.length) source.old source.new result }
+    ensures some { IsTrue (is_total_length owner head.now.kind head.now.length)
+        → IfOk result IsSome }
 {
-    if head.has_total(of) {
+    if head.has_total(owner) {
         Ok(Some(number64(source)?))
     } else {
         skip(source, head.length)?;
@@ -98,13 +99,13 @@ fn item_head<R: InDevice>(source: &mut Source<R>, left: u32) -> Result<ItemHead,
 /// Reads the items of a list of `length` bytes into `items`.
 fn items_of<R: InDevice>(
     source: &mut Source<R>,
-    of: ListOf,
+    owner: ListOf,
     length: u32,
     items: &mut Items,
 ) -> Result<(), Halt>
     ensures gets { IsLive R.state source.old
-        → Gets R.state (items_by of length) source.old source.new (with_value items.new result) }
-    ensures totals { of ≡ ListOf.Transfer → HasTotals items.new.items }
+        → Gets R.state (items_by owner length) source.old source.new (with_value items.new result) }
+    ensures totals { owner ≡ ListOf.Transfer → HasTotals items.new.items }
 {
     items.clear();
     let mut left = length;
@@ -113,7 +114,7 @@ fn items_of<R: InDevice>(
         if items.is_full() {
             return Err(Halt::Wire(WireFault::TooManyItems));
         }
-        let total = total(source, of, &head)?;
+        let total = total(source, owner, &head)?;
         items.push(Item {
             flags: head.flags,
             kind: head.kind,
@@ -126,14 +127,18 @@ fn items_of<R: InDevice>(
 }
 
 /// Reads an extension list into `items`: its length, and then its items.
-pub fn list<R: InDevice>(source: &mut Source<R>, of: ListOf, items: &mut Items) -> Result<(), Halt>
+pub fn list<R: InDevice>(
+    source: &mut Source<R>,
+    owner: ListOf,
+    items: &mut Items,
+) -> Result<(), Halt>
     ensures gets { IsLive R.state source.old
-        → Gets R.state (list_at of) source.old source.new (with_value items.new result) }
-    ensures totals { of ≡ ListOf.Transfer → OnOk result (HasTotals items.new.items) }
+        → Gets R.state (list_at owner) source.old source.new (with_value items.new result) }
+    ensures totals { owner ≡ ListOf.Transfer → OnOk result (HasTotals items.new.items) }
 {
     let length = number32(source)?;
     if length > MAX_LIST_LENGTH {
         return Err(Halt::Wire(WireFault::ListTooLong(length)));
     }
-    items_of(source, of, length, items)
+    items_of(source, owner, length, items)
 }

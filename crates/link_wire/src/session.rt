@@ -39,7 +39,7 @@ impl<R: InDevice> Session<R> {
     ghost use Rattle.link_wire.specs.Plain.{IsHead};
     ghost use Rattle.link_wire.specs.Message.{MessageHasTotals};
     ghost use Rattle.link_wire.specs.MessageBuffer.{message_of, SegmentHasTotals};
-    ghost use Rattle.link_wire.specs.Session.{source_of, may_open, may_read, is_opened, IsSessionAt, HasContact, HasEndedBetween, HasNext, HasStopped, left_of, data_in, with_message_read, GivesContact, ReadMessage, GivesNext};
+    ghost use Rattle.link_wire.specs.Session.{source_of, may_open, may_read, is_opened, IsSessionAt, HasContact, HasEndedBetween, HasNext, HasStopped, left_of, data_in, with_message_read, AfterOpen, ReadMessage, AfterNext};
     ghost use Rattle.link_wire.specs.declared.session.Phase.TheVariants as phase;
 
     /// Makes a session over a source that has taken nothing.
@@ -118,7 +118,7 @@ impl<R: InDevice> Session<R> {
         requires { IsTrue (may_open self.old) }
         ensures settles { IfErr result (HasStopped self.new) }
         ensures left { IfErr result (λ _. left_of self.new ≡ left_of self.old) }
-        ensures gives { GivesContact R.state self.old self.new result }
+        ensures gives { AfterOpen R.state self.old self.new result }
         ensures opened { IsTrue (is_opened self.new) }
         ensures may_read { IsTrue (may_read self.new) }
     {
@@ -143,7 +143,7 @@ impl<R: InDevice> Session<R> {
         ensures left { IfErr result (λ _. left_of self.new ≡ left_of self.old) }
         ensures again { HasEndedBetween self.old → (self.new ≡ self.old) × (result ≡ Ok None) }
         ensures gives { (history : List ℕ) → IsSessionAt R.state self.old history
-            → GivesNext R.state self.old self.new history result }
+            → AfterNext R.state self.old self.new history result }
         // The items of a segment have their totals.
         ensures totals { IfOk result (λ got. IfSome got (λ next. MessageHasTotals next.1)) }
         ensures opened { IsTrue (is_opened self.new) }
@@ -168,7 +168,7 @@ impl<R: InDevice> Session<R> {
         ensures left { IfErr result (λ _. left_of self.new ≡ left_of self.old) }
         ensures again { HasEndedBetween self.old → (self.new ≡ self.old) × (result ≡ Ok None) }
         ensures gives { (history : List ℕ) → IsSessionAt R.state self.old history
-            → GivesNext R.state self.old self.new history
+            → AfterNext R.state self.old self.new history
             (with_message_read (message_of message.new) result) }
         // The items of a segment have their totals.
         ensures totals { IfOk result (λ got. IfSome got (λ offset. SegmentHasTotals message.new)) }
@@ -288,7 +288,7 @@ impl<R: InDevice> Session<R> {
         ensures again { HasEndedBetween self.old → (self.new ≡ self.old) × (result ≡ Ok None) }
         ensures opened { IsTrue (is_opened self.new) }
         ensures gives { (history : List ℕ) → IsSessionAt R.state self.old history
-            → GivesNext R.state self.old self.new history
+            → AfterNext R.state self.old self.new history
             (with_message_read (message_of message.new) result) }
         ensures totals { IfOk result (λ got. IfSome got (λ offset. SegmentHasTotals message.new)) }
         ensures stopped { (stop : _) → HasStopped self.old stop
@@ -423,7 +423,7 @@ impl<R: InDevice> Session<R> {
 /// The calls for the data of segments.
 impl<R: InDevice> Session<R> {
     ghost use Rattle.std.specs.Prelude.{◌≡◌, ◌<◌, ◌≤◌, ℕ, List, length, take, drop, IfOk, IfErr, Ok, Err, IsTrue};
-    ghost use Rattle.link_wire.specs.Session.{is_opened, IsSessionAt, HasNext, HasStopped, left_of, data_in, PassedBytes, GivesData, GivesLoad};
+    ghost use Rattle.link_wire.specs.Session.{is_opened, IsSessionAt, HasNext, HasStopped, left_of, data_in, PassedBytes, AfterData, AfterLoad};
     ghost use Rattle.link_wire.specs.declared.session.Phase.TheVariants as phase;
 
     /// Copies the next bytes of the segment's data, after at most one read, and returns how many.
@@ -436,7 +436,7 @@ impl<R: InDevice> Session<R> {
         ensures settles { IfErr result (HasStopped self.new) }
         ensures left { IfErr result (λ _. left_of self.new ≡ left_of self.old) }
         ensures gives { (history : List ℕ) → IsSessionAt R.state self.old history
-            → GivesData R.state self.old self.new history buffer.new result }
+            → AfterData R.state self.old self.new history buffer.new result }
         ensures opened { IsTrue (is_opened self.old) → IsTrue (is_opened self.new) }
         ensures none { left_of self.old ≡ 0 → ((stop : _) → HasStopped self.old stop → ⊥)
             → (self.new ≡ self.old) × (result ≡ Ok 0) }
@@ -493,7 +493,7 @@ impl<R: InDevice> Session<R> {
         ensures settles { IfErr result (HasStopped self.new) }
         ensures left { IfErr result (λ _. left_of self.new ≡ left_of self.old) }
         ensures gives { (history : List ℕ) → IsSessionAt R.state self.old history
-            → GivesLoad R.state self.old self.new history result }
+            → AfterLoad R.state self.old self.new history result }
         ensures opened { IsTrue (is_opened self.old) → IsTrue (is_opened self.new) }
         ensures none { left_of self.old ≡ 0 → ((stop : _) → HasStopped self.old stop → ⊥)
             → (self.new ≡ self.old) × (result ≡ Ok 0) }
@@ -515,7 +515,7 @@ impl<R: InDevice> Session<R> {
         ensures settles { IfErr result (HasStopped self.new) }
         ensures left { IfErr result (λ _. left_of self.new ≡ left_of self.old) }
         ensures gives { (history : List ℕ) → IsSessionAt R.state self.old history
-            → GivesLoad R.state self.old self.new history result }
+            → AfterLoad R.state self.old self.new history result }
         ensures opened { IsTrue (is_opened self.old) → IsTrue (is_opened self.new) }
         ensures none { left_of self.old ≡ 0 → ((stop : _) → HasStopped self.old stop → ⊥)
             → (self.new ≡ self.old) × (result ≡ Ok 0) }

@@ -6,8 +6,8 @@
 
 ghost use Rattle.std.specs.Prelude.{◌≡◌, ℕ, ◌+◌, ◌≤◌, List, [], length, take, drop, IfOk, IfErr, Ok, Err};
 ghost use Rattle.link_wire.specs.Part.{bytes_at, number_at};
-ghost use Rattle.link_wire.specs.Message.{gives_total, contact_at, node_at, total_at, item_head_at, items_of, list_at, segment_items_at, segment_at, ack_at, refuse_at, sess_term_at, msg_reject_at, sess_init_at, fields_at, message_at};
-ghost use Rattle.link_wire.specs.InSlice.{read_part, read_node, read_head, GivesItem, GivesEnd, GivesList, GivesMessage};
+ghost use Rattle.link_wire.specs.Message.{is_total_length, contact_at, node_at, total_at, item_head_at, items_of, list_at, segment_items_at, segment_at, ack_at, refuse_at, sess_term_at, msg_reject_at, sess_init_at, fields_at, message_at};
+ghost use Rattle.link_wire.specs.InSlice.{read_part, read_node, read_head, LocatesItem, LocatesEnd, LocatesList, LocatesMessage};
 
 use crate::codes::{
     ITEM_HEAD, KEEPALIVE, MAGIC, MSG_REJECT, SESS_INIT, SESS_TERM, START, TOTAL_SIZE,
@@ -211,10 +211,10 @@ fn item_head_at(bytes: &[u8], at: usize, left: u32) -> Result<(Item, usize), Wir
 }
 
 /// Whether the value of an item is a total length: it is a Transfer Length item of 8 bytes.
-fn gives_total(of: ListOf, item: &Item) -> bool
-    ensures { result ≡ gives_total of item.now.kind item.now.length }
+fn is_total_length(owner: ListOf, item: &Item) -> bool
+    ensures { result ≡ is_total_length owner item.now.kind item.now.length }
 {
-    match of {
+    match owner {
         ListOf::Session => false,
         ListOf::Transfer => item.kind == TRANSFER_LENGTH && item.length == TOTAL_SIZE,
     }
@@ -225,16 +225,16 @@ fn gives_total(of: ListOf, item: &Item) -> bool
 fn total_at(
     bytes: &[u8],
     at: usize,
-    of: ListOf,
+    owner: ListOf,
     item: &Item,
 ) -> Result<(Option<u64>, usize), WireFault>
     requires { at ≤ length bytes.now }
-    ensures read { total_at of item.now.kind item.now.length (drop at bytes.now)
+    ensures read { total_at owner item.now.kind item.now.length (drop at bytes.now)
         ≡ read_part bytes.now result }
     ensures next { IfOk result (λ read. read.1 ≡ at + item.now.length) }
     ensures within { IfOk result (λ read. read.1 ≤ length bytes.now) }
 {
-    if gives_total(of, item) {
+    if is_total_length(owner, item) {
         let (total, next) = number64_at(bytes, at)?;
         Ok((Some(total), next))
     } else {
@@ -244,12 +244,12 @@ fn total_at(
 }
 
 /// Reads the next item of a list that has `left` more bytes (RFC 9174 section 4.8).
-pub fn item_in(bytes: &[u8], offset: usize, left: u32, of: ListOf) -> Result<ItemAt, WireFault>
+pub fn item_in(bytes: &[u8], offset: usize, left: u32, owner: ListOf) -> Result<ItemAt, WireFault>
     requires { offset ≤ length bytes.now }
-    ensures { GivesItem of bytes.now left offset result }
+    ensures { LocatesItem owner bytes.now left offset result }
 {
     let (item, value) = item_head_at(bytes, offset, left)?;
-    let (total, _) = total_at(bytes, value, of, &item)?;
+    let (total, _) = total_at(bytes, value, owner, &item)?;
     Ok(ItemAt {
         item: Item { total, ..item },
         value,
@@ -257,9 +257,10 @@ pub fn item_in(bytes: &[u8], offset: usize, left: u32, of: ListOf) -> Result<Ite
 }
 
 /// Reads the items of a list of `size` bytes, and returns the offset after them.
-fn items_of(bytes: &[u8], start: usize, of: ListOf, size: u32) -> Result<usize, WireFault>
+fn items_of(bytes: &[u8], start: usize, owner: ListOf, size: u32) -> Result<usize, WireFault>
     requires { start ≤ length bytes.now }
-    ensures { GivesEnd bytes.now (start + size) (items_of of size (drop start bytes.now)) result }
+    ensures { LocatesEnd bytes.now (start + size)
+        (items_of owner size (drop start bytes.now)) result }
 {
     let mut at = start;
     let mut left = size;
@@ -269,7 +270,7 @@ fn items_of(bytes: &[u8], start: usize, of: ListOf, size: u32) -> Result<usize, 
         if room == 0 {
             return Err(WireFault::TooManyItems);
         }
-        let (_, next) = total_at(bytes, value, of, &item)?;
+        let (_, next) = total_at(bytes, value, owner, &item)?;
         at = next;
         left -= ITEM_HEAD + u32::from(item.length);
         room -= 1;
@@ -279,9 +280,9 @@ fn items_of(bytes: &[u8], start: usize, of: ListOf, size: u32) -> Result<usize, 
 
 /// Reads an extension list: its length, and then its items (RFC 9174 section 4.8).
 #[tactic(auto, unfolding(crate::specs::Message::list_at))]
-fn list_at(bytes: &[u8], at: usize, of: ListOf) -> Result<(Span, usize), WireFault>
+fn list_at(bytes: &[u8], at: usize, owner: ListOf) -> Result<(Span, usize), WireFault>
     requires { at ≤ length bytes.now }
-    ensures read { GivesList of bytes.now (list_at of (drop at bytes.now)) result }
+    ensures read { LocatesList owner bytes.now (list_at owner (drop at bytes.now)) result }
     ensures begins { IfOk result (λ read. read.0.offset ≡ at + 4) }
     ensures within { IfOk result (λ read. read.1 ≤ length bytes.now) }
 {
@@ -289,7 +290,7 @@ fn list_at(bytes: &[u8], at: usize, of: ListOf) -> Result<(Span, usize), WireFau
     if length > MAX_LIST_LENGTH {
         return Err(WireFault::ListTooLong(length));
     }
-    let next = items_of(bytes, offset, of, length)?;
+    let next = items_of(bytes, offset, owner, length)?;
     let items = Span {
         offset,
         length: length as usize,
@@ -301,7 +302,7 @@ fn list_at(bytes: &[u8], at: usize, of: ListOf) -> Result<(Span, usize), WireFau
 #[tactic(auto, unfolding(crate::specs::Message::segment_at, crate::specs::Message::segment_items_at))]
 fn segment_at(bytes: &[u8], at: usize) -> Result<MessageAt, WireFault>
     requires { at ≤ length bytes.now }
-    ensures { GivesMessage bytes.now (segment_at (drop at bytes.now)) result }
+    ensures { LocatesMessage bytes.now (segment_at (drop at bytes.now)) result }
 {
     let (flags, at) = number8_at(bytes, at)?;
     let (id, at) = number64_at(bytes, at)?;
@@ -323,7 +324,7 @@ fn segment_at(bytes: &[u8], at: usize) -> Result<MessageAt, WireFault>
 #[tactic(auto, unfolding(crate::specs::Message::ack_at))]
 fn ack_at(bytes: &[u8], at: usize) -> Result<MessageAt, WireFault>
     requires { at ≤ length bytes.now }
-    ensures { GivesMessage bytes.now (ack_at (drop at bytes.now)) result }
+    ensures { LocatesMessage bytes.now (ack_at (drop at bytes.now)) result }
 {
     let (flags, at) = number8_at(bytes, at)?;
     let (id, at) = number64_at(bytes, at)?;
@@ -335,7 +336,7 @@ fn ack_at(bytes: &[u8], at: usize) -> Result<MessageAt, WireFault>
 #[tactic(auto, unfolding(crate::specs::Message::refuse_at))]
 fn refuse_at(bytes: &[u8], at: usize) -> Result<MessageAt, WireFault>
     requires { at ≤ length bytes.now }
-    ensures { GivesMessage bytes.now (refuse_at (drop at bytes.now)) result }
+    ensures { LocatesMessage bytes.now (refuse_at (drop at bytes.now)) result }
 {
     let (reason, at) = number8_at(bytes, at)?;
     let (id, end) = number64_at(bytes, at)?;
@@ -346,7 +347,7 @@ fn refuse_at(bytes: &[u8], at: usize) -> Result<MessageAt, WireFault>
 #[tactic(auto, unfolding(crate::specs::Message::sess_term_at))]
 fn sess_term_at(bytes: &[u8], at: usize) -> Result<MessageAt, WireFault>
     requires { at ≤ length bytes.now }
-    ensures { GivesMessage bytes.now (sess_term_at (drop at bytes.now)) result }
+    ensures { LocatesMessage bytes.now (sess_term_at (drop at bytes.now)) result }
 {
     let (flags, at) = number8_at(bytes, at)?;
     let (reason, end) = number8_at(bytes, at)?;
@@ -357,7 +358,7 @@ fn sess_term_at(bytes: &[u8], at: usize) -> Result<MessageAt, WireFault>
 #[tactic(auto, unfolding(crate::specs::Message::msg_reject_at))]
 fn msg_reject_at(bytes: &[u8], at: usize) -> Result<MessageAt, WireFault>
     requires { at ≤ length bytes.now }
-    ensures { GivesMessage bytes.now (msg_reject_at (drop at bytes.now)) result }
+    ensures { LocatesMessage bytes.now (msg_reject_at (drop at bytes.now)) result }
 {
     let (reason, at) = number8_at(bytes, at)?;
     let (header, end) = number8_at(bytes, at)?;
@@ -368,7 +369,7 @@ fn msg_reject_at(bytes: &[u8], at: usize) -> Result<MessageAt, WireFault>
 #[tactic(auto, unfolding(crate::specs::Message::sess_init_at))]
 fn sess_init_at(bytes: &[u8], at: usize) -> Result<MessageAt, WireFault>
     requires { at ≤ length bytes.now }
-    ensures { GivesMessage bytes.now (sess_init_at (drop at bytes.now)) result }
+    ensures { LocatesMessage bytes.now (sess_init_at (drop at bytes.now)) result }
 {
     let (keepalive, at) = number16_at(bytes, at)?;
     let (segment_mru, at) = number64_at(bytes, at)?;
@@ -392,7 +393,7 @@ fn sess_init_at(bytes: &[u8], at: usize) -> Result<MessageAt, WireFault>
 #[tactic(auto, unfolding(crate::specs::Message::fields_at))]
 fn fields_at(bytes: &[u8], at: usize, kind: u8) -> Result<MessageAt, WireFault>
     requires { at ≤ length bytes.now }
-    ensures { GivesMessage bytes.now (fields_at kind (drop at bytes.now)) result }
+    ensures { LocatesMessage bytes.now (fields_at kind (drop at bytes.now)) result }
 {
     match kind {
         XFER_SEGMENT => segment_at(bytes, at),
@@ -412,7 +413,7 @@ fn fields_at(bytes: &[u8], at: usize, kind: u8) -> Result<MessageAt, WireFault>
 #[tactic(auto, unfolding(crate::specs::Message::message_at))]
 pub fn message_in(bytes: &[u8], offset: usize) -> Result<MessageAt, WireFault>
     requires { offset ≤ length bytes.now }
-    ensures { GivesMessage bytes.now (message_at (drop offset bytes.now)) result }
+    ensures { LocatesMessage bytes.now (message_at (drop offset bytes.now)) result }
 {
     let (kind, at) = number8_at(bytes, offset)?;
     fields_at(bytes, at, kind)

@@ -3,7 +3,7 @@ use Rattle.std.proofs.Common.{◌≡◌, ℕ, inr, List, [], Option, Some, None,
 use Rattle.std.proofs.Math.Seq.{take-append-add}
 use Rattle.std.specs.Io.KnownBytes.{Appends, Keeps, append_known, prepend_known}
 use Rattle.link_wire.specs.Device.{Input, Output}
-use Rattle.link_wire.specs.TextWriter.{GivesPart}
+use Rattle.link_wire.specs.TextWriter.{AppendsPart}
 use Rattle.link_wire.specs.declared.DeviceFault.{DeviceFault}
 use Rattle.tcpclkit.specs.BufferedEnd.{AreFirst, HandsOn}
 
@@ -30,7 +30,7 @@ first_handed (Some xs) (Some ys) waiting count written = (length xs + count, rw 
 -- `HandsOn` for a stream that failed before all that waited was handed on
 pub handed_part : (answer : Result (Unit {0}) DeviceFault) (old new : Output) (waiting : List ℕ)
     → is_ok answer ≡ false
-    → OnErr answer (GivesPart old.written new.written waiting)
+    → OnErr answer (AppendsPart old.written new.written waiting)
     → MatchResult answer (λ _. new.failed ≡ old.failed) (λ _. new.failed ≡ true)
     → HandsOn (record { written = append_known old.written waiting; failed = old.failed }) new
 handed_part (Ok done) old new waiting is part failed = absurd (cc)

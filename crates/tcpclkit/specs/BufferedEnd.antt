@@ -6,7 +6,7 @@ use Rattle.link_wire.specs.Device.{Output}
 use Rattle.link_wire.specs.declared.IoFault.{IoFault}
 use Rattle.link_run.specs.Run.{Looks, Devices}
 use Rattle.link_run.specs.declared.run.Status.{Status}
-use Rattle.link_tools.specs.Options.{GivesRun}
+use Rattle.link_tools.specs.Options.{AfterJob}
 use Rattle.link_tools.specs.declared.options.Job.{Job}
 use Rattle.tcpclkit.specs.Ending.{answer_after_flush}
 
@@ -22,13 +22,13 @@ pub record HandsOn (written handed : Output) : Type 0 where
 
 module _ {R W E : Type 0} (look : Looks R W E) where
   -- The tool was run over the devices `start`. What it wrote was handed on, and nothing was read
-  -- after the run. The answer is the tool's own, in which a failed stream counts.
-  pub record GivesBuffered (job : Job) (start : Devices R W E) (input : R)
+  -- after the run. `run_answer` is the tool's own answer, and `answer` also counts a failed stream.
+  pub record AfterBufferedRun (job : Job) (start : Devices R W E) (input : R)
       (output report : Output) (answer : Result Status IoFault) : Type 0 where
     pub now : Devices R W E
-    pub ends : Result Status IoFault
-    pub run : GivesRun look job start now ends
+    pub run_answer : Result Status IoFault
+    pub run : AfterJob look job start now run_answer
     pub reads : input ≡ now.reader
     pub writes : HandsOn (look.output now.output) output
     pub reports : HandsOn (look.report now.report) report
-    pub answers : answer ≡ answer_after_flush ends (not output.failed && not report.failed)
+    pub answers : answer ≡ answer_after_flush run_answer (not output.failed && not report.failed)

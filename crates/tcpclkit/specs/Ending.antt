@@ -48,8 +48,8 @@ names_a_file (Some name) = not (bytes_eq name (codes "-"))
 -- The words ask for this tool, and for this input: a file, or else standard input.
 abbrev pub AskFor : (words : List (List ℕ)) → Job → (is_file : Bool) → Type 0
 AskFor words job is_file =
-    (i : Invocation) × IsInvoked words i × (options_of job ≡ i.options)
-    × (is_file ≡ names_a_file (option_map string_bytes i.file))
+    (invocation : Invocation) × IsInvoked words invocation × (options_of job ≡ invocation.options)
+    × (is_file ≡ names_a_file (option_map string_bytes invocation.file))
 
 -- How a call with these words may end if it starts no run. The words are texts, so it does not end
 -- with `NotText`.
@@ -57,6 +57,6 @@ abbrev pub MayEnd : (words : List (List ℕ)) → Ending → Type 0
 MayEnd words (Usage fault) = IsFaultOf words fault
 MayEnd words NotText = ⊥
 MayEnd words NoInput =
-    (i : Invocation) × IsInvoked words i
-    × IsTrue (names_a_file (option_map string_bytes i.file))
+    (invocation : Invocation) × IsInvoked words invocation
+    × IsTrue (names_a_file (option_map string_bytes invocation.file))
 MayEnd words (Answer answer) = ⊥

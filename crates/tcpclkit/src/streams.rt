@@ -4,7 +4,7 @@ ghost use Rattle.std.specs.Prelude.{◌≡◌, false, Err, IfOk, IfErr, IsOkAnd}
 ghost use Rattle.std.specs.IoError.{error_kind};
 ghost use Rattle.link_run.specs.Run.{Devices, NoneFailed, looks};
 ghost use Rattle.link_tools.specs.Options.{IsReady};
-ghost use Rattle.tcpclkit.specs.BufferedEnd.{GivesBuffered, HandsOn};
+ghost use Rattle.tcpclkit.specs.BufferedEnd.{AfterBufferedRun, HandsOn};
 
 use crate::ending::after_flush;
 use link_tools::{Job, Status, run_tool};
@@ -94,7 +94,7 @@ pub fn run_over<R: Read + Drop, W: Write + Drop, E: Write + Drop>(
         ⟦<TextWriter<Writer<W>> as OutDevice>⟧.state
         ⟦<TextWriter<Writer<E>> as OutDevice>⟧.state)
         (record { reader = streams.input; output = streams.output; report = streams.report })) }
-    ensures ran { IfOk streams (λ streams. IsOkAnd result (λ end. GivesBuffered
+    ensures ran { IfOk streams (λ streams. IsOkAnd result (λ end. AfterBufferedRun
         (looks ⟦<BufferedReader<R> as InDevice>⟧.state
         ⟦<TextWriter<Writer<W>> as OutDevice>⟧.state
         ⟦<TextWriter<Writer<E>> as OutDevice>⟧.state) job
@@ -120,7 +120,7 @@ pub fn run_buffered<R: Read + Drop, W: Write + Drop, E: Write + Drop>(
     requires input { (⟦<BufferedReader<R> as InDevice>⟧.state streams.input).failed ≡ false }
     requires output { (⟦<TextWriter<Writer<W>> as OutDevice>⟧.state streams.output).failed ≡ false }
     requires report { (⟦<TextWriter<Writer<E>> as OutDevice>⟧.state streams.report).failed ≡ false }
-    ensures { GivesBuffered
+    ensures { AfterBufferedRun
         (looks ⟦<BufferedReader<R> as InDevice>⟧.state
         ⟦<TextWriter<Writer<W>> as OutDevice>⟧.state
         ⟦<TextWriter<Writer<E>> as OutDevice>⟧.state) job

@@ -7,9 +7,9 @@ use Rattle.link_list.specs.Listing.{list_tool}
 use Rattle.link_pack.specs.Packing.{pack_tool}
 use Rattle.link_pack.specs.PackRun.{LacksMemory}
 use Rattle.link_pack.specs.declared.options.PackOptions.{PackOptions}
-use Rattle.link_run.specs.Run.{Tool, Texts, Outcome, Looks, Devices, HandedBack, FinishedRun, LostReader, PassedLimit, LostWriter, EndedRun, GivesAnswer}
+use Rattle.link_run.specs.Run.{Tool, Texts, Outcome, Looks, Devices, HandedBack, FinishedRun, LostReader, PassedLimit, LostWriter, EndedRun, AfterRun}
 use Rattle.link_run.specs.declared.run.Status.{Status}
-use Rattle.link_tools.specs.Options.{options_of, GivesRun}
+use Rattle.link_tools.specs.Options.{options_of, AfterJob}
 use Rattle.link_tools.specs.declared.options.Job.{Job}
 use Rattle.link_tools.specs.declared.options.Job.TheVariants as job
 use Rattle.link_unpack.specs.Unpacking.{unpack_tool}
@@ -18,7 +18,7 @@ use Rattle.link_wire.specs.declared.IoFault.{IoFault}
 use Rattle.link_wire.specs.declared.IoFault.TheVariants.{Read, InputTooLong, Write, Memory}
 use Rattle.tcpclkit_c.specs.Slice.{HoldsFront, KeepsRest}
 use Rattle.tcpclkit_c.specs.declared.tool.Run.{Run}
-use Rattle.tcpclkit_c.specs.Tool.{tool_of, HasRun, TextsGiven}
+use Rattle.tcpclkit_c.specs.Tool.{tool_for, HasRun, TextsReturned}
 
 -- ---- prefixes
 
@@ -92,7 +92,7 @@ pub gives : (tool : Tool) (bytes output_text report_text old_output old_report o
     → (status ≡ 0 → IsWhole answer output_text report_text output report run.exit_status)
     → (status ≡ 5 → (length output < length output_text) ⊎ (length report < length report_text))
     → (status ≡ 0) ⊎ ((status ≡ 5) ⊎ (status ≡ 8))
-    → TextsGiven (tool.whole bytes) old_output old_report output report run status
+    → TextsReturned (tool.whole bytes) old_output old_report output report run status
 gives tool bytes output_text report_text old_output old_report output report answer run status has held_output held_report output_size report_size output_kept report_kept output_is report_is whole full known =
     record {
       output_front = rw output_is (copied_front output output_text _ held_output has.output);
@@ -143,22 +143,22 @@ module _ {R W E : Type 0} (look : Looks R W E)
 
     -- the texts that a prefix of the bytes determines
     module _ (given more : List ℕ) (parts : bytes ≡ given ++ more) where
-      sofar_output : IsFrontOf (tool.sofar given).output (tool.whole bytes).texts.output
+      sofar_output : IsFrontOf (tool.so_far given).output (tool.whole bytes).texts.output
       sofar_output =
           let front = (prefixed given more).output in
           (front.0, ap (λ (all : List ℕ). (tool.whole all).texts.output) parts ∙ front.1)
 
-      sofar_report : IsFrontOf (tool.sofar given).report (tool.whole bytes).texts.report
+      sofar_report : IsFrontOf (tool.so_far given).report (tool.whole bytes).texts.report
       sofar_report =
           let front = (prefixed given more).report in
           (front.0, ap (λ (all : List ℕ). (tool.whole all).texts.report) parts ∙ front.1)
 
       -- texts that are due, cut short
       due_output : (n : ℕ) (due : Texts)
-          → (due ≡ tool.sofar given) ⊎ ((more ≡ []) × (due ≡ (tool.whole given).texts))
+          → (due ≡ tool.so_far given) ⊎ ((more ≡ []) × (due ≡ (tool.whole given).texts))
           → IsFrontOf (take n due.output) (tool.whole bytes).texts.output
       due_output n due are = ⊎_elim
-          (λ (so : due ≡ tool.sofar given). subst (λ (texts : Texts).
+          (λ (so : due ≡ tool.so_far given). subst (λ (texts : Texts).
           IsFrontOf (take n texts.output) (tool.whole bytes).texts.output) (sym so)
           (front_take n _ _ sofar_output))
           (λ (all : (more ≡ []) × (due ≡ (tool.whole given).texts)). front_take n _ _
@@ -168,10 +168,10 @@ module _ {R W E : Type 0} (look : Looks R W E)
           are
 
       due_report : (n : ℕ) (due : Texts)
-          → (due ≡ tool.sofar given) ⊎ ((more ≡ []) × (due ≡ (tool.whole given).texts))
+          → (due ≡ tool.so_far given) ⊎ ((more ≡ []) × (due ≡ (tool.whole given).texts))
           → IsFrontOf (take n due.report) (tool.whole bytes).texts.report
       due_report n due are = ⊎_elim
-          (λ (so : due ≡ tool.sofar given). subst (λ (texts : Texts).
+          (λ (so : due ≡ tool.so_far given). subst (λ (texts : Texts).
           IsFrontOf (take n texts.report) (tool.whole bytes).texts.report) (sym so)
           (front_take n _ _ sofar_report))
           (λ (all : (more ≡ []) × (due ≡ (tool.whole given).texts)). front_take n _ _
@@ -182,17 +182,17 @@ module _ {R W E : Type 0} (look : Looks R W E)
 
     -- the run has stopped in the bytes given, with the texts that these determine
     stopped : (given past : List ℕ) (fault : IoFault)
-        → HandedBack look start now (given ++ past) (tool.sofar given)
+        → HandedBack look start now (given ++ past) (tool.so_far given)
         → HasRun tool bytes output_text report_text (Err fault)
     stopped given past fault back =
         let parts : bytes ≡ given ++ (past ++ left) =
-        bytes_are (given ++ past) (tool.sofar given) back ∙ append_assoc given past left in
+        bytes_are (given ++ past) (tool.so_far given) back ∙ append_assoc given past left in
         record {
           output = subst (λ (text : List ℕ). IsFrontOf text (tool.whole bytes).texts.output)
-              (sym (output_is (given ++ past) (tool.sofar given) back))
+              (sym (output_is (given ++ past) (tool.so_far given) back))
               (sofar_output given (past ++ left) parts);
           report = subst (λ (text : List ℕ). IsFrontOf text (tool.whole bytes).texts.report)
-              (sym (report_is (given ++ past) (tool.sofar given) back))
+              (sym (report_is (given ++ past) (tool.so_far given) back))
               (sofar_report given (past ++ left) parts);
           ended = λ status is. cc;
         }
@@ -231,10 +231,10 @@ module _ {R W E : Type 0} (look : Looks R W E)
         → HasRun tool bytes output_text report_text (Err fault)
     lost given fault run =
         let texts : Texts =
-        record { output = take run.output run.due.output; report = take run.report run.due.report } in
+        record { output = take run.output_count run.due.output; report = take run.report_count run.due.report } in
         let parts : bytes ≡ given ++ (run.unread ++ left) =
         bytes_are (given ++ run.unread) texts run.written ∙ append_assoc given run.unread left in
-        let are : (run.due ≡ tool.sofar given)
+        let are : (run.due ≡ tool.so_far given)
         ⊎ ((run.unread ++ left ≡ []) × (run.due ≡ (tool.whole given).texts)) = ⊎_elim
         (λ so. inl so)
         (λ all.
@@ -244,10 +244,10 @@ module _ {R W E : Type 0} (look : Looks R W E)
         record {
           output = subst (λ (text : List ℕ). IsFrontOf text (tool.whole bytes).texts.output)
               (sym (output_is (given ++ run.unread) texts run.written))
-              (due_output given (run.unread ++ left) parts run.output run.due are);
+              (due_output given (run.unread ++ left) parts run.output_count run.due are);
           report = subst (λ (text : List ℕ). IsFrontOf text (tool.whole bytes).texts.report)
               (sym (report_is (given ++ run.unread) texts run.written))
-              (due_report given (run.unread ++ left) parts run.report run.due are);
+              (due_report given (run.unread ++ left) parts run.report_count run.due are);
           ended = λ status is. cc;
         }
 
@@ -257,14 +257,14 @@ module _ {R W E : Type 0} (look : Looks R W E)
     ran_by (Ok status) given run = finished given status run
     ran_by (Err Read) given run = stopped given [] Read
         (subst (λ (all : List ℕ).
-        HandedBack look start now all (tool.sofar given))
+        HandedBack look start now all (tool.so_far given))
         (sym (append-nil given)) run.written)
     ran_by (Err InputTooLong) given run = stopped given run.past InputTooLong run.written
     ran_by (Err Write) given run = lost given Write run
     ran_by (Err Memory) given run = absurd run
 
     ran : (answer : Result Status IoFault)
-        → GivesAnswer look tool start now answer
+        → AfterRun look tool start now answer
         → HasRun tool bytes output_text report_text answer
     ran answer run = ran_by answer run.given run.gave
 
@@ -292,8 +292,8 @@ module _ {R W E : Type 0} (look : Looks R W E)
       → ((options : PackOptions) (front more : List ℕ)
       → IsPrefixed (pack_tool options) front more)
       → (ready : Job) (answer : Result Status IoFault)
-      → GivesRun look ready start now answer
-      → HasRun (tool_of (options_of ready)) bytes output_text report_text answer
+      → AfterJob look ready start now answer
+      → HasRun (tool_for (options_of ready)) bytes output_text report_text answer
   job_ran list unpack pack job.List answer run = ran list_tool list answer run
   job_ran list unpack pack (job.Unpack wanted) answer run =
       ran (unpack_tool wanted) (unpack wanted) answer run

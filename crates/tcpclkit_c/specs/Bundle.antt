@@ -6,7 +6,7 @@ use Rattle.link_bundle_types.specs.declared.eid.Eid.TheVariants.{DtnNone, Dtn, I
 use Rattle.link_bundle_types.specs.declared.fault.State.{State}
 use Rattle.link_bundle_types.specs.declared.fault.State.TheVariants.{Going, Ended, Failed}
 use Rattle.link_bundle_types.specs.declared.info.BundleInfo.{BundleInfo}
-use Rattle.link_bundle.specs.Bundle.{verdict, payload_span, state_of}
+use Rattle.link_bundle.specs.Bundle.{verdict, payload_seen, state_of}
 use Rattle.tcpclkit_c.specs.Slice.{HoldsFront, KeepsRest}
 use Rattle.tcpclkit_c.specs.Fault.{no_fault, bundle_fault}
 use Rattle.tcpclkit_c.specs.declared.fault.Fault.{Fault}
@@ -18,25 +18,25 @@ use Rattle.tcpclkit_c.specs.declared.bundle.Verdict.{Verdict}
 abbrev pub state_status : State → ℕ
 state_status Going = 2
 state_status Ended = 0
-state_status (Failed fault place) = 4
+state_status (Failed fault offset) = 4
 
 abbrev pub fault_of : Result BundleInfo (BundleFault × ℕ) → Fault
 fault_of (Ok info) = no_fault
-fault_of (Err (fault, place)) = bundle_fault fault place
+fault_of (Err (fault, offset)) = bundle_fault fault offset
 
 abbrev pub with_span : Fault → Option (ℕ × ℕ) → Verdict
 with_span fault None =
     record { fault = fault; has_payload = 0; payload_offset = 0; payload_seen = 0 }
-with_span fault (Some (place, count)) =
-    record { fault = fault; has_payload = 1; payload_offset = place; payload_seen = count }
+with_span fault (Some (offset, count)) =
+    record { fault = fault; has_payload = 1; payload_offset = offset; payload_seen = count }
 
 -- a verdict, and where the payload's bytes are, as numbers
 abbrev pub verdict_shown : Result BundleInfo (BundleFault × ℕ) → Option (ℕ × ℕ) → Verdict
 verdict_shown outcome span = with_span (fault_of outcome) span
 
 -- the numbers and the status are those of the verdict on the bytes
-pub record GivesVerdict (bytes : List ℕ) (answer : Verdict) (status : ℕ) : Type 0 where
-  pub numbers : answer ≡ verdict_shown (verdict bytes) (payload_span bytes)
+pub record ReturnsVerdict (bytes : List ℕ) (answer : Verdict) (status : ℕ) : Type 0 where
+  pub numbers : answer ≡ verdict_shown (verdict bytes) (payload_seen bytes)
   pub answers : status ≡ state_status (state_of (verdict bytes))
 
 -- an endpoint ID as its kind and numbers
@@ -92,7 +92,7 @@ names_status info names =
     && nat_le (length (name_of info.source)) (length names.source) then 0 else 5
 
 -- the numbers are those of the bundle, and the slices have its names
-pub record GivesBundle (info : BundleInfo) (verdict : Verdict) (old new : Names)
+pub record ReturnsBundle (info : BundleInfo) (verdict : Verdict) (old new : Names)
     (bundle : Bundle) (status : ℕ) : Type 0 where
   pub numbers : bundle ≡ bundle_shown verdict info
   pub destination_name : HoldsFront new.destination (name_of info.destination)
@@ -102,16 +102,16 @@ pub record GivesBundle (info : BundleInfo) (verdict : Verdict) (old new : Names)
   pub fits : status ≡ names_status info new
 
 -- the bytes are no good bundle: of the answer only the verdict is given, and no name
-pub record GivesStop (verdict : Verdict) (state : State) (old new : Names) (bundle : Bundle)
+pub record ReturnsStop (verdict : Verdict) (state : State) (old new : Names) (bundle : Bundle)
     (status : ℕ) : Type 0 where
   pub verdict_is : bundle.verdict ≡ verdict
   pub no_names : new ≡ old
   pub stops : status ≡ state_status state
 
 -- the answer, by the verdict and by where the payload's bytes are
-abbrev pub GivesInfo : Result BundleInfo (BundleFault × ℕ) → Option (ℕ × ℕ)
+abbrev pub ReturnsInfo : Result BundleInfo (BundleFault × ℕ) → Option (ℕ × ℕ)
     → (old new : Names) → Bundle → ℕ → Type 0
-GivesInfo (Ok info) span old new bundle status =
-    GivesBundle info (verdict_shown (Ok info) span) old new bundle status
-GivesInfo (Err stop) span old new bundle status =
-    GivesStop (verdict_shown (Err stop) span) (state_of (Err stop)) old new bundle status
+ReturnsInfo (Ok info) span old new bundle status =
+    ReturnsBundle info (verdict_shown (Ok info) span) old new bundle status
+ReturnsInfo (Err stop) span old new bundle status =
+    ReturnsStop (verdict_shown (Err stop) span) (state_of (Err stop)) old new bundle status

@@ -78,6 +78,6 @@ pub record IsOrderAt (order : Order) (before : List Message) : Type 0 where
   pub is_bit : order.is_open ≤ 1
 
 -- the answer, by the judgement of the message
-abbrev pub GivesTurn : Result effect.Turn OrderFault → Turn → ℕ → Type 0
-GivesTurn (Ok turn) answer status = (status ≡ 0) × (answer ≡ turn_shown turn)
-GivesTurn (Err fault) answer status = (status ≡ 4) × (answer.fault ≡ order_code fault)
+abbrev pub ReturnsTurn : Result effect.Turn OrderFault → Turn → ℕ → Type 0
+ReturnsTurn (Ok turn) answer status = (status ≡ 0) × (answer ≡ turn_shown turn)
+ReturnsTurn (Err fault) answer status = (status ≡ 4) × (answer.fault ≡ order_code fault)

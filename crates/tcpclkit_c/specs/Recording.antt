@@ -19,15 +19,15 @@ use Rattle.tcpclkit_c.specs.declared.recording.Item.{Item}
 use Rattle.tcpclkit_c.specs.declared.recording.Message.{Message}
 
 -- the status and the numbers of a fault at this offset
-pub record GivesFault (fault : WireFault) (offset : ℕ) (shown : Fault) (status : ℕ) : Type 0 where
+pub record ReturnsFault (fault : WireFault) (offset : ℕ) (shown : Fault) (status : ℕ) : Type 0 where
   pub gives : status ≡ wire_status fault
   pub numbers : shown ≡ wire_fault fault offset
 
 -- the answer, by the reading of the contact header
-pub record GivesContact (part : Part wire.Contact) (answer : Contact) (status : ℕ) : Type 0 where
+pub record ReturnsContact (part : Part wire.Contact) (answer : Contact) (status : ℕ) : Type 0 where
   pub whole : (contact : wire.Contact) (rest : List ℕ) → part ≡ Ok (contact, rest)
       → (status ≡ 0) × (answer.flags ≡ contact.flags)
-  pub fault : (fault : WireFault) → part ≡ Err fault → GivesFault fault 0 answer.fault status
+  pub fault : (fault : WireFault) → part ≡ Err fault → ReturnsFault fault 0 answer.fault status
 
 -- a message of no kind
 abbrev pub nothing : Message
@@ -74,44 +74,44 @@ fields_shown (MsgReject reason header) =
 
 -- the number of data bytes of a message, by its head
 abbrev pub size_of : MessageAt → ℕ
-size_of place = (fields_shown place.fields).data_length
+size_of found = (fields_shown found.fields).data_length
 
 -- no fault, or that of a message at this offset whose data is not all among this many bytes
 abbrev pub data_fault : (size offset : ℕ) → MessageAt → Fault
-data_fault size offset place =
-    if nat_le (size_of place) (size - place.end) then no_fault else wire_fault Truncated offset
+data_fault size offset found =
+    if nat_le (size_of found) (size - found.end) then no_fault else wire_fault Truncated offset
 
 -- a message at this offset among this many bytes, with its places
 abbrev pub message_shown : (size offset : ℕ) → MessageAt → Message
-message_shown size offset place =
-    record (fields_shown place.fields) {
-      fault = data_fault size offset place;
-      node_offset = place.node.offset;
-      node_length = place.node.length;
-      items_offset = place.items.offset;
-      items_length = place.items.length;
-      data_offset = place.end;
-      next = if nat_le (size_of place) (size - place.end) then place.end + size_of place else 0;
+message_shown size offset found =
+    record (fields_shown found.fields) {
+      fault = data_fault size offset found;
+      node_offset = found.node.offset;
+      node_length = found.node.length;
+      items_offset = found.items.offset;
+      items_length = found.items.length;
+      data_offset = found.end;
+      next = if nat_le (size_of found) (size - found.end) then found.end + size_of found else 0;
     }
 
 -- TCPCLKIT_OK, or TCPCLKIT_DATA_TRUNCATED if the bytes end inside the data
 abbrev pub data_status : ℕ → MessageAt → ℕ
-data_status size place = if nat_le (size_of place) (size - place.end) then 0 else 3
+data_status size found = if nat_le (size_of found) (size - found.end) then 0 else 3
 
 -- the numbers are those of the message, and its parts lie where they say
 pub record ShowsMessage (bytes : List ℕ) (offset : ℕ) (part : Part read.Message)
     (answer : Message) (status : ℕ) : Type 0 where
-  pub place : MessageAt
-  pub lies : LiesAt bytes part place
-  pub numbers : answer ≡ message_shown (length bytes) offset place
-  pub gives : status ≡ data_status (length bytes) place
+  pub found : MessageAt
+  pub lies : LiesAt bytes part found
+  pub numbers : answer ≡ message_shown (length bytes) offset found
+  pub gives : status ≡ data_status (length bytes) found
 
 -- the answer, by the reading of the message at the offset
-pub record GivesMessage (bytes : List ℕ) (offset : ℕ) (part : Part read.Message)
+pub record ReturnsMessage (bytes : List ℕ) (offset : ℕ) (part : Part read.Message)
     (answer : Message) (status : ℕ) : Type 0 where
   pub whole : (message : read.Message) (rest : List ℕ) → part ≡ Ok (message, rest)
       → ShowsMessage bytes offset part answer status
-  pub fault : (fault : WireFault) → part ≡ Err fault → GivesFault fault offset answer.fault status
+  pub fault : (fault : WireFault) → part ≡ Err fault → ReturnsFault fault offset answer.fault status
 
 -- whether there is a total, and which
 abbrev pub total_shown : Option ℕ → ℕ × ℕ
@@ -120,16 +120,16 @@ total_shown (Some total) = (1, total)
 
 -- an item with its places
 abbrev pub item_shown : ItemAt → Item
-item_shown place =
+item_shown found =
     record {
       fault = no_fault;
-      flags = place.item.flags;
-      kind = place.item.kind;
-      value_offset = place.value;
-      value_length = place.item.length;
-      has_total = (total_shown place.item.total).0;
-      total = (total_shown place.item.total).1;
-      next = place.value + place.item.length;
+      flags = found.item.flags;
+      kind = found.item.kind;
+      value_offset = found.value;
+      value_length = found.item.length;
+      has_total = (total_shown found.item.total).0;
+      total = (total_shown found.item.total).1;
+      next = found.value + found.item.length;
     }
 
 -- the total of the item that begins some bytes, in a list that has `left` more bytes
@@ -139,14 +139,14 @@ item_part left bytes = item_head_at left bytes >>= λ (head, rest). total_at Tra
 -- the numbers are those of the item, and its value lies where they say
 pub record ShowsItem (bytes : List ℕ) (offset left : ℕ) (answer : Item)
     (status : ℕ) : Type 0 where
-  pub place : ItemAt
-  pub lies : ItemLies Transfer bytes left offset place
-  pub numbers : answer ≡ item_shown place
+  pub found : ItemAt
+  pub lies : ItemLies Transfer bytes left offset found
+  pub numbers : answer ≡ item_shown found
   pub gives : status ≡ 0
 
 -- the answer, by the reading of the item at the offset
-pub record GivesItem (bytes : List ℕ) (offset left : ℕ) (part : Part (Option ℕ)) (answer : Item)
+pub record ReturnsItem (bytes : List ℕ) (offset left : ℕ) (part : Part (Option ℕ)) (answer : Item)
     (status : ℕ) : Type 0 where
   pub whole : (total : Option ℕ) (rest : List ℕ) → part ≡ Ok (total, rest)
       → ShowsItem bytes offset left answer status
-  pub fault : (fault : WireFault) → part ≡ Err fault → GivesFault fault offset answer.fault status
+  pub fault : (fault : WireFault) → part ≡ Err fault → ReturnsFault fault offset answer.fault status

@@ -118,6 +118,6 @@ pub record HoldsText (text old slice : List ℕ) (written status : ℕ) : Type 0
   pub fits : status ≡ (if nat_le (length text) (length slice) then 0 else 5)
 
 -- the text, or TCPCLKIT_RANGE if there is none
-abbrev pub GivesText : Option (List ℕ) → (old slice : List ℕ) → (written status : ℕ) → Type 0
-GivesText None old slice written status = status ≡ 6
-GivesText (Some text) old slice written status = HoldsText text old slice written status
+abbrev pub ReturnsText : Option (List ℕ) → (old slice : List ℕ) → (written status : ℕ) → Type 0
+ReturnsText None old slice written status = status ≡ 6
+ReturnsText (Some text) old slice written status = HoldsText text old slice written status

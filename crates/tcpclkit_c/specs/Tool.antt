@@ -16,14 +16,14 @@ use Rattle.tcpclkit_c.specs.declared.tool.Run.{Run}
 use Rattle.tcpclkit_c.specs.declared.tool.UnpackOptions.{UnpackOptions}
 
 -- the tool of these options
-abbrev pub tool_of : Options → Tool
-tool_of tool.List = list_tool
-tool_of (tool.Unpack wanted) = unpack_tool wanted
-tool_of (tool.Pack options) = pack_tool options
+abbrev pub tool_for : Options → Tool
+tool_for tool.List = list_tool
+tool_for (tool.Unpack wanted) = unpack_tool wanted
+tool_for (tool.Pack options) = pack_tool options
 
 -- the texts and the status that the tool makes of these bytes
-abbrev pub whole_of : Options → List ℕ → Outcome
-whole_of options bytes = (tool_of options).whole bytes
+abbrev pub outcome_of : Options → List ℕ → Outcome
+outcome_of options bytes = (tool_for options).whole bytes
 
 -- the texts are prefixes of those of all bytes, and the whole of them if the run has ended
 pub record HasRun (tool : Tool) (bytes output_text report_text : List ℕ)
@@ -44,7 +44,8 @@ pub record Slices : Type 0 where
 -- TCPCLKIT_OK these are the whole texts, and the exit status is that of the run. With
 -- TCPCLKIT_TOO_SMALL a slice is full and shorter than its text. Otherwise the status is
 -- TCPCLKIT_MEMORY.
-pub record TextsGiven (whole : Outcome) (old_output old_report output report : List ℕ) (run : Run)
+pub record TextsReturned (whole : Outcome) (old_output old_report output report : List ℕ)
+    (run : Run)
     (status : ℕ) : Type 0 where
   pub output_front : IsFrontOf (take run.output_length output) whole.texts.output
   pub report_front : IsFrontOf (take run.report_length report) whole.texts.report
@@ -60,10 +61,10 @@ pub record TextsGiven (whole : Outcome) (old_output old_report output report : L
       → (length output < length whole.texts.output) ⊎ (length report < length whole.texts.report)
   pub known : (status ≡ 0) ⊎ ((status ≡ 5) ⊎ (status ≡ 8))
 
--- what a run has given in its slices
-abbrev pub GivesTexts : Outcome → (old new : Slices) → Run → ℕ → Type 0
-GivesTexts whole old new run status =
-    TextsGiven whole old.output old.report new.output new.report run status
+-- what a run has returned in its slices
+abbrev pub ReturnsTexts : Outcome → (old new : Slices) → Run → ℕ → Type 0
+ReturnsTexts whole old new run status =
+    TextsReturned whole old.output old.report new.output new.report run status
 
 -- what is wanted of the recording
 abbrev pub wanted_of : UnpackOptions → Wanted
@@ -93,8 +94,9 @@ pub record HasOptions (options : packing.PackOptions) (numbers : PackOptions)
   pub send_term : options.send_term ≡ (numbers.send_term == 1)
 
 -- the bundles were packed with these options
-pub record GivesPacked (numbers : PackOptions) (node bytes : List ℕ) (old new : Slices) (run : Run)
+pub record ReturnsPacked (numbers : PackOptions) (node bytes : List ℕ) (old new : Slices)
+    (run : Run)
     (status : ℕ) : Type 0 where
   pub options : packing.PackOptions
   pub are : HasOptions options numbers node
-  pub texts : GivesTexts (whole_of (tool.Pack options) bytes) old new run status
+  pub texts : ReturnsTexts (outcome_of (tool.Pack options) bytes) old new run status

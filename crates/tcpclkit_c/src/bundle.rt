@@ -3,9 +3,9 @@
 ghost use Rattle.std.specs.Prelude.{◌≡◌, ℕ, List, [], length, Option};
 ghost use Rattle.link_bundle_types.specs.BundleView.{viewed_info, viewed_verdict};
 ghost use Rattle.link_bundle_types.specs.EidView.{viewed_eid};
-ghost use Rattle.link_bundle.specs.Bundle.{verdict, payload_span, state_of};
+ghost use Rattle.link_bundle.specs.Bundle.{verdict, payload_seen, state_of};
 ghost use Rattle.link_bundle.specs.Scan.{HasJudged};
-ghost use Rattle.tcpclkit_c.specs.Bundle.{state_status, fault_of, with_span, verdict_shown, eid_shown, name_of, bundle_shown, GivesVerdict, GivesBundle, GivesInfo};
+ghost use Rattle.tcpclkit_c.specs.Bundle.{state_status, fault_of, with_span, verdict_shown, eid_shown, name_of, bundle_shown, ReturnsVerdict, ReturnsBundle, ReturnsInfo};
 
 use crate::fault::Fault;
 use crate::slice::copy_front;
@@ -125,14 +125,14 @@ fn with_span(fault: Fault, span: Option<(u64, u64)>) -> Verdict
 /// What a scan has found of the bytes that it has judged.
 fn found(scan: &BundleScan) -> Verdict
     ensures { (bytes : List ℕ) → HasJudged scan.now bytes
-        → result ≡ verdict_shown (verdict bytes) (payload_span bytes) }
+        → result ≡ verdict_shown (verdict bytes) (payload_seen bytes) }
 {
     with_span(fault_of(scan.view()), scan.payload_seen())
 }
 
 /// Gives the verdict on the bytes that a scan has judged.
 pub(crate) fn give_verdict(scan: &BundleScan, answer: &mut Verdict) -> u32
-    ensures { (bytes : List ℕ) → HasJudged scan.now bytes → GivesVerdict bytes answer.new result }
+    ensures { (bytes : List ℕ) → HasJudged scan.now bytes → ReturnsVerdict bytes answer.new result }
 {
     *answer = found(scan);
     state_status(scan.state())
@@ -142,7 +142,7 @@ pub(crate) fn give_verdict(scan: &BundleScan, answer: &mut Verdict) -> u32
 #[unsafe(no_mangle)]
 pub extern "C" fn tcpclkit_raw_bundle_verdict(bytes: &[u8], answer: &mut Verdict) -> u32
     ensures status { result ≡ state_status (state_of (verdict bytes.now)) }
-    ensures answer { answer.new ≡ verdict_shown (verdict bytes.now) (payload_span bytes.now) }
+    ensures answer { answer.new ≡ verdict_shown (verdict bytes.now) (payload_seen bytes.now) }
 {
     let scan = judged_scan(bytes);
     give_verdict(&scan, answer)
@@ -224,7 +224,7 @@ fn give(
     source_name: &mut [u8],
     answer: &mut Bundle,
 ) -> u32
-    ensures { GivesBundle (viewed_info info.now) verdict
+    ensures { ReturnsBundle (viewed_info info.now) verdict
         (record { destination = destination_name.old; source = source_name.old })
         (record { destination = destination_name.new; source = source_name.new })
         answer.new result }
@@ -247,7 +247,7 @@ pub(crate) fn give_info(
     answer: &mut Bundle,
 ) -> u32
     ensures { (bytes : List ℕ) → HasJudged scan.now bytes
-        → GivesInfo (verdict bytes) (payload_span bytes)
+        → ReturnsInfo (verdict bytes) (payload_seen bytes)
         (record { destination = destination_name.old; source = source_name.old })
         (record { destination = destination_name.new; source = source_name.new })
         answer.new result }
@@ -270,7 +270,7 @@ pub extern "C" fn tcpclkit_raw_bundle_info(
     source_name: &mut [u8],
     answer: &mut Bundle,
 ) -> u32
-    ensures { GivesInfo (verdict bytes.now) (payload_span bytes.now)
+    ensures { ReturnsInfo (verdict bytes.now) (payload_seen bytes.now)
         (record { destination = destination_name.old; source = source_name.old })
         (record { destination = destination_name.new; source = source_name.new })
         answer.new result }

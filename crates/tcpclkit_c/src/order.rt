@@ -3,9 +3,9 @@
 ghost use Rattle.std.specs.Prelude.{◌≡◌, ◌<◌, ◌≤◌, List, ◌++◌, ◌∷◌, []};
 ghost use Rattle.link_wire.specs.declared.message.Message.{Message};
 ghost use Rattle.link_transfer.specs.Event.{event_of};
-ghost use Rattle.link_transfer.specs.Order.{judged};
+ghost use Rattle.link_transfer.specs.Order.{judged_message};
 ghost use Rattle.link_transfer.specs.Joiner.{IsJoinerAt};
-ghost use Rattle.tcpclkit_c.specs.Order.{order_code, event_by, turn_shown, HasNumbers, IsOrderAt, GivesTurn};
+ghost use Rattle.tcpclkit_c.specs.Order.{order_code, event_by, turn_shown, HasNumbers, IsOrderAt, ReturnsTurn};
 
 use crate::status::{FAULT, OK, RANGE};
 use link_transfer::{Event, Joiner, OrderFault, Turn as Effect};
@@ -135,7 +135,7 @@ fn order_of(joiner: &Joiner) -> Order
 /// Judges a message of this event, and counts it among those that came if it may come.
 fn judge(order: &mut Order, event: Event, answer: &mut Turn) -> u32
     ensures judged { (before : List Message) → IsOrderAt order.old before
-        → GivesTurn (judged before event) answer.new result }
+        → ReturnsTurn (judged_message before event) answer.new result }
     ensures accepted { (before : List Message) (message : Message) → event_of message ≡ event
         → IsOrderAt order.old before → result ≡ 0
         → IsOrderAt order.new (before ++ message ∷ []) }
@@ -166,7 +166,7 @@ pub extern "C" fn tcpclkit_raw_order(
 ) -> u32
     ensures judged { (before : List Message) (message : Message) → HasNumbers message kind flags id
         → IsOrderAt order.old before
-        → GivesTurn (judged before (event_of message)) answer.new result }
+        → ReturnsTurn (judged_message before (event_of message)) answer.new result }
     ensures accepted { (before : List Message) (message : Message)
         → HasNumbers message kind flags id → IsOrderAt order.old before → result ≡ 0
         → IsOrderAt order.new (before ++ message ∷ []) }

@@ -2,7 +2,7 @@
 
 ghost use Rattle.std.specs.Prelude.{◌≡◌, ◌-◌, ◌^◌, ◌<◌, ◌≤◌, length, drop};
 ghost use Rattle.link_wire.specs.Message.{contact_at, message_at};
-ghost use Rattle.tcpclkit_c.specs.Recording.{nothing, GivesContact, fields_shown, message_shown, data_status, GivesMessage, item_shown, item_part, GivesItem};
+ghost use Rattle.tcpclkit_c.specs.Recording.{nothing, ReturnsContact, fields_shown, message_shown, data_status, ReturnsMessage, item_shown, item_part, ReturnsItem};
 
 use crate::fault::{Fault, wire_status};
 use crate::status::{DATA_TRUNCATED, END, OK, RANGE};
@@ -85,7 +85,7 @@ pub struct Item {
 /// Reads the contact header that the bytes begin with.
 #[unsafe(no_mangle)]
 pub extern "C" fn tcpclkit_raw_contact(bytes: &[u8], answer: &mut Contact) -> u32
-    ensures { GivesContact (contact_at bytes.now) answer.new result }
+    ensures { ReturnsContact (contact_at bytes.now) answer.new result }
 {
     match contact_in(bytes) {
         Ok((contact, _)) => {
@@ -193,22 +193,22 @@ fn fields_shown(fields: Fields) -> Message
 /// A message as numbers, and whether its data is there; `size` is the number of the bytes.
 ///
 /// If the data is cut, the message has the fault of a message at this offset.
-fn shown(place: &MessageAt, size: usize, offset: u64) -> (Message, u32)
-    requires { place.now.end ≤ size }
-    ensures message { result.0 ≡ message_shown size offset place.now }
-    ensures status { result.1 ≡ data_status size place.now }
+fn shown(found: &MessageAt, size: usize, offset: u64) -> (Message, u32)
+    requires { found.now.end ≤ size }
+    ensures message { result.0 ≡ message_shown size offset found.now }
+    ensures status { result.1 ≡ data_status size found.now }
 {
-    let fields = fields_shown(place.fields);
+    let fields = fields_shown(found.fields);
     let placed = Message {
-        node_offset: place.node.offset as u64,
-        node_length: place.node.length as u64,
-        items_offset: place.items.offset as u64,
-        items_length: place.items.length as u64,
-        data_offset: place.end as u64,
+        node_offset: found.node.offset as u64,
+        node_length: found.node.length as u64,
+        items_offset: found.items.offset as u64,
+        items_length: found.items.length as u64,
+        data_offset: found.end as u64,
         ..fields
     };
-    if fields.data_length <= (size - place.end) as u64 {
-        let next = place.end as u64 + fields.data_length;
+    if fields.data_length <= (size - found.end) as u64 {
+        let next = found.end as u64 + fields.data_length;
         (Message { next, ..placed }, OK)
     } else {
         let fault = Fault::of_wire(WireFault::Truncated, offset);
@@ -222,7 +222,7 @@ pub extern "C" fn tcpclkit_raw_message(bytes: &[u8], offset: u64, answer: &mut M
     ensures range { length bytes.now < offset → (result ≡ 6) × (answer.new ≡ answer.old) }
     ensures ended { offset ≡ length bytes.now → (result ≡ 1) × (answer.new ≡ answer.old) }
     ensures message { offset < length bytes.now
-        → GivesMessage bytes.now offset (message_at (drop offset bytes.now)) answer.new result }
+        → ReturnsMessage bytes.now offset (message_at (drop offset bytes.now)) answer.new result }
 {
     let size = bytes.len();
     if offset > size as u64 {
@@ -232,8 +232,8 @@ pub extern "C" fn tcpclkit_raw_message(bytes: &[u8], offset: u64, answer: &mut M
         return END;
     }
     match message_in(bytes, offset as usize) {
-        Ok(place) => {
-            let (message, status) = shown(&place, size, offset);
+        Ok(found) => {
+            let (message, status) = shown(&found, size, offset);
             *answer = message;
             status
         }
@@ -245,11 +245,11 @@ pub extern "C" fn tcpclkit_raw_message(bytes: &[u8], offset: u64, answer: &mut M
 }
 
 /// An item as numbers.
-fn item_shown(place: &ItemAt) -> Item
-    requires { place.now.value ≤ 2 ^ 63 }
-    ensures { result ≡ item_shown place.now }
+fn item_shown(found: &ItemAt) -> Item
+    requires { found.now.value ≤ 2 ^ 63 }
+    ensures { result ≡ item_shown found.now }
 {
-    let item = &place.item;
+    let item = &found.item;
     let (has_total, total) = match item.total {
         None => (0, 0),
         Some(total) => (1, total),
@@ -258,11 +258,11 @@ fn item_shown(place: &ItemAt) -> Item
         fault: Fault::none(),
         flags: u64::from(item.flags),
         kind: u64::from(item.kind),
-        value_offset: place.value as u64,
+        value_offset: found.value as u64,
         value_length: u64::from(item.length),
         has_total,
         total,
-        next: place.value as u64 + u64::from(item.length),
+        next: found.value as u64 + u64::from(item.length),
     }
 }
 
@@ -275,7 +275,7 @@ pub extern "C" fn tcpclkit_raw_item(bytes: &[u8], offset: u64, end: u64, answer:
     ensures ended { offset ≡ end → end ≤ length bytes.now
         → (result ≡ 1) × (answer.new ≡ answer.old) }
     ensures item { offset < end → end ≤ length bytes.now → end - offset ≤ 65536
-        → GivesItem bytes.now offset (end - offset)
+        → ReturnsItem bytes.now offset (end - offset)
         (item_part (end - offset) (drop offset bytes.now)) answer.new result }
 {
     if end > bytes.len() as u64 {
@@ -292,8 +292,8 @@ pub extern "C" fn tcpclkit_raw_item(bytes: &[u8], offset: u64, end: u64, answer:
         return END;
     }
     match item_in(bytes, offset as usize, left as u32, ListOf::Transfer) {
-        Ok(place) => {
-            *answer = item_shown(&place);
+        Ok(found) => {
+            *answer = item_shown(&found);
             OK
         }
         Err(fault) => {

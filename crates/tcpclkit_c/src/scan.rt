@@ -3,10 +3,10 @@
 ghost use Rattle.std.specs.Prelude.{◌≡◌, ℕ, ◌≤◌, List, [], ◌++◌, length};
 ghost use Rattle.std.specs.Borrow.{sem};
 ghost use denote.RawPtr.{room_at};
-ghost use Rattle.link_bundle.specs.Bundle.{verdict, payload_span, state_of};
+ghost use Rattle.link_bundle.specs.Bundle.{verdict, payload_seen, state_of};
 ghost use Rattle.link_bundle.specs.Scan.{HasScanned};
 ghost use Rattle.link_bundle.specs.contracts.scan.BundleScan.{the_row};
-ghost use Rattle.tcpclkit_c.specs.Bundle.{verdict_shown, state_status, GivesInfo};
+ghost use Rattle.tcpclkit_c.specs.Bundle.{verdict_shown, state_status, ReturnsInfo};
 ghost use Rattle.tcpclkit_c.specs.Scan.{HoldsScan, Feeds, fed, fed_status};
 
 use crate::bundle::{Bundle, Verdict, give_info, give_verdict, state_status};
@@ -78,7 +78,7 @@ pub unsafe extern "C" fn tcpclkit_raw_scan_verdict(memory: *mut u64, answer: &mu
     requires* { sem 𝓛 (HoldsScan memory seen) }
     ensures* scan { sem 𝓛 (HoldsScan memory seen) }
     ensures status { result ≡ state_status (state_of (verdict seen)) }
-    ensures answer { answer.new ≡ verdict_shown (verdict seen) (payload_span seen) }
+    ensures answer { answer.new ≡ verdict_shown (verdict seen) (payload_seen seen) }
 {
     give_verdict(&*(memory as *mut BundleScan), answer)
 }
@@ -94,7 +94,7 @@ pub unsafe extern "C" fn tcpclkit_raw_scan_info(
     ghost seen: { List ℕ }
     requires* { sem 𝓛 (HoldsScan memory seen) }
     ensures* scan { sem 𝓛 (HoldsScan memory seen) }
-    ensures answer { GivesInfo (verdict seen) (payload_span seen)
+    ensures answer { ReturnsInfo (verdict seen) (payload_seen seen)
         (record { destination = destination_name.old; source = source_name.old })
         (record { destination = destination_name.new; source = source_name.new })
         answer.new result }

@@ -3,7 +3,7 @@
 ghost use Rattle.std.specs.Prelude.{◌≡◌, ◌++◌, [], length, codes, IfSome};
 ghost use Rattle.link_bundle_types.specs.EidView.{viewed_eid};
 ghost use Rattle.link_bundle_types.specs.ShortNames.{IsShort};
-ghost use Rattle.tcpclkit_c.specs.Text.{wire_by, order_by, bundle_by, named_by, named_text, option_text, eid_by, viewed_option, option_eid_text, HoldsText, GivesText};
+ghost use Rattle.tcpclkit_c.specs.Text.{wire_by, order_by, bundle_by, named_by, named_text, option_text, eid_by, viewed_option, option_eid_text, HoldsText, ReturnsText};
 
 use crate::bundle::EidNumbers;
 use crate::slice::copy_front;
@@ -130,7 +130,7 @@ pub extern "C" fn tcpclkit_raw_fault_text(
     text: &mut [u8],
     written: &mut u64,
 ) -> u32
-    ensures text { GivesText (option_text (named_by code number)) text.old text.new written.new
+    ensures text { ReturnsText (option_text (named_by code number)) text.old text.new written.new
         result }
     ensures range { result ≡ 6 → (text.new ≡ text.old) × (written.new ≡ written.old) }
 {
@@ -166,7 +166,7 @@ pub extern "C" fn tcpclkit_raw_eid_text(
     text: &mut [u8],
     written: &mut u64,
 ) -> u32
-    ensures text { GivesText (option_eid_text (eid_by eid.now name.now)) text.old text.new
+    ensures text { ReturnsText (option_eid_text (eid_by eid.now name.now)) text.old text.new
         written.new result }
     ensures range { result ≡ 6 → (text.new ≡ text.old) × (written.new ≡ written.old) }
 {

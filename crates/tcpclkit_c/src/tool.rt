@@ -3,7 +3,7 @@
 ghost use Rattle.std.specs.Prelude.{◌≡◌, ◌<◌, ◌≤◌, true, false, ℕ, List, length};
 ghost use Rattle.link_run.specs.Run.{Tool};
 ghost use Rattle.link_tools.specs.Options.{IsReady, options_of};
-ghost use Rattle.tcpclkit_c.specs.Tool.{whole_of, wanted_of, are_in_range, HasRun, GivesTexts, HasOptions, GivesPacked};
+ghost use Rattle.tcpclkit_c.specs.Tool.{outcome_of, wanted_of, are_in_range, HasRun, ReturnsTexts, HasOptions, ReturnsPacked};
 ghost use Rattle.link_tools.specs.declared.options.Options.TheVariants as tool;
 
 use crate::device::{KeptText, SliceReader};
@@ -72,7 +72,7 @@ fn give_texts(
 ) -> u32
     ensures { (tool : Tool) (bytes : List ℕ)
         → HasRun tool bytes output_text.now report_text.now ended
-        → GivesTexts (tool.whole bytes) (record { output = output.old; report = report.old })
+        → ReturnsTexts (tool.whole bytes) (record { output = output.old; report = report.old })
         (record { output = output.new; report = report.new })
         answer.new result }
 {
@@ -111,7 +111,7 @@ fn run_job(
     answer: &mut Run,
 ) -> u32
     requires { IsReady job }
-    ensures { GivesTexts (whole_of (options_of job) bytes.now)
+    ensures { ReturnsTexts (outcome_of (options_of job) bytes.now)
         (record { output = output.old; report = report.old })
         (record { output = output.new; report = report.new })
         answer.new result }
@@ -146,7 +146,7 @@ pub extern "C" fn tcpclkit_raw_list(
     report: &mut [u8],
     answer: &mut Run,
 ) -> u32
-    ensures { GivesTexts (whole_of tool.List bytes.now)
+    ensures { ReturnsTexts (outcome_of tool.List bytes.now)
         (record { output = output.old; report = report.old })
         (record { output = output.new; report = report.new })
         answer.new result }
@@ -191,7 +191,8 @@ pub extern "C" fn tcpclkit_raw_unpack(
     ensures payload { 1 < options.now.payload → (result ≡ 6) × (answer.new ≡ answer.old) }
     ensures keep_going { 1 < options.now.keep_going → (result ≡ 6) × (answer.new ≡ answer.old) }
     ensures run { options.now.only_one ≤ 1 → options.now.payload ≤ 1
-        → options.now.keep_going ≤ 1 → GivesTexts (whole_of (tool.Unpack (wanted_of options.now)) bytes.now)
+        → options.now.keep_going ≤ 1 → ReturnsTexts
+        (outcome_of (tool.Unpack (wanted_of options.now)) bytes.now)
         (record { output = output.old; report = report.old })
         (record { output = output.new; report = report.new })
         answer.new result }
@@ -255,7 +256,7 @@ pub extern "C" fn tcpclkit_raw_pack(
     ensures range { are_in_range options.now (length node.now) ≡ false
         → (result ≡ 6) × (answer.new ≡ answer.old) }
     ensures run { are_in_range options.now (length node.now) ≡ true
-        → GivesPacked options.now node.now bytes.now
+        → ReturnsPacked options.now node.now bytes.now
         (record { output = output.old; report = report.old })
         (record { output = output.new; report = report.new })
         answer.new result }

@@ -11,7 +11,7 @@ ghost use Rattle.link_run.specs.Stages.{Stands};
 ghost use Rattle.link_run.specs.Writers.{place_of};
 ghost use Rattle.link_unpack.specs.InnerRun.{TakesInner};
 ghost use Rattle.link_unpack.specs.Unpacking.{unpacking_of};
-ghost use Rattle.link_unpack.specs.UnpackRun.{may_follow, Unpacks, GivesFar, WritesNext};
+ghost use Rattle.link_unpack.specs.UnpackRun.{may_follow, Unpacks, AfterUnpackStride, WritesNext};
 
 use super::{Next, Stage, Unpacker, take_loaded};
 use link_run::{Input, Writers};
@@ -34,7 +34,7 @@ pub(super) fn take_on<R: InDevice, W: OutDevice, E: OutDevice>(
         → Stands (looks R.state W.state E.state) (unpacking_of unpacker.old.latest.wanted) start true
         (place_of (source_of (inner_of input.old)) writers.old) history
         → Unpacks R.state (Stage.Data last) (inner_of input.old) unpacker.old history
-        → GivesFar (looks R.state W.state E.state) start unpacker.old.latest.wanted
+        → AfterUnpackStride (looks R.state W.state E.state) start unpacker.old.latest.wanted
         (inner_of input.old) (inner_of input.new) writers.old writers.new unpacker.new history
         result }
     ensures writes { WritesNext W.state E.state writers.old writers.new result }

@@ -5,7 +5,7 @@ use Rattle.link_bundle.proofs.item.bytes_at.Goals as goal
 pub returns-clause-read : goal.returns-clause-read
 returns-clause-read c =
     let bytes = c.args.bytes.now in
-    let place = c.args.place in
-    let size : place + c.args.size - place ≡ c.args.size = omega arith in
-    bytes_at-whole c.args.size bytes place (omega arith)
-    ∙ ap (λ (count : ℕ). Ok (take count (drop place bytes), place + c.args.size)) (sym size)
+    let offset = c.args.offset in
+    let size : offset + c.args.size - offset ≡ c.args.size = omega arith in
+    bytes_at-whole c.args.size bytes offset (omega arith)
+    ∙ ap (λ (count : ℕ). Ok (take count (drop offset bytes), offset + c.args.size)) (sym size)

@@ -6,7 +6,7 @@ use Rattle.link_bundle.proofs.whole.blocks_at.Given as goal
 abbrev pub invariant-loop-numbers : goal.invariant-loop-numbers
 invariant-loop-numbers l = record {
   reads : (primary : Primary)
-      → blocks_at 64 [] primary l.bytes l.fn.place
+      → blocks_at 64 [] primary l.bytes l.fn.offset
       ≡ blocks_at (64 - length l.numbers) l.numbers primary l.bytes l.start;
 }
 

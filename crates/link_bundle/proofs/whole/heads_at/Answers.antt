@@ -9,19 +9,19 @@ unfolding blocks_at
 returns c = λ left primary.
     let bytes = c.args.bytes.now in
     rw (
-      row_at-accepted block bytes c.args.place c.in_ok-head.place c.in_ok-head.head
+      row_at-accepted block bytes c.args.offset c.in_ok-head.offset c.in_ok-head.head
           c.in_ok-count.count
           c.in_ok-head.ensures (sym c.block.ensures.judged ∙ c.in_ok-count.was),
       c.in_ok-block_type.ensures,
       row_at-accepted (block_number c.in_ok-block_type.block_type c.args.numbers.now) bytes
-          c.in_ok-block_type.place c.in_ok-number_head.place c.in_ok-number_head.number_head
+          c.in_ok-block_type.offset c.in_ok-number_head.offset c.in_ok-number_head.number_head
           c.in_ok-number.number
           c.in_ok-number_head.ensures (sym c.block_number.ensures.judged ∙ c.in_ok-number.was),
-      c.in_ok-place.ensures,
-      row_at-accepted (block_check_type c.in_ok-count.count) bytes c.in_ok-place.place
-          c.in_ok-head-2.place c.in_ok-head-2.head c.in_ok-check.check
+      c.in_ok-offset.ensures,
+      row_at-accepted (block_check_type c.in_ok-count.count) bytes c.in_ok-offset.offset
+          c.in_ok-head-2.offset c.in_ok-head-2.head c.in_ok-check.check
           c.in_ok-head-2.ensures (sym c.block_check_type.ensures.judged ∙ c.in_ok-check.was),
-      row_at-accepted byte_string bytes c.in_ok-head-2.place c.in_ok-head-3.place
+      row_at-accepted byte_string bytes c.in_ok-head-2.offset c.in_ok-head-3.offset
           c.in_ok-head-3.head c.in_ok-size.size
           c.in_ok-head-3.ensures (sym c.byte_string.ensures.judged ∙ c.in_ok-size.was),
     ) refl

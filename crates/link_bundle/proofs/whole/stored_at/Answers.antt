@@ -18,8 +18,8 @@ returns c =
     subst (λ (width : ℕ). bytes_at width bytes content ≡ Ok (stored, next)) c.check_width.ensures
     c.in_ok-stored.ensures.read in
     field_at-equal c.args.kind c.args.start content next c.in_ok-check_field.field-0 bytes
-    c.args.place stored
-    (row_at-accepted (check_field c.args.kind) bytes c.args.place content c.in_ok-head.head
+    c.args.offset stored
+    (row_at-accepted (check_field c.args.kind) bytes c.args.offset content c.in_ok-head.head
     c.in_ok-check_field.field-0
     c.in_ok-head.ensures (sym c.check_field.ensures.judged ∙ c.in_ok-check_field.was))
     there

@@ -2,7 +2,7 @@ use Rattle.std.proofs.Common.{ℕ, List, [], Err, take, length-take, ⊎_elim, a
 use Rattle.std.proofs.lemmas.Bool.Decides.{nat_tests}
 use Rattle.link_wire.specs.Source.{front_of, Takes}
 use Rattle.link_io.proofs.Sources.{Readies-takes, Readies-over}
-use Rattle.link_run.specs.Made.{is_shown}
+use Rattle.link_run.specs.Made.{shows_fault}
 use Rattle.link_run.specs.Reading.{inner_of}
 use Rattle.link_run.specs.Run.{looks}
 use Rattle.link_run.specs.Writers.{place_of}
@@ -12,7 +12,7 @@ use Rattle.link_run.proofs.Stands.{settled, not_handed_on, read_fails, last_step
 use Rattle.link_transfer.specs.Cutter.{wanted_by}
 use Rattle.link_pack.specs.Packing.{packing_of}
 use Rattle.link_pack.specs.Packer.{MakesOf}
-use Rattle.link_pack.specs.PackRun.{Packs, GivesFound}
+use Rattle.link_pack.specs.PackRun.{Packs, WritesFound}
 use Rattle.link_pack.proofs.Founds.{IsRun, came, finished, cut_at, front_bound, front_run}
 use Rattle.link_pack.proofs.Goings.{found_handed, finish_handed}
 use Rattle.link_pack.proofs.packing.take_bundles.Goals as goal
@@ -49,7 +49,7 @@ returns-in-Err-clause-gives g c = λ start history stood at.
     let same = sym (append-nil history) in
     ⊎_elim
     (λ stopped. read_fails c.args.most old new writers (settled old before writers stood stopped.0) [] writers c.in-Err.fault _ stopped.1 (omega arith)
-    (ap (λ bytes. (made bytes).texts) same) (ap (λ bytes. is_shown (made bytes).stop) (append-nil history) ∙ stood.unshown) refl refl)
+    (ap (λ bytes. (made bytes).texts) same) (ap (λ bytes. shows_fault (made bytes).stop) (append-nil history) ∙ stood.unshown) refl refl)
     (λ lost. rw lost.0 (not_handed_on old before writers stood c.args.most c.in-Err.fault lost.1 lost.2))
     (c.in-Err.ensures.gives at.live)
 
@@ -69,7 +69,7 @@ record IsWritten (g : Over) (c : After-go_on-progress g) {history : List ℕ}
       (take c.judge-count.result.0 (take c.min-ready.result c.front.result.now)) c.judge-count.result.0
   took : MakesOf c.judge-count.new.self at.begun
       (take c.judge-count.result.0 (take c.min-ready.result c.front.result.now)) c.judge-count.result.1
-  gave : GivesFound g.W.OutDevice.state g.E.OutDevice.state c.ready_bytes.new.writers
+  gave : WritesFound g.W.OutDevice.state g.E.OutDevice.state c.ready_bytes.new.writers
       c.go_on-progress.new.writers c.judge-count.new.self at.bundles at.begun
       (take c.judge-count.result.0 (take c.min-ready.result c.front.result.now))
       c.go_on-progress.new.packer c.judge-count.result.1 took c.go_on-progress.result
@@ -101,8 +101,12 @@ written g c at =
           (c.judge-count.ensures.number ∙ at.holds.number) (omega arith) taken.some
           (cut_at packer judged at.begun c.judge-count.ensures.cutter c.judge-count.ensures.options
           at.holds.cut)
-          (omega (arith, c.judge-count.ensures.few, ap wanted_by c.judge-count.ensures.cutter,
-          length-take count (take ready shown))) took;
+          (omega (
+            arith,
+            c.judge-count.ensures.few,
+            ap wanted_by c.judge-count.ensures.cutter,
+            length-take count (take ready shown),
+          )) took;
     }
 
 pub returns-clause-gives : goal.returns-clause-gives

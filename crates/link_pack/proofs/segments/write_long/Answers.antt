@@ -1,6 +1,6 @@
 use Rattle.std.proofs.Common.{ℕ, List, ◌++◌, subst}
 use Rattle.std.proofs.lemmas.Result.{err_from_is_err_and}
-use Rattle.link_run.specs.Writers.{GivesTexts, WritesPart, on_output}
+use Rattle.link_run.specs.Writers.{AfterWrite, WritesPart, on_output}
 use Rattle.link_wire.specs.Spelling.{segment_head_bytes}
 use Rattle.link_pack.specs.Segments.{flags_of}
 use Rattle.link_pack.specs.declared.segment_text.HeadText.{HeadText}
@@ -35,7 +35,7 @@ returns g c =
     let output = g.W.OutDevice.state in
     let report = g.E.OutDevice.state in
     record {
-      gives = subst (λ (size : ℕ). GivesTexts output report c.args.writers.now
+      gives = subst (λ (size : ℕ). AfterWrite output report c.args.writers.now
           c.write_output.new.self (on_output (bytes_of head size ++ chunk)) c.write_output.result)
           c.requires.size
           (gives_then output report c.args.writers.now c.write_text.new.self

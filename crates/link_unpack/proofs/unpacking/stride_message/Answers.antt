@@ -8,7 +8,7 @@ use Rattle.link_run.specs.Stages.{Stands}
 use Rattle.link_run.specs.Writers.{place_of}
 use Rattle.link_run.proofs.Runs.{writes_none}
 use Rattle.link_unpack.specs.Unpacking.{unpacking_of}
-use Rattle.link_unpack.specs.UnpackRun.{GivesFar}
+use Rattle.link_unpack.specs.UnpackRun.{AfterUnpackStride}
 use Rattle.link_unpack.specs.declared.unpacking.Next.TheVariants as next
 use Rattle.link_unpack.specs.declared.unpacking.Stage.TheVariants as stage
 use Rattle.link_unpack.specs.declared.wanted.Wanted.{Wanted}
@@ -29,7 +29,7 @@ returns-in-Some-clause-gives g c = λ start history at knows.
     let result = c.take_on.result in
     let went = rw c.in-Some.ensures.0 at (c.take_message-next.ensures.gives start 4096 history at knows) in
     let P : Wanted → Type 0 = λ w. Stands look (unpacking_of w) start true (place_of (source_of read) between) (history ++ went.given) in
-    let Q : Wanted → Type 0 = λ w. GivesFar look start w read new between after v (history ++ went.given) result in
+    let Q : Wanted → Type 0 = λ w. AfterUnpackStride look start w read new between after v (history ++ went.given) result in
     let far = subst Q c.take_message-next.ensures.wanted (c.take_on.ensures.gives start (history ++ went.given) c.in-Some.ensures.1 (subst P (sym c.take_message-next.ensures.wanted) went.at.0.0) went.at.0.1) in
     far_later look start wanted old read new writers between after v _ longest_head history result went far
 

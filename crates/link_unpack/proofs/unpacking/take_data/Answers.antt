@@ -18,14 +18,14 @@ use Rattle.link_unpack.proofs.unpacking.take_data.Goals as goal
 pub returns-in-Err-clause-gives : goal.returns-in-Err-clause-gives
 returns-in-Err-clause-gives g c = λ start history at knows.
     let wanted = c.args.unpacker.now.latest.wanted in
-    data_ended (by_reading wanted) (made_is wanted) (inner_of c.args.input.now) (inner_of c.load_data.new.self) c.args.writers.now c.load_data.new.writers c.end.new.self at knows.session c.args.piece
-    (stop_is wanted (reading_of history) knows.taken) c.in-Err.stop _ (c.in-Err.ensures.gives history knows.session) c.end.ensures
+    data_ended (by_reading wanted) (made_is wanted) (inner_of c.args.input.now) (inner_of c.load_data.new.self) c.args.writers.now c.load_data.new.writers c.end.new.self at knows.session_at c.args.piece
+    (stop_is wanted (reading_of history) knows.taken) c.in-Err.stop _ (c.in-Err.ensures.gives history knows.session_at) c.end.ensures
 
 pub returns-in-Err-clause-handed : goal.returns-in-Err-clause-handed
 returns-in-Err-clause-handed g c = λ history knows other.
     handed_at_end (looks g.R.InDevice.state g.W.OutDevice.state g.E.OutDevice.state) (inner_of c.args.input.now) (inner_of c.load_data.new.self) c.args.writers.now c.load_data.new.writers c.end.new.self c.in-Err.stop _
-    (c.in-Err.ensures.gives history knows.session) c.end.ensures (λ e. other (ap next.Ended e))
-    (λ is. enough_by g.R.InDevice.state (inner_of c.args.input.now) (c.in-Err.ensures.handed (λ e. is (cc)) history knows.session))
+    (c.in-Err.ensures.gives history knows.session_at) c.end.ensures (λ e. other (ap next.Ended e))
+    (λ is. enough_by g.R.InDevice.state (inner_of c.args.input.now) (c.in-Err.ensures.handed (λ e. is (cc)) history knows.session_at))
 
 pub returns-in-Ok-clause-gives : goal.returns-in-Ok-clause-gives
 returns-in-Ok-clause-gives g c = λ start history at knows.
@@ -33,7 +33,7 @@ returns-in-Ok-clause-gives g c = λ start history at knows.
     let old = inner_of c.args.input.now in
     let mid = inner_of c.load_data.new.self in
     let u = c.args.unpacker.now in
-    let both = c.in-Ok.ensures.gives history knows.session in
+    let both = c.in-Ok.ensures.gives history knows.session_at in
     let got = both.1 in
     let stood = settled (source_of old) c.args.writers.now c.load_data.new.writers at both.0 in
     let ready = got.some (some_left look start c.args.last old c.args.writers.now u history at knows) in
@@ -46,6 +46,6 @@ pub returns-in-Ok-clause-handed : goal.returns-in-Ok-clause-handed
 returns-in-Ok-clause-handed g c = λ history knows other.
     let look = looks g.R.InDevice.state g.W.OutDevice.state g.E.OutDevice.state in
     let old = inner_of c.args.input.now in
-    let got = c.in-Ok.ensures.gives history knows.session in
+    let got = c.in-Ok.ensures.gives history knows.session_at in
     handed_next look (source_of old) (source_of (inner_of c.take_loaded.new.input)) c.args.writers.now c.load_data.new.writers c.take_loaded.new.writers c.take_loaded.result got.0
-    (enough_by look.input old (c.in-Ok.ensures.handed (λ e. absurd (cc)) history knows.session)) c.take_loaded.ensures.writes other
+    (enough_by look.input old (c.in-Ok.ensures.handed (λ e. absurd (cc)) history knows.session_at)) c.take_loaded.ensures.writes other

@@ -20,10 +20,10 @@ invariant-loop-left g l =
       live : IsLive look l.fn.source → IsLive look l.source;
       rest : IsLive look l.fn.source → (new : Source g.row.R.Denot)
           (outcome : Result (List Item) Halt)
-          → Gets look (items_at l.of (MAX_ITEMS - length l.items.items) l.left) l.source new outcome
-          → Gets look (items_at l.of MAX_ITEMS l.length) l.fn.source new
+          → Gets look (items_at l.owner (MAX_ITEMS - length l.items.items) l.left) l.source new outcome
+          → Gets look (items_at l.owner MAX_ITEMS l.length) l.fn.source new
           (with_before l.items.items outcome);
-      totals : l.of ≡ Transfer → HasTotals l.items.items;
+      totals : l.owner ≡ Transfer → HasTotals l.items.items;
     }
 
 abbrev pub decreases-loop-left : goal.decreases-loop-left

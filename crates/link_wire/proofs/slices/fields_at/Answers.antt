@@ -8,6 +8,6 @@ returns-in-4 c = rw c.plain_at.ensures (record {
   items = record { items = [] };
   is = rw c.in-4.is refl;
   list = tt;
-  places = tt;
+  spans = tt;
   within = c.requires;
 })

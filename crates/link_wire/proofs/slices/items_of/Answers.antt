@@ -43,7 +43,7 @@ loop-left-preserved c =
           (items_more _ _ _ c.loop-left-test.true _ _ c.in_ok-item.ensures.read _ _ _ _ one c.in_ok-next.ensures.read)
           ∙ with_items-append kept.before (item ∷ []) _
           ∙ ap (λ (size : ℕ). with_items (kept.before ++ item ∷ [])
-          (items_at c.args.of (room - 1) (c.loop-left.left - (5 + size)) rest)) (sym c.from.ensures);
+          (items_at c.args.owner (room - 1) (c.loop-left.left - (5 + size)) rest)) (sym c.from.ensures);
       within = c.in_ok-next.ensures.within;
       ends = omega (arith, kept.ends, c.in_ok-next.ensures.next, c.in_ok-item.ensures.next, c.in_ok-item.ensures.fits, c.from.ensures);
     }

@@ -9,8 +9,8 @@ use Rattle.link_wire.proofs.slices.items_of.Given as goal
 abbrev pub invariant-loop-left : goal.invariant-loop-left
 invariant-loop-left l = record {
   before : List Item;
-  reads : items_at l.of MAX_ITEMS l.size (drop l.start l.bytes)
-      ≡ with_items before (items_at l.of l.room l.left (drop l.at l.bytes));
+  reads : items_at l.owner MAX_ITEMS l.size (drop l.start l.bytes)
+      ≡ with_items before (items_at l.owner l.room l.left (drop l.at l.bytes));
   within : l.at ≤ length l.bytes;
   ends : l.at + l.left ≡ l.start + l.size;
 }

@@ -15,7 +15,7 @@ returns-then-flags-ne-START c =
         with_start = λ start. absurd (false≢true (sym later ∙ start));
         without_start = λ _. (refl, refl);
       };
-      places = record {
+      spans = record {
         with_start = λ start. absurd (false≢true (sym later ∙ start));
         without_start = λ _. refl;
       };

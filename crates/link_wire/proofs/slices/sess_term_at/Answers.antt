@@ -8,6 +8,6 @@ returns c = rw c.plain_at.ensures (record {
   items = record { items = [] };
   is = rw (c.in_ok-flags.ensures.read, c.in_ok-reason.ensures.read) refl;
   list = tt;
-  places = tt;
+  spans = tt;
   within = c.in_ok-reason.ensures.within;
 })

@@ -12,7 +12,7 @@ returns g c =
     ] in
     record {
       now = record { reader = c.run_tool-end.result.reader; output = c.run_tool-end.result.output; report = c.run_tool-end.result.report };
-      ends = c.run_tool-end.result.answer;
+      run_answer = c.run_tool-end.result.answer;
       run = c.run_tool-end.ensures;
       reads = refl;
       writes = c.handed_on-output.ensures;

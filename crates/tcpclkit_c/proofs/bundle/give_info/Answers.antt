@@ -2,8 +2,8 @@ use Rattle.std.proofs.Common.{◌≡◌, ℕ, refl, Option, Result, Ok, Err, ap,
 use Rattle.link_bundle_types.specs.BundleView.{viewed_info, viewed_verdict}
 use Rattle.link_bundle_types.specs.declared.fault.BundleFault.{BundleFault}
 use Rattle.link_bundle_types.specs.declared.info.BundleInfo.{BundleInfo}
-use Rattle.link_bundle.specs.Bundle.{verdict, payload_span, state_of}
-use Rattle.tcpclkit_c.specs.Bundle.{Names, state_status, verdict_shown, GivesBundle, GivesInfo}
+use Rattle.link_bundle.specs.Bundle.{verdict, payload_seen, state_of}
+use Rattle.tcpclkit_c.specs.Bundle.{Names, state_status, verdict_shown, ReturnsBundle, ReturnsInfo}
 use Rattle.tcpclkit_c.specs.declared.bundle.Bundle.{Bundle}
 use Rattle.tcpclkit_c.specs.declared.bundle.Verdict.{Verdict}
 use Rattle.link_bundle.proofs.Pieces.{verdict_judged}
@@ -11,7 +11,7 @@ use Rattle.tcpclkit_c.proofs.bundle.give_info.Goals as goal
 
 pub returns-in-Ok : goal.returns-in-Ok
 returns-in-Ok c = λ bytes judged.
-    let span = payload_span bytes in
+    let span = payload_seen bytes in
     let info = viewed_info c.in-Ok.info in
     let old : Names = record { destination = c.args.destination_name.now; source = c.args.source_name.now } in
     let new : Names = record { destination = c.give.new.destination_name; source = c.give.new.source_name } in
@@ -21,16 +21,16 @@ returns-in-Ok c = λ bytes judged.
     let shown : c.found-verdict.result ≡ verdict_shown (Ok info) span =
     c.found-verdict.ensures bytes judged ∙ ap (λ outcome. verdict_shown outcome span) (sym is) in
     subst (λ (outcome : Result BundleInfo (BundleFault × ℕ)).
-    GivesInfo outcome span old new c.give.new.answer c.give.result) is
+    ReturnsInfo outcome span old new c.give.new.answer c.give.result) is
     (subst (λ (verdict : Verdict).
-    GivesBundle info verdict old new c.give.new.answer c.give.result) shown
+    ReturnsBundle info verdict old new c.give.new.answer c.give.result) shown
     c.give.ensures)
 
 refused : (outcome : Result BundleInfo (BundleFault × ℕ)) (stop : BundleFault × ℕ)
     (span : Option (ℕ × ℕ)) (names : Names) (bundle : Bundle) (status : ℕ)
     → Err stop ≡ outcome → bundle.verdict ≡ verdict_shown outcome span
     → status ≡ state_status (state_of outcome)
-    → GivesInfo outcome span names names bundle status
+    → ReturnsInfo outcome span names names bundle status
 refused (Ok info) stop span names bundle status is shown same = cc
 refused (Err other) stop span names bundle status is shown same =
     record { verdict_is = shown; no_names = refl; stops = same }
@@ -38,7 +38,7 @@ refused (Err other) stop span names bundle status is shown same =
 pub returns-in-Err : goal.returns-in-Err
 returns-in-Err c = λ bytes judged.
     let seen = verdict_judged _ _ judged in
-    refused (verdict bytes) c.in-Err.field-0 (payload_span bytes) _ _ _
+    refused (verdict bytes) c.in-Err.field-0 (payload_seen bytes) _ _ _
     (ap viewed_verdict (sym c.in-Err.is) ∙ c.view.ensures.seen judged.seen judged.scanned ∙ seen)
     (c.found-verdict.ensures bytes judged)
     (c.state_status.ensures ∙ ap state_status (c.state.ensures.seen judged.seen judged.scanned)

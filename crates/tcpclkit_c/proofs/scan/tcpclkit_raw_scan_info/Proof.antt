@@ -4,9 +4,9 @@ use prog.Wp.{WpFn}
 use Rattle.link_bundle.specs.Scan.{HasJudged}
 use Rattle.link_bundle.specs.declared.scan.BundleScan.{BundleScan}
 use Rattle.link_bundle.specs.contracts.scan.BundleScan.{the_row as R}
-use Rattle.link_bundle.specs.Bundle.{verdict, payload_span}
+use Rattle.link_bundle.specs.Bundle.{verdict, payload_seen}
 use Rattle.link_bundle.proofs.Pieces.{all_judged}
-use Rattle.tcpclkit_c.specs.Bundle.{Names, GivesInfo}
+use Rattle.tcpclkit_c.specs.Bundle.{Names, ReturnsInfo}
 use Rattle.tcpclkit_c.specs.Scan.{HoldsScan}
 use Rattle.tcpclkit_c.proofs.Lending.{lent_scan, lends_scan, held_scan}
 use Rattle.tcpclkit_c.specs.contracts.bundle.Bundle.{the_row as B}
@@ -61,7 +61,7 @@ tcpclkit_raw_scan_info_spec 𝓤 𝓛 𝓜 𝓡 wired =
     (and_then ! (get ! refl) (and_then ! (get ! refl) (and_then ! (get ! refl) (and_then ! (get ! refl) (no_more !))))) (λ v.
     use1 𝓛 (later (some (λ (r : ℕ). ((‵ (flft κ full_share) ⊛ Tokens) ⊛ ‵ (u32.own_val r (v ∷ []))) ⊛
     some (λ (ws : Lasts g.ended z.0.0 z.0.3). ‵ (lasts g.ended z.0.0 z.0.3 ws) ⊛
-    raw (fact 𝓤 ((bytes : List ℕ) → HasJudged scan bytes → GivesInfo (verdict bytes) (payload_span bytes) before (record { destination = ws.1.0; source = ws.1.1.0 }) ws.1.1.1.0 r)))))) (id⊢ 𝓤 _) $
+    raw (fact 𝓤 ((bytes : List ℕ) → HasJudged scan bytes → ReturnsInfo (verdict bytes) (payload_seen bytes) before (record { destination = ws.1.0; source = ws.1.1.0 }) ws.1.1.1.0 r)))))) (id⊢ 𝓤 _) $
     await ! tt $ pick ! (λ r. split ! $ split ! $ split ! $ lft_end ! tt $
     move ! (2 ∷ []) $ peeks ! u32 (Is u32) (shows 𝓛 u32) r (v ∷ []) (λ is. lands_as ! refl refl ((uint_Lawful 𝓛 w32).typed r _ is).0 $
     move ! (3 ∷ []) $ pick ! (λ ws. split ! $ move ! (1 ∷ []) $ heard ! _ (λ gives. fsplit ! $
@@ -72,7 +72,7 @@ tcpclkit_raw_scan_info_spec 𝓤 𝓛 𝓜 𝓡 wired =
     use1 𝓛 (‵ (HoldsScan (block_ptr b o) seen)) (held_scan 𝓛 scan b o seen has) $
     move ! (1 ∷ []) $ nothing ! $ join ! $
     -- [what is left of the parameters; the scan; the result; the tokens]
-    use0 𝓛 (raw (fact 𝓤 (GivesInfo (verdict seen) (payload_span seen) before (record { destination = ws.1.0; source = ws.1.1.0 }) ws.1.1.1.0 r))) (fact_i 𝓤 (GivesInfo (verdict seen) (payload_span seen) before (record { destination = ws.1.0; source = ws.1.1.0 }) ws.1.1.1.0 r) (emp 𝓤) (gives seen (all_judged scan seen has))) $
+    use0 𝓛 (raw (fact 𝓤 (ReturnsInfo (verdict seen) (payload_seen seen) before (record { destination = ws.1.0; source = ws.1.1.0 }) ws.1.1.1.0 r))) (fact_i 𝓤 (ReturnsInfo (verdict seen) (payload_seen seen) before (record { destination = ws.1.0; source = ws.1.1.0 }) ws.1.1.1.0 r) (emp 𝓤) (gives seen (all_judged scan seen has))) $
     move ! (4 ∷ 1 ∷ 3 ∷ 2 ∷ []) $
     suffices ! _ (ends_at 𝓛 f.ended stayed c (y (block_ptr b o)) v r (tt, ws.1) (tt, (tt, (tt, (tt, tt))))) $
     group ! 3 $ done !)))))))))))

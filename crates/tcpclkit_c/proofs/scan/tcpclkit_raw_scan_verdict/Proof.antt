@@ -4,9 +4,9 @@ use prog.Wp.{WpFn}
 use Rattle.link_bundle.specs.Scan.{HasJudged}
 use Rattle.link_bundle.specs.declared.scan.BundleScan.{BundleScan}
 use Rattle.link_bundle.specs.contracts.scan.BundleScan.{the_row as R}
-use Rattle.link_bundle.specs.Bundle.{verdict, payload_span, state_of}
+use Rattle.link_bundle.specs.Bundle.{verdict, payload_seen, state_of}
 use Rattle.link_bundle.proofs.Pieces.{all_judged}
-use Rattle.tcpclkit_c.specs.Bundle.{GivesVerdict, state_status, verdict_shown}
+use Rattle.tcpclkit_c.specs.Bundle.{ReturnsVerdict, state_status, verdict_shown}
 use Rattle.tcpclkit_c.specs.Scan.{HoldsScan}
 use Rattle.tcpclkit_c.proofs.Lending.{lent_scan, lends_scan, held_scan}
 use Rattle.tcpclkit_c.specs.contracts.bundle.Verdict.{the_row as V}
@@ -54,7 +54,7 @@ tcpclkit_raw_scan_verdict_spec 𝓤 𝓛 𝓜 𝓡 wired =
     (and_then ! (get ! refl) (and_then ! (get ! refl) (no_more !))) (λ v.
     use1 𝓛 (later (some (λ (r : ℕ). ((‵ (flft κ full_share) ⊛ Tokens) ⊛ ‵ (u32.own_val r (v ∷ []))) ⊛
     some (λ (ws : Lasts g.ended z.0.0 z.0.3). ‵ (lasts g.ended z.0.0 z.0.3 ws) ⊛
-    raw (fact 𝓤 ((bytes : List ℕ) → HasJudged scan bytes → GivesVerdict bytes ws.1.0 r)))))) (id⊢ 𝓤 _) $
+    raw (fact 𝓤 ((bytes : List ℕ) → HasJudged scan bytes → ReturnsVerdict bytes ws.1.0 r)))))) (id⊢ 𝓤 _) $
     await ! tt $ pick ! (λ r. split ! $ split ! $ split ! $ lft_end ! tt $
     move ! (2 ∷ []) $ peeks ! u32 (Is u32) (shows 𝓛 u32) r (v ∷ []) (λ is. lands_as ! refl refl ((uint_Lawful 𝓛 w32).typed r _ is).0 $
     move ! (3 ∷ []) $ pick ! (λ ws. split ! $ move ! (1 ∷ []) $ heard ! _ (λ gives. fsplit ! $
@@ -66,7 +66,7 @@ tcpclkit_raw_scan_verdict_spec 𝓤 𝓛 𝓜 𝓡 wired =
     use1 𝓛 (‵ (HoldsScan (block_ptr b o) seen)) (held_scan 𝓛 scan b o seen has) $
     move ! (1 ∷ []) $ nothing ! $ join ! $
     -- [what is left of the parameters; the scan; the result; the tokens]
-    use0 𝓛 (raw (fact 𝓤 (ws.1.0 ≡ verdict_shown (verdict seen) (payload_span seen)))) (fact_i 𝓤 (ws.1.0 ≡ verdict_shown (verdict seen) (payload_span seen)) (emp 𝓤) end.numbers) $
+    use0 𝓛 (raw (fact 𝓤 (ws.1.0 ≡ verdict_shown (verdict seen) (payload_seen seen)))) (fact_i 𝓤 (ws.1.0 ≡ verdict_shown (verdict seen) (payload_seen seen)) (emp 𝓤) end.numbers) $
     use0 𝓛 (raw (fact 𝓤 (r ≡ state_status (state_of (verdict seen))))) (fact_i 𝓤 (r ≡ state_status (state_of (verdict seen))) (emp 𝓤) end.answers) $
     move ! (5 ∷ 2 ∷ 4 ∷ 3 ∷ []) $
     suffices ! _ (ends_at 𝓛 f.ended stayed c (y (block_ptr b o)) v r (tt, ws.1) (tt, (tt, tt))) $

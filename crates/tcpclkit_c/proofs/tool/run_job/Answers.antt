@@ -2,7 +2,7 @@ use Rattle.std.proofs.Common.{◌≡◌, Some, false, refl, ap}
 use Rattle.link_run.specs.Run.{looks, Devices}
 use Rattle.link_tools.specs.Options.{options_of}
 use Rattle.link_wire.specs.Device.{Input, Output}
-use Rattle.tcpclkit_c.specs.Tool.{tool_of}
+use Rattle.tcpclkit_c.specs.Tool.{tool_for}
 use Rattle.tcpclkit_c.specs.declared.device.KeptText.{KeptText}
 use Rattle.tcpclkit_c.specs.declared.device.SliceReader.{SliceReader}
 use Rattle.tcpclkit_c.proofs.Runs.{job_ran}
@@ -21,7 +21,7 @@ returns c =
     record { reader = c.new.result; output = c.new-2.result; report = c.new-3.result } in
     let now : Devices SliceReader KeptText KeptText =
     record { reader = end.reader; output = end.output; report = end.report } in
-    c.give_texts.ensures (tool_of (options_of c.args.job)) c.args.bytes.now
+    c.give_texts.ensures (tool_for (options_of c.args.job)) c.args.bytes.now
     (job_ran (looks reader_look text_look text_look) start now c.args.bytes.now end.reader.left.now
     c.text.result.now c.text-2.result.now
     (ap (λ (state : Input). state.left) c.new.ensures) refl

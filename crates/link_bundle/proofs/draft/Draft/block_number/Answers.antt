@@ -7,13 +7,13 @@ use Rattle.link_bundle.proofs.draft.Draft.block_number.Goals as goal
 
 pub returns : goal.returns
 unfolding field_left stage_left number_left
-returns c = as_judged (search rules) (search rules) (λ next place bytes start outcome within.
+returns c = as_judged (search rules) (search rules) (λ next offset bytes start outcome within.
     let now = c.args.self.now in
     let more = length-append now.numbers (c.in_ok-number.number ∷ []) in
     let left : 64 - (length now.numbers + 1) ≡ 63 - length now.numbers = omega arith in
     rw (
       c.push.ensures,
-      row_at-accepted (block_number now.block_type now.numbers) bytes place next c.args.head
+      row_at-accepted (block_number now.block_type now.numbers) bytes offset next c.args.head
           c.in_ok-number.number outcome
           (ap (λ (numbers : List ℕ). block_number now.block_type numbers c.args.head)
           (sym c.as_slice.ensures.value)

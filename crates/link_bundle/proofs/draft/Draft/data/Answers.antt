@@ -11,12 +11,12 @@ use Rattle.link_bundle.proofs.draft.Draft.data.Goals as goal
 
 pub returns : goal.returns
 unfolding field_left stage_left data_left
-returns c = as_judged (search rules) (search rules) (λ place bytes start outcome within.
+returns c = as_judged (search rules) (search rules) (λ offset bytes start outcome within.
     let now = c.args.self.now in
-    rw (row_at-accepted byte_string bytes place c.args.next c.args.head c.in_ok-size.size outcome
+    rw (row_at-accepted byte_string bytes offset c.args.next c.args.head c.in_ok-size.size outcome
     (sym c.byte_string.ensures.judged ∙ c.in_ok-size.was))
     (ap (λ (r : Result Bundle Stop). read_alone bytes r)
-    (data_read now.payload c.then_some-self.result (now.block_type == 1) now.numbers
+    (data_read now.payload_span c.then_some-self.result (now.block_type == 1) now.numbers
     (primary_of now) (kind_of now.check) c.in_ok-size.size start c.args.next bytes c.requires
     c.then_some-self.ensures)
     ∙ c.content.ensures.reads bytes start c.args.next within))

@@ -11,18 +11,18 @@ use Rattle.link_bundle.proofs.draft.Draft.ipn.Goals as goal
 
 pub returns-in-3 : goal.returns-in-3
 unfolding field_left stage_left specific_at ipn_at allocator_left node_left service_left
-returns-in-3 c = as_judged (search rules) (search rules) (λ next place bytes start outcome within.
-    rw (row_at-accepted ipn_part bytes place next c.args.head 3 outcome
+returns-in-3 c = as_judged (search rules) (search rules) (λ next offset bytes start outcome within.
+    rw (row_at-accepted ipn_part bytes offset next c.args.head 3 outcome
     (sym c.ipn_part.ensures.judged ∙ c.in_ok-ipn_part.was ∙ ap Ok c.in-3.is)) refl)
 
 pub returns-in_default : goal.returns-in_default
 unfolding field_left stage_left specific_at ipn_at node_left service_left
 returns-in_default c =
-    as_judged (search rules) (search rules) (λ next place bytes start outcome within.
+    as_judged (search rules) (search rules) (λ next offset bytes start outcome within.
     let two : (c.in_ok-ipn_part.field-0 == 3) ≡ false =
     ne_eqb c.in_ok-ipn_part.field-0 3 (λ three. omega arith) in
     rw (
-      row_at-accepted ipn_part bytes place next c.args.head c.in_ok-ipn_part.field-0 outcome
+      row_at-accepted ipn_part bytes offset next c.args.head c.in_ok-ipn_part.field-0 outcome
           (sym c.ipn_part.ensures.judged ∙ c.in_ok-ipn_part.was),
       two,
     )

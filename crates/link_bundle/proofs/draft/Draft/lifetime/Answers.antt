@@ -8,7 +8,7 @@ use Rattle.link_bundle.proofs.draft.Draft.lifetime.Goals as goal
 
 pub returns : goal.returns
 unfolding field_left stage_left lifetime_left offset_left fragment_at
-returns c = as_judged (search rules) (search rules) (λ next place bytes start outcome within.
-    rw (row_at-accepted unsigned bytes place next c.args.head c.in_ok-self.field-0 outcome
+returns c = as_judged (search rules) (search rules) (λ next offset bytes start outcome within.
+    rw (row_at-accepted unsigned bytes offset next c.args.head c.in_ok-self.field-0 outcome
     (sym c.unsigned.ensures.judged ∙ c.in_ok-self.was))
     (rw (← c.if-is_fragment.ensures) (c.after_fields.ensures.reads bytes start next)))

@@ -16,14 +16,14 @@ ended : (c : In_ok-service) (allocator : Option ℕ) (stage : Stage) (new : Draf
     → c.args.self.now.allocator ≡ allocator
     → EidEnds c.args.role (numbered allocator c.args.self.now.node c.in_ok-service.service)
     c.args.self.now stage new
-    → (next place : ℕ)
-    → AsReadFrom place next (field.Endpoint c.args.role part.Service) c.args.self.now c.args.head
+    → (next offset : ℕ)
+    → AsReadFrom offset next (field.Endpoint c.args.role part.Service) c.args.self.now c.args.head
     (Ok stage) new
 unfolding field_left stage_left service_left
-ended c allocator stage new is ends next place bytes start outcome within =
+ended c allocator stage new is ends next offset bytes start outcome within =
     let now = c.args.self.now in
     let service = c.in_ok-service.service in
-    rw (row_at-accepted unsigned bytes place next c.args.head service outcome
+    rw (row_at-accepted unsigned bytes offset next c.args.head service outcome
     (sym c.unsigned.ensures.judged ∙ c.in_ok-service.was))
     (ap (λ (allocator : Option ℕ). by_eid c.args.role now start bytes
     (Ok (numbered allocator now.node service, next))) is

@@ -10,6 +10,6 @@ returns-clause-read c =
     rw (
       opens c.args.bytes.now c.requires.some c.if-bytes.false,
       c.in_ok-check.ensures.read,
-      c.in_ok-place.ensures,
+      c.in_ok-offset.ensures,
       c.in_ok-payload.ensures (primary_of c.primary_at.new.self),
     ) refl

@@ -5,7 +5,7 @@ use Rattle.std.proofs.lemmas.List.Elements.{All-from_get_or}
 use Rattle.link_bundle.specs.declared.stage.Stage.{Stage}
 use Rattle.link_bundle.specs.CheckKinds.{is_unread}
 use Rattle.link_bundle.specs.Left.{bundle_of}
-use Rattle.link_bundle.specs.Scan.{HasCome}
+use Rattle.link_bundle.specs.Scan.{HasSeen}
 use Rattle.link_bundle.proofs.Alone.{BeginsWith, begins_with, whole_come, goes_in_whole, restarted}
 use Rattle.link_bundle.proofs.Fields.{before_and, after_and}
 use Rattle.link_bundle.proofs.Steps.{at_stage, fits_at}
@@ -31,7 +31,7 @@ returns-in-Ok c =
       within = begins_here.within;
       size = search rules;
       seen = λ seen come.
-          whole_come now.cursor (record now.cursor { count = count; place = count }) now.draft
+          whole_come now.cursor (record now.cursor { count = count; offset = count }) now.draft
           c.whole.new.self
           seen piece size
           (at_stage now _ seen c.requires.stage come)
@@ -55,13 +55,13 @@ returns-in-Err c = record {
       let here = at_stage now _ seen c.requires.stage come in
       let fits = fits_at now _ c.requires.stage in
       let unread = before_and (is_unread now.draft.check) (length now.draft.numbers == 0)
-      (after_and (is_none now.draft.payload)
+      (after_and (is_none now.draft.payload_span)
       (is_unread now.draft.check && (length now.draft.numbers == 0)) fits) in
-      subst (λ (run : List ℕ). HasCome c.open.new.self.stage c.open.new.self.cursor
+      subst (λ (run : List ℕ). HasSeen c.open.new.self.stage c.open.new.self.cursor
       c.open.new.self.draft (seen ++ run))
       (sym (take_more piece 0 0 c.requires.may_take.some))
       (c.open.ensures.seen seen
-      (subst (λ (stage : Stage). HasCome stage now.cursor c.restart.new.self seen)
+      (subst (λ (stage : Stage). HasSeen stage now.cursor c.restart.new.self seen)
       (sym c.requires.stage)
       (restarted now.cursor now.draft c.restart.new.self seen here unread
       c.restart.ensures.check)));

@@ -1,14 +1,14 @@
 use Rattle.std.proofs.Common.{List, ℕ, ◌∷◌, [], ◌++◌, drop, sym, subst, arith, rules}
-use Rattle.link_cbor.specs.HeadScan.{HasScanned as HasScannedHead}
+use Rattle.link_cbor.specs.HeadScan.{HasScannedHead}
 use Rattle.link_bundle.specs.declared.stage.Stage.{Stage}
-use Rattle.link_bundle.specs.Scan.{HasCome, HasScanned, HeadCame}
+use Rattle.link_bundle.specs.Scan.{HasSeen, HasScanned, HasSeenHead}
 use Rattle.link_bundle.proofs.Steps.{at_stage, one_byte, grown_head, grown_bytes, more_head, bad_head}
 use Rattle.link_bundle.proofs.scan.BundleScan.head_byte.Goals as goal
 use Rattle.link_bundle.proofs.scan.BundleScan.head_byte.Goals.{After-head_byte}
 
 -- the head with the byte
 grown : (c : After-head_byte) (seen : List ℕ) → HasScanned c.args.self.now seen
-    → HeadCame c.args.field c.head_byte.new.self c.args.self.now.draft (seen ++ c.args.byte ∷ [])
+    → HasSeenHead c.args.field c.head_byte.new.self c.args.self.now.draft (seen ++ c.args.byte ∷ [])
 grown c seen come =
     let now = c.args.self.now in
     grown_head c.args.field now.cursor c.head_byte.new.self now.draft seen (c.args.byte ∷ [])
@@ -17,11 +17,11 @@ grown c seen come =
 
 scanned : (c : After-head_byte) (seen : List ℕ) → HasScanned c.args.self.now seen
     → HasScannedHead c.head_byte.new.self.head
-    (drop c.head_byte.new.self.place (seen ++ c.args.byte ∷ []))
+    (drop c.head_byte.new.self.offset (seen ++ c.args.byte ∷ []))
 scanned c seen come =
     let now = c.args.self.now in
     grown_bytes c.args.field now.cursor c.head_byte.new.self now.draft seen c.args.byte
-    (at_stage now _ seen c.requires.stage come) c.head_byte.ensures.takes.place
+    (at_stage now _ seen c.requires.stage come) c.head_byte.ensures.takes.offset
     c.head_byte.ensures.head
 
 pub returns-in-More : goal.returns-in-More
@@ -32,10 +32,10 @@ returns-in-More c = record {
       let new = c.head_byte.new.self in
       let bytes = seen ++ c.args.byte ∷ [] in
       let head = scanned after seen come in
-      subst (λ (stage : Stage). HasCome stage new c.args.self.now.draft bytes)
+      subst (λ (stage : Stage). HasSeen stage new c.args.self.now.draft bytes)
       (sym c.requires.stage)
       (more_head c.args.field new c.args.self.now.draft bytes (grown after seen come) head
-      (c.in-More.ensures.front (drop new.place bytes) head));
+      (c.in-More.ensures.front (drop new.offset bytes) head));
 }
 
 pub returns-in-Bad : goal.returns-in-Bad
@@ -46,7 +46,7 @@ returns-in-Bad c = record {
       let new = c.head_byte.new.self in
       let bytes = seen ++ c.args.byte ∷ [] in
       bad_head c.args.field new c.args.self.now.draft bytes (grown after seen come)
-      (c.in-Bad.ensures.front (drop new.place bytes) (scanned after seen come));
+      (c.in-Bad.ensures.front (drop new.offset bytes) (scanned after seen come));
 }
 
 pub returns-in-Done : goal.returns-in-Done
@@ -56,5 +56,5 @@ returns-in-Done c = record {
       let after = (goal.at.returns-in-Done c).After-head_byte in
       let bytes = seen ++ c.args.byte ∷ [] in
       c.take_head-self.ensures.seen bytes (grown after seen come)
-      (c.in-Done.ensures.front (drop c.head_byte.new.self.place bytes) (scanned after seen come));
+      (c.in-Done.ensures.front (drop c.head_byte.new.self.offset bytes) (scanned after seen come));
 }

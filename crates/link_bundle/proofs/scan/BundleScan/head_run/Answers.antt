@@ -17,6 +17,6 @@ returns c = record {
       (λ k within. omega (arith, c.type_inv.run k)))
       c.content_run.ensures)
       (subst (λ (bytes : List ℕ). head_front bytes ≡ Whole c.args.head (length bytes))
-      (sym (after_seen c.content_run.new.self.place seen run
-      (c.content_run.ensures.place ∙ c.requires.begins ∙ come.count))) c.requires.whole);
+      (sym (after_seen c.content_run.new.self.offset seen run
+      (c.content_run.ensures.offset ∙ c.requires.begins ∙ come.count))) c.requires.whole);
 }

@@ -16,10 +16,10 @@ record IsStoring (left stored : ℕ) (kind : CheckKind) (check : CheckType) (byt
   more : HasRoom left stored byte
   same : check ≡ Is (Some kind)
 
-storing : (scan : BundleScan) (place left stored : ℕ) (kind : CheckKind) (byte : ℕ)
-    → scan.stage ≡ Stored place left stored kind → byte < 256
+storing : (scan : BundleScan) (offset left stored : ℕ) (kind : CheckKind) (byte : ℕ)
+    → scan.stage ≡ Stored offset left stored kind → byte < 256
     → IsStoring left stored kind scan.draft.check byte
-storing scan place left stored kind byte is small =
+storing scan offset left stored kind byte is small =
     let fits = fits_at scan _ is in
     let same_kind = is_kind (kind_of scan.draft.check) kind in
     record {
@@ -46,7 +46,7 @@ returns-then-left-gt1 c = record {
       let now = c.args.self.now in
       let here = at_stage now _ seen c.requires.stage come in
       rw c.from.ensures
-      (grown_stored c.args.place c.args.left c.args.stored c.args.kind now.cursor
+      (grown_stored c.args.offset c.args.left c.args.stored c.args.kind now.cursor
       c.content_run.new.self now.draft seen c.args.byte
       here (omega arith) (omega arith)
       c.content_run.ensures);
@@ -58,7 +58,7 @@ returns-then-stored-value c = record {
   seen = λ seen come.
       let now = c.args.self.now in
       let at = storing now _ _ _ _ c.args.byte c.requires.stage (omega arith) in
-      equal_stored c.args.place c.args.left c.args.stored c.value.result c.args.kind now.cursor
+      equal_stored c.args.offset c.args.left c.args.stored c.value.result c.args.kind now.cursor
       c.content_run.new.self c.enter.new.self
       now.draft c.after_block-stage.new.self c.after_block-stage.result seen c.args.byte
       (at_stage now _ seen c.requires.stage come)
@@ -76,7 +76,7 @@ returns-else-stored-value c = record {
   seen = λ seen come.
       let now = c.args.self.now in
       let at = storing now _ _ _ _ c.args.byte c.requires.stage (omega arith) in
-      other_stored c.args.place c.args.left c.args.stored c.value.result c.args.kind now.cursor
+      other_stored c.args.offset c.args.left c.args.stored c.value.result c.args.kind now.cursor
       c.content_run.new.self now.draft seen c.args.byte
       (at_stage now _ seen c.requires.stage come) (omega arith) (omega (arith, at.more.wants))
       (ne_eqb (c.args.stored * 256 + c.args.byte) c.value.result

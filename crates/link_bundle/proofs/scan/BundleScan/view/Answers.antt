@@ -18,5 +18,5 @@ returns-in-Ended-clause-seen c = λ seen come.
 pub returns-in-Failed-clause-seen : goal.returns-in-Failed-clause-seen
 returns-in-Failed-clause-seen c = λ seen come.
     let now = c.args.self.now in
-    sym (verdict-failed now.stage now.cursor now.draft seen c.in-Failed.fault c.in-Failed.place come
+    sym (verdict-failed now.stage now.cursor now.draft seen c.in-Failed.fault c.in-Failed.offset come
     (sym c.state.ensures ∙ c.in-Failed.is))

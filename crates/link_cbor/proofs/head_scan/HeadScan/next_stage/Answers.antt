@@ -1,5 +1,5 @@
 use Rattle.std.proofs.Common.{◌≡◌, ◌+◌, ◌*◌, ◌^◌, ◌<◌, true, arith}
-use Rattle.link_cbor.specs.Stage.{stage_fits}
+use Rattle.link_cbor.specs.Stage.{head_stage_fits}
 use Rattle.link_cbor.specs.declared.head_scan.Stage.TheVariants.{Argument}
 use Rattle.link_cbor.proofs.Stages.{value_fits, argument_fits, begins-start, stands-next, stands-low, stands-high}
 use Rattle.link_cbor.proofs.head_scan.HeadScan.next_stage.Goals as goal
@@ -7,7 +7,7 @@ use Rattle.link_cbor.proofs.head_scan.HeadScan.next_stage.Goals.{In-Argument}
 
 -- the bounds of an argument, which the scan keeps with its stage
 kept : (c : In-Argument)
-    → stage_fits c.args.self.now.count
+    → head_stage_fits c.args.self.now.count
     (Argument c.in-Argument.major c.in-Argument.left c.in-Argument.value) ≡ true
 kept c = rw c.in-Argument.is at c.args.self.now.fits
 

@@ -1,5 +1,5 @@
 use Rattle.std.proofs.Common.{length, sym, ap, ◌∙◌}
-use Rattle.link_cbor.specs.Head.{front_of}
+use Rattle.link_cbor.specs.Head.{front_by_step}
 use Rattle.link_cbor.proofs.Stages.{outcome_front, outcome_step}
 use Rattle.link_cbor.proofs.head_scan.HeadScan.outcome.Goals as goal
 
@@ -12,4 +12,4 @@ returns-clause-seen c seen scanned =
 pub returns-clause-front : goal.returns-clause-front
 returns-clause-front c seen scanned =
     outcome_front c.args.self.now.count c.args.self.now.stage seen scanned.count scanned.stands
-    ∙ ap (λ step. front_of step (length seen)) (sym c.outcome.ensures)
+    ∙ ap (λ step. front_by_step step (length seen)) (sym c.outcome.ensures)

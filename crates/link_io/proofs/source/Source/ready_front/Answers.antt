@@ -1,6 +1,6 @@
 use Rattle.std.proofs.Common.{◌≡◌, ◌<◌, ℕ, suc, zero, [], length, Result, Ok, Err, IfOk, ap, sym, refl, arith, ◌∙◌}
 use Rattle.link_io.specs.Device.{Input}
-use Rattle.link_io.specs.Source.{front_of, window_of, HasEnded, GivesReady, GivesFront}
+use Rattle.link_io.specs.Source.{front_of, window_of, HasEnded, AfterReady, AfterReadyFront}
 use Rattle.link_io.specs.declared.fault.IoFault.{IoFault}
 use Rattle.link_io.specs.declared.source.Source.{Source}
 use Rattle.link_io.proofs.Sources.{Readies-none, front_empty, front_ended, front_failed, front_window}
@@ -19,7 +19,7 @@ module _ {R : Type 0} (look : R → Input) (s : Source R) where
   size_by (Err fault) size over = tt
 
 by_window : {R : Type 0} (look : R → Input) (old new : Source R) (result : Result ℕ IoFault)
-    → GivesReady look old new result → GivesFront look old new result
+    → AfterReady look old new result → AfterReadyFront look old new result
 by_window look old new (Ok n) gives = record {
   readies = gives.readies;
   live = gives.live;

@@ -6,7 +6,7 @@ use Rattle.link_pack.proofs.packer.Packer.cut_short.Goals as goal
 pub returns-in-Err : goal.returns-in-Err
 returns-in-Err c = λ begun scanned goes.
     let outcome = sym (c.view.ensures.seen begun scanned) ∙ ap viewed_verdict c.in-Err.is in
-    let mends = open_mends begun c.in-Err.fault c.in-Err.place outcome goes in (
+    let mends = open_mends begun c.in-Err.fault c.in-Err.offset outcome goes in (
       omega (arith, c.count.ensures.seen begun scanned, c.if-count-eq0.false),
-      (record { fault = c.in-Err.fault; place = c.in-Err.place; is = outcome; mends = mends }, refl),
+      (record { fault = c.in-Err.fault; offset = c.in-Err.offset; is = outcome; mends = mends }, refl),
     )

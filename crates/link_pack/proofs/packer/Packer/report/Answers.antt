@@ -1,6 +1,6 @@
 use Rattle.std.proofs.Common.{ℕ, List, sym, ap, ◌∙◌, subst}
 use Rattle.link_bundle_types.specs.BundleView.{viewed_verdict}
-use Rattle.link_run.specs.Writers.{GivesTexts, on_report}
+use Rattle.link_run.specs.Writers.{AfterWrite, on_report}
 use Rattle.link_transfer.specs.Chunks.{chunk_count}
 use Rattle.link_pack.proofs.Taking.{chunks_counted, line_is}
 use Rattle.link_pack.proofs.packer.Packer.report.Goals as goal
@@ -12,5 +12,5 @@ returns g c = λ bytes info scanned outcome.
     let text = line_is c.args.self.now.options c.args.self.now.number c.div_ceil.result size bytes _ info counted
     (c.count-length.ensures.seen bytes scanned)
     (sym (ap viewed_verdict c.in-Ok.is) ∙ c.view.ensures.seen bytes scanned ∙ outcome) in
-    let P : List ℕ → Type 0 = λ line. GivesTexts g.W.OutDevice.state g.E.OutDevice.state c.args.writers.now c.report_text.new.self (on_report line) c.report_text.result in
+    let P : List ℕ → Type 0 = λ line. AfterWrite g.W.OutDevice.state g.E.OutDevice.state c.args.writers.now c.report_text.new.self (on_report line) c.report_text.result in
     subst P text c.report_text.ensures.gives

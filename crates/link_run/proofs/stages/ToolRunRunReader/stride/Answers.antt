@@ -1,7 +1,7 @@
 use Rattle.std.proofs.Common.{◌<◌, ◌∙◌, Option, Result, subst}
 use Rattle.link_wire.specs.declared.IoFault.{IoFault}
 use Rattle.link_run.specs.Reading.{inner_of}
-use Rattle.link_run.specs.Stages.{most_by}
+use Rattle.link_run.specs.Stages.{most_unless_ended}
 use Rattle.link_run.specs.Writers.{place_of}
 use Rattle.link_run.specs.declared.run.Status.{Status}
 use Rattle.link_run.proofs.Strides.{stage_kept}
@@ -10,7 +10,7 @@ use Rattle.link_run.proofs.stages.ToolRunRunReader.stride.Goals as goal
 pub returns-clause-gives : goal.returns-clause-gives
 returns-clause-gives g c = λ start history at.
     let strode = c.stride-progress.ensures.gives start history at.1.0 at.1.1 in
-    let P : Option (Result Status IoFault) → Type 0 = λ answer. 0 < most_by answer (g.T.Stages.most c.args.self.now.tool) in
+    let P : Option (Result Status IoFault) → Type 0 = λ answer. 0 < most_unless_ended answer (g.T.Stages.most c.args.self.now.tool) in
     let S = g.S.Feed.source in
     let next = c.stride-progress.new in (
       strode.0,

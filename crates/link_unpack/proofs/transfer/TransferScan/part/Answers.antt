@@ -11,14 +11,14 @@ returns-in-Some-clause-part c = λ transfer closed id size judged.
     let now = c.args.self.now in
     let piece = c.args.piece.now in
     let count = c.in-Some.count in
-    let place = c.in-Some.place in
+    let offset = c.in-Some.offset in
     let selected : is_selected now.wanted.only transfer.first.id ≡ true =
     ap (is_selected now.wanted.only) (sym id) ∙ sym c.if-not-is_selected.ensures in
     let bytes : length (transfer.content ++ piece) < 2 ^ 64 = omega (arith, length-append transfer.content piece) in
-    let more = part_some now.scan transfer.content piece judged place count (2 ^ 64) c.in-Some.ensures bytes in
+    let more = part_some now.scan transfer.content piece judged offset count (2 ^ 64) c.in-Some.ensures bytes in
     let before : now.size - length piece ≡ length transfer.content = omega arith in
     part_of-payload now.wanted transfer piece _ closed selected c.if-not-self.false
-    (more.1 ∙ ap (λ start. payload_in transfer.content ++ part_in piece start place count) (sym before)
+    (more.1 ∙ ap (λ start. payload_in transfer.content ++ part_in piece start offset count) (sym before)
     ∙ ap (λ xs. payload_in transfer.content ++ xs) (sym (c.payload_part.ensures.part more.0)))
 
 pub returns-in-None-clause-part : goal.returns-in-None-clause-part

@@ -18,7 +18,7 @@ returns-clause-gives g c = λ history at.
     let head = subst P (sym c.set.ensures.message) (c.requires.head.is c.args.message.now.node) in
     let content = take c.data_length.result (drop size window) in
     let count = c.data_length.result in
-    let of : data_length (message_of c.set.new.self) ≡ count = ap data_length c.set.ensures.message ∙ sym (c.data_length.ensures _ _) in
+    let owner : data_length (message_of c.set.new.self) ≡ count = ap data_length c.set.ensures.message ∙ sym (c.data_length.ensures _ _) in
     let fits : size + count ≤ length window = omega (arith, c.requires.within, c.data_length.ensures c.args.message.now.node c.args.message.now.items) in
     let is : count ≡ length content = omega (arith, fits, length-take count (drop size window), length-drop size window) in
-    rw here (came_whole old history at (none_left old at.going c.requires.may_read) _ _ c.give.ensures.takes (c.give.ensures.live at.live) (none_left old at.going c.requires.may_read) at.going (take size window) content (message_of c.set.new.self) (take-add size c.data_length.result window) (omega (arith, old.source.room, length-take (size + count) window, fits, length-take (old.source.end - old.source.start) (drop old.source.start old.source.window))) head (of ∙ is))
+    rw here (came_whole old history at (none_left old at.going c.requires.may_read) _ _ c.give.ensures.takes (c.give.ensures.live at.live) (none_left old at.going c.requires.may_read) at.going (take size window) content (message_of c.set.new.self) (take-add size c.data_length.result window) (omega (arith, old.source.room, length-take (size + count) window, fits, length-take (old.source.end - old.source.start) (drop old.source.start old.source.window))) head (owner ∙ is))
