@@ -16,6 +16,7 @@ use Rattle.link_wire.specs.declared.message.MessageBuffer.{MessageBuffer}
 use Rattle.link_wire.specs.declared.session.Session.{Session}
 use Rattle.link_transfer.specs.Joiner.{IsJoinerAt}
 use Rattle.link_transfer.specs.Order.{continuable}
+use Rattle.link_transfer.specs.declared.joiner.Joiner.{Joiner}
 use Rattle.link_transfer.specs.declared.joiner.Turn.TheVariants as effects
 use Rattle.link_transfer.proofs.Continuing.{may_continue, continues_open, joiner_stays}
 use Rattle.link_run.specs.Run.{Looks, Devices, devices_at, WentOn, EndedRun}
@@ -42,7 +43,7 @@ pub record TakesPart (old new : TransferScan) (content part : List ℕ) : Type 0
   pub follows : (transfer : Transfer) (closed : Bool) (earlier : List Transfer)
       → old.total + length content < 2 ^ 63 → IsAtTransfer old transfer earlier
       → IsAtTransfer new (grown transfer content closed) earlier
-  pub part : (transfer : Transfer) (closed : Bool) (earlier : List Transfer)
+  pub selects : (transfer : Transfer) (closed : Bool) (earlier : List Transfer)
       → old.total + length content < 2 ^ 63 → IsAtTransfer old transfer earlier
       → part_of old.wanted (grown transfer content closed) ≡ part_of old.wanted transfer ++ part
   pub wanted : new.wanted ≡ old.wanted
@@ -106,7 +107,7 @@ module _ {R W E : Type 0} (look : Looks R W E) (start : Devices R W E)
   module _ (latest : TransferScan) (part : List ℕ) (taken : TakesPart u.latest latest content part) where
     part_now : part_of wanted (grown going.transfer content closes)
         ≡ part_of wanted going.transfer ++ part
-    part_now = taken.part going.transfer closes going.earlier bound going.follows
+    part_now = taken.selects going.transfer closes going.earlier bound going.follows
 
     abbrev v : Unpacker
     v = record { joiner = u.joiner; latest = latest; good = u.good }
@@ -182,7 +183,9 @@ module _ {R W E : Type 0} (look : Looks R W E) where
       got = passes here at_here.session_at
 
       is_continued : continuable (unpacked_from u.latest.wanted here).taken ≡ Some id
-      is_continued = sym (open_is (unpacked_from u.latest.wanted here).taken (rw joiner at at_here.joiner))
+      is_continued =
+          let P : Joiner → Type 0 = λ j. IsJoinerAt j (unpacked_from u.latest.wanted here).taken in
+          sym (open_is (unpacked_from u.latest.wanted here).taken (subst P joiner at_here.joiner))
 
       then_turn : (result : Next)
           → StandsNext look start t.latest.wanted new after after_turn ((here ++ got.read.given) ++ content) result

@@ -12,5 +12,5 @@ returns-in-Message-clause-handed g c = λ history. rw c.in-Message.is (c.stride_
 
 pub returns-clause-gives : goal.returns-clause-gives
 returns-clause-gives g c = λ start history at knows.
-    far_step (looks g.R.InDevice.state g.W.OutDevice.state g.E.OutDevice.state) start c.args.unpacker.now.latest.wanted 8192 c.args.stage (inner_of c.args.input.now) (inner_of c.advance.new.input) c.args.writers.now c.advance.new.writers c.advance.new.unpacker history c.advance.result
-    (most_some 8192 c.args.stage (omega arith)) (c.advance.ensures.gives start history at knows)
+    far_step (looks g.R.InDevice.state g.W.OutDevice.state g.E.OutDevice.state) start c.args.unpacker.now.latest.wanted 18446744073709551615 c.args.stage (inner_of c.args.input.now) (inner_of c.advance.new.input) c.args.writers.now c.advance.new.writers c.advance.new.unpacker history c.advance.result
+    (most_some 18446744073709551615 c.args.stage (omega arith)) (c.advance.ensures.gives start history at knows)

@@ -1,4 +1,4 @@
-use Rattle.std.proofs.Common.{◌≡◌, ◌<◌, inr, length, subst}
+use Rattle.std.proofs.Common.{◌≡◌, ◌<◌, inr, length, subst, arith}
 use Rattle.std.proofs.lemmas.Bool.Decides.{nat_tests}
 use Rattle.link_io.proofs.Sources.{none_ahead}
 use Rattle.link_io.proofs.Windows.{begins_some}

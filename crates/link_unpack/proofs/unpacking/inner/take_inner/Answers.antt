@@ -26,7 +26,7 @@ segments-init g c = record {
 }
 
 pub pass_inner-requires-clause-inner : goal.pass_inner-requires-clause-inner
-pass_inner-requires-clause-inner g c = (c.in-Some.id, c.in-Some-2.ensures.is)
+pass_inner-requires-clause-inner g c = (c.in-Some.id, c.in-Some-inner_data.ensures.is)
 
 pub segments-preserved : goal.segments-preserved
 segments-preserved g c =
@@ -34,13 +34,13 @@ segments-preserved g c =
     let kept = c.segments.invariant in
     let old = inner_of c.segments.input in
     let new = inner_of c.pass_inner.new.self in
-    let content = c.in-Some-2.content.now in
+    let content = c.in-Some-inner_data.content.now in
     let part = c.take-part.result.now in
     let P : List ℕ → Type 0 = λ bytes. (history : List ℕ) → IsSessionAt look.input old history → PassedInner look.input old new history c.in-Some.id bytes in
-    let passes = subst P (sym c.in-Some-2.ensures.bytes) (λ history session. c.pass_inner.ensures.gives c.in-Some.id history session c.in-Some-2.ensures.is) in
+    let passes = subst P (sym c.in-Some-inner_data.ensures.bytes) (λ history session. c.pass_inner.ensures.gives c.in-Some.id history session c.in-Some-inner_data.ensures.is) in
     let taken : TakesPart c.segments.unpacker.latest c.take-part.new.self content part = record {
       follows = c.take-part.ensures.follows;
-      part = c.take-part.ensures.part;
+      selects = c.take-part.ensures.part;
       wanted = c.take-part.ensures.wanted;
       total = c.take-part.ensures.total;
     } in
@@ -60,13 +60,13 @@ returns-in-Err-clause-gives g c =
     let kept = c.segments.invariant in
     let old = inner_of c.segments.input in
     let new = inner_of c.pass_inner.new.self in
-    let content = c.in-Some-2.content.now in
+    let content = c.in-Some-inner_data.content.now in
     let part = c.take-part.result.now in
     let P : List ℕ → Type 0 = λ bytes. (history : List ℕ) → IsSessionAt look.input old history → PassedInner look.input old new history c.in-Some.id bytes in
-    let passes = subst P (sym c.in-Some-2.ensures.bytes) (λ history session. c.pass_inner.ensures.gives c.in-Some.id history session c.in-Some-2.ensures.is) in
+    let passes = subst P (sym c.in-Some-inner_data.ensures.bytes) (λ history session. c.pass_inner.ensures.gives c.in-Some.id history session c.in-Some-inner_data.ensures.is) in
     let taken : TakesPart c.segments.unpacker.latest c.take-part.new.self content part = record {
       follows = c.take-part.ensures.follows;
-      part = c.take-part.ensures.part;
+      selects = c.take-part.ensures.part;
       wanted = c.take-part.ensures.wanted;
       total = c.take-part.ensures.total;
     } in

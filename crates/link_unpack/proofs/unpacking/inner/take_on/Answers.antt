@@ -20,7 +20,8 @@ returns-in-Stage-Message-clause-gives g c = λ start history some at knows.
     let mid = inner_of c.take_loaded-next.new.input in
     let between = c.take_loaded-next.new.writers in
     let same = c.take_loaded-next.ensures.wanted in
-    let is = c.in-Stage-Message.is ∙ ap next.Stage c.in-Stage-Message.field-0-is in
+    let comes = rw c.in-Stage-Message.is at c.in-Stage-Message.field-0-is in
+    let is = c.in-Stage-Message.is ∙ ap next.Stage comes in
     let went = rw is at (c.take_loaded-next.ensures.gives start history some at knows) in
     let P : Wanted → Type 0 = λ w. Stands look (unpacking_of w) start true (place_of (source_of mid) between) (history ++ went.given) in
     let Q : Wanted → Type 0 = λ w. TakesInner look start w mid (inner_of c.take_inner.new.input) c.take_inner.new.writers c.take_inner.new.unpacker (history ++ went.given) c.take_inner.result in
@@ -30,11 +31,17 @@ returns-in-Stage-Message-clause-gives g c = λ start history some at knows.
 
 pub returns-in-Stage-Message-clause-writes : goal.returns-in-Stage-Message-clause-writes
 returns-in-Stage-Message-clause-writes g c =
-    let is = c.in-Stage-Message.is ∙ ap next.Stage c.in-Stage-Message.field-0-is in
+    let comes = rw c.in-Stage-Message.is at c.in-Stage-Message.field-0-is in
+    let is = c.in-Stage-Message.is ∙ ap next.Stage comes in
     let wrote = rw is at c.take_loaded-next.ensures.writes in
     then_next g.W.OutDevice.state g.E.OutDevice.state c.args.writers.now c.take_loaded-next.new.writers c.take_inner.new.writers wrote.0 c.take_inner.result wrote.1 c.take_inner.ensures.writes
 
 pub returns-in_default-clause-gives : goal.returns-in_default-clause-gives
 returns-in_default-clause-gives g c = λ start history some at knows.
+    far_step (looks g.R.InDevice.state g.W.OutDevice.state g.E.OutDevice.state) start c.args.unpacker.now.latest.wanted c.args.size (stage.Data c.args.last) (inner_of c.args.input.now) (inner_of c.take_loaded-next.new.input) c.args.writers.now c.take_loaded-next.new.writers c.take_loaded-next.new.unpacker history c.take_loaded-next.result
+    some (c.take_loaded-next.ensures.gives start history some at knows)
+
+pub returns-in_default-2-clause-gives : goal.returns-in_default-2-clause-gives
+returns-in_default-2-clause-gives g c = λ start history some at knows.
     far_step (looks g.R.InDevice.state g.W.OutDevice.state g.E.OutDevice.state) start c.args.unpacker.now.latest.wanted c.args.size (stage.Data c.args.last) (inner_of c.args.input.now) (inner_of c.take_loaded-next.new.input) c.args.writers.now c.take_loaded-next.new.writers c.take_loaded-next.new.unpacker history c.take_loaded-next.result
     some (c.take_loaded-next.ensures.gives start history some at knows)
