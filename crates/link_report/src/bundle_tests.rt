@@ -8,7 +8,6 @@ use crate::{
 use arrayvec::ArrayVec;
 use link_bundle_types::{BundleFault, BundleInfo, BundleView, Eid, EidView};
 use link_transfer::Announced;
-use std::process::Abort;
 use std::test::Fail;
 
 /// A bundle with a payload of five bytes.
@@ -44,15 +43,9 @@ fn transfer(id: u64, start: u64, written: u64, length: u64, judgement: Judgement
     }
 }
 
-/// Clears the line, and checks the line that a transfer has.
-fn expect_transfer(rt: &impl Abort, line: &mut Line, entry: &TransferEntry, want: &str) {
-    line.clear();
-    transfer_line(line, entry);
-    assert_eq!(rt; line.as_slice(), want.as_bytes(), "{want}");
-}
-
 #[test]
 fn lines_of_transfers(rt: HostRuntime) {
+    let differs = Judgement::LengthDiffers(35);
     let rows = [
         (
             transfer(0, 0, 10, 10, Judgement::Abandoned),
@@ -67,75 +60,42 @@ fn lines_of_transfers(rt: HostRuntime) {
             "transfer 0 start=0 written=0 length=10 abandoned\n",
         ),
         (
-            transfer(0, 0, 34, 34, Judgement::LengthDiffers(35)),
+            transfer(0, 0, 34, 34, differs),
             "transfer 0 start=0 written=34 length=34 length-differs announced=35\n",
         ),
         (
             transfer(0, 0, 34, 34, Judgement::BadLengthItem),
             "transfer 0 start=0 written=34 length=34 bad-length-item\n",
         ),
+        (
+            transfer(0, 0, 5, 37, Judgement::Bad(BundleFault::CheckDiffers, 33)),
+            "transfer 0 start=0 written=5 length=37 bad=B13 byte=33\n",
+        ),
+        (
+            transfer(
+                0,
+                0,
+                38,
+                38,
+                Judgement::Bad(BundleFault::BadCheckLength, 33),
+            ),
+            "transfer 0 start=0 written=38 length=38 bad=B12 byte=33\n",
+        ),
+        (
+            transfer(0, 0, 35, 35, Judgement::Bad(BundleFault::Trailing, 34)),
+            "transfer 0 start=0 written=35 length=35 bad=B2 byte=34\n",
+        ),
+        (
+            transfer(0, 0, 0, 0, Judgement::Bad(BundleFault::Cut, 0)),
+            "transfer 0 start=0 written=0 length=0 bad=B1 byte=0\n",
+        ),
     ];
     let mut line = Line::new();
     for (entry, want) in &rows {
-        expect_transfer(&rt, &mut line, entry, want);
+        line.clear();
+        transfer_line(&mut line, entry);
+        assert_eq!(rt; line.as_slice(), want.as_bytes(), "{want}");
     }
-}
-
-/// A fault of a bundle and its offset, the bytes written of the transfer and its length, and its
-/// line.
-type BadTransfer = (BundleFault, u64, u64, u64, &'static str);
-
-const BAD_TRANSFERS: [BadTransfer; 4] = [
-    (
-        BundleFault::CheckDiffers,
-        33,
-        5,
-        37,
-        "transfer 0 start=0 written=5 length=37 bad=B13 byte=33\n",
-    ),
-    (
-        BundleFault::BadCheckLength,
-        33,
-        38,
-        38,
-        "transfer 0 start=0 written=38 length=38 bad=B12 byte=33\n",
-    ),
-    (
-        BundleFault::Trailing,
-        34,
-        35,
-        35,
-        "transfer 0 start=0 written=35 length=35 bad=B2 byte=34\n",
-    ),
-    (
-        BundleFault::Cut,
-        0,
-        0,
-        0,
-        "transfer 0 start=0 written=0 length=0 bad=B1 byte=0\n",
-    ),
-];
-
-#[test]
-fn lines_of_bad_transfers(rt: HostRuntime) {
-    let mut line = Line::new();
-    for (fault, offset, written, length, want) in BAD_TRANSFERS {
-        let entry = transfer(0, 0, written, length, Judgement::Bad(fault, offset));
-        expect_transfer(&rt, &mut line, &entry, want);
-    }
-}
-
-/// Clears the line, and checks the line that a bundle packed into two segments has.
-fn expect_packed(rt: &impl Abort, line: &mut Line, info: BundleInfo, want: &str) {
-    line.clear();
-    let entry = PackedEntry {
-        number: 1,
-        segments: 2,
-        length: 34,
-        info,
-    };
-    packed_line(line, &entry);
-    assert_eq!(rt; line.as_slice(), want.as_bytes(), "{want}");
 }
 
 #[test]
@@ -172,60 +132,68 @@ fn lines_of_packed_bundles(rt: HostRuntime) -> Result<(), Fail> {
     ];
     let mut line = Line::new();
     for (info, want) in rows {
-        expect_packed(&rt, &mut line, info, want);
+        line.clear();
+        let entry = PackedEntry {
+            number: 1,
+            segments: 2,
+            length: 34,
+            info,
+        };
+        packed_line(&mut line, &entry);
+        assert_eq!(rt; line.as_slice(), want.as_bytes(), "{want}");
     }
     Ok(())
 }
 
-/// The code and the text of each fault.
-const CODES: [(BundleFault, &str, &str); 17] = [
-    (BundleFault::Cut, "B1", "input ends inside a bundle"),
-    (BundleFault::Trailing, "B2", "bytes after the bundle"),
-    (BundleFault::NotABundle, "B3", "not a bundle"),
-    (BundleFault::BadHead, "B4", "ill-formed head"),
-    (BundleFault::WrongKind, "B5", "wrong kind of item"),
-    (BundleFault::BadCount, "B6", "wrong number of elements"),
-    (BundleFault::BadVersion, "B7", "unsupported bundle version"),
-    (BundleFault::BadCheckType, "B8", "unknown check type"),
-    (BundleFault::BadScheme, "B9", "unknown endpoint scheme"),
-    (
-        BundleFault::BadSpecificPart,
-        "B10",
-        "wrong scheme-specific part",
-    ),
-    (BundleFault::EidTooLong, "B11", "endpoint id too long"),
-    (BundleFault::BadCheckLength, "B12", "wrong check length"),
-    (BundleFault::CheckDiffers, "B13", "check differs"),
-    (BundleFault::BadBlockNumber, "B14", "wrong block number"),
-    (
-        BundleFault::RepeatedBlockNumber,
-        "B15",
-        "repeated block number",
-    ),
-    (BundleFault::TooManyBlocks, "B16", "too many blocks"),
-    (
-        BundleFault::NoPayloadLast,
-        "B17",
-        "no payload block at the end",
-    ),
-];
-
 /// The code and the text of each fault, which is also the text of its error type.
 #[test]
 fn codes_of_faults(rt: HostRuntime) -> Result<(), Fail> {
+    let rows = [
+        (BundleFault::Cut, "B1", "input ends inside a bundle"),
+        (BundleFault::Trailing, "B2", "bytes after the bundle"),
+        (BundleFault::NotABundle, "B3", "not a bundle"),
+        (BundleFault::BadHead, "B4", "ill-formed head"),
+        (BundleFault::WrongKind, "B5", "wrong kind of item"),
+        (BundleFault::BadCount, "B6", "wrong number of elements"),
+        (BundleFault::BadVersion, "B7", "unsupported bundle version"),
+        (BundleFault::BadCheckType, "B8", "unknown check type"),
+        (BundleFault::BadScheme, "B9", "unknown endpoint scheme"),
+        (
+            BundleFault::BadSpecificPart,
+            "B10",
+            "wrong scheme-specific part",
+        ),
+        (BundleFault::EidTooLong, "B11", "endpoint id too long"),
+        (BundleFault::BadCheckLength, "B12", "wrong check length"),
+        (BundleFault::CheckDiffers, "B13", "check differs"),
+        (BundleFault::BadBlockNumber, "B14", "wrong block number"),
+        (
+            BundleFault::RepeatedBlockNumber,
+            "B15",
+            "repeated block number",
+        ),
+        (BundleFault::TooManyBlocks, "B16", "too many blocks"),
+        (
+            BundleFault::NoPayloadLast,
+            "B17",
+            "no payload block at the end",
+        ),
+    ];
     let mut line = Line::new();
-    for (fault, code, words) in CODES {
+    for (fault, code, words) in &rows {
         line.clear();
-        fault_line(&mut line, &Fault::Bundle(1, 3, fault));
+        fault_line(&mut line, &Fault::Bundle(1, 3, *fault));
         let want = format!(in rt.alloc(); "tcpclkit: bundle 1 byte 3: {code} {words}\n")?;
         assert_eq!(rt; line.as_slice(), want.as_bytes(), "{want}");
-        let entry = transfer(0, 0, 34, 34, Judgement::Bad(fault, 3));
+        line.clear();
+        let entry = transfer(0, 0, 34, 34, Judgement::Bad(*fault, 3));
+        transfer_line(&mut line, &entry);
         let want = format!(in rt.alloc();
             "transfer 0 start=0 written=34 length=34 bad={code} byte=3\n"
         )?;
-        expect_transfer(&rt, &mut line, &entry, want.as_str());
+        assert_eq!(rt; line.as_slice(), want.as_bytes(), "{want}");
         let shown = format!(in rt.alloc(); "{fault}")?;
-        assert_eq!(rt; shown.as_str(), words);
+        assert_eq!(rt; shown.as_str(), *words);
     }
     Ok(())
 }
@@ -276,97 +244,67 @@ fn lines_by_reference(rt: HostRuntime) {
     assert_eq!(rt; line.as_slice(), want.as_bytes());
 }
 
-/// The fields of the bundle `whole`.
-const WHOLE: BundleView<'static> = BundleView {
-    flags: 0,
-    destination: EidView::Ipn(2, 1),
-    source: EidView::Ipn(1, 1),
-    time: 0,
-    sequence: 0,
-    lifetime: 0,
-    fragment: None,
-    blocks: 1,
-    payload: 5,
-};
-
-/// Whether a transfer is abandoned, what it announces, its length, the verdict on its data, and its
-/// judgement.
-type Judged = (
-    bool,
-    Announced,
-    u64,
-    Result<BundleView<'static>, (BundleFault, u64)>,
-    JudgementView<'static>,
-);
-
-/// The verdict on a bundle that is cut after 10 bytes.
-const CUT: Result<BundleView<'static>, (BundleFault, u64)> = Err((BundleFault::Cut, 10));
-
-const JUDGED: [Judged; 8] = [
-    (
-        true,
-        Announced::Malformed,
-        10,
-        CUT,
-        JudgementView::Abandoned,
-    ),
-    (
-        true,
-        Announced::Absent,
-        34,
-        Ok(WHOLE),
-        JudgementView::Abandoned,
-    ),
-    (
-        false,
-        Announced::Malformed,
-        10,
-        CUT,
-        JudgementView::BadLengthItem,
-    ),
-    (
-        false,
-        Announced::Total(35),
-        10,
-        CUT,
-        JudgementView::LengthDiffers(35),
-    ),
-    (
-        false,
-        Announced::Total(9),
-        10,
-        Ok(WHOLE),
-        JudgementView::LengthDiffers(9),
-    ),
-    (
-        false,
-        Announced::Total(10),
-        10,
-        CUT,
-        JudgementView::Bad(BundleFault::Cut, 10),
-    ),
-    (
-        false,
-        Announced::Absent,
-        10,
-        CUT,
-        JudgementView::Bad(BundleFault::Cut, 10),
-    ),
-    (
-        false,
-        Announced::Total(34),
-        34,
-        Ok(WHOLE),
-        JudgementView::Good(WHOLE),
-    ),
-];
-
 /// The first judgement that holds is reported.
 ///
 /// The beginning of another transfer comes first, then the items, the length and the fault.
 #[test]
 fn first_judgement_that_holds(rt: HostRuntime) {
-    for (abandoned, announced, length, verdict, want) in JUDGED {
+    let info = whole();
+    let good = Ok(info.view());
+    let bad = Err((BundleFault::Cut, 10));
+    let rows = [
+        (
+            true,
+            Announced::Malformed,
+            10,
+            bad,
+            JudgementView::Abandoned,
+        ),
+        (true, Announced::Absent, 34, good, JudgementView::Abandoned),
+        (
+            false,
+            Announced::Malformed,
+            10,
+            bad,
+            JudgementView::BadLengthItem,
+        ),
+        (
+            false,
+            Announced::Total(35),
+            10,
+            bad,
+            JudgementView::LengthDiffers(35),
+        ),
+        (
+            false,
+            Announced::Total(9),
+            10,
+            good,
+            JudgementView::LengthDiffers(9),
+        ),
+        (
+            false,
+            Announced::Total(10),
+            10,
+            bad,
+            JudgementView::Bad(BundleFault::Cut, 10),
+        ),
+        (
+            false,
+            Announced::Absent,
+            10,
+            bad,
+            JudgementView::Bad(BundleFault::Cut, 10),
+        ),
+        (
+            false,
+            Announced::Total(34),
+            34,
+            good,
+            JudgementView::Good(info.view()),
+        ),
+    ];
+    for (abandoned, announced, length, verdict, want) in rows {
         assert!(rt; judge_view(abandoned, announced, length, verdict) == want);
         let verdict = verdict.map(|_| whole());
         assert!(rt; judge(abandoned, announced, length, verdict).view() == want);

@@ -7,7 +7,6 @@ use link_wire::{
     Contact, Fields, Item, Items, Message, MessageBuffer, NodeId, SegmentHead, TEXT_MAX, Text,
     WireFault,
 };
-use std::process::Abort;
 use std::test::Fail;
 
 const WITH_TOTAL: Item = Item {
@@ -43,13 +42,6 @@ fn session(node: &[u8], list: &[Item]) -> Result<Message, Fail> {
         node: NodeId::try_from(node)?,
         items: Items::try_from(list)?,
     })
-}
-
-/// Clears the line, and checks the line that a message at this offset has.
-fn expect_message(rt: &impl Abort, line: &mut Line, offset: u64, message: &Message, want: &str) {
-    line.clear();
-    message_line(line, offset, message);
-    assert_eq!(rt; line.as_slice(), want.as_bytes(), "{want}");
 }
 
 #[test]
@@ -94,45 +86,29 @@ fn numbers_of_each_length(rt: HostRuntime) -> Result<(), Fail> {
 }
 
 #[test]
-fn lines_of_sess_inits(rt: HostRuntime) -> Result<(), Fail> {
+fn lines_of_messages(rt: HostRuntime) -> Result<(), Fail> {
     let two = [item(0x01, 0x1234, 1), item(0x00, 0xabcd, 0)];
-    let rows: [(&[u8], &[Item], &str); 4] = [
+    let rows = [
         (
-            b"ipn:1.0",
-            &[],
+            6,
+            session(b"ipn:1.0", &[])?,
             "6 sess-init keepalive=60 segment-mru=65536 transfer-mru=1048576 node=ipn:1.0 items=0\n",
         ),
         (
-            b"ipn:1.0",
-            &two,
+            6,
+            session(b"ipn:1.0", &two)?,
             "6 sess-init keepalive=60 segment-mru=65536 transfer-mru=1048576 node=ipn:1.0 items=2 item=01:1234:1 item=00:abcd:0\n",
         ),
         (
-            b"\x20\x5c\xff",
-            &[],
+            6,
+            session(b"\x20\x5c\xff", &[])?,
             "6 sess-init keepalive=60 segment-mru=65536 transfer-mru=1048576 node=\\x20\\x5c\\xff items=0\n",
         ),
         (
-            b"",
-            &[],
+            6,
+            session(b"", &[])?,
             "6 sess-init keepalive=60 segment-mru=65536 transfer-mru=1048576 node= items=0\n",
         ),
-    ];
-    let mut line = Line::new();
-    for (node, list, want) in rows {
-        expect_message(&rt, &mut line, 6, &session(node, list)?, want);
-    }
-    Ok(())
-}
-
-#[test]
-fn lines_of_other_messages(rt: HostRuntime) -> Result<(), Fail> {
-    let ack = Message::Ack {
-        flags: 0x01,
-        id: 0,
-        length: 34,
-    };
-    let rows = [
         (
             38,
             segment(0x03, &[], 34)?,
@@ -148,12 +124,22 @@ fn lines_of_other_messages(rt: HostRuntime) -> Result<(), Fail> {
             segment(0x01, &[], 17)?,
             "90 xfer-segment flags=01 id=0 length=17\n",
         ),
-        (38, ack, "38 xfer-ack flags=01 id=0 length=34\n"),
+        (
+            38,
+            Message::Ack {
+                flags: 0x01,
+                id: 0,
+                length: 34,
+            },
+            "38 xfer-ack flags=01 id=0 length=34\n",
+        ),
         (66, Message::Keepalive, "66 keepalive\n"),
     ];
     let mut line = Line::new();
     for (offset, message, want) in &rows {
-        expect_message(&rt, &mut line, *offset, message, want);
+        line.clear();
+        message_line(&mut line, *offset, message);
+        assert_eq!(rt; line.as_slice(), want.as_bytes(), "{want}");
     }
     line.clear();
     contact_line(&mut line, &Contact { flags: 0x00 });
@@ -164,75 +150,73 @@ fn lines_of_other_messages(rt: HostRuntime) -> Result<(), Fail> {
     Ok(())
 }
 
-/// Messages at offset 6, and their lines.
-const IN_PLACE: [(Fields, &str); 8] = [
-    (
-        Fields::SessInit {
-            keepalive: 60,
-            segment_mru: 65536,
-            transfer_mru: 1048576,
-        },
-        "6 sess-init keepalive=60 segment-mru=65536 transfer-mru=1048576 node=ipn:1.0 items=1 item=00:0001:8\n",
-    ),
-    (
-        Fields::Segment {
-            flags: 0x02,
-            id: 0,
-            length: 17,
-        },
-        "6 xfer-segment flags=02 id=0 items=1 item=00:0001:8 length=17\n",
-    ),
-    (
-        Fields::Segment {
-            flags: 0x01,
-            id: 0,
-            length: 17,
-        },
-        "6 xfer-segment flags=01 id=0 length=17\n",
-    ),
-    (
-        Fields::Ack {
-            flags: 0x01,
-            id: 0,
-            length: 34,
-        },
-        "6 xfer-ack flags=01 id=0 length=34\n",
-    ),
-    (
-        Fields::Refuse {
-            reason: 0x01,
-            id: 0,
-        },
-        "6 xfer-refuse reason=01/completed id=0\n",
-    ),
-    (Fields::Keepalive, "6 keepalive\n"),
-    (
-        Fields::SessTerm {
-            flags: 0x01,
-            reason: 0x03,
-        },
-        "6 sess-term flags=01 reason=03/busy\n",
-    ),
-    (
-        Fields::MsgReject {
-            reason: 0x01,
-            header: 0x16,
-        },
-        "6 msg-reject reason=01/message-type-unknown header=16\n",
-    ),
-];
-
 /// Messages in a buffer in which the node ID and the items of a SESS_INIT stay.
 ///
 /// No other message shows that node ID. Of the others, only a segment with START shows items.
 #[test]
 fn lines_of_messages_in_place(rt: HostRuntime) -> Result<(), Fail> {
+    let rows = [
+        (
+            Fields::SessInit {
+                keepalive: 60,
+                segment_mru: 65536,
+                transfer_mru: 1048576,
+            },
+            "6 sess-init keepalive=60 segment-mru=65536 transfer-mru=1048576 node=ipn:1.0 items=1 item=00:0001:8\n",
+        ),
+        (
+            Fields::Segment {
+                flags: 0x02,
+                id: 0,
+                length: 17,
+            },
+            "6 xfer-segment flags=02 id=0 items=1 item=00:0001:8 length=17\n",
+        ),
+        (
+            Fields::Segment {
+                flags: 0x01,
+                id: 0,
+                length: 17,
+            },
+            "6 xfer-segment flags=01 id=0 length=17\n",
+        ),
+        (
+            Fields::Ack {
+                flags: 0x01,
+                id: 0,
+                length: 34,
+            },
+            "6 xfer-ack flags=01 id=0 length=34\n",
+        ),
+        (
+            Fields::Refuse {
+                reason: 0x01,
+                id: 0,
+            },
+            "6 xfer-refuse reason=01/completed id=0\n",
+        ),
+        (Fields::Keepalive, "6 keepalive\n"),
+        (
+            Fields::SessTerm {
+                flags: 0x01,
+                reason: 0x03,
+            },
+            "6 sess-term flags=01 reason=03/busy\n",
+        ),
+        (
+            Fields::MsgReject {
+                reason: 0x01,
+                header: 0x16,
+            },
+            "6 msg-reject reason=01/message-type-unknown header=16\n",
+        ),
+    ];
     let mut message = MessageBuffer::new();
     message.node = NodeId::try_from(b"ipn:1.0".as_slice())?;
     message.items.try_push(WITH_TOTAL)?;
     let mut page = [b'-'; TEXT_MAX + 2];
-    for (fields, want) in IN_PLACE {
-        message.fields = fields;
+    for (fields, want) in &rows {
+        message.fields = *fields;
         let text = MessageText {
             offset: 6,
             message: &message,
@@ -254,146 +238,138 @@ fn longest_node(rt: HostRuntime) -> Result<(), Fail> {
     Ok(())
 }
 
-/// The reasons of XFER_REFUSE (RFC 9174, table 6), and the first code past them.
-const REFUSALS: [(u8, &str); 8] = [
-    (0x00, "56 xfer-refuse reason=00/unknown id=0\n"),
-    (0x01, "56 xfer-refuse reason=01/completed id=0\n"),
-    (0x02, "56 xfer-refuse reason=02/no-resources id=0\n"),
-    (0x03, "56 xfer-refuse reason=03/retransmit id=0\n"),
-    (0x04, "56 xfer-refuse reason=04/not-acceptable id=0\n"),
-    (0x05, "56 xfer-refuse reason=05/extension-failure id=0\n"),
-    (0x06, "56 xfer-refuse reason=06/session-terminating id=0\n"),
-    (0x07, "56 xfer-refuse reason=07/? id=0\n"),
-];
-
-/// The reasons of SESS_TERM (RFC 9174, table 10), and codes past them.
-const TERMINATIONS: [(u8, &str); 8] = [
-    (0x00, "56 sess-term flags=01 reason=00/unknown\n"),
-    (0x01, "56 sess-term flags=01 reason=01/idle-timeout\n"),
-    (0x02, "56 sess-term flags=01 reason=02/version-mismatch\n"),
-    (0x03, "56 sess-term flags=01 reason=03/busy\n"),
-    (0x04, "56 sess-term flags=01 reason=04/contact-failure\n"),
-    (
-        0x05,
-        "56 sess-term flags=01 reason=05/resource-exhaustion\n",
-    ),
-    (0x06, "56 sess-term flags=01 reason=06/?\n"),
-    (0x7f, "56 sess-term flags=01 reason=7f/?\n"),
-];
-
-/// The reasons of MSG_REJECT (RFC 9174, table 4), and the codes around them.
-const REJECTIONS: [(u8, &str); 5] = [
-    (0x00, "56 msg-reject reason=00/? header=16\n"),
-    (
-        0x01,
-        "56 msg-reject reason=01/message-type-unknown header=16\n",
-    ),
-    (
-        0x02,
-        "56 msg-reject reason=02/message-unsupported header=16\n",
-    ),
-    (
-        0x03,
-        "56 msg-reject reason=03/message-unexpected header=16\n",
-    ),
-    (0x04, "56 msg-reject reason=04/? header=16\n"),
-];
-
+/// The codes of RFC 9174, tables 6 (XFER_REFUSE), 10 (SESS_TERM) and 4 (MSG_REJECT).
+///
+/// The first codes past them follow.
 #[test]
-fn reasons_of_refusals(rt: HostRuntime) {
+fn names_of_reasons(rt: HostRuntime) {
+    let refuse = |reason| Message::Refuse { reason, id: 0 };
+    let term = |reason| Message::SessTerm {
+        flags: 0x01,
+        reason,
+    };
+    let reject = |reason| Message::MsgReject {
+        reason,
+        header: 0x16,
+    };
+    let rows = [
+        (refuse(0x00), "56 xfer-refuse reason=00/unknown id=0\n"),
+        (refuse(0x01), "56 xfer-refuse reason=01/completed id=0\n"),
+        (refuse(0x02), "56 xfer-refuse reason=02/no-resources id=0\n"),
+        (refuse(0x03), "56 xfer-refuse reason=03/retransmit id=0\n"),
+        (
+            refuse(0x04),
+            "56 xfer-refuse reason=04/not-acceptable id=0\n",
+        ),
+        (
+            refuse(0x05),
+            "56 xfer-refuse reason=05/extension-failure id=0\n",
+        ),
+        (
+            refuse(0x06),
+            "56 xfer-refuse reason=06/session-terminating id=0\n",
+        ),
+        (refuse(0x07), "56 xfer-refuse reason=07/? id=0\n"),
+        (term(0x00), "56 sess-term flags=01 reason=00/unknown\n"),
+        (term(0x01), "56 sess-term flags=01 reason=01/idle-timeout\n"),
+        (
+            term(0x02),
+            "56 sess-term flags=01 reason=02/version-mismatch\n",
+        ),
+        (term(0x03), "56 sess-term flags=01 reason=03/busy\n"),
+        (
+            term(0x04),
+            "56 sess-term flags=01 reason=04/contact-failure\n",
+        ),
+        (
+            term(0x05),
+            "56 sess-term flags=01 reason=05/resource-exhaustion\n",
+        ),
+        (term(0x06), "56 sess-term flags=01 reason=06/?\n"),
+        (term(0x7f), "56 sess-term flags=01 reason=7f/?\n"),
+        (reject(0x00), "56 msg-reject reason=00/? header=16\n"),
+        (
+            reject(0x01),
+            "56 msg-reject reason=01/message-type-unknown header=16\n",
+        ),
+        (
+            reject(0x02),
+            "56 msg-reject reason=02/message-unsupported header=16\n",
+        ),
+        (
+            reject(0x03),
+            "56 msg-reject reason=03/message-unexpected header=16\n",
+        ),
+        (reject(0x04), "56 msg-reject reason=04/? header=16\n"),
+    ];
     let mut line = Line::new();
-    for (reason, want) in REFUSALS {
-        let message = Message::Refuse { reason, id: 0 };
-        expect_message(&rt, &mut line, 56, &message, want);
+    for (message, want) in &rows {
+        line.clear();
+        message_line(&mut line, 56, message);
+        assert_eq!(rt; line.as_slice(), want.as_bytes(), "{want}");
     }
 }
-
-#[test]
-fn reasons_of_terminations(rt: HostRuntime) {
-    let mut line = Line::new();
-    for (reason, want) in TERMINATIONS {
-        let message = Message::SessTerm {
-            flags: 0x01,
-            reason,
-        };
-        expect_message(&rt, &mut line, 56, &message, want);
-    }
-}
-
-#[test]
-fn reasons_of_rejections(rt: HostRuntime) {
-    let mut line = Line::new();
-    for (reason, want) in REJECTIONS {
-        let message = Message::MsgReject {
-            reason,
-            header: 0x16,
-        };
-        expect_message(&rt, &mut line, 56, &message, want);
-    }
-}
-
-/// Faults of the wire and of the order, and their lines.
-const FAULTS: [(Fault, &str); 13] = [
-    (
-        Fault::Wire(0, WireFault::Truncated),
-        "tcpclkit: byte 0: truncated\n",
-    ),
-    (
-        Fault::Wire(0, WireFault::BadMagic),
-        "tcpclkit: byte 0: not a contact header\n",
-    ),
-    (
-        Fault::Wire(0, WireFault::BadVersion(3)),
-        "tcpclkit: byte 0: unsupported version 3\n",
-    ),
-    (
-        Fault::Wire(38, WireFault::UnknownType(0x16)),
-        "tcpclkit: byte 38: unknown message type 16\n",
-    ),
-    (
-        Fault::Wire(6, WireFault::NodeIdTooLong(1025)),
-        "tcpclkit: byte 6: node id too long: 1025\n",
-    ),
-    (
-        Fault::Wire(6, WireFault::ListTooLong(4097)),
-        "tcpclkit: byte 6: extension list too long: 4097\n",
-    ),
-    (
-        Fault::Wire(6, WireFault::TooManyItems),
-        "tcpclkit: byte 6: too many extension items\n",
-    ),
-    (
-        Fault::Wire(6, WireFault::ItemsOverrun),
-        "tcpclkit: byte 6: extension items overrun their list\n",
-    ),
-    (
-        Fault::Order(38, OrderFault::SecondSessInit),
-        "tcpclkit: byte 38: second session initiation\n",
-    ),
-    (
-        Fault::Order(6, OrderFault::SegmentBeforeSessInit),
-        "tcpclkit: byte 6: segment before session initiation\n",
-    ),
-    (
-        Fault::Order(38, OrderFault::NoSuchOpenTransfer),
-        "tcpclkit: byte 38: no such open transfer\n",
-    ),
-    (
-        Fault::Order(70, OrderFault::StartRepeatsOpenId),
-        "tcpclkit: byte 70: start repeats the open transfer\n",
-    ),
-    (
-        Fault::Order(115, OrderFault::StartAfterSessTerm),
-        "tcpclkit: byte 115: start after session termination\n",
-    ),
-];
 
 #[test]
 fn lines_of_faults(rt: HostRuntime) -> Result<(), Fail> {
+    let rows = [
+        (
+            Fault::Wire(0, WireFault::Truncated),
+            "tcpclkit: byte 0: truncated\n",
+        ),
+        (
+            Fault::Wire(0, WireFault::BadMagic),
+            "tcpclkit: byte 0: not a contact header\n",
+        ),
+        (
+            Fault::Wire(0, WireFault::BadVersion(3)),
+            "tcpclkit: byte 0: unsupported version 3\n",
+        ),
+        (
+            Fault::Wire(38, WireFault::UnknownType(0x16)),
+            "tcpclkit: byte 38: unknown message type 16\n",
+        ),
+        (
+            Fault::Wire(6, WireFault::NodeIdTooLong(1025)),
+            "tcpclkit: byte 6: node id too long: 1025\n",
+        ),
+        (
+            Fault::Wire(6, WireFault::ListTooLong(4097)),
+            "tcpclkit: byte 6: extension list too long: 4097\n",
+        ),
+        (
+            Fault::Wire(6, WireFault::TooManyItems),
+            "tcpclkit: byte 6: too many extension items\n",
+        ),
+        (
+            Fault::Wire(6, WireFault::ItemsOverrun),
+            "tcpclkit: byte 6: extension items overrun their list\n",
+        ),
+        (
+            Fault::Order(38, OrderFault::SecondSessInit),
+            "tcpclkit: byte 38: second session initiation\n",
+        ),
+        (
+            Fault::Order(6, OrderFault::SegmentBeforeSessInit),
+            "tcpclkit: byte 6: segment before session initiation\n",
+        ),
+        (
+            Fault::Order(38, OrderFault::NoSuchOpenTransfer),
+            "tcpclkit: byte 38: no such open transfer\n",
+        ),
+        (
+            Fault::Order(70, OrderFault::StartRepeatsOpenId),
+            "tcpclkit: byte 70: start repeats the open transfer\n",
+        ),
+        (
+            Fault::Order(115, OrderFault::StartAfterSessTerm),
+            "tcpclkit: byte 115: start after session termination\n",
+        ),
+    ];
     let mut line = Line::new();
-    for (fault, want) in FAULTS {
+    for (fault, want) in &rows {
         line.clear();
-        fault_line(&mut line, &fault);
+        fault_line(&mut line, fault);
         assert_eq!(rt; line.as_slice(), want.as_bytes(), "{want}");
         // the error types have the same texts
         let shown = match fault {

@@ -1,6 +1,6 @@
 //! Worked streams with messages out of order, and the result of unpacking each to its end.
 
-use crate::transfers::{Row, STARTED_TWICE};
+use crate::transfers::Row;
 use link_tools::Wanted;
 use toolkit_tests::rows::GOOD;
 use toolkit_tests::stream::{
@@ -79,7 +79,7 @@ pub const STRAY_CUT: Row = Row {
 };
 
 /// A SESS_INIT that is refused, and another.
-const SECOND_SESS_INIT: Row = Row {
+pub const SECOND_SESS_INIT: Row = Row {
     name: "a second and a third SESS_INIT",
     wanted: GOING_ON,
     stream: &[
@@ -100,7 +100,7 @@ const SECOND_SESS_INIT: Row = Row {
 };
 
 /// A transfer before SESS_INIT, and one after it.
-const EARLY_TRANSFER: Row = Row {
+pub const EARLY_TRANSFER: Row = Row {
     name: "a transfer before SESS_INIT",
     wanted: GOING_ON,
     stream: &[
@@ -123,7 +123,7 @@ const EARLY_TRANSFER: Row = Row {
 };
 
 /// Segments of no open transfer: amid a transfer, and after it.
-const STRAY_SEGMENTS: Row = Row {
+pub const STRAY_SEGMENTS: Row = Row {
     name: "segments of no open transfer",
     wanted: GOING_ON,
     stream: &[
@@ -144,10 +144,14 @@ const STRAY_SEGMENTS: Row = Row {
 };
 
 /// A START of the open transfer.
-const REPEATED_START: Row = Row {
+pub const REPEATED_START: Row = Row {
     name: "a start of the open transfer",
     wanted: GOING_ON,
-    stream: STARTED_TWICE,
+    stream: &[
+        Part::Bytes(SESSION),
+        Part::Segment(2, 0, &[FIRST_10]),
+        Part::Segment(3, 0, PLAIN),
+    ],
     output: &[FIRST_10, FRONT, BACK],
     report: &[
         b"tcpclkit: byte 70: start repeats the open transfer\n",
@@ -159,7 +163,7 @@ const REPEATED_START: Row = Row {
 };
 
 /// Transfers after SESS_TERM. The first of them abandons the open one.
-const LATE_TRANSFERS: Row = Row {
+pub const LATE_TRANSFERS: Row = Row {
     name: "transfers after SESS_TERM",
     wanted: GOING_ON,
     stream: &[

@@ -1,6 +1,8 @@
 //! Tests in which each device of `unpack` fails at each of its calls in turn.
 
-use crate::disorder::{EACH_FAULT, ENDED};
+use crate::disorder::{
+    EARLY_TRANSFER, ENDED, LATE_TRANSFERS, REPEATED_START, SECOND_SESS_INIT, STRAY_SEGMENTS,
+};
 use crate::transfers::{ABANDONED, PAYLOAD, Row};
 use std::alloc::Global;
 use std::test::Fail;
@@ -41,23 +43,38 @@ fn row_fails(alloc: Global, row: &Row) -> Result<(), Fail> {
     each_fails_at_each_pace(alloc, Tool::Unpack(row.wanted), &stream)
 }
 
-/// Checks runs over the stream of each row in which a device fails.
-fn rows_fail(alloc: Global, rows: &[Row]) -> Result<(), Fail> {
-    for row in rows {
-        row_fails(alloc, row)?;
-    }
-    Ok(())
+#[test]
+fn second_sess_init(rt: HostRuntime) -> Result<(), Fail> {
+    row_fails(rt.alloc(), &SECOND_SESS_INIT)
 }
 
 #[test]
-fn faults_of_the_order(rt: HostRuntime) -> Result<(), Fail> {
-    rows_fail(rt.alloc(), &EACH_FAULT)
+fn early_transfer(rt: HostRuntime) -> Result<(), Fail> {
+    row_fails(rt.alloc(), &EARLY_TRANSFER)
+}
+
+#[test]
+fn stray_segments(rt: HostRuntime) -> Result<(), Fail> {
+    row_fails(rt.alloc(), &STRAY_SEGMENTS)
+}
+
+#[test]
+fn repeated_start(rt: HostRuntime) -> Result<(), Fail> {
+    row_fails(rt.alloc(), &REPEATED_START)
+}
+
+#[test]
+fn late_transfers(rt: HostRuntime) -> Result<(), Fail> {
+    row_fails(rt.alloc(), &LATE_TRANSFERS)
 }
 
 /// A fault of the wire after one of the order.
 #[test]
 fn fault_of_the_wire(rt: HostRuntime) -> Result<(), Fail> {
-    rows_fail(rt.alloc(), &ENDED)
+    for row in &ENDED {
+        row_fails(rt.alloc(), row)?;
+    }
+    Ok(())
 }
 
 /// A run writes what the bytes so far determine before it takes any byte after them.

@@ -4,7 +4,7 @@ use crate::disorder::{
     EACH_FAULT, ENDED, GOING_ON, STRAY_BETWEEN, STRAY_CUT, STRAY_FIRST, TOGETHER,
 };
 use crate::transfers::{PARTS, Row, WHOLE};
-use crate::unpacking::{after_each_step, all_given, row_gives, with_keepalives};
+use crate::unpacking::{after_each_step, all_given, row_gives};
 use link_tools::Wanted;
 use std::alloc::Global;
 use std::test::Fail;
@@ -51,10 +51,13 @@ fn without_a_fault(rt: HostRuntime) -> Result<(), Fail> {
 fn after_keepalives(rt: HostRuntime) -> Result<(), Fail> {
     let whole = built(rt.alloc(), STRAY_BETWEEN)?;
     assert_eq!(rt; whole.len(), 164);
+    let (session, segments) = whole.split_at(38);
     let output = joined(rt.alloc(), PLAIN)?;
-    for offset in EDGE - 126..=EDGE {
-        let stream = with_keepalives(rt.alloc(), &whole, offset)?;
-        let fault = offset.saturating_add(39);
+    for size in EDGE - 126..=EDGE {
+        let mut stream = joined(rt.alloc(), &[session])?;
+        stream.resize(size, 4)?;
+        stream.extend_from_slice(segments)?;
+        let fault = size.saturating_add(39);
         let line = format!(in rt.alloc(); "tcpclkit: byte {fault}: no such open transfer\n")?;
         let mut report = joined(rt.alloc(), &[line.as_bytes()])?;
         report.extend_from_slice(&joined(rt.alloc(), BUNDLE_REPORT)?)?;

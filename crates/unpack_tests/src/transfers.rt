@@ -46,13 +46,6 @@ pub const ABANDONED: &[Part] = &[
     Part::Segment(3, 1, PLAIN),
 ];
 
-/// A transfer with ten bytes of the bundle, and a START of the same transfer.
-pub const STARTED_TWICE: &[Part] = &[
-    Part::Bytes(SESSION),
-    Part::Segment(2, 0, &[FIRST_10]),
-    Part::Segment(3, 0, PLAIN),
-];
-
 /// The bundle in three transfers. The first and the last have the same ID.
 const SAME_ID: &[Part] = &[
     Part::Bytes(SESSION),
@@ -279,7 +272,11 @@ pub const FAULTS: [Row; 7] = [
     Row {
         name: "a start of the open transfer",
         wanted: ALL,
-        stream: STARTED_TWICE,
+        stream: &[
+            Part::Bytes(SESSION),
+            Part::Segment(2, 0, &[FIRST_10]),
+            Part::Segment(3, 0, PLAIN),
+        ],
         output: &[FIRST_10],
         report: &[b"tcpclkit: byte 70: start repeats the open transfer\n"],
         status: 3,

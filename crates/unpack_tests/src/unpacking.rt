@@ -49,22 +49,16 @@ fn faults(rt: HostRuntime) -> Result<(), Fail> {
     all_given(rt.alloc(), &FAULTS)
 }
 
-/// The stream with keepalives after `SESSION`, so that what follows it begins at this offset.
-pub fn with_keepalives(alloc: Global, stream: &[u8], offset: usize) -> Result<Vec<u8>, Fail> {
-    let (session, rest) = stream.split_at_checked(38).ok_or("less than the session")?;
-    let mut delayed = joined(alloc, &[session])?;
-    delayed.resize(offset, 4)?;
-    delayed.extend_from_slice(rest)?;
-    Ok(delayed)
-}
-
 /// Two transfers follow keepalives, and the first read ends at each offset of them in turn.
 #[test]
 fn after_keepalives(rt: HostRuntime) -> Result<(), Fail> {
     let whole = built(rt.alloc(), TWO_BUNDLES)?;
     assert_eq!(rt; whole.len(), 186);
-    for offset in EDGE - 148..=EDGE {
-        let stream = with_keepalives(rt.alloc(), &whole, offset)?;
+    let (session, transfers) = whole.split_at(38);
+    for size in EDGE - 148..=EDGE {
+        let mut stream = joined(rt.alloc(), &[session])?;
+        stream.resize(size, 4)?;
+        stream.extend_from_slice(transfers)?;
         row_gives(rt.alloc(), &WHOLE_BUNDLES, &stream)?;
         row_gives(rt.alloc(), &PAYLOADS, &stream)?;
     }

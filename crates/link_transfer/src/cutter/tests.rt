@@ -159,96 +159,64 @@ fn in_two(
     Ok(given)
 }
 
-/// Pushes a bundle byte by byte, and takes each chunk as soon as it is ready.
+/// The chunks of the bundle and of the same bundle again, each pushed byte by byte.
 ///
 /// While the bundle is incomplete and has at most `hold` bytes, no chunk was cut. After more bytes
 /// each full chunk was cut. The other bytes are shown.
-fn push_bytes(
-    rt: &(impl Abort + AllocGlobal),
-    cutter: &mut Cutter,
-    hold: usize,
-    bundle: &[u8],
-    given: &mut Vec<Given>,
-) -> Result<(), Fail>
-    requires { cut_waits cutter.old ≡ false }
-    ensures { OnOk result (cut_waits cutter.new ≡ false) }
-{
-    let before = given.len();
-    for (index, &byte) in bundle.iter().enumerate() {
-        let last = bundle.len() - index == 1;
-        cutter.push(byte, last);
-        take_all(rt.alloc(), cutter, given)?;
-        let come = index + 1;
-        let full = if come > hold { come / SEGMENT } else { 0 };
-        let left = if last {
-            &[]
-        } else {
-            &bundle[full * SEGMENT..come]
-        };
-        assert!(rt;
-            last || given.len() == before + full,
-            "{come} bytes after {before} chunks"
-        );
-        assert_eq!(rt; cutter.bytes(), left, "{come} bytes after {before} chunks");
-    }
-    Ok(())
-}
-
-/// The chunks of the bundle and of the same bundle again, each pushed byte by byte.
 fn in_bytes(rt: &(impl Abort + AllocGlobal), hold: usize, bundle: &[u8]) -> Result<Vec<Given>, Fail>
     requires { hold ≤ 1048576 }
 {
     let mut cutter = Cutter::new(rt.alloc(), SEGMENT, hold)?;
     let mut given = Vec::new(rt.alloc());
-    for _ in 0..2 {
-        push_bytes(rt, &mut cutter, hold, bundle, &mut given)?;
+    for turn in 0..2 {
+        let before = given.len();
+        for (index, &byte) in bundle.iter().enumerate() {
+            let last = bundle.len() - index == 1;
+            cutter.push(byte, last);
+            take_all(rt.alloc(), &mut cutter, &mut given)?;
+            let come = index + 1;
+            let full = if come > hold { come / SEGMENT } else { 0 };
+            let left = if last {
+                &[]
+            } else {
+                &bundle[full * SEGMENT..come]
+            };
+            assert!(rt;
+                last || given.len() == before + full,
+                "{come} bytes, turn {turn}"
+            );
+            assert_eq!(rt; cutter.bytes(), left, "{come} bytes, turn {turn}");
+        }
     }
     Ok(given)
 }
 
-/// Checks the chunks of a bundle that is pushed in each way.
+/// Bundles with lengths around multiples of a segment, and holds around the segment and the length.
 ///
-/// It is pushed byte by byte, whole, and in two pieces cut at every position. The pieces are also
+/// Each is pushed byte by byte, whole, and in two pieces cut at every position. The pieces are also
 /// cut where they lie.
-fn gives_chunks(rt: &(impl Abort + AllocGlobal), hold: usize, bundle: &[u8]) -> Result<(), Fail>
-    requires hold { hold ≤ 1048576 }
-    requires short { length bundle.now ≤ 13 }
-{
-    let mut want = wanted(rt.alloc(), bundle, hold)?;
-    want.extend(wanted(rt.alloc(), bundle, hold)?)?;
-    let length = bundle.len();
-    let bytewise = in_bytes(rt, hold, bundle)?;
-    assert_eq!(rt;
-        bytewise.as_slice(),
-        want.as_slice(),
-        "{length} bytes, hold {hold}"
-    );
-    for at in 0..2 * length {
-        let pieces = in_two(rt.alloc(), hold, bundle, at / 2, at % 2 == 1)?;
-        assert_eq!(rt;
-            pieces.as_slice(),
-            want.as_slice(),
-            "{length} bytes at {at} halves, hold {hold}"
-        );
-    }
-    Ok(())
-}
-
-/// Checks the chunks of a bundle, with holds around the segment and around its length.
-fn gives_chunks_with_each_hold(rt: &(impl Abort + AllocGlobal), bundle: &[u8]) -> Result<(), Fail>
-    requires { length bundle.now ≤ 13 }
-{
-    for hold in [0, 1, 3, 4, 5, 7, 8, 9, 11, 12, 13, 14, 1_048_576] {
-        gives_chunks(rt, hold, bundle)?;
-    }
-    Ok(())
-}
-
-/// Bundles with lengths around multiples of a segment.
 #[test]
 fn gives_the_chunks(rt: HostRuntime) -> Result<(), Fail> {
     for length in [1, 3, 4, 5, 7, 8, 9, 12, 13] {
-        gives_chunks_with_each_hold(&rt, &BUNDLE[..length])?;
+        let bundle = &BUNDLE[..length];
+        for hold in [0, 1, 3, 4, 5, 7, 8, 9, 11, 12, 13, 14, 1_048_576] {
+            let mut want = wanted(rt.alloc(), bundle, hold)?;
+            want.extend(wanted(rt.alloc(), bundle, hold)?)?;
+            let bytewise = in_bytes(&rt, hold, bundle)?;
+            assert_eq!(rt;
+                bytewise.as_slice(),
+                want.as_slice(),
+                "{length} bytes, hold {hold}"
+            );
+            for at in 0..2 * length {
+                let pieces = in_two(rt.alloc(), hold, bundle, at / 2, at % 2 == 1)?;
+                assert_eq!(rt;
+                    pieces.as_slice(),
+                    want.as_slice(),
+                    "{length} bytes at {at} halves, hold {hold}"
+                );
+            }
+        }
     }
     Ok(())
 }

@@ -98,9 +98,11 @@ fn judge(rt: &impl Abort, name: &str, messages: &[Judged]) {
     }
 }
 
-/// A second SESS_INIT, and no other fault. A refused message changes nothing.
+/// Each fault, with no other fault beside it.
+///
+/// A refused message changes nothing.
 #[test]
-fn refuses_a_second_session_initiation(rt: HostRuntime) {
+fn refuses_each_fault(rt: HostRuntime) {
     judge(
         &rt,
         "second session initiation",
@@ -112,11 +114,6 @@ fn refuses_a_second_session_initiation(rt: HostRuntime) {
             (Sent::Segment(END, 0), LAST, None),
         ],
     );
-}
-
-/// A segment before SESS_INIT, and no other fault. A refused message changes nothing.
-#[test]
-fn refuses_a_segment_before_session_initiation(rt: HostRuntime) {
     judge(
         &rt,
         "segment before session initiation",
@@ -130,11 +127,6 @@ fn refuses_a_segment_before_session_initiation(rt: HostRuntime) {
             (Sent::Segment(START | END, 0), whole(None), None),
         ],
     );
-}
-
-/// Segments of no open transfer, and no other fault. A refused message changes nothing.
-#[test]
-fn refuses_segments_of_no_open_transfer(rt: HostRuntime) {
     judge(
         &rt,
         "no such open transfer",
@@ -146,11 +138,6 @@ fn refuses_segments_of_no_open_transfer(rt: HostRuntime) {
             (Sent::Segment(0, 4), MORE, Some(4)),
         ],
     );
-}
-
-/// A START of the open transfer, and no other fault. A refused message changes nothing.
-#[test]
-fn refuses_a_repeated_start(rt: HostRuntime) {
     judge(
         &rt,
         "start repeats the open transfer",
@@ -165,11 +152,6 @@ fn refuses_a_repeated_start(rt: HostRuntime) {
             (Sent::Segment(END, 4), LAST, None),
         ],
     );
-}
-
-/// A START after SESS_TERM, and no other fault. A refused message changes nothing.
-#[test]
-fn refuses_a_start_after_termination(rt: HostRuntime) {
     judge(
         &rt,
         "start after session termination",
