@@ -1,8 +1,8 @@
 -- The state of a device, as contracts see it.
 use Rattle.std.specs.Prelude.{◌≡◌, ℕ, ◌<◌, Bool, List, ◌++◌, length, Option, None, Some, ⊤}
 
--- an input device: the bytes left, `None` if they are not known, whether it has failed, and the next
--- bytes, as many as it already holds
+-- an input device: the bytes left, `None` if they are not known, whether it has failed, and the
+-- next bytes, as many as it already holds
 pub record Input : Type 0 where
   pub left : Option (List ℕ)
   pub failed : Bool

@@ -181,8 +181,8 @@ fn stride_from<R: InDevice, W: OutDevice, E: OutDevice>(
 }
 
 /// Takes a message. If it is a segment with data at hand, this data is taken too, and so are the
-/// inner segments after it. Otherwise the quiet messages after it are passed over, if it has no data
-/// to come.
+/// inner segments after it. Otherwise the quiet messages after it are passed over, if it has no
+/// data to come.
 #[inline(always)]
 fn stride_message<R: InDevice, W: OutDevice, E: OutDevice>(
     input: &mut Input<Session<R>>,

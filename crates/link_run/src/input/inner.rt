@@ -10,8 +10,8 @@ impl<R: InDevice> Input<Session<R>> {
     ghost use Rattle.link_wire.specs.Source.{window_of};
     ghost use Rattle.link_run.specs.Reading.{inner_of};
 
-    /// The data of the next message, if this is an inner segment of this transfer that has data, and
-    /// all of it is in the window, as [`Session::inner_data`] returns it.
+    /// The data of the next message, if this is an inner segment of this transfer that has data,
+    /// and all of it is in the window, as [`Session::inner_data`] returns it.
     #[inline(always)]
     pub fn inner_data(&self, id: u64) -> Option<&[u8]>
         ensures is { IfSome result (λ bytes.

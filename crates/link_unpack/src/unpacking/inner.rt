@@ -17,7 +17,7 @@ use super::{Next, Stage, Unpacker, take_loaded};
 use link_run::{Input, Writers};
 use link_wire::{InDevice, OutDevice, Session};
 
-/// Takes the next `size` bytes of a segment's data, which are in the window. Then it takes the inner
+/// Takes the next `size` bytes of a segment's data, which are at hand. Then it takes the inner
 /// segments after them, if the segment is over and its transfer is not.
 #[inline(always)]
 pub(super) fn take_on<R: InDevice, W: OutDevice, E: OutDevice>(

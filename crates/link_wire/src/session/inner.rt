@@ -42,8 +42,8 @@ impl<R: InDevice> Session<R> {
     ghost use Rattle.link_wire.specs.Inner.{IsInner, inner_bytes, PassedInner};
     ghost use Rattle.link_wire.specs.Session.{source_of, may_read, is_opened, HasStopped, IsSessionAt};
 
-    /// The data of the next message, if this is an inner segment of this transfer that has data, and
-    /// all of it is in the window.
+    /// The data of the next message, if this is an inner segment of this transfer that has data,
+    /// and all of it is in the window.
     ///
     /// After a stop it returns `None`.
     #[inline(always)]
