@@ -16,7 +16,7 @@ use Rattle.link_pack.specs.PackRun.{Packs, WritesFound}
 use Rattle.link_pack.proofs.Founds.{IsRun, came, finished, cut_at, front_bound, front_run}
 use Rattle.link_pack.proofs.Goings.{found_handed, finish_handed}
 use Rattle.link_pack.proofs.packing.take_bundles.Goals as goal
-use Rattle.link_pack.proofs.packing.take_bundles.Goals.{After-go_on}
+use Rattle.link_pack.proofs.packing.take_bundles.Goals.{After-give}
 use Rattle.link_pack.proofs.packing.take_bundles.Given.{Over}
 
 pub returns-in-Ok-eq0-clause-gives : goal.returns-in-Ok-eq0-clause-gives
@@ -63,7 +63,7 @@ returns-in-Err-clause-handed g c = λ history at other.
     (c.in-Err.ensures.gives at.live)
 
 -- the bytes that were judged, and that what they make due was written
-record IsWritten (g : Over) (c : After-go_on g) {history : List ℕ}
+record IsWritten (g : Over) (c : After-give g) {history : List ℕ}
     (at : Packs g.R.InDevice.state c.args.packer.now (inner_of c.args.input.now) history) : Type 0 where
   taken : IsRun c.args.most (front_of g.R.InDevice.state (inner_of c.ready_bytes.new.self))
       (take c.judge-count.result.0 (take c.min-ready.result c.front.result.now)) c.judge-count.result.0
@@ -74,7 +74,7 @@ record IsWritten (g : Over) (c : After-go_on g) {history : List ℕ}
       (take c.judge-count.result.0 (take c.min-ready.result c.front.result.now))
       c.go_on-progress.new.packer c.judge-count.result.1 took c.go_on-progress.result
 
-written : (g : Over) (c : After-go_on g) {history : List ℕ}
+written : (g : Over) (c : After-give g) {history : List ℕ}
     (at : Packs g.R.InDevice.state c.args.packer.now (inner_of c.args.input.now) history)
     → IsWritten g c at
 written g c at =
@@ -117,7 +117,7 @@ returns-clause-gives g c = λ start history stood at.
     let new = inner_of c.give.new.self in
     let writers = c.ready_bytes.new.writers in
     let read = c.in-Ok.ensures.gives at.live in
-    let wrote = written g (goal.at.returns-clause-gives g c).After-go_on at in
+    let wrote = written g c at in
     let taken = wrote.taken in
     came c.args.most old writers c.go_on-progress.new.writers c.args.packer.now
     (settled old c.args.writers.now writers stood read.0) at new
@@ -131,7 +131,7 @@ returns-clause-gives g c = λ start history stood at.
 
 pub returns-clause-handed : goal.returns-clause-handed
 returns-clause-handed g c = λ history at other.
-    let wrote = written g (goal.at.returns-clause-handed g c).After-go_on at in
+    let wrote = written g c at in
     found_handed (looks g.R.InDevice.state g.W.OutDevice.state g.E.OutDevice.state)
     (inner_of c.args.input.now) (inner_of c.give.new.self) c.args.writers.now
     c.ready_bytes.new.writers c.go_on-progress.new.writers (c.in-Ok.ensures.gives at.live).0

@@ -22,7 +22,8 @@ returns-in_err-write_text g c =
     let exit = err_from_is_err_and c.from_residual.result c.from_residual.ensures.1 in
     rw (exit.1, exit.2) (record {
       gives = subst (λ (size : ℕ). WritesPart output report c.args.writers.now
-          c.write_text.new.self (on_output (bytes_of head size ++ chunk)) _) c.requires.size
+          c.write_text.new.self (on_output (bytes_of head size ++ chunk)) c.in_err-write_text.field-0.0)
+          c.requires.size
           (part_more output report c.args.writers.now c.write_text.new.self
           (bytes_of head head.size) chunk _ c.in_err-write_text.ensures.gives);
     })
