@@ -22,7 +22,8 @@ use crate::segments::write_run;
 use link_run::{Input, PIECE, Progress, Run, RunEnd, Stages, Status, ToolRun, Writers};
 use link_transfer::Cutter;
 use link_wire::{
-    HeadBuf, InDevice, IoFault, OutDevice, Source, put_contact, put_sess_init, put_sess_term,
+    HeadBuf, InDevice, IoFault, OutDevice, Source, WINDOW, put_contact, put_sess_init,
+    put_sess_term,
 };
 use std::alloc::AllocError;
 
@@ -79,8 +80,8 @@ impl<R: InDevice, W: OutDevice, E: OutDevice> Stages<Source<R>, W, E> for Packin
         }
     }
 
-    /// Does the step that writes the beginning of the stream, or a step that is given as many bytes
-    /// as are at hand.
+    /// Does the step that writes the beginning of the stream, or a step that is given at most a
+    /// window of bytes.
     #[inline(always)]
     fn stride(
         &mut self,
@@ -90,7 +91,7 @@ impl<R: InDevice, W: OutDevice, E: OutDevice> Stages<Source<R>, W, E> for Packin
         match self.stage {
             Stage::Prelude => self.stage(input, writers),
             Stage::Bundles => {
-                take_bundles(usize::MAX, input, writers, &mut self.packer, &mut self.head)
+                take_bundles(WINDOW, input, writers, &mut self.packer, &mut self.head)
             }
         }
     }

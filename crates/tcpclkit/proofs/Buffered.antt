@@ -11,14 +11,14 @@ nothing_before : (rest : Option (List ℕ)) → prepend_known [] rest ≡ rest
 nothing_before None = refl
 nothing_before (Some bytes) = refl
 
-abbrev known_input : Option (List ℕ) → Input
-known_input left = record { left = left; failed = false; held = [] }
+abbrev holding : (held : List ℕ) → Option (List ℕ) → Input
+holding held left = record { left = left; failed = false; held = held }
 
 -- a buffered reader with an empty buffer has the bytes left that its input has left
 pub read_input : (capacity : ℕ) (buffer : List ℕ) (rest known : Option (List ℕ))
     → capacity ≡ 65536 → buffer ≡ [] → rest ≡ known
-    → known_input (if capacity == 0 then None else prepend_known buffer rest) ≡ known_input known
-read_input capacity buffer rest known size empty is = rw (size, empty) (ap known_input (nothing_before rest ∙ is))
+    → holding buffer (if capacity == 0 then None else prepend_known buffer rest) ≡ holding [] known
+read_input capacity buffer rest known size empty is = rw (size, empty) (ap (holding []) (nothing_before rest ∙ is))
 
 -- if a prefix of what waited was handed on, the stream has a prefix of all that was written
 first_handed : (old new : Option (List ℕ)) (waiting : List ℕ) (count : ℕ)

@@ -1,6 +1,6 @@
 //! Runs of the tools over buffered streams.
 
-ghost use Rattle.std.specs.Prelude.{◌≡◌, false, Err, IfOk, IfErr, IsOkAnd};
+ghost use Rattle.std.specs.Prelude.{◌≡◌, [], false, Err, IfOk, IfErr, IsOkAnd};
 ghost use Rattle.std.specs.IoError.{error_kind};
 ghost use Rattle.link_run.specs.Run.{Devices, NoneFailed, looks};
 ghost use Rattle.link_tools.specs.Options.{IsReady};

@@ -7,4 +7,4 @@ returns-in-Prelude-clause-gives g c = λ start history stood at.
 
 pub returns-in-Bundles-clause-gives : goal.returns-in-Bundles-clause-gives
 returns-in-Bundles-clause-gives g c = λ start history. rw c.in-Bundles.is (λ stood at.
-    (18446744073709551615, (λ some. omega arith), c.take_bundles.ensures.gives start history stood at))
+    (8192, (λ some. omega arith), c.take_bundles.ensures.gives start history stood at))
