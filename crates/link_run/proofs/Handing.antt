@@ -11,7 +11,7 @@ use Rattle.link_run.specs.Reading.{HasEnough, NotHandedOn}
 use Rattle.std.proofs.KnownBytes.{Appends-trans}
 use Rattle.link_wire.specs.Device.{Input}
 use Rattle.link_run.specs.Run.{Texts, ◌then◌, Looks, progress_after}
-use Rattle.link_run.specs.Stages.{HandedOn}
+use Rattle.link_run.specs.Stages.{HandedOn, HandsOn}
 use Rattle.link_run.specs.Writers.{place_of, on_output, Writes, AfterWrite, WritesSome, AfterEnd, HasHandedOn}
 use Rattle.link_run.specs.declared.run.Status.{Status}
 use Rattle.link_run.specs.declared.writers.Writers.{Writers}
@@ -107,7 +107,7 @@ module _ {R W E : Type 0} (look : Looks R W E) {out_handed : W → Option (List 
       → AfterEnd look.output look.report why mid after answer → (answer ≡ Err io.Write → ⊥)
       → Writes look.output look.report before mid (on_output [])
       → HasHandedOn look.output look.report out_handed report_handed mid ⊎ HasEnough look.input old
-      → HandedOn look out_handed report_handed (HasEnough look.input old) (place_of (source_of old) before) (place_of (source_of new) after)
+      → HandsOn look out_handed report_handed old new before after
   ended_on (stop.Wire offset fault) (Ok status) gives other kept held =
       handed_by look (source_of old) (source_of new) before mid after _ kept held gives.0
   ended_on (stop.Wire offset fault) (Err failure) gives other kept held = absurd (other (ap Err gives.kind))
@@ -121,7 +121,7 @@ module _ {R W E : Type 0} (look : Looks R W E) {out_handed : W → Option (List 
       → (Writes look.output look.report before mid (on_output []) × A) ⊎ NotHandedOn look old new before mid why
       → AfterEnd look.output look.report why mid after answer → (answer ≡ Err io.Write → ⊥)
       → ((why ≡ stop.Io io.Write → ⊥) → HasHandedOn look.output look.report out_handed report_handed mid ⊎ HasEnough look.input old)
-      → HandedOn look out_handed report_handed (HasEnough look.input old) (place_of (source_of old) before) (place_of (source_of new) after)
+      → HandsOn look out_handed report_handed old new before after
   handed_at_end why answer got gives other held =
       ⊎_elim
       (λ read. ended_on why answer gives other read.0 (held (λ is. other (write_fails look old new before mid after why answer gives is))))

@@ -5,6 +5,7 @@ use Rattle.link_run.specs.Run.{looks}
 use Rattle.link_run.specs.Writers.{place_of}
 use Rattle.link_run.proofs.Handing.{handed_some}
 use Rattle.link_run.proofs.Stands.{last_step}
+use Rattle.link_run.proofs.Strides.{went_with}
 use Rattle.link_list.specs.Listing.{listing_of}
 use Rattle.link_list.specs.ListRun.{latest_line, most_by, Lists, IsListing}
 use Rattle.link_list.specs.declared.listing.Stage.TheVariants as stage
@@ -23,14 +24,7 @@ returns-in-Waits-clause-gives g c = λ start history at lists.
       most_by c.args.piece c.args.tool.now.stage,
       λ is. refl,
       most_some c.args.piece c.args.tool.now.stage c.requires.piece,
-      record {
-        given = went.given;
-        some = went.some;
-        size = went.size;
-        count = went.count;
-        window = went.window;
-        at = (went.at.0, went.at.1.0);
-      },
+      went_with went (went.at.0, went.at.1.0),
     )
 
 pub returns-in-Ended-clause-gives : goal.returns-in-Ended-clause-gives
