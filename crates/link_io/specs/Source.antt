@@ -193,3 +193,11 @@ module _ {R : Type 0} where
   AfterFill look old new buffer (Ok filled.Whole) = WholeSlice look old new buffer
   AfterFill look old new buffer (Ok (filled.Ended n)) = EndedSlice look old new buffer n
   AfterFill look old new buffer (Err fault) = StoppedSlice look old new buffer fault
+
+  -- What each call ensures that fills a slice, which has `before` and then `after`.
+  pub record Fills (look : R → Input) (old new : Source R) (before after : List ℕ)
+      (result : Result Filled IoFault) : Type 0 where
+    pub gives : IsLive look old → AfterFill look old new after result
+    pub ended : HasEnded old → (new ≡ old) × (result ≡ Ok (filled_at_end before))
+    pub failed : (fault : IoFault) → HasFailed old fault → (new ≡ old) × (result ≡ Err fault)
+    pub untouched : (fault : IoFault) → HasFailed old fault → after ≡ before

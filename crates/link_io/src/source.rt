@@ -57,7 +57,7 @@ pub struct Source<R> {
 impl<R: InDevice> Source<R> {
     ghost use Rattle.std.specs.Prelude.{◌≡◌, ◌+◌, ◌-◌, ◌<◌, ◌≤◌, ◌==◌, true, false, [], length, take, drop, IfOk, IfErr, OnOk, MatchResult, IsTrue};
     ghost use Rattle.link_io.specs.Limits.{window_size};
-    ghost use Rattle.link_io.specs.Source.{IsSourceAt, is_fresh, reader_of, given_by, taken_by, window_of, front_of, ahead, IsLive, IsOver, HasEnded, HasFailed, Takes, StopsAfter, AfterReady, AfterReadyFront, AfterSome, AfterFill, filled_at_end};
+    ghost use Rattle.link_io.specs.Source.{IsSourceAt, is_fresh, reader_of, given_by, taken_by, window_of, front_of, ahead, IsLive, IsOver, HasEnded, HasFailed, Takes, StopsAfter, AfterReady, AfterReadyFront};
 
     /// Makes a source that has taken nothing.
     pub fn new(reader: R) -> Source<R>
@@ -319,7 +319,7 @@ impl<R: InDevice> Source<R> {
 /// The calls that copy bytes.
 impl<R: InDevice> Source<R> {
     ghost use Rattle.std.specs.Prelude.{◌≡◌, ◌+◌, ◌-◌, ◌<◌, ◌≤◌, [], length, take, drop, IfOk};
-    ghost use Rattle.link_io.specs.Source.{reader_of, window_of, IsLive, HasEnded, HasFailed, Takes, AfterSome, AfterFill, filled_at_end};
+    ghost use Rattle.link_io.specs.Source.{reader_of, window_of, IsLive, HasEnded, HasFailed, Takes, AfterSome, Fills};
 
     /// Gives the next bytes, after at most one read, and returns how many.
     ///
@@ -371,13 +371,7 @@ impl<R: InDevice> Source<R> {
     /// fault again. In both cases it does not read.
     #[inline(always)]
     pub fn fill(&mut self, buffer: &mut [u8]) -> Result<Filled, IoFault>
-        ensures gives { IsLive R.state self.old
-            → AfterFill R.state self.old self.new buffer.new result }
-        ensures ended { HasEnded self.old
-            → (self.new ≡ self.old) × (result ≡ Ok (filled_at_end buffer.old)) }
-        ensures failed { (fault : _) → HasFailed self.old fault
-            → (self.new ≡ self.old) × (result ≡ Err fault) }
-        ensures untouched { (fault : _) → HasFailed self.old fault → buffer.new ≡ buffer.old }
+        ensures { Fills R.state self.old self.new buffer.old buffer.new result }
     {
         if buffer.len() <= self.end - self.start && !buffer.is_empty() {
             self.copy(buffer);
@@ -389,13 +383,7 @@ impl<R: InDevice> Source<R> {
     /// `fill` for an empty buffer, or for more bytes than the window has.
     #[inline(never)]
     fn fill_on(&mut self, buffer: &mut [u8]) -> Result<Filled, IoFault>
-        ensures gives { IsLive R.state self.old
-            → AfterFill R.state self.old self.new buffer.new result }
-        ensures ended { HasEnded self.old
-            → (self.new ≡ self.old) × (result ≡ Ok (filled_at_end buffer.old)) }
-        ensures failed { (fault : _) → HasFailed self.old fault
-            → (self.new ≡ self.old) × (result ≡ Err fault) }
-        ensures untouched { (fault : _) → HasFailed self.old fault → buffer.new ≡ buffer.old }
+        ensures { Fills R.state self.old self.new buffer.old buffer.new result }
     {
         if let Flow::Failed(fault) = self.flow {
             return Err(fault);

@@ -1,9 +1,10 @@
 -- The state of a session in the reading of the bytes that it was given.
-use Rattle.std.specs.Prelude.{◌≡◌, ℕ, zero, suc, ◌+◌, ◌<◌, ◌≤◌, Bool, true, false, ◌&&◌, ◌==◌, List, [], ◌++◌, length, take, drop, Option, Some, None, Result, Ok, Err, nat_lt, if◌then◌else◌, ⊤}
+use Rattle.std.specs.Prelude.{◌≡◌, ℕ, zero, suc, ◌+◌, ◌<◌, ◌≤◌, Bool, true, false, ◌&&◌, ◌==◌, List, [], ◌++◌, length, take, drop, Option, Some, None, Result, Ok, Err, nat_lt, if◌then◌else◌, IfOk, IfErr, IfSome, IsTrue, ⊤}
 use Rattle.link_io.specs.Device.{Input, HasBytes}
 use Rattle.link_wire.specs.Getting.{MayFollow}
 use Rattle.link_wire.specs.Limits.{longest_head, window_size}
 use Rattle.link_wire.specs.Message.{data_length, contact_at, message_at}
+use Rattle.link_wire.specs.MessageBuffer.{message_of, SegmentHasTotals}
 use Rattle.link_wire.specs.Part.{Part}
 use Rattle.link_io.specs.Source.{IsSourceAt, IsLive, IsOver, HasEnded, Takes, Readies, StopsAfter, is_fresh, window_of, front_of, ahead}
 use Rattle.link_wire.specs.Stream.{End, Clean, Cut, Fault, Stream, ended, with_entry, stream_at, Reading, reading_of}
@@ -14,6 +15,7 @@ use Rattle.link_wire.specs.declared.fault.WireFault.{WireFault}
 use Rattle.link_wire.specs.declared.fault.WireFault.TheVariants as wire
 use Rattle.link_wire.specs.declared.message.Contact.{Contact}
 use Rattle.link_wire.specs.declared.message.Message.{Message}
+use Rattle.link_wire.specs.declared.message.MessageBuffer.{MessageBuffer}
 use Rattle.link_wire.specs.declared.session.Phase.{Phase}
 use Rattle.link_wire.specs.declared.session.Phase.TheVariants as phase
 use Rattle.link_wire.specs.declared.session.Session.{Session}
@@ -328,3 +330,29 @@ module _ {R : Type 0} where
   AfterLoad look old new history (Err (stop.Wire offset fault)) =
       CutData look old new history offset fault
   AfterLoad look old new history (Err (stop.Io fault)) = StoppedData look old new fault
+
+  -- What each call ensures that reads the next message into `message`.
+  pub record ReadsNext (look : R → Input) (old new : Session R) (message : MessageBuffer)
+      (result : Result (Option ℕ) Stop) : Type 0 where
+    pub settles : IfErr result (HasStopped new)
+    pub left : IfErr result (λ _. left_of new ≡ left_of old)
+    pub again : HasEndedBetween old → (new ≡ old) × (result ≡ Ok None)
+    pub gives : (history : List ℕ) → IsSessionAt look old history
+        → AfterNext look old new history (with_message_read (message_of message) result)
+    -- the items of a segment have their totals
+    pub totals : IfOk result (λ got. IfSome got (λ offset. SegmentHasTotals message))
+    pub opened : IsTrue (is_opened new)
+    pub stopped : (why : Stop) → HasStopped old why → (new ≡ old) × (result ≡ Err why)
+
+  -- What each call ensures that makes data of the segment ready.
+  pub record LoadsData (look : R → Input) (old new : Session R)
+      (result : Result ℕ Stop) : Type 0 where
+    pub size : IfOk result (λ n. n ≡ length (data_in look new))
+    pub settles : IfErr result (HasStopped new)
+    pub left : IfErr result (λ _. left_of new ≡ left_of old)
+    pub gives : (history : List ℕ) → IsSessionAt look old history
+        → AfterLoad look old new history result
+    pub opened : IsTrue (is_opened old) → IsTrue (is_opened new)
+    pub none : left_of old ≡ 0 → ((why : Stop) → HasStopped old why → ⊥)
+        → (new ≡ old) × (result ≡ Ok 0)
+    pub stopped : (why : Stop) → HasStopped old why → (new ≡ old) × (result ≡ Err why)

@@ -39,7 +39,7 @@ impl<R: InDevice> Session<R> {
     ghost use Rattle.link_wire.specs.Plain.{IsHead};
     ghost use Rattle.link_wire.specs.Message.{MessageHasTotals};
     ghost use Rattle.link_wire.specs.MessageBuffer.{message_of, SegmentHasTotals};
-    ghost use Rattle.link_wire.specs.Session.{source_of, may_open, may_read, is_opened, IsSessionAt, HasContact, HasEndedBetween, HasNext, HasStopped, left_of, data_in, with_message_read, AfterOpen, ReadMessage, AfterNext};
+    ghost use Rattle.link_wire.specs.Session.{source_of, may_open, may_read, is_opened, IsSessionAt, HasContact, HasEndedBetween, HasNext, HasStopped, left_of, data_in, AfterOpen, ReadMessage, AfterNext, ReadsNext};
     ghost use Rattle.link_wire.specs.declared.session.Phase.TheVariants as phase;
 
     /// Makes a session over a source that has taken nothing.
@@ -164,21 +164,24 @@ impl<R: InDevice> Session<R> {
     #[inline(always)]
     pub fn read_next(&mut self, message: &mut MessageBuffer) -> Result<Option<u64>, Stop>
         requires { IsTrue (may_read self.old) }
-        ensures settles { IfErr result (HasStopped self.new) }
-        ensures left { IfErr result (λ _. left_of self.new ≡ left_of self.old) }
-        ensures again { HasEndedBetween self.old → (self.new ≡ self.old) × (result ≡ Ok None) }
-        ensures gives { (history : List ℕ) → IsSessionAt R.state self.old history
-            → AfterNext R.state self.old self.new history
-            (with_message_read (message_of message.new) result) }
-        // The items of a segment have their totals.
-        ensures totals { IfOk result (λ got. IfSome got (λ offset. SegmentHasTotals message.new)) }
-        ensures opened { IsTrue (is_opened self.new) }
-        ensures stopped { (stop : _) → HasStopped self.old stop
-            → (self.new ≡ self.old) × (result ≡ Err stop) }
+        ensures { ReadsNext R.state self.old self.new message.new result }
     {
-        if let Some(offset) = self.next_here(message) {
-            return Ok(Some(offset));
+        match self.next_here(message) {
+            Some(offset) => Ok(Some(offset)),
+            None => self.read_rest(message),
         }
+    }
+
+    /// Reads the next message as [`Session::read_next`] does, for a caller to whom
+    /// [`Session::next_here`] has just given nothing.
+    ///
+    /// It does not make that call again.
+    #[cold]
+    #[inline(never)]
+    pub fn read_rest(&mut self, message: &mut MessageBuffer) -> Result<Option<u64>, Stop>
+        requires { IsTrue (may_read self.old) }
+        ensures { ReadsNext R.state self.old self.new message.new result }
+    {
         match self.next_ahead(message) {
             Some(offset) => Ok(Some(offset)),
             None => self.read_fields(message),
@@ -283,16 +286,7 @@ impl<R: InDevice> Session<R> {
     #[inline(never)]
     fn read_fields(&mut self, message: &mut MessageBuffer) -> Result<Option<u64>, Stop>
         requires { IsTrue (may_read self.old) }
-        ensures settles { IfErr result (HasStopped self.new) }
-        ensures left { IfErr result (λ _. left_of self.new ≡ left_of self.old) }
-        ensures again { HasEndedBetween self.old → (self.new ≡ self.old) × (result ≡ Ok None) }
-        ensures opened { IsTrue (is_opened self.new) }
-        ensures gives { (history : List ℕ) → IsSessionAt R.state self.old history
-            → AfterNext R.state self.old self.new history
-            (with_message_read (message_of message.new) result) }
-        ensures totals { IfOk result (λ got. IfSome got (λ offset. SegmentHasTotals message.new)) }
-        ensures stopped { (stop : _) → HasStopped self.old stop
-            → (self.new ≡ self.old) × (result ≡ Err stop) }
+        ensures { ReadsNext R.state self.old self.new message.new result }
     {
         if let Phase::Stopped(stop) = self.phase {
             return Err(stop);
@@ -423,7 +417,7 @@ impl<R: InDevice> Session<R> {
 /// The calls for the data of segments.
 impl<R: InDevice> Session<R> {
     ghost use Rattle.std.specs.Prelude.{◌≡◌, ◌<◌, ◌≤◌, ℕ, List, length, take, drop, IfOk, IfErr, Ok, Err, IsTrue};
-    ghost use Rattle.link_wire.specs.Session.{is_opened, IsSessionAt, HasNext, HasStopped, left_of, data_in, PassedBytes, AfterData, AfterLoad};
+    ghost use Rattle.link_wire.specs.Session.{is_opened, IsSessionAt, HasNext, HasStopped, left_of, data_in, PassedBytes, AfterData, LoadsData};
     ghost use Rattle.link_wire.specs.declared.session.Phase.TheVariants as phase;
 
     /// Copies the next bytes of the segment's data, after at most one read, and returns how many.
@@ -489,16 +483,7 @@ impl<R: InDevice> Session<R> {
     /// data, the fault is [`WireFault::Truncated`], at the offset of the segment.
     #[inline(always)]
     pub fn load(&mut self) -> Result<usize, Stop>
-        ensures size { IfOk result (λ n. n ≡ length (data_in R.state self.new)) }
-        ensures settles { IfErr result (HasStopped self.new) }
-        ensures left { IfErr result (λ _. left_of self.new ≡ left_of self.old) }
-        ensures gives { (history : List ℕ) → IsSessionAt R.state self.old history
-            → AfterLoad R.state self.old self.new history result }
-        ensures opened { IsTrue (is_opened self.old) → IsTrue (is_opened self.new) }
-        ensures none { left_of self.old ≡ 0 → ((stop : _) → HasStopped self.old stop → ⊥)
-            → (self.new ≡ self.old) × (result ≡ Ok 0) }
-        ensures stopped { (stop : _) → HasStopped self.old stop
-            → (self.new ≡ self.old) × (result ≡ Err stop) }
+        ensures { LoadsData R.state self.old self.new result }
     {
         let loaded = self.loaded().len();
         match self.phase {
@@ -511,16 +496,7 @@ impl<R: InDevice> Session<R> {
     #[cold]
     #[inline(never)]
     fn load_on(&mut self) -> Result<usize, Stop>
-        ensures size { IfOk result (λ n. n ≡ length (data_in R.state self.new)) }
-        ensures settles { IfErr result (HasStopped self.new) }
-        ensures left { IfErr result (λ _. left_of self.new ≡ left_of self.old) }
-        ensures gives { (history : List ℕ) → IsSessionAt R.state self.old history
-            → AfterLoad R.state self.old self.new history result }
-        ensures opened { IsTrue (is_opened self.old) → IsTrue (is_opened self.new) }
-        ensures none { left_of self.old ≡ 0 → ((stop : _) → HasStopped self.old stop → ⊥)
-            → (self.new ≡ self.old) × (result ≡ Ok 0) }
-        ensures stopped { (stop : _) → HasStopped self.old stop
-            → (self.new ≡ self.old) × (result ≡ Err stop) }
+        ensures { LoadsData R.state self.old self.new result }
     {
         if let Phase::Stopped(stop) = self.phase {
             return Err(stop);
