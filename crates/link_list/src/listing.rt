@@ -106,14 +106,16 @@ fn step<R: InDevice, W: OutDevice, E: OutDevice>(
     ensures gives { (start : Devices R W E) (history : List ℕ)
         → Stands (looks R.state W.state E.state) listing_of start true
         (place_of (source_of (inner_of input.old)) writers.old) history
-        → IsListing R.state tool.old.stage (latest_line tool.old.latest) (inner_of input.old) history
+        → IsListing R.state tool.old.stage (latest_line tool.old.latest) (inner_of input.old)
+        history
         → AfterStepOrStride (looks R.state W.state E.state) start piece far tool.old.stage
         (place_of (source_of (inner_of input.old)) writers.old)
         (place_of (source_of (inner_of input.new)) writers.new)
         (IsListing R.state tool.new.stage (latest_line tool.new.latest) (inner_of input.new))
         history result }
     ensures handed { (history : List ℕ)
-        → IsListing R.state tool.old.stage (latest_line tool.old.latest) (inner_of input.old) history
+        → IsListing R.state tool.old.stage (latest_line tool.old.latest) (inner_of input.old)
+        history
         → (result ≡ Err IoFault.Write → ⊥)
         → HandsOn (looks R.state W.state E.state) W.handed E.handed
         (inner_of input.old) (inner_of input.new) writers.old writers.new }

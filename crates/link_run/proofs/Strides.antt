@@ -37,7 +37,9 @@ went_later {stands} {first} {history} went more =
       given = went.given ++ more.given;
       some = λ some. ⊎_elim
           (λ is. let given = went.some is in omega (arith, length-append went.given more.given))
-          (λ none. let given = more.some (omega arith) in omega (arith, length-append went.given more.given))
+          (λ none.
+          let given = more.some (omega arith) in
+          omega (arith, length-append went.given more.given))
           (cases_lt 0 first);
       size = omega (arith, length-append went.given more.given);
       count = omega (arith, length-append went.given more.given);
@@ -94,5 +96,7 @@ pub stage_kept : {R W E : Type 0} (look : Looks R W E) (made later : List ℕ �
 stage_kept look made later start begun old new knows most history answer (Ok More) same none went =
     let P : (List ℕ → Made) → Type 0 = λ m. Stands look m start begun new (history ++ went.given) in
     went_with went (none tt, (subst P (sym same) went.at.0, went.at.1))
-stage_kept look made later start begun old new knows most history answer (Ok (Done status)) same none last = last
-stage_kept look made later start begun old new knows most history answer (Err fault) same none last = last
+stage_kept look made later start begun old new knows most history answer (Ok (Done status)) same
+    none last = last
+stage_kept look made later start begun old new knows most history answer (Err fault) same none
+    last = last

@@ -60,7 +60,8 @@ module _ {R W E : Type 0} (look : Looks R W E)
 
 -- Nothing was written, and the source made bytes ready, ended or stopped; or a writer failed to
 -- hand on what was written, and nothing was read.
-abbrev pub ReadsBytes : {R W E : Type 0} → Looks R W E → (old new : Source R) → (before after : Writers W E) → Result ℕ IoFault → Type 0
+abbrev pub ReadsBytes : {R W E : Type 0} → Looks R W E → (old new : Source R)
+    → (before after : Writers W E) → Result ℕ IoFault → Type 0
 ReadsBytes look old new before after (Ok n) =
     Writes look.output look.report before after (on_output [])
     × AfterReadyFront look.input old new (Ok n)
@@ -76,7 +77,8 @@ abbrev pub HoldsNothingBack : {R W E : Type 0} → Looks R W E
     → (W → Option (List ℕ)) → (E → Option (List ℕ)) → Session R → Writers W E → Type 0
 HoldsNothingBack look out_handed report_handed session after =
     (history : List ℕ) → IsSessionAt look.input session history
-    → HasHandedOn look.output look.report out_handed report_handed after ⊎ HasNext look.input session
+    → HasHandedOn look.output look.report out_handed report_handed after
+    ⊎ HasNext look.input session
 
 -- what holds after a call that reads the head of the next message into `message`
 pub record GetsMessage {R W E : Type 0} (look : Looks R W E) (out_handed : W → Option (List ℕ))
@@ -99,4 +101,5 @@ pub record GetsMessage {R W E : Type 0} (look : Looks R W E) (out_handed : W →
 abbrev pub HoldsNoBytesBack : {R W E : Type 0} → Looks R W E
     → (W → Option (List ℕ)) → (E → Option (List ℕ)) → Source R → Writers W E → Type 0
 HoldsNoBytesBack look out_handed report_handed source after =
-    HasHandedOn look.output look.report out_handed report_handed after ⊎ HasBytes (ahead look.input source)
+    HasHandedOn look.output look.report out_handed report_handed after
+    ⊎ HasBytes (ahead look.input source)

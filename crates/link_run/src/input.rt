@@ -106,7 +106,8 @@ impl<R: InDevice> Input<Session<R>> {
         ensures gives { AfterOpen R.state (inner_of self.old) (inner_of self.new) result }
         ensures opened { IsTrue (is_opened (inner_of self.new)) }
         ensures may_read { IsTrue (may_read (inner_of self.new)) }
-        ensures left { IfErr result (λ _. left_of (inner_of self.new) ≡ left_of (inner_of self.old)) }
+        ensures left { IfErr result
+            (λ _. left_of (inner_of self.new) ≡ left_of (inner_of self.old)) }
         ensures settles { IfErr result (HasStopped (inner_of self.new)) }
     {
         self.inner.open()
@@ -190,7 +191,8 @@ impl<R: InDevice> Input<Session<R>> {
     ) -> Result<usize, Stop>
         ensures size { IfOk result (λ n. n ≡ length (data_in R.state (inner_of self.new))) }
         // If data is at hand already, nothing is handed on.
-        ensures here { 0 < length (data_in R.state (inner_of self.old)) → writers.new ≡ writers.old }
+        ensures here { 0 < length (data_in R.state (inner_of self.old))
+            → writers.new ≡ writers.old }
         ensures opened { IsTrue (is_opened (inner_of self.old))
             → IsTrue (is_opened (inner_of self.new)) }
         ensures gives { (history : List ℕ) → IsSessionAt R.state (inner_of self.old) history
@@ -199,7 +201,8 @@ impl<R: InDevice> Input<Session<R>> {
         ensures handed { (result ≡ Err (Stop.Io IoFault.Write) → ⊥)
             → HoldsNothingBack (looks R.state W.state E.state) W.handed E.handed
             (inner_of self.old) writers.new }
-        ensures left { IfErr result (λ _. left_of (inner_of self.new) ≡ left_of (inner_of self.old)) }
+        ensures left { IfErr result
+            (λ _. left_of (inner_of self.new) ≡ left_of (inner_of self.old)) }
         ensures line { next_line writers.new ≡ next_line writers.old }
         ensures stopped { (stop : _) → HasStopped (inner_of self.old) stop
             → (self.new ≡ self.old) × (writers.new ≡ writers.old) × (result ≡ Err stop) }

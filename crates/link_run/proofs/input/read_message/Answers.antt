@@ -11,7 +11,8 @@ returns-in_err-settle_before g c =
     record {
       opened = search rules;
       gives = λ history at. inr settled.gives;
-      handed = λ other. absurd (other (ap Err (settled.gives.is ∙ ap stop.Io settled.gives.unsettled.kind)));
+      handed = λ other.
+          absurd (other (ap Err (settled.gives.is ∙ ap stop.Io settled.gives.unsettled.kind)));
       totals = tt;
       left = refl;
       line = settled.line;

@@ -8,7 +8,8 @@ returns-in-Some g c =
     record {
       opened = here.opened;
       gives = λ history at.
-          (writes_none g.W.OutDevice.state g.E.OutDevice.state c.args.writers.now, here.gives history at);
+          let none = writes_none g.W.OutDevice.state g.E.OutDevice.state c.args.writers.now in
+          (none, here.gives history at);
       handed = λ other history at. inr (here.here history at);
       totals = here.totals;
       left = tt;
