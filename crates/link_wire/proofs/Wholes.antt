@@ -1,15 +1,15 @@
 -- Whole messages, one after another, are read as one list of messages.
-use Rattle.std.proofs.Common.{◌≡◌, ℕ, zero, suc, ◌+◌, ◌^◌, ◌<◌, ◌≤◌, true, false, List, [], ◌∷◌, ◌++◌, length, take, drop, slice_index, nat_lt, ◌==◌, refl, ap, sym, ◌∙◌, subst, append_assoc, append-nil, length-append, length-drop, add-zero, take-append-drop, get_or-drop, arith}
+use Rattle.std.proofs.Common.{◌≡◌, ℕ, zero, suc, ◌+◌, ◌^◌, ◌<◌, ◌≤◌, true, List, [], ◌∷◌, ◌++◌, length, take, drop, slice_index, Some, ◌==◌, refl, ap, sym, ◌∙◌, subst, append_assoc, append-nil, length-append, length-drop, add-zero, get_or-drop, arith}
 use Rattle.std.proofs.lemmas.Bool.{le-ltb, eqb-true, cond_both}
 use Rattle.std.proofs.lemmas.List.Elements.{All-nil, All-push}
 use Rattle.std.proofs.Math.Seq.{take-add, take-append_seam, drop-append_seam}
 use Rattle.link_wire.specs.Codes.{xfer_ack, xfer_refuse, keepalive, msg_reject}
 use Rattle.link_wire.specs.Getting.{IsPart}
-use Rattle.link_wire.specs.Here.{IsHere}
 use Rattle.link_wire.specs.Message.{message_at, data_length}
-use Rattle.link_wire.specs.Part.{Part}
+use Rattle.link_wire.specs.Session.{IsEnoughFor}
 use Rattle.link_wire.specs.Stream.{Entry, stream_at}
 use Rattle.link_wire.specs.Whole.{followed, AreMessages, is_quiet, IsQuiet, AreQuiet, quiet_size, IsQuietHead}
+use Rattle.link_wire.proofs.Heres.{head_enough}
 use Rattle.link_wire.proofs.Plains.{ack_head, refuse_head, keepalive_head, msg_reject_head}
 use Rattle.link_wire.proofs.Streams.{stream_at-head}
 use Rattle.link_wire.specs.declared.message.Message.{Message}
@@ -23,12 +23,14 @@ messages_then : (offset : ℕ) (first second : List ℕ) (xs ys : List Entry)
     → AreMessages offset (first ++ second) (xs ++ ys)
 messages_then offset first second xs ys one two = record {
   all = λ more.
-      let place : offset + length first + length second ≡ offset + length (first ++ second) = omega (arith, length-append first second) in
+      let place : offset + length first + length second ≡ offset + length (first ++ second) =
+      omega (arith, length-append first second) in
+      let end = (stream_at (offset + length (first ++ second)) more).end in
       ap (stream_at offset) (append_assoc first second more)
       ∙ one.all (second ++ more)
       ∙ ap (followed xs) (two.all more)
       ∙ ap (λ n. followed xs (followed ys (stream_at n more))) place
-      ∙ ap (λ entries. record { entries = entries; end = (stream_at (offset + length (first ++ second)) more).end })
+      ∙ ap (λ entries. record { entries = entries; end = end })
       (sym (append_assoc xs ys (stream_at (offset + length (first ++ second)) more).entries));
 }
 
@@ -41,8 +43,11 @@ module _ (offset : ℕ) (head content : List ℕ) (message : Message)
   pub one_message : AreMessages offset (head ++ content) (entry_of ∷ [])
   one_message = record {
     all = λ more.
-        let whole : nat_lt (length (content ++ more)) (length content) ≡ false = le-ltb (length (content ++ more)) (length content) (omega (arith, length-append content more)) in
-        let place : offset + length head + length content ≡ offset + length (head ++ content) = omega (arith, length-append head content) in
+        let fits : length content ≤ length (content ++ more) =
+        omega (arith, length-append content more) in
+        let whole = le-ltb (length (content ++ more)) (length content) fits in
+        let place : offset + length head + length content ≡ offset + length (head ++ content) =
+        omega (arith, length-append head content) in
         ap (stream_at offset) (append_assoc head content more)
         ∙ stream_at-head offset head message is.is_part (content ++ more)
         ∙ rw (size, whole, take-append_seam, drop-append_seam, place) refl;
@@ -60,28 +65,23 @@ pub quiet_more : (offset at size : ℕ) (window : List ℕ) → at ≤ length wi
 quiet_more offset at size window within so_far head =
     let first = take at window in
     let last = take size (drop at window) in
-    let P : List ℕ → Type 0 = λ bytes. AreMessages (offset + length first) bytes (record { offset = offset + length first; message = head.message; content = [] } ∷ []) in
-    let one = subst P (append-nil last) (one_message (offset + length first) last [] head.message head.is head.none) in
+    let next = offset + length first in
+    let entry : List Entry = record { offset = next; message = head.message; content = [] } ∷ [] in
+    let P : List ℕ → Type 0 = λ bytes. AreMessages next bytes entry in
+    let whole = one_message next last [] head.message head.is head.none in
+    let one = subst P (append-nil last) whole in
     let Q : List ℕ → Type 0 = λ bytes. AreQuiet offset bytes in
     subst Q (sym (take-add at size window)) (record {
-      entries = so_far.entries ++ record { offset = offset + length first; message = head.message; content = [] } ∷ [];
+      entries = so_far.entries ++ entry;
       quiet = All-push IsQuiet so_far.entries _ so_far.quiet head.quiet;
       are = messages_then offset first last so_far.entries _ so_far.are one;
     })
 
 -- if the window begins with a quiet message, no field of its first message is missing
-quiet_here : (window : List ℕ) (size : ℕ) → IsQuietHead window size
-    → IsHere 0 (message_at window)
-quiet_here window size head =
-    let P : List ℕ → Type 0 = λ bytes. IsHere 0 (message_at bytes) in
-    let Q : Part Message → Type 0 = λ read. IsHere 0 read in
-    let whole = head.is.is_part (drop size window) in
-    subst P (take-append-drop size window)
-    (subst Q (sym whole) (record { whole = λ cut. absurd (cc); follow = λ value rest is. omega arith }))
-
-pub quiet_first : (at size : ℕ) (window : List ℕ) → (0 < at → IsHere 0 (message_at window))
-    → IsQuietHead (drop at window) size → IsHere 0 (message_at window)
-quiet_first zero size window here head = quiet_here window size head
+pub quiet_first : (at size : ℕ) (window : List ℕ)
+    → (0 < at → IsEnoughFor message_at (Some window))
+    → IsQuietHead (drop at window) size → IsEnoughFor message_at (Some window)
+quiet_first zero size window here head = head_enough window size head.message head.is
 quiet_first (suc at) size window here head = here (omega arith)
 
 module _ (window : List ℕ) (size : ℕ) (within : size ≤ length window) where
@@ -103,13 +103,17 @@ quiet_by_kind window slice =
     let kind = slice_index window 0 in
     let P : ℕ → Type 0 = λ size. size ≤ length window → IsQuietHead window size in
     cond_both (kind == xfer_ack) 18 _ P
-    (λ ack within. quiet_part window 18 within _ (ack_head window within (eqb-true kind 2 ack)) refl refl)
+    (λ ack within. quiet_part window 18 within _
+    (ack_head window within (eqb-true kind 2 ack)) refl refl)
     (λ _. cond_both (kind == xfer_refuse) 10 _ P
-    (λ refuse within. quiet_part window 10 within _ (refuse_head window within (eqb-true kind 3 refuse)) refl refl)
+    (λ refuse within. quiet_part window 10 within _
+    (refuse_head window within (eqb-true kind 3 refuse)) refl refl)
     (λ _. cond_both (kind == keepalive) 1 _ P
-    (λ alive within. quiet_part window 1 within _ (keepalive_head window within (eqb-true kind 4 alive)) refl refl)
+    (λ alive within. quiet_part window 1 within _
+    (keepalive_head window within (eqb-true kind 4 alive)) refl refl)
     (λ _. cond_both (kind == msg_reject) 3 (2 ^ 63) P
-    (λ reject within. quiet_part window 3 within _ (msg_reject_head window within (eqb-true kind 6 reject)) refl refl)
+    (λ reject within. quiet_part window 3 within _
+    (msg_reject_head window within (eqb-true kind 6 reject)) refl refl)
     (λ _ within. absurd (omega (arith, slice, within))))))
 
 -- each length is of some bytes, and a sum of it and an index fits
@@ -126,10 +130,14 @@ quiet_size-bounds kind =
 pub record BeginQuiet (window : List ℕ) (count : ℕ) : Type 0 where
   pub within : count ≤ length window
   pub quiet : (offset : ℕ) → AreQuiet offset (take count window)
-  pub here : 0 < count → IsHere 0 (message_at window)
+  pub here : 0 < count → IsEnoughFor message_at (Some window)
 
 pub begin_none : (window : List ℕ) → BeginQuiet window 0
-begin_none window = record { within = omega arith; quiet = quiet_none; here = λ some. absurd (omega arith) }
+begin_none window = record {
+  within = omega arith;
+  quiet = quiet_none;
+  here = λ some. absurd (omega arith);
+}
 
 -- quiet messages, and then another one of the size that the next byte has as a type
 pub begin_more : (window : List ℕ) (at size : ℕ) → length window < 2 ^ 63
@@ -138,8 +146,12 @@ pub begin_more : (window : List ℕ) (at size : ℕ) → length window < 2 ^ 63
 begin_more window at size slice is begun within =
     let rest = drop at window in
     let P : ℕ → Type 0 = λ size. size ≤ length rest → IsQuietHead rest size in
-    let kind : slice_index rest 0 ≡ slice_index window at = get_or-drop at window 0 0 ∙ ap (λ index. slice_index window index) (add-zero at) in
-    let head : IsQuietHead rest size = subst P (ap quiet_size kind ∙ sym is) (quiet_by_kind rest (omega (arith, slice, length-drop at window))) (omega (arith, within, length-drop at window)) in
+    let kind : slice_index rest 0 ≡ slice_index window at =
+    get_or-drop at window 0 0 ∙ ap (λ index. slice_index window index) (add-zero at) in
+    let long = length-drop at window in
+    let head : IsQuietHead rest size =
+    subst P (ap quiet_size kind ∙ sym is) (quiet_by_kind rest (omega (arith, slice, long)))
+    (omega (arith, within, long)) in
     record {
       within = within;
       quiet = λ offset. quiet_more offset at size window begun.within (begun.quiet offset) head;

@@ -31,11 +31,12 @@ pub record Within {A : Type 0} (most : ℕ) (part : List ℕ → Part A) : Type 
   pub steady : Steady part
 
 -- a fault of two steps is one of the first step, or one of the second
-pub both_cut : {A B : Type 0} (read : Result A WireFault) (next : A → Result B WireFault)
+both_cut : {A B : Type 0} (read : Result A WireFault) (next : A → Result B WireFault)
     (fault : WireFault) → read >>= next ≡ Err fault
     → (read ≡ Err fault) ⊎ ((first : A) × (read ≡ Ok first) × (next first ≡ Err fault))
 both_cut (Ok first) next fault is = inr (first, refl, is)
-both_cut {A} (Err other) next fault is = inl (let same : other ≡ fault = cc in ap (λ f. let r : Result A WireFault = Err f in r) same)
+both_cut {A} (Err other) next fault is =
+    inl (let same : other ≡ fault = cc in ap (λ f. let r : Result A WireFault = Err f in r) same)
 
 module _ {A : Type 0} {most : ℕ} where
   within_pure : (value : A) → Within most (λ bytes. Ok (value, bytes))
@@ -206,7 +207,8 @@ item_fits left bytes head rest is =
     let size = both_read (number_at 2 kind.0.1) _ (head, rest) kind.2 in
     let fits = taken_else (nat_lt (left - 5) size.0.0) _ (head, rest) ItemsOverrun size.2 in
     let same = (same_part fits.1).0 in
-    omega (arith, ltb-false left 5 some.0, ltb-false (left - 5) size.0.0 fits.0, ap (λ (h : ItemHead). h.length) same)
+    let length_is = ap (λ (h : ItemHead). h.length) same in
+    omega (arith, ltb-false left 5 some.0, ltb-false (left - 5) size.0.0 fits.0, length_is)
 
 -- the head of an item, if the list has no room for one
 within_no_head : (left : ℕ) → left < 5 → Within 0 (item_head_at left)
@@ -240,7 +242,7 @@ within_items owner (suc room) left =
     within_then (left - (5 + head.length)) _ _ (omega arith) (within_items owner room _) (λ others.
     within_pure _))))
 
-pub within_items_of : (owner : ListOf) (size : ℕ) → Within size (items_of owner size)
+within_items_of : (owner : ListOf) (size : ℕ) → Within size (items_of owner size)
 unfolding items_of
 within_items_of owner size =
     within_then size _ _ (omega arith) (within_items owner most_items size) (λ items. within_pure _)
@@ -311,6 +313,8 @@ module _ {A : Type 0} {most : ℕ} {part : List ℕ → Part A}
   pub needed_size : Needs part bytes → length bytes ≤ most
   needed_size needs =
       ⊎_elim
-      (λ over. absurd (omega (arith, within.cut (take most bytes) (needs most over), length-take most bytes)))
+      (λ over.
+      let short = within.cut (take most bytes) (needs most over) in
+      absurd (omega (arith, short, length-take most bytes)))
       (λ fits. fits)
       (cases_lt most (length bytes))

@@ -16,7 +16,6 @@ pub mod Spelled
 pub mod SpelledStream
 pub mod Spelling
 pub mod Plain
-pub mod Here
 pub mod InSlice
 pub mod Whole
 pub mod Inner

@@ -3,12 +3,30 @@
 //! All else is read field by field: lists with items, SESS_INIT, faults, and heads at the window's
 //! edge.
 
-ghost use Rattle.std.specs.Prelude.{◌≡◌, ◌<◌, length, slice_index, IfSome};
+ghost use Rattle.std.specs.Prelude.{◌≡◌, ◌<◌, ◌≤◌, length, slice_index, slice_range, IfSome};
+ghost use Rattle.byteorder.specs.Endian.{big_number};
 ghost use Rattle.link_wire.specs.Plain.{IsHead};
 
 use crate::codes::{KEEPALIVE, MSG_REJECT, SESS_TERM, START, XFER_ACK, XFER_REFUSE, XFER_SEGMENT};
 use crate::message::Fields;
 use byteorder::{BigEndian, ByteOrder};
+
+/// The length of an XFER_ACK, and of the head of an XFER_SEGMENT without START.
+///
+/// Both have a type, flags, a transfer ID and a length.
+pub const PLAIN_HEAD: usize = 18;
+
+/// The transfer ID and the length in such a head, which begins the window.
+#[inline(always)]
+pub fn id_and_length(window: &[u8]) -> (u64, u64)
+    requires { PLAIN_HEAD ≤ length window.now }
+    ensures id { result.0 ≡ big_number 8 (slice_range window.now 2 10) }
+    ensures size { result.1 ≡ big_number 8 (slice_range window.now 10 18) }
+{
+    let id = BigEndian::read_u64(&window[2..10]);
+    let length = BigEndian::read_u64(&window[10..PLAIN_HEAD]);
+    (id, length)
+}
 
 /// XFER_SEGMENT: type, flags, ID, with START an empty list, and the length of the data.
 #[inline(always)]
@@ -17,14 +35,13 @@ fn segment(window: &[u8]) -> Option<(Fields, usize)>
     requires kind { slice_index window.now 0 ≡ XFER_SEGMENT }
     ensures { IfSome result (λ head. IsHead window.now head.0 head.1) }
 {
-    if window.len() < 18 {
+    if window.len() < PLAIN_HEAD {
         return None;
     }
     let flags = window[1];
-    let id = BigEndian::read_u64(&window[2..10]);
     if flags & START != START {
-        let length = BigEndian::read_u64(&window[10..18]);
-        return Some((Fields::Segment { flags, id, length }, 18));
+        let (id, length) = id_and_length(window);
+        return Some((Fields::Segment { flags, id, length }, PLAIN_HEAD));
     }
     if window.len() < 22 {
         return None;
@@ -32,6 +49,7 @@ fn segment(window: &[u8]) -> Option<(Fields, usize)>
     if BigEndian::read_u32(&window[10..14]) != 0 {
         return None;
     }
+    let id = BigEndian::read_u64(&window[2..10]);
     let length = BigEndian::read_u64(&window[14..22]);
     Some((Fields::Segment { flags, id, length }, 22))
 }
@@ -44,13 +62,12 @@ fn ack(window: &[u8]) -> Option<(Fields, usize)>
     requires kind { slice_index window.now 0 ≡ XFER_ACK }
     ensures { IfSome result (λ head. IsHead window.now head.0 head.1) }
 {
-    if window.len() < 18 {
+    if window.len() < PLAIN_HEAD {
         return None;
     }
     let flags = window[1];
-    let id = BigEndian::read_u64(&window[2..10]);
-    let length = BigEndian::read_u64(&window[10..18]);
-    Some((Fields::Ack { flags, id, length }, 18))
+    let (id, length) = id_and_length(window);
+    Some((Fields::Ack { flags, id, length }, PLAIN_HEAD))
 }
 
 /// XFER_REFUSE: type, reason and ID.

@@ -7,6 +7,7 @@ ghost use Rattle.std.specs.Prelude.{IfSome};
 ghost use Rattle.link_wire.specs.Inner.{IsInner};
 
 use super::{Phase, Session};
+use crate::plain::{PLAIN_HEAD, id_and_length};
 use byteorder::{BigEndian, ByteOrder};
 use link_io::InDevice;
 
@@ -20,17 +21,17 @@ const INNER: u16 = 0x0100;
 fn inner_size(window: &[u8], id: u64) -> Option<usize>
     ensures { IfSome result (IsInner id window.now) }
 {
-    if window.len() < 18 {
+    if window.len() < PLAIN_HEAD {
         return None;
     }
     if BigEndian::read_u16(&window[..2]) != INNER {
         return None;
     }
-    if BigEndian::read_u64(&window[2..10]) != id {
+    let (transfer, size) = id_and_length(window);
+    if transfer != id {
         return None;
     }
-    let size = BigEndian::read_u64(&window[10..18]);
-    if size == 0 || size > (window.len() - 18) as u64 {
+    if size == 0 || size > (window.len() - PLAIN_HEAD) as u64 {
         return None;
     }
     Some(size as usize)
@@ -59,7 +60,7 @@ impl<R: InDevice> Session<R> {
         }
         let window = self.source.window();
         match inner_size(window, id) {
-            Some(size) => Some(&window[18..18 + size]),
+            Some(size) => Some(&window[PLAIN_HEAD..PLAIN_HEAD + size]),
             None => None,
         }
     }
@@ -81,7 +82,7 @@ impl<R: InDevice> Session<R> {
             < length (window_of (source_of self.old)) }
     {
         let offset = self.source.given();
-        self.source.give(18);
+        self.source.give(PLAIN_HEAD);
         self.source.give(size);
         self.offset = offset;
     }

@@ -3,14 +3,17 @@ use Rattle.link_wire.proofs.Wholes.{begin_none, begin_more}
 use Rattle.link_wire.proofs.quiet.quiet.Goals as goal
 
 pub loop-next-init : goal.loop-next-init
-loop-next-init c = record { at = begin_none c.args.window.now; next = λ within. begin_none c.args.window.now }
+loop-next-init c =
+    let none = begin_none c.args.window.now in
+    record { at = none; next = λ within. none }
 
 pub loop-next-preserved : goal.loop-next-preserved
 loop-next-preserved c =
     let begun = c.loop-next.invariant.next (omega arith) in
     record {
       at = begun;
-      next = λ within. begin_more c.args.window.now c.loop-next.next c.quiet_size.result (omega arith) c.quiet_size.ensures.size begun within;
+      next = λ within. begin_more c.args.window.now c.loop-next.next c.quiet_size.result
+          (omega arith) c.quiet_size.ensures.size begun within;
     }
 
 pub returns-then-next-window : goal.returns-then-next-window

@@ -9,11 +9,17 @@ pub loop-at-preserved : goal.loop-at-preserved
 loop-at-preserved g c =
     let look = g.R.InDevice.state in
     let kept = c.loop-at.invariant in
-    let grown : take (c.loop-at.at + c.in_ok-n.n) c.some_from.new.buffer ≡ take c.loop-at.at c.loop-at.buffer ++ take c.in_ok-n.n (drop c.loop-at.at c.some_from.new.buffer) =
-    take-add c.loop-at.at c.in_ok-n.n c.some_from.new.buffer ∙ ap (λ xs. xs ++ take c.in_ok-n.n (drop c.loop-at.at c.some_from.new.buffer)) c.in_ok-n.ensures.before in
+    let at = c.loop-at.at in
+    let n = c.in_ok-n.n in
+    let buffer = c.some_from.new.buffer in
+    let more = take n (drop at buffer) in
+    let grown : take (at + n) buffer ≡ take at c.loop-at.buffer ++ more =
+    take-add at n buffer ∙ ap (λ xs. xs ++ more) c.in_ok-n.ensures.before in
     record {
       place = c.in_ok-n.ensures.bound;
-      given = λ live. rw grown (Takes-then look _ _ _ _ _ (kept.given live) (c.in_ok-n.ensures.gives (kept.live live)).takes);
+      given = λ live.
+          let gave = c.in_ok-n.ensures.gives (kept.live live) in
+          rw grown (Takes-then look _ _ _ _ _ (kept.given live) gave.takes);
       live = λ live. (c.in_ok-n.ensures.gives (kept.live live)).live;
       still = λ ended.
           let same = kept.still ended in

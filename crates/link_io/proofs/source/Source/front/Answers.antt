@@ -1,4 +1,4 @@
-use Rattle.std.proofs.Common.{◌≡◌, sym, ◌∙◌}
+use Rattle.std.proofs.Common.{sym, ◌∙◌}
 use Rattle.link_io.proofs.Sources.{front_open}
 use Rattle.link_io.proofs.source.Source.front.Goals as goal
 

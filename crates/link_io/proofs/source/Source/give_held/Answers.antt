@@ -1,9 +1,9 @@
-use Rattle.std.proofs.Common.{◌≡◌, ◌-◌, ◌≤◌, [], length, take, refl, arith, ap, ◌∙◌, length-take}
+use Rattle.std.proofs.Common.{◌≡◌, ◌-◌, [], take, refl, arith, ap, ◌∙◌, length-take}
 use Rattle.std.proofs.lemmas.List.Elements.{All-take}
 use Rattle.link_io.specs.Bytes.{IsByte}
 use Rattle.link_io.specs.Limits.{longest_input}
-use Rattle.link_io.specs.Source.{window_of, front_of, held_from}
-use Rattle.link_io.proofs.Sources.{HeldPart, front_held, held_part, Consumes-behind}
+use Rattle.link_io.specs.Source.{window_of, front_of}
+use Rattle.link_io.proofs.Sources.{front_held, held_part, Consumes-behind}
 use Rattle.link_io.proofs.Windows.{range_none}
 use Rattle.link_io.proofs.source.Source.give_held.Goals as goal
 

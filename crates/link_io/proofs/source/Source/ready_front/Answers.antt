@@ -1,4 +1,4 @@
-use Rattle.std.proofs.Common.{◌≡◌, ◌<◌, ℕ, suc, zero, [], length, Result, Ok, Err, IfOk, ap, sym, refl, arith, ◌∙◌}
+use Rattle.std.proofs.Common.{◌≡◌, ℕ, suc, zero, length, Result, Ok, Err, IfOk, ap, sym, refl, arith, ◌∙◌}
 use Rattle.link_io.specs.Device.{Input}
 use Rattle.link_io.specs.Source.{front_of, window_of, HasEnded, AfterReady, AfterReadyFront}
 use Rattle.link_io.specs.declared.fault.IoFault.{IoFault}

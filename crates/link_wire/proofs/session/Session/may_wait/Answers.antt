@@ -11,8 +11,11 @@ use Rattle.link_wire.proofs.session.Session.may_wait.Goals as goal
 pub returns-then-is_empty-clause-data : goal.returns-then-is_empty-clause-data
 returns-then-is_empty-clause-data g c = λ waits some.
     let s = c.args.self.now.source in
-    let empty : length (window_of s) ≡ 0 = grind (arith, nat_tests, ap length c.window.ensures.window) in
-    let none : front_of g.R.InDevice.state s ≡ [] = nothing_ahead g.R.InDevice.state s empty (c.may_wait.ensures.none waits) in
+    let look = g.R.InDevice.state in
+    let empty : length (window_of s) ≡ 0 =
+    grind (arith, nat_tests, ap length c.window.ensures.window) in
+    let none : front_of look s ≡ [] =
+    nothing_ahead look s empty (c.may_wait.ensures.none waits) in
     rw none (grind (arith, common_steps))
 
 pub returns-else-not-has_contact : goal.returns-else-not-has_contact
@@ -22,7 +25,8 @@ returns-else-not-has_contact g c =
       few = λ is. absurd (false≢true (sym no ∙ is));
       «data» = λ is. absurd (false≢true (sym no ∙ is));
       stopped = λ stop is. no;
-      contact = λ may waits. contact_next g.R.InDevice.state c.args.self.now _ c.peek-count.ensures.next (c.has_contact.ensures c.if-not-has_contact.false);
+      contact = λ may waits. contact_next g.R.InDevice.state c.args.self.now _
+          c.peek-count.ensures.next (c.has_contact.ensures c.if-not-has_contact.false);
       here = λ history at waits. let never = sym at.going ∙ c.in-Unopened.is in absurd (cc);
     }
 
@@ -33,8 +37,12 @@ returns-else-not-has_head g c =
       few = λ is. absurd (false≢true (sym no ∙ is));
       «data» = λ is. absurd (false≢true (sym no ∙ is));
       stopped = λ stop is. no;
-      contact = λ may waits. absurd (c.in_default-phase.not-Unopened (opens_unopened g.R.InDevice.state c.args.self.now may));
+      contact = λ may waits.
+          let unopened = opens_unopened g.R.InDevice.state c.args.self.now may in
+          absurd (c.in_default-phase.not-Unopened unopened);
       here = λ history at waits.
-          let between : c.args.self.now.left ≡ 0 = omega (arith, c.if-self-gt0.false) in
-          head_next g.R.InDevice.state c.args.self.now between _ c.peek-count.ensures.next (c.has_head.ensures c.if-not-has_head.false);
+          let s = c.args.self.now in
+          let between : s.left ≡ 0 = omega (arith, c.if-self-gt0.false) in
+          head_next g.R.InDevice.state s between _ c.peek-count.ensures.next
+          (c.has_head.ensures c.if-not-has_head.false);
     }

@@ -1,8 +1,6 @@
-use Rattle.std.proofs.Common.{ℕ, List, Some, length, ap, refl, subst, arith}
+use Rattle.std.proofs.Common.{[], length, ap, arith}
 use Rattle.link_io.proofs.Sources.{ended_window}
-use Rattle.link_wire.specs.Here.{IsHere}
-use Rattle.link_wire.specs.Message.{message_at}
-use Rattle.link_wire.proofs.Heres.{plain_here}
+use Rattle.link_wire.proofs.Heres.{head_enough}
 use Rattle.link_wire.proofs.Sessions.{none_left}
 use Rattle.link_wire.proofs.Steady.{window_has_head}
 use Rattle.link_wire.proofs.session.Session.next_here.Goals as goal
@@ -17,6 +15,7 @@ returns-in-Some-clause-again g c = λ ended.
 pub returns-in-Some-clause-here : goal.returns-in-Some-clause-here
 returns-in-Some-clause-here g c = λ history at.
     let s = c.args.self.now in
-    let P : List ℕ → Type 0 = λ window. IsHere 0 (message_at window) in
-    let here = plain_here c.window.result.now (Some (c.in-Some.fields, c.in-Some.size)) c.in-Some.ensures refl in
-    window_has_head g.R.InDevice.state s (none_left s at.going c.requires) (subst P c.window.ensures.window here)
+    let enough = head_enough c.window.result.now c.in-Some.size _
+    (c.in-Some.ensures.is (record { items = [] })) in
+    window_has_head g.R.InDevice.state s (none_left s at.going c.requires) _
+    c.window.ensures.window enough

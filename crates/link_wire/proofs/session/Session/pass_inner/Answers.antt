@@ -1,4 +1,4 @@
-use Rattle.std.proofs.Common.{◌≡◌, length, ap, ◌∙◌, arith, length-drop}
+use Rattle.std.proofs.Common.{length, ap, ◌∙◌, arith, length-drop}
 use Rattle.link_io.specs.Source.{window_of}
 use Rattle.link_wire.proofs.Inners.{inner_passed}
 use Rattle.link_wire.proofs.Sessions.{none_left}
@@ -17,11 +17,15 @@ returns-clause-gives g c = λ id history at is.
     let old = c.args.self.now in
     let between = none_left old at.going c.requires.may_read in
     let live = c.give.ensures.live at.live in
-    inner_passed old _ history at between c.give.new.self id c.args.size is c.give.ensures.takes c.give.ensures.rest live
-    c.give-2.ensures.takes (c.give-2.ensures.live live) (c.given-offset.ensures ∙ at.at.given) between at.going
+    let here = c.given-offset.ensures ∙ at.at.given in
+    inner_passed old _ history at between c.give.new.self id c.args.size is
+    c.give.ensures.takes c.give.ensures.rest live
+    c.give-2.ensures.takes (c.give-2.ensures.live live) here between at.going
 
 pub returns-clause-shrinks : goal.returns-clause-shrinks
 returns-clause-shrinks g c =
     let some = c.requires.inner.1.some in
     let within = c.requires.inner.1.within in
-    omega (arith, ap length c.give.ensures.rest, ap length c.give-2.ensures.rest, length-drop 18 (window_of c.args.self.now.source), length-drop c.args.size (window_of c.give.new.self))
+    let head = length-drop 18 (window_of c.args.self.now.source) in
+    let body = length-drop c.args.size (window_of c.give.new.self) in
+    omega (arith, ap length c.give.ensures.rest, ap length c.give-2.ensures.rest, head, body)

@@ -1,8 +1,6 @@
 use Rattle.std.proofs.Common.{ℕ, List, length, take, ap, subst, arith, length-take}
 use Rattle.link_io.proofs.Sources.{ended_window}
 use Rattle.link_io.specs.Source.{window_of}
-use Rattle.link_wire.specs.Here.{IsHere}
-use Rattle.link_wire.specs.Message.{message_at}
 use Rattle.link_wire.specs.Whole.{AreQuiet}
 use Rattle.link_wire.proofs.Sessions.{none_left, passed}
 use Rattle.link_wire.proofs.Steady.{window_has_head}
@@ -12,14 +10,19 @@ pub returns-clause-gives : goal.returns-clause-gives
 returns-clause-gives g c = λ history at.
     let old = c.args.self.now in
     let window = window_of old.source in
-    let P : List ℕ → Type 0 = λ bytes. AreQuiet (length history) (take c.quiet-count.result bytes) in
+    let count = c.quiet-count.result in
+    let between = none_left old at.going c.requires in
+    let P : List ℕ → Type 0 = λ bytes. AreQuiet (length history) (take count bytes) in
     let quiet = subst P c.window.ensures.window (c.quiet-count.ensures.quiet (length history)) in
     record {
-      given = take c.quiet-count.result window;
+      given = take count window;
       entries = quiet.entries;
-      size = omega (arith, length-take c.quiet-count.result window, c.quiet-count.ensures.within, ap length c.window.ensures.window);
+      size =
+          let same = ap length c.window.ensures.window in
+          omega (arith, length-take count window, c.quiet-count.ensures.within, same);
       quiet = quiet.quiet;
-      passed = passed old history at (none_left old at.going c.requires) _ _ c.give.ensures.takes (c.give.ensures.live at.live) (none_left old at.going c.requires) at.going quiet.entries quiet.are;
+      passed = passed old history at between _ _ c.give.ensures.takes
+          (c.give.ensures.live at.live) between at.going quiet.entries quiet.are;
     }
 
 -- after the end the window is empty, so it has no message
@@ -31,5 +34,5 @@ returns-clause-again g c = λ ended.
 pub returns-clause-here : goal.returns-clause-here
 returns-clause-here g c = λ history at some.
     let s = c.args.self.now in
-    let P : List ℕ → Type 0 = λ window. IsHere 0 (message_at window) in
-    window_has_head g.R.InDevice.state s (none_left s at.going c.requires) (subst P c.window.ensures.window (c.quiet-count.ensures.here some))
+    window_has_head g.R.InDevice.state s (none_left s at.going c.requires) _
+    c.window.ensures.window (c.quiet-count.ensures.here some)

@@ -1,4 +1,4 @@
-use Rattle.std.proofs.Common.{◌≡◌, ℕ, take, sym, ◌∙◌, subst, arith}
+use Rattle.std.proofs.Common.{ℕ, take, sym, ◌∙◌, subst, arith}
 use Rattle.link_wire.specs.Getting.{IsPart}
 use Rattle.link_wire.specs.Inner.{inner_segment}
 use Rattle.link_wire.specs.Message.{message_at}
@@ -8,11 +8,15 @@ use Rattle.link_wire.proofs.session.inner.inner_size.Goals as goal
 pub returns : goal.returns
 returns c =
     let window = c.args.window.now in
-    let enough = c.if-window-lt18.false in
-    let kinds = two_bytes window (omega arith) (omega (arith, c.type_inv.window 1)) (sym c.read_u16.ensures ∙ c.if-read_u16-ne-INNER.false) in
-    let P : ℕ → Type 0 = λ id. IsPart message_at (take 18 window) (inner_segment id c.read_u64-size.result) in
+    let enough = c.if-window-lt-PLAIN_HEAD.false in
+    let numbers = c.id_and_length-transfer.ensures in
+    let size = c.id_and_length-transfer.result.1 in
+    let kinds = two_bytes window (omega arith) (omega (arith, c.type_inv.window 1))
+    (sym c.read_u16.ensures ∙ c.if-read_u16-ne-INNER.false) in
+    let P : ℕ → Type 0 = λ id. IsPart message_at (take 18 window) (inner_segment id size) in
     record {
       some = omega arith;
       within = omega arith;
-      is = subst P (sym c.read_u64.ensures ∙ c.if-read_u64-id.false) (rw c.read_u64-size.ensures (inner_head window enough kinds.0 kinds.1));
+      is = subst P (sym numbers.id ∙ c.if-transfer-id.false)
+          (rw numbers.size (inner_head window enough kinds.0 kinds.1));
     }
