@@ -2,9 +2,9 @@
 
 ghost use Rattle.std.specs.Prelude.{◌≡◌, ◌<◌, true, false, [], IsTrue, List, ℕ, Err};
 ghost use Rattle.link_wire.specs.Session.{may_open, may_read, is_opened, left_of, source_of};
-ghost use Rattle.link_run.specs.Reading.{inner_of, HasEnough};
+ghost use Rattle.link_run.specs.Reading.{inner_of};
 ghost use Rattle.link_run.specs.Run.{Texts, Devices, devices_at, looks, AfterRun};
-ghost use Rattle.link_run.specs.Stages.{Stands, AfterStage, HandedOn, IsMore};
+ghost use Rattle.link_run.specs.Stages.{Stands, AfterStage, HandsOn, IsMore};
 ghost use Rattle.link_run.specs.Writers.{AfterWrite, WritesSome, on_output, place_of};
 ghost use Rattle.link_list.specs.Listing.{listing_of, list_tool};
 ghost use Rattle.link_list.specs.ListRun.{may_go_on, may_follow, latest_line, IsListing, Begins, Lists, IsListedTo, AfterRead, AfterLines, AfterStepOrStride, WaitsForData};
@@ -106,19 +106,19 @@ fn step<R: InDevice, W: OutDevice, E: OutDevice>(
     ensures gives { (start : Devices R W E) (history : List ℕ)
         → Stands (looks R.state W.state E.state) listing_of start true
         (place_of (source_of (inner_of input.old)) writers.old) history
-        → IsListing R.state tool.old.stage (latest_line tool.old.latest) (inner_of input.old) history
+        → IsListing R.state tool.old.stage (latest_line tool.old.latest) (inner_of input.old)
+        history
         → AfterStepOrStride (looks R.state W.state E.state) start piece far tool.old.stage
         (place_of (source_of (inner_of input.old)) writers.old)
         (place_of (source_of (inner_of input.new)) writers.new)
         (IsListing R.state tool.new.stage (latest_line tool.new.latest) (inner_of input.new))
         history result }
     ensures handed { (history : List ℕ)
-        → IsListing R.state tool.old.stage (latest_line tool.old.latest) (inner_of input.old) history
+        → IsListing R.state tool.old.stage (latest_line tool.old.latest) (inner_of input.old)
+        history
         → (result ≡ Err IoFault.Write → ⊥)
-        → HandedOn (looks R.state W.state E.state) W.handed E.handed
-        (HasEnough R.state (inner_of input.old))
-        (place_of (source_of (inner_of input.old)) writers.old)
-        (place_of (source_of (inner_of input.new)) writers.new) }
+        → HandsOn (looks R.state W.state E.state) W.handed E.handed
+        (inner_of input.old) (inner_of input.new) writers.old writers.new }
 {
     if let Stage::Contact = tool.stage {
         tool.stage = Stage::Message;
@@ -155,10 +155,8 @@ fn list_contact<R: InDevice, W: OutDevice, E: OutDevice>(
         (place_of (source_of (inner_of input.new)) writers.new)
         (Lists R.state Stage.Message line (inner_of input.new)) 6 history result }
     ensures handed { (result ≡ Err IoFault.Write → ⊥)
-        → HandedOn (looks R.state W.state E.state) W.handed E.handed
-        (HasEnough R.state (inner_of input.old))
-        (place_of (source_of (inner_of input.old)) writers.old)
-        (place_of (source_of (inner_of input.new)) writers.new) }
+        → HandsOn (looks R.state W.state E.state) W.handed E.handed
+        (inner_of input.old) (inner_of input.new) writers.old writers.new }
 {
     match input.open() {
         Ok(contact) => {
@@ -192,10 +190,8 @@ fn advance<R: InDevice, W: OutDevice, E: OutDevice>(
     ensures handed { (history : List ℕ)
         → IsListing R.state stage (latest_line latest.old) (inner_of input.old) history
         → (result ≡ Read.Ended (Err IoFault.Write) → ⊥)
-        → HandedOn (looks R.state W.state E.state) W.handed E.handed
-        (HasEnough R.state (inner_of input.old))
-        (place_of (source_of (inner_of input.old)) writers.old)
-        (place_of (source_of (inner_of input.new)) writers.new) }
+        → HandsOn (looks R.state W.state E.state) W.handed E.handed
+        (inner_of input.old) (inner_of input.new) writers.old writers.new }
 {
     match stage {
         Stage::Data => pass_data(piece, input, writers),
@@ -221,10 +217,8 @@ fn read_message<R: InDevice, W: OutDevice, E: OutDevice>(
     ensures handed { (history : List ℕ)
         → Lists R.state Stage.Message (latest_line latest.old) (inner_of input.old) history
         → (result ≡ Read.Ended (Err IoFault.Write) → ⊥)
-        → HandedOn (looks R.state W.state E.state) W.handed E.handed
-        (HasEnough R.state (inner_of input.old))
-        (place_of (source_of (inner_of input.old)) writers.old)
-        (place_of (source_of (inner_of input.new)) writers.new) }
+        → HandsOn (looks R.state W.state E.state) W.handed E.handed
+        (inner_of input.old) (inner_of input.new) writers.old writers.new }
 {
     match input.next_message(writers, &mut latest.message) {
         Ok(Some(offset)) => {
@@ -255,10 +249,8 @@ fn pass_data<R: InDevice, W: OutDevice, E: OutDevice>(
     ensures handed { (line history : List ℕ)
         → Lists R.state Stage.Data line (inner_of input.old) history
         → (result ≡ Read.Ended (Err IoFault.Write) → ⊥)
-        → HandedOn (looks R.state W.state E.state) W.handed E.handed
-        (HasEnough R.state (inner_of input.old))
-        (place_of (source_of (inner_of input.old)) writers.old)
-        (place_of (source_of (inner_of input.new)) writers.new) }
+        → HandsOn (looks R.state W.state E.state) W.handed E.handed
+        (inner_of input.old) (inner_of input.new) writers.old writers.new }
 {
     match input.load_data(writers) {
         Ok(ready) => {

@@ -11,7 +11,7 @@ use Rattle.link_run.specs.Reading.{HasEnough, NotHandedOn}
 use Rattle.std.proofs.KnownBytes.{Appends-trans}
 use Rattle.link_wire.specs.Device.{Input}
 use Rattle.link_run.specs.Run.{Texts, ◌then◌, Looks, progress_after}
-use Rattle.link_run.specs.Stages.{HandedOn}
+use Rattle.link_run.specs.Stages.{HandedOn, HandsOn}
 use Rattle.link_run.specs.Writers.{place_of, on_output, Writes, AfterWrite, WritesSome, AfterEnd, HasHandedOn}
 use Rattle.link_run.specs.declared.run.Status.{Status}
 use Rattle.link_run.specs.declared.writers.Writers.{Writers}
@@ -58,8 +58,12 @@ module _ {R W E : Type 0} (look : Looks R W E) {out_handed : W → Option (List 
     report_kept = handed.report_kept;
     held = handed.held;
     texts = handed.texts then texts;
-    writes = Appends-trans (look.output handed.output).written (look.output mid.output).written (look.output after.output).written handed.texts.output texts.output handed.writes writes.output;
-    reports = Appends-trans (look.report handed.report).written (look.report mid.report).written (look.report after.report).written handed.texts.report texts.report handed.reports writes.report;
+    writes = Appends-trans (look.output handed.output).written (look.output mid.output).written
+        (look.output after.output).written handed.texts.output texts.output handed.writes
+        writes.output;
+    reports = Appends-trans (look.report handed.report).written (look.report mid.report).written
+        (look.report after.report).written handed.texts.report texts.report handed.reports
+        writes.report;
   }
 
   -- the same, by the result of the write, which did not fail
@@ -102,28 +106,35 @@ module _ {R W E : Type 0} (look : Looks R W E) (old new : Session R)
       (subst P is gives).0
 
 module _ {R W E : Type 0} (look : Looks R W E) {out_handed : W → Option (List ℕ)}
-    {report_handed : E → Option (List ℕ)} (old new : Session R) (before mid after : Writers W E) where
+    {report_handed : E → Option (List ℕ)} (old new : Session R)
+    (before mid after : Writers W E) where
   ended_on : (why : Stop) (answer : Result Status IoFault)
       → AfterEnd look.output look.report why mid after answer → (answer ≡ Err io.Write → ⊥)
       → Writes look.output look.report before mid (on_output [])
       → HasHandedOn look.output look.report out_handed report_handed mid ⊎ HasEnough look.input old
-      → HandedOn look out_handed report_handed (HasEnough look.input old) (place_of (source_of old) before) (place_of (source_of new) after)
+      → HandsOn look out_handed report_handed old new before after
   ended_on (stop.Wire offset fault) (Ok status) gives other kept held =
       handed_by look (source_of old) (source_of new) before mid after _ kept held gives.0
-  ended_on (stop.Wire offset fault) (Err failure) gives other kept held = absurd (other (ap Err gives.kind))
+  ended_on (stop.Wire offset fault) (Err failure) gives other kept held =
+      absurd (other (ap Err gives.kind))
   ended_on (stop.Io fault) answer gives other kept held =
       let same : mid ≡ after = sym gives.1 in
       let P : Writers W E → Type 0 = λ w. Writes look.output look.report mid w (on_output []) in
-      handed_by look (source_of old) (source_of new) before mid after _ kept held (subst P same (writes_none look.output look.report mid))
+      handed_by look (source_of old) (source_of new) before mid after _ kept held
+      (subst P same (writes_none look.output look.report mid))
 
   -- the session has stopped, and the run ends
   pub handed_at_end : {A : Type 0} (why : Stop) (answer : Result Status IoFault)
-      → (Writes look.output look.report before mid (on_output []) × A) ⊎ NotHandedOn look old new before mid why
+      → (Writes look.output look.report before mid (on_output []) × A)
+      ⊎ NotHandedOn look old new before mid why
       → AfterEnd look.output look.report why mid after answer → (answer ≡ Err io.Write → ⊥)
-      → ((why ≡ stop.Io io.Write → ⊥) → HasHandedOn look.output look.report out_handed report_handed mid ⊎ HasEnough look.input old)
-      → HandedOn look out_handed report_handed (HasEnough look.input old) (place_of (source_of old) before) (place_of (source_of new) after)
+      → ((why ≡ stop.Io io.Write → ⊥)
+      → HasHandedOn look.output look.report out_handed report_handed mid ⊎ HasEnough look.input old)
+      → HandsOn look out_handed report_handed old new before after
   handed_at_end why answer got gives other held =
       ⊎_elim
-      (λ read. ended_on why answer gives other read.0 (held (λ is. other (write_fails look old new before mid after why answer gives is))))
-      (λ not_on. absurd (other (not_on_fails look old new before mid after why answer gives not_on)))
+      (λ read. ended_on why answer gives other read.0
+      (held (λ is. other (write_fails look old new before mid after why answer gives is))))
+      (λ not_on.
+      absurd (other (not_on_fails look old new before mid after why answer gives not_on)))
       got

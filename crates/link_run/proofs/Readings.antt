@@ -1,13 +1,22 @@
 -- What a run reads from a session.
-use Rattle.std.proofs.Common.{ℕ, inl, List, [], Option, Result, Ok, Err}
-use Rattle.link_wire.specs.Session.{AfterNext, AfterLoad}
+use Rattle.std.proofs.Common.{◌≡◌, ℕ, refl, inl, true, List, [], Option, Result, Ok, Err}
+use Rattle.link_wire.specs.Session.{past_opening, reads_next, AfterNext, AfterLoad}
 use Rattle.link_wire.specs.declared.fault.Stop.{Stop}
 use Rattle.link_wire.specs.declared.message.Message.{Message}
+use Rattle.link_wire.specs.declared.session.Phase.{Phase}
+use Rattle.link_wire.specs.declared.session.Phase.TheVariants.{Unopened, Reading, Stopped}
 use Rattle.link_wire.specs.declared.session.Session.{Session}
 use Rattle.link_run.specs.Run.{Looks}
 use Rattle.link_run.specs.Reading.{ReadsMessage, ReadsData}
 use Rattle.link_run.specs.Writers.{on_output, Writes}
 use Rattle.link_run.specs.declared.writers.Writers.{Writers}
+
+-- a message is read only after the contact header
+pub opened_to_read : (phase : Phase) (left : ℕ) → reads_next phase left ≡ true
+    → past_opening phase ≡ true
+opened_to_read Unopened left reads = reads
+opened_to_read Reading left reads = refl
+opened_to_read (Stopped why) left reads = refl
 
 -- the results of the session, once what was written was handed on
 module _ {R W E : Type 0} (look : Looks R W E)

@@ -10,6 +10,19 @@ use Rattle.link_run.specs.declared.run.Progress.{Progress}
 use Rattle.link_run.specs.declared.run.Progress.TheVariants.{More, Done}
 use Rattle.link_run.specs.declared.run.Status.{Status}
 
+-- a step that went on, with another relation that holds of the history and the bytes given
+pub went_with : {R : Type 0} {old new : Source R} {first second : List ℕ → Type 0} {most : ℕ}
+    {history : List ℕ} → (went : WentOn old new first most history)
+    → second (history ++ went.given) → WentOn old new second most history
+went_with went stands = record {
+  given = went.given;
+  some = went.some;
+  size = went.size;
+  count = went.count;
+  window = went.window;
+  at = stands;
+}
+
 -- a step that went on, and then one that goes on too
 went_later : {R : Type 0} {old mid new : Source R} {between stands : List ℕ → Type 0}
     {first second : ℕ} {history : List ℕ} → (went : WentOn old mid between first history)
@@ -24,7 +37,9 @@ went_later {stands} {first} {history} went more =
       given = went.given ++ more.given;
       some = λ some. ⊎_elim
           (λ is. let given = went.some is in omega (arith, length-append went.given more.given))
-          (λ none. let given = more.some (omega arith) in omega (arith, length-append went.given more.given))
+          (λ none.
+          let given = more.some (omega arith) in
+          omega (arith, length-append went.given more.given))
           (cases_lt 0 first);
       size = omega (arith, length-append went.given more.given);
       count = omega (arith, length-append went.given more.given);
@@ -80,13 +95,8 @@ pub stage_kept : {R W E : Type 0} (look : Looks R W E) (made later : List ℕ �
     most history result
 stage_kept look made later start begun old new knows most history answer (Ok More) same none went =
     let P : (List ℕ → Made) → Type 0 = λ m. Stands look m start begun new (history ++ went.given) in
-    record {
-      given = went.given;
-      some = went.some;
-      size = went.size;
-      count = went.count;
-      window = went.window;
-      at = (none tt, (subst P (sym same) went.at.0, went.at.1));
-    }
-stage_kept look made later start begun old new knows most history answer (Ok (Done status)) same none last = last
-stage_kept look made later start begun old new knows most history answer (Err fault) same none last = last
+    went_with went (none tt, (subst P (sym same) went.at.0, went.at.1))
+stage_kept look made later start begun old new knows most history answer (Ok (Done status)) same
+    none last = last
+stage_kept look made later start begun old new knows most history answer (Err fault) same none
+    last = last

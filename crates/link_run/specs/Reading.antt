@@ -1,17 +1,20 @@
 -- What a run reads from a session or a source, after it has handed on what was written.
-use Rattle.std.specs.Prelude.{◌≡◌, ℕ, ◌<◌, ◌⊎◌, true, List, [], length, Option, Result, Ok, Err}
+use Rattle.std.specs.Prelude.{◌≡◌, ℕ, ◌<◌, ◌⊎◌, true, List, [], length, Option, Result, Ok, Err, IfOk, IfErr, IfSome, IsTrue}
 use Rattle.link_wire.specs.Device.{Input as Seen, HasBytes}
 use Rattle.link_wire.specs.Limits.{window_size}
-use Rattle.link_wire.specs.Session.{source_of, may_open, IsSessionAt, HasNext, AfterNext, AfterLoad}
+use Rattle.link_wire.specs.MessageBuffer.{message_of, SegmentHasTotals}
+use Rattle.link_wire.specs.Session.{source_of, left_of, may_open, is_opened, HasStopped, IsSessionAt, HasNext, with_message_read, AfterNext, AfterLoad}
 use Rattle.link_wire.specs.Source.{window_of, ahead, AfterReadyFront}
 use Rattle.link_wire.specs.declared.IoFault.{IoFault}
+use Rattle.link_wire.specs.declared.IoFault.TheVariants as io
 use Rattle.link_wire.specs.declared.Source.{Source}
 use Rattle.link_wire.specs.declared.fault.Stop.{Stop}
 use Rattle.link_wire.specs.declared.fault.Stop.TheVariants as stop
 use Rattle.link_wire.specs.declared.message.Message.{Message}
+use Rattle.link_wire.specs.declared.message.MessageBuffer.{MessageBuffer}
 use Rattle.link_wire.specs.declared.session.Session.{Session}
 use Rattle.link_run.specs.Run.{Looks}
-use Rattle.link_run.specs.Writers.{on_output, Writes, Unsettled, HasHandedOn}
+use Rattle.link_run.specs.Writers.{on_output, next_line, Writes, Unsettled, HasHandedOn}
 use Rattle.link_run.specs.declared.input.Input.{Input}
 use Rattle.link_run.specs.declared.writers.Writers.{Writers}
 
@@ -57,7 +60,8 @@ module _ {R W E : Type 0} (look : Looks R W E)
 
 -- Nothing was written, and the source made bytes ready, ended or stopped; or a writer failed to
 -- hand on what was written, and nothing was read.
-abbrev pub ReadsBytes : {R W E : Type 0} → Looks R W E → (old new : Source R) → (before after : Writers W E) → Result ℕ IoFault → Type 0
+abbrev pub ReadsBytes : {R W E : Type 0} → Looks R W E → (old new : Source R)
+    → (before after : Writers W E) → Result ℕ IoFault → Type 0
 ReadsBytes look old new before after (Ok n) =
     Writes look.output look.report before after (on_output [])
     × AfterReadyFront look.input old new (Ok n)
@@ -73,10 +77,29 @@ abbrev pub HoldsNothingBack : {R W E : Type 0} → Looks R W E
     → (W → Option (List ℕ)) → (E → Option (List ℕ)) → Session R → Writers W E → Type 0
 HoldsNothingBack look out_handed report_handed session after =
     (history : List ℕ) → IsSessionAt look.input session history
-    → HasHandedOn look.output look.report out_handed report_handed after ⊎ HasNext look.input session
+    → HasHandedOn look.output look.report out_handed report_handed after
+    ⊎ HasNext look.input session
+
+-- what holds after a call that reads the head of the next message into `message`
+pub record GetsMessage {R W E : Type 0} (look : Looks R W E) (out_handed : W → Option (List ℕ))
+    (report_handed : E → Option (List ℕ)) (old new : Session R) (before after : Writers W E)
+    (message : MessageBuffer) (result : Result (Option ℕ) Stop) : Type 0 where
+  pub opened : IsTrue (is_opened new)
+  pub gives : (history : List ℕ) → IsSessionAt look.input old history
+      → ReadsMessage look old new before after history
+      (with_message_read (message_of message) result)
+  pub handed : (result ≡ Err (stop.Io io.Write) → ⊥)
+      → HoldsNothingBack look out_handed report_handed old after
+  -- the items of a segment have their totals
+  pub totals : IfOk result (λ got. IfSome got (λ offset. SegmentHasTotals message))
+  pub left : IfErr result (λ why. left_of new ≡ left_of old)
+  pub line : next_line after ≡ next_line before
+  pub stopped : (why : Stop) → HasStopped old why
+      → (new ≡ old) × (after ≡ before) × (result ≡ Err why)
 
 -- everything written was handed on, or the input has a byte left
 abbrev pub HoldsNoBytesBack : {R W E : Type 0} → Looks R W E
     → (W → Option (List ℕ)) → (E → Option (List ℕ)) → Source R → Writers W E → Type 0
 HoldsNoBytesBack look out_handed report_handed source after =
-    HasHandedOn look.output look.report out_handed report_handed after ⊎ HasBytes (ahead look.input source)
+    HasHandedOn look.output look.report out_handed report_handed after
+    ⊎ HasBytes (ahead look.input source)

@@ -1,12 +1,17 @@
 -- The state of a run between two steps, and what a step hands on.
 use Rattle.std.specs.Prelude.{◌≡◌, ℕ, ◌<◌, ◌⊎◌, Bool, true, false, List, [], Option, Some, None, Result, Ok}
 use Rattle.std.specs.Io.KnownBytes.{Appends}
+use Rattle.link_wire.specs.Session.{source_of}
 use Rattle.link_wire.specs.declared.IoFault.{IoFault}
+use Rattle.link_wire.specs.declared.session.Session.{Session}
 use Rattle.link_run.specs.Run.{Texts, no_texts, Looks, Devices, Place, devices_at, NoneFailed, HasWritten, AfterStep, answer_of}
 use Rattle.link_run.specs.Made.{Made, shows_fault, tool_of}
+use Rattle.link_run.specs.Reading.{HasEnough}
+use Rattle.link_run.specs.Writers.{place_of}
 use Rattle.link_run.specs.declared.run.Progress.{Progress}
 use Rattle.link_run.specs.declared.run.Progress.TheVariants.{More}
 use Rattle.link_run.specs.declared.run.Status.{Status}
+use Rattle.link_run.specs.declared.writers.Writers.{Writers}
 
 -- the texts that a run has written: none before it has begun
 abbrev pub written_by : (begun : Bool) → Made → Texts
@@ -58,6 +63,14 @@ pub record HandedOn {R W E : Type 0} (look : Looks R W E) (out_handed : W → Op
   pub texts : Texts
   pub writes : Appends (look.output output).written (look.output new.output).written texts.output
   pub reports : Appends (look.report report).written (look.report new.report).written texts.report
+
+-- as `HandedOn`, for a stage that reads a session
+abbrev pub HandsOn : {R W E : Type 0} → Looks R W E
+    → (W → Option (List ℕ)) → (E → Option (List ℕ))
+    → (old new : Session R) → (before after : Writers W E) → Type 0
+HandsOn look out_handed report_handed old new before after =
+    HandedOn look out_handed report_handed (HasEnough look.input old)
+    (place_of (source_of old) before) (place_of (source_of new) after)
 
 -- the step was not the last
 abbrev pub IsMore : Result Progress IoFault → Type 0

@@ -6,11 +6,11 @@
 
 ghost use Rattle.std.specs.Prelude.{◌≡◌, ◌<◌, ◌⊎◌, ℕ, List, [], length, Err, IfErr, IfOk, IfSome, IsOk, IsTrue, OnOk, MatchResult};
 ghost use Rattle.link_wire.specs.MessageBuffer.{message_of, SegmentHasTotals};
-ghost use Rattle.link_wire.specs.Session.{may_read, is_opened, data_in, left_of, IsSessionAt, HasStopped, with_message_read};
+ghost use Rattle.link_wire.specs.Session.{may_read, is_opened, data_in, left_of, IsSessionAt, HasStopped};
 ghost use Rattle.link_wire.specs.Limits.{window_size};
 ghost use Rattle.link_wire.specs.Source.{window_of, HasEnded, HasFailed, IsLive};
 ghost use Rattle.link_run.specs.Run.{looks};
-ghost use Rattle.link_run.specs.Reading.{HoldsNothingBack, HoldsNoBytesBack, NotHandedOn, ReadsMessage, ReadsData, ReadsBytes};
+ghost use Rattle.link_run.specs.Reading.{GetsMessage, HoldsNothingBack, HoldsNoBytesBack, NotHandedOn, ReadsData, ReadsBytes};
 ghost use Rattle.link_run.specs.Writers.{on_output, next_line, Writes, Unsettled};
 
 use crate::writers::Writers;
@@ -106,7 +106,8 @@ impl<R: InDevice> Input<Session<R>> {
         ensures gives { AfterOpen R.state (inner_of self.old) (inner_of self.new) result }
         ensures opened { IsTrue (is_opened (inner_of self.new)) }
         ensures may_read { IsTrue (may_read (inner_of self.new)) }
-        ensures left { IfErr result (λ _. left_of (inner_of self.new) ≡ left_of (inner_of self.old)) }
+        ensures left { IfErr result
+            (λ _. left_of (inner_of self.new) ≡ left_of (inner_of self.old)) }
         ensures settles { IfErr result (HasStopped (inner_of self.new)) }
     {
         self.inner.open()
@@ -125,22 +126,12 @@ impl<R: InDevice> Input<Session<R>> {
         message: &mut MessageBuffer,
     ) -> Result<Option<u64>, Stop>
         requires { IsTrue (may_read (inner_of self.old)) }
-        ensures opened { IsTrue (is_opened (inner_of self.new)) }
-        ensures gives { (history : List ℕ) → IsSessionAt R.state (inner_of self.old) history
-            → ReadsMessage (looks R.state W.state E.state) (inner_of self.old) (inner_of self.new)
-            writers.old writers.new history (with_message_read (message_of message.new) result) }
-        ensures handed { (result ≡ Err (Stop.Io IoFault.Write) → ⊥)
-            → HoldsNothingBack (looks R.state W.state E.state) W.handed E.handed
-            (inner_of self.old) writers.new }
-        ensures totals { IfOk result (λ got. IfSome got (λ offset. SegmentHasTotals message.new)) }
-        ensures left { IfErr result (λ _. left_of (inner_of self.new) ≡ left_of (inner_of self.old)) }
-        ensures line { next_line writers.new ≡ next_line writers.old }
-        ensures stopped { (stop : _) → HasStopped (inner_of self.old) stop
-            → (self.new ≡ self.old) × (writers.new ≡ writers.old) × (result ≡ Err stop) }
+        ensures { GetsMessage (looks R.state W.state E.state) W.handed E.handed
+            (inner_of self.old) (inner_of self.new) writers.old writers.new message.new result }
     {
         match self.inner.next_here(message) {
             Some(offset) => Ok(Some(offset)),
-            None => self.read_message(writers, message),
+            None => read_message(&mut self.inner, writers, message),
         }
     }
 
@@ -187,32 +178,6 @@ impl<R: InDevice> Input<Session<R>> {
         self.inner.pass_quiet()
     }
 
-    /// Reads the head of the next message if it is rare, or if the window does not have all of it.
-    #[cold]
-    #[inline(never)]
-    fn read_message<W: OutDevice, E: OutDevice>(
-        &mut self,
-        writers: &mut Writers<W, E>,
-        message: &mut MessageBuffer,
-    ) -> Result<Option<u64>, Stop>
-        requires { IsTrue (may_read (inner_of self.old)) }
-        ensures opened { IsTrue (is_opened (inner_of self.new)) }
-        ensures gives { (history : List ℕ) → IsSessionAt R.state (inner_of self.old) history
-            → ReadsMessage (looks R.state W.state E.state) (inner_of self.old) (inner_of self.new)
-            writers.old writers.new history (with_message_read (message_of message.new) result) }
-        ensures handed { (result ≡ Err (Stop.Io IoFault.Write) → ⊥)
-            → HoldsNothingBack (looks R.state W.state E.state) W.handed E.handed
-            (inner_of self.old) writers.new }
-        ensures totals { IfOk result (λ got. IfSome got (λ offset. SegmentHasTotals message.new)) }
-        ensures left { IfErr result (λ _. left_of (inner_of self.new) ≡ left_of (inner_of self.old)) }
-        ensures line { next_line writers.new ≡ next_line writers.old }
-        ensures stopped { (stop : _) → HasStopped (inner_of self.old) stop
-            → (self.new ≡ self.old) × (writers.new ≡ writers.old) × (result ≡ Err stop) }
-    {
-        settle_before(&self.inner, writers)?;
-        self.inner.read_next(message)
-    }
-
     /// Makes data of the segment ready, as [`Session::load`] does, and returns how many bytes of it
     /// are at hand.
     ///
@@ -226,7 +191,8 @@ impl<R: InDevice> Input<Session<R>> {
     ) -> Result<usize, Stop>
         ensures size { IfOk result (λ n. n ≡ length (data_in R.state (inner_of self.new))) }
         // If data is at hand already, nothing is handed on.
-        ensures here { 0 < length (data_in R.state (inner_of self.old)) → writers.new ≡ writers.old }
+        ensures here { 0 < length (data_in R.state (inner_of self.old))
+            → writers.new ≡ writers.old }
         ensures opened { IsTrue (is_opened (inner_of self.old))
             → IsTrue (is_opened (inner_of self.new)) }
         ensures gives { (history : List ℕ) → IsSessionAt R.state (inner_of self.old) history
@@ -235,7 +201,8 @@ impl<R: InDevice> Input<Session<R>> {
         ensures handed { (result ≡ Err (Stop.Io IoFault.Write) → ⊥)
             → HoldsNothingBack (looks R.state W.state E.state) W.handed E.handed
             (inner_of self.old) writers.new }
-        ensures left { IfErr result (λ _. left_of (inner_of self.new) ≡ left_of (inner_of self.old)) }
+        ensures left { IfErr result
+            (λ _. left_of (inner_of self.new) ≡ left_of (inner_of self.old)) }
         ensures line { next_line writers.new ≡ next_line writers.old }
         ensures stopped { (stop : _) → HasStopped (inner_of self.old) stop
             → (self.new ≡ self.old) × (writers.new ≡ writers.old) × (result ≡ Err stop) }
@@ -347,6 +314,22 @@ impl<R: InDevice> Input<Source<R>> {
     }
 }
 
+/// Reads the head of the next message if it is rare, or if the window does not have all of it.
+#[cold]
+#[inline(never)]
+fn read_message<R: InDevice, W: OutDevice, E: OutDevice>(
+    session: &mut Session<R>,
+    writers: &mut Writers<W, E>,
+    message: &mut MessageBuffer,
+) -> Result<Option<u64>, Stop>
+    requires { IsTrue (may_read session.old) }
+    ensures { GetsMessage (looks R.state W.state E.state) W.handed E.handed
+        session.old session.new writers.old writers.new message.new result }
+{
+    settle_before(session, writers)?;
+    session.read_rest(message)
+}
+
 /// Hands on what was written, if the next call of the session may have to wait.
 #[cold]
 #[inline(never)]
@@ -381,12 +364,12 @@ fn settle_before_bytes<R: InDevice, W: OutDevice, E: OutDevice>(
     source: &Source<R>,
     writers: &mut Writers<W, E>,
 ) -> Result<(), IoFault>
+    requires { length (window_of source.now) ≡ 0 }
     ensures gives { MatchResult result
         (λ _. Writes W.state E.state writers.old writers.new (on_output []))
         (λ fault. (length (window_of source.now) < window_size)
         × Unsettled W.state E.state writers.old writers.new fault) }
-    ensures handed { length (window_of source.now) ≡ 0
-        → OnOk result
+    ensures handed { OnOk result
         (HoldsNoBytesBack (looks R.state W.state E.state) W.handed E.handed
         source.now writers.new) }
     ensures line { next_line writers.new ≡ next_line writers.old }

@@ -5,6 +5,7 @@ use Rattle.link_run.specs.Run.{looks}
 use Rattle.link_run.specs.Writers.{place_of}
 use Rattle.link_run.proofs.Handing.{handed_some}
 use Rattle.link_run.proofs.Stands.{last_step}
+use Rattle.link_run.proofs.Strides.{went_with}
 use Rattle.link_list.specs.Listing.{listing_of}
 use Rattle.link_list.specs.ListRun.{latest_line, most_by, Lists, IsListing}
 use Rattle.link_list.specs.declared.listing.Stage.TheVariants as stage
@@ -13,9 +14,15 @@ use Rattle.link_list.proofs.listing.step.Goals as goal
 
 pub returns-in-Contact-clause-gives : goal.returns-in-Contact-clause-gives
 returns-in-Contact-clause-gives g c = λ start history at.
-    let input = c.list_contact.new.input in
-    rw c.in-Contact.is (λ begins. not_far (looks g.R.InDevice.state g.W.OutDevice.state g.E.OutDevice.state) start c.args.piece c.args.far stage.Contact (place_of (source_of (inner_of c.args.input.now)) c.args.writers.now) (place_of (source_of (inner_of input)) c.list_contact.new.writers)
-    (Lists g.R.InDevice.state stage.Message (latest_line c.args.tool.now.latest) (inner_of input)) history c.list_contact.result c.requires.piece (c.list_contact.ensures.gives start (latest_line c.args.tool.now.latest) history at begins))
+    let look = looks g.R.InDevice.state g.W.OutDevice.state g.E.OutDevice.state in
+    let latest = latest_line c.args.tool.now.latest in
+    let input = inner_of c.list_contact.new.input in
+    let old = place_of (source_of (inner_of c.args.input.now)) c.args.writers.now in
+    let new = place_of (source_of input) c.list_contact.new.writers in
+    rw c.in-Contact.is (λ begins.
+    not_far look start c.args.piece c.args.far stage.Contact old new
+    (Lists g.R.InDevice.state stage.Message latest input) history c.list_contact.result
+    c.requires.piece (c.list_contact.ensures.gives start latest history at begins))
 
 pub returns-in-Waits-clause-gives : goal.returns-in-Waits-clause-gives
 returns-in-Waits-clause-gives g c = λ start history at lists.
@@ -23,25 +30,21 @@ returns-in-Waits-clause-gives g c = λ start history at lists.
       most_by c.args.piece c.args.tool.now.stage,
       λ is. refl,
       most_some c.args.piece c.args.tool.now.stage c.requires.piece,
-      record {
-        given = went.given;
-        some = went.some;
-        size = went.size;
-        count = went.count;
-        window = went.window;
-        at = (went.at.0, went.at.1.0);
-      },
+      went_with went (went.at.0, went.at.1.0),
     )
 
 pub returns-in-Ended-clause-gives : goal.returns-in-Ended-clause-gives
 returns-in-Ended-clause-gives g c = λ start history at lists.
+    let look = looks g.R.InDevice.state g.W.OutDevice.state g.E.OutDevice.state in
     let input = inner_of c.advance.new.input in
     let tool = c.args.tool.now in
     let last = rw c.in-Ended.is at (c.advance.ensures.gives start history at lists) in
     let old = place_of (source_of (inner_of c.args.input.now)) c.args.writers.now in
     let new = place_of (source_of input) c.advance.new.writers in
     let knows = IsListing g.R.InDevice.state tool.stage (latest_line c.advance.new.latest) input in
-    rw c.ended.ensures (not_far (looks g.R.InDevice.state g.W.OutDevice.state g.E.OutDevice.state) start c.args.piece c.args.far tool.stage old new knows history _ c.requires.piece (last_step listing_of old new _ _ last))
+    rw c.ended.ensures
+    (not_far look start c.args.piece c.args.far tool.stage old new knows history _
+    c.requires.piece (last_step listing_of old new _ _ last))
 
 pub returns-in-Whole : goal.returns-in-Whole
 returns-in-Whole g c =
@@ -56,8 +59,12 @@ returns-in-Whole g c =
       gives = λ start history at lists.
           let due = rw c.in-Whole.is at (c.advance.ensures.gives start history at lists) in
           let listed = due_listed old mid new before after due in
-          rw c.after.ensures (lines_written old mid new before after due c.args.far _ _ (λ is. rw (c.write_lines.ensures.near is) refl) (c.write_lines.ensures.gives _ _ listed));
+          rw c.after.ensures
+          (lines_written old mid new before after due c.args.far _ _
+          (λ is. rw (c.write_lines.ensures.near is) refl)
+          (c.write_lines.ensures.gives _ _ listed));
       handed = λ history lists other.
           handed_some look (source_of old) (source_of new) c.args.writers.now before after _
-          (c.advance.ensures.handed history lists (λ e. absurd (cc))) c.write_lines.ensures.wrote (rw (← c.after.ensures) other);
+          (c.advance.ensures.handed history lists (λ e. absurd (cc)))
+          c.write_lines.ensures.wrote (rw (← c.after.ensures) other);
     }

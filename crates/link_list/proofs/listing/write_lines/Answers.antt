@@ -1,4 +1,4 @@
-use Rattle.std.proofs.Common.{◌≡◌, refl, ◌++◌, [], Ok, Err, Result, sym, ◌∙◌, subst}
+use Rattle.std.proofs.Common.{refl, ◌++◌, [], Ok, Err, Result, sym, ◌∙◌, subst}
 use Rattle.std.proofs.lemmas.Bool.{false≢true}
 use Rattle.link_wire.specs.declared.IoFault.{IoFault}
 use Rattle.link_run.specs.Reading.{inner_of}

@@ -1,4 +1,4 @@
-use Rattle.std.proofs.Common.{refl, arith, subst}
+use Rattle.std.proofs.Common.{refl, arith}
 use Rattle.link_list.proofs.Lists.{most_some}
 use Rattle.link_list.proofs.listing.ListingStagesSession.stage.Goals as goal
 

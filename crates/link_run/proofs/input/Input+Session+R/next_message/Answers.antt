@@ -1,8 +1,21 @@
 use Rattle.std.proofs.Common.{refl, sym, inr}
+use Rattle.link_run.proofs.Runs.{writes_none}
 use Rattle.link_run.proofs.input.Input+Session+R.next_message.Goals as goal
 
-pub returns-in-Some-clause-handed : goal.returns-in-Some-clause-handed
-returns-in-Some-clause-handed g c = λ other history at. inr (c.in-Some.ensures.here history at)
+pub returns-in-Some : goal.returns-in-Some
+returns-in-Some g c =
+    let here = c.in-Some.ensures in
+    record {
+      opened = here.opened;
+      gives = λ history at.
+          let none = writes_none g.W.OutDevice.state g.E.OutDevice.state c.args.writers.now in
+          (none, here.gives history at);
+      handed = λ other history at. inr (here.here history at);
+      totals = here.totals;
+      left = tt;
+      line = refl;
+      stopped = λ why has. absurd (cc (here.stopped why has));
+    }
 
-pub returns-in-None-clause-handed : goal.returns-in-None-clause-handed
-returns-in-None-clause-handed g c = rw (sym (c.in-None.ensures.none refl).0) c.read_message.ensures.handed
+pub returns-in-None : goal.returns-in-None
+returns-in-None g c = rw (sym (c.in-None.ensures.none refl).0) c.read_message.ensures

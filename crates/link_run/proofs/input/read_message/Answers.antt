@@ -1,0 +1,42 @@
+use Rattle.std.proofs.Common.{refl, ◌∙◌, ap, inr, Err}
+use Rattle.std.proofs.lemmas.Bool.{false≢true}
+use Rattle.std.proofs.lemmas.Result.{err_from_is_err_and}
+use Rattle.link_wire.specs.declared.fault.Stop.TheVariants as stop
+use Rattle.link_run.specs.Run.{looks}
+use Rattle.link_run.proofs.Readings.{opened_to_read, message_given}
+use Rattle.link_run.proofs.input.read_message.Goals as goal
+
+pub returns-in_err-settle_before : goal.returns-in_err-settle_before
+returns-in_err-settle_before g c =
+    let session = c.args.session.now in
+    let settled = c.in_err-settle_before.ensures in
+    let exit = err_from_is_err_and c.from_residual.result c.from_residual.ensures.1 in
+    rw (exit.1, exit.2) (record {
+      opened = opened_to_read session.phase session.left c.requires;
+      gives = λ history at. inr settled.gives;
+      handed = λ other.
+          absurd (other (ap Err (settled.gives.is ∙ ap stop.Io settled.gives.unsettled.kind)));
+      totals = tt;
+      left = refl;
+      line = settled.line;
+      stopped = λ why has. absurd (false≢true (settled.stopped why has).1);
+    })
+
+pub returns : goal.returns
+returns g c =
+    let look = looks g.R.InDevice.state g.W.OutDevice.state g.E.OutDevice.state in
+    let settled = c.in_ok-settle_before.ensures in
+    let read = c.read_rest.ensures in
+    record {
+      opened = read.opened;
+      gives = λ history at.
+          message_given look c.args.session.now c.read_rest.new.self c.args.writers.now
+          c.settle_before.new.writers history settled.gives _ (read.gives history at);
+      handed = λ other. settled.handed;
+      totals = read.totals;
+      left = read.left;
+      line = settled.line;
+      stopped = λ why has.
+          let same = read.stopped why has in
+          (same.0, (settled.stopped why has).0, same.1);
+    }
