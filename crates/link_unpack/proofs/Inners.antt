@@ -1,5 +1,5 @@
 -- Inner segments of the open transfer are taken, one after another.
-use Rattle.std.proofs.Common.{◌≡◌, ℕ, ◌+◌, ◌^◌, ◌<◌, ◌≤◌, true, false, Bool, List, [], ◌++◌, length, Some, None, Ok, Err, Option, ⊎_elim, refl, ap, sym, ◌∙◌, subst, append-nil, append_assoc, length-append, arith}
+use Rattle.std.proofs.Common.{◌≡◌, ℕ, ◌+◌, ◌<◌, false, List, [], ◌++◌, length, Some, None, Ok, Err, ⊎_elim, refl, sym, ◌∙◌, subst, append-nil, append_assoc, arith}
 use Rattle.std.proofs.lemmas.Bool.{cases_lt}
 use Rattle.link_io.proofs.Sources.{Takes-none, Takes-then}
 use Rattle.link_wire.specs.Device.{Input}
@@ -19,41 +19,28 @@ use Rattle.link_transfer.specs.Order.{continuable}
 use Rattle.link_transfer.specs.declared.joiner.Joiner.{Joiner}
 use Rattle.link_transfer.specs.declared.joiner.Turn.TheVariants as effects
 use Rattle.link_transfer.proofs.Continuing.{may_continue, continues_open, joiner_stays}
-use Rattle.link_run.specs.Run.{Looks, Devices, devices_at, WentOn, EndedRun}
-use Rattle.link_run.specs.Stages.{Stands}
+use Rattle.link_run.specs.Run.{Looks, Devices, devices_at, WentOn, AfterStep, EndedRun}
 use Rattle.link_run.specs.Writers.{place_of, on_output, Writes, WritesPart}
 use Rattle.link_run.specs.declared.writers.Writers.{Writers}
+use Rattle.link_run.proofs.Strides.{step_then}
 use Rattle.link_unpack.specs.InnerRun.{TakesInner}
-use Rattle.link_unpack.specs.Transfers.{Transfer}
-use Rattle.link_unpack.specs.Unpacking.{part_of, Unpacked, unpack_tool, unpacking_of}
-use Rattle.link_unpack.specs.TransferScan.{IsAtTransfer, grown}
-use Rattle.link_unpack.specs.UnpackRun.{unpacked_from, IsAtOpen, Unpacks, StandsAt, StandsNext, IsTaken, IsJoining, AfterUnpackStride}
+use Rattle.link_unpack.specs.Unpacking.{Unpacked, unpack_tool}
+use Rattle.link_unpack.specs.UnpackRun.{progress_of, unpacked_from, Unpacks, UnpackStands, StandsAt, StandsNext, StandsIf, IsTaken, IsJoining, AfterUnpackStride}
 use Rattle.link_unpack.specs.declared.transfer.TransferScan.{TransferScan}
 use Rattle.link_unpack.specs.declared.unpacking.Next.{Next}
 use Rattle.link_unpack.specs.declared.unpacking.Next.TheVariants as next
 use Rattle.link_unpack.specs.declared.unpacking.Stage.TheVariants as stage
 use Rattle.link_unpack.specs.declared.unpacking.Unpacker.{Unpacker}
 use Rattle.link_unpack.specs.declared.wanted.Wanted.{Wanted}
-use Rattle.link_unpack.proofs.Data.{goes, room, closing, grows, part_lost}
+use Rattle.link_unpack.proofs.Data.{TakesPart, DataTaken, grows, part_lost}
 use Rattle.link_unpack.proofs.Joins.{data_comes, goes_on}
-use Rattle.link_unpack.proofs.Messages.{come, continued_by}
-
--- what is known of the scan after it has taken these bytes of data, of which it returned a part
-pub record TakesPart (old new : TransferScan) (content part : List ℕ) : Type 0 where
-  pub follows : (transfer : Transfer) (closed : Bool) (earlier : List Transfer)
-      → old.total + length content < 2 ^ 63 → IsAtTransfer old transfer earlier
-      → IsAtTransfer new (grown transfer content closed) earlier
-  pub selects : (transfer : Transfer) (closed : Bool) (earlier : List Transfer)
-      → old.total + length content < 2 ^ 63 → IsAtTransfer old transfer earlier
-      → part_of old.wanted (grown transfer content closed) ≡ part_of old.wanted transfer ++ part
-  pub wanted : new.wanted ≡ old.wanted
-  pub total : new.total ≤ old.total + length content
+use Rattle.link_unpack.proofs.Messages.{HeadRead, come, continued_by}
 
 -- ---- one inner segment
 
 module _ {R W E : Type 0} (look : Looks R W E) (start : Devices R W E)
     (old new : Session R) (before : Writers W E) (u : Unpacker) (history : List ℕ)
-    (stood : Stands look (unpacking_of u.latest.wanted) start true (place_of (source_of old) before) history)
+    (stood : UnpackStands look start u.latest.wanted old before history)
     (at : Unpacks look.input stage.Message old u history) (id : ℕ) (content : List ℕ)
     (is_open : continuable (unpacked_from u.latest.wanted history).taken ≡ Some id)
     (got : PassedInner look.input old new history id content) where
@@ -82,11 +69,13 @@ module _ {R W E : Type 0} (look : Looks R W E) (start : Devices R W E)
     joiner = joiner_stays had.taken id is_open u.joiner (message_of message) refl at.joiner;
   }
 
+  abbrev head_read : HeadRead look start old got.mid before u history got.offset message
+  head_read = record { stood = stood; at = at; got = got.read }
+
   head_joins : IsJoining look start false got.mid before u headed
   head_joins =
       continued_by look start had got.offset None got.mid before u message headed
-      (come look start old got.mid before u history stood at got.offset message got.read u.joiner)
-      (Some (effects.Continue false)) head_taken false refl
+      (come head_read u.joiner) (Some (effects.Continue false)) head_taken false refl
 
   head_stands : StandsAt look start wanted (stage.Data false) got.mid before u headed
   head_stands =
@@ -94,20 +83,17 @@ module _ {R W E : Type 0} (look : Looks R W E) (start : Devices R W E)
       let some = got.some in
       data_comes look start false got.mid before u headed head_joins (omega arith)
 
-  abbrev going : IsAtOpen u.latest (unpacked_from wanted headed).transfers
-  going = goes look start false got.mid before u headed head_stands.0 head_stands.1
-
-  abbrev closes : Bool
-  closes = closing look start false got.mid before u headed head_stands.0 head_stands.1 new content got.gave got.some
-
-  bound : u.latest.total + length content < 2 ^ 63
-  bound = room look start false got.mid before u headed head_stands.0 head_stands.1 new content got.gave got.some
-
   -- a part of its data is written
-  module _ (latest : TransferScan) (part : List ℕ) (taken : TakesPart u.latest latest content part) where
-    part_now : part_of wanted (grown going.transfer content closes)
-        ≡ part_of wanted going.transfer ++ part
-    part_now = taken.selects going.transfer closes going.earlier bound going.follows
+  module _ (latest : TransferScan) (part : List ℕ)
+      (taken : TakesPart u.latest latest content part) where
+    data_taken : DataTaken look start false got.mid new before u latest headed content part
+    data_taken = record {
+      stood = head_stands.0;
+      at = head_stands.1;
+      gave = got.gave;
+      some = got.some;
+      taken = taken;
+    }
 
     abbrev v : Unpacker
     v = record { joiner = u.joiner; latest = latest; good = u.good }
@@ -116,17 +102,16 @@ module _ {R W E : Type 0} (look : Looks R W E) (start : Devices R W E)
         → Writes look.output look.report before written (on_output part)
         → StandsAt look start wanted stage.Message new written v (headed ++ content)
     inner_taken written writes =
-        let joins = grows look start false got.mid before u headed head_stands.0 head_stands.1 new content got.gave got.some
-        part part_now written v writes (taken.follows going.transfer closes going.earlier bound going.follows) taken.wanted taken.total refl refl in
-        let P : Wanted → Type 0 = λ w. StandsAt look start w stage.Message new written v (headed ++ content) in
-        subst P taken.wanted (goes_on look start false new written v (headed ++ content) joins got.none refl)
+        let P : Wanted → Type 0 = λ w.
+        StandsAt look start w stage.Message new written v (headed ++ content) in
+        subst P taken.wanted (goes_on look start false new written v (headed ++ content)
+        (grows data_taken written writes) got.none refl)
 
     pub inner_lost : (written : Writers W E) (fault : IoFault)
         → WritesPart look.output look.report before written (on_output part) fault
         → EndedRun look (unpack_tool wanted) start (devices_at (place_of (source_of new) written))
         (headed ++ content) (Err fault)
-    inner_lost written fault lost =
-        part_lost look start false got.mid before u headed head_stands.0 head_stands.1 new content got.gave got.some part part_now written fault lost
+    inner_lost written fault lost = part_lost data_taken written fault lost
 
 -- ---- a loop over inner segments
 
@@ -137,7 +122,7 @@ module _ {R W E : Type 0} (look : Looks R W E) where
       → Next → Type 0
   HasTaken first now begun written t u result =
       (start : Devices R W E) (history : List ℕ)
-      → Stands look (unpacking_of t.latest.wanted) start true (place_of (source_of first) begun) history
+      → UnpackStands look start t.latest.wanted first begun history
       → Unpacks look.input stage.Message first t history
       → TakesInner look start t.latest.wanted first now written u history result
 
@@ -155,25 +140,28 @@ module _ {R W E : Type 0} (look : Looks R W E) where
   module _ (first old new : Session R) (begun before after : Writers W E) (t u : Unpacker)
       (kept : HasTaken first old begun before t u (next.Stage stage.Message))
       (same : u.latest.wanted ≡ t.latest.wanted) (joiner : u.joiner ≡ t.joiner) (id : ℕ)
-      (open_is : (messages : List Message) → IsJoinerAt t.joiner messages → Some id ≡ continuable messages)
+      (open_is : (messages : List Message) → IsJoinerAt t.joiner messages
+      → Some id ≡ continuable messages)
       (content : List ℕ)
-      (passes : (history : List ℕ) → IsSessionAt look.input old history → PassedInner look.input old new history id content)
+      (passes : (history : List ℕ) → IsSessionAt look.input old history
+      → PassedInner look.input old new history id content)
       (latest : TransferScan) (part : List ℕ) (taken : TakesPart u.latest latest content part) where
     abbrev after_turn : Unpacker
     after_turn = record { joiner = u.joiner; latest = latest; good = u.good }
 
     module _ (start : Devices R W E) (history : List ℕ)
-        (stood : Stands look (unpacking_of t.latest.wanted) start true (place_of (source_of first) begun) history)
+        (stood : UnpackStands look start t.latest.wanted first begun history)
         (at : Unpacks look.input stage.Message first t history) where
-      abbrev so_far : TakesInner look start t.latest.wanted first old before u history (next.Stage stage.Message)
+      abbrev so_far : TakesInner look start t.latest.wanted first old before u history
+          (next.Stage stage.Message)
       so_far = kept start history stood at
 
       abbrev here : List ℕ
       here = history ++ so_far.given
 
-      stood_here : Stands look (unpacking_of u.latest.wanted) start true (place_of (source_of old) before) here
+      stood_here : UnpackStands look start u.latest.wanted old before here
       stood_here =
-          let P : Wanted → Type 0 = λ w. Stands look (unpacking_of w) start true (place_of (source_of old) before) here in
+          let P : Wanted → Type 0 = λ w. UnpackStands look start w old before here in
           subst P (sym same) so_far.stands.0
 
       at_here : Unpacks look.input stage.Message old u here
@@ -188,25 +176,34 @@ module _ {R W E : Type 0} (look : Looks R W E) where
           sym (open_is (unpacked_from u.latest.wanted here).taken (subst P joiner at_here.joiner))
 
       then_turn : (result : Next)
-          → StandsNext look start t.latest.wanted new after after_turn ((here ++ got.read.given) ++ content) result
+          → StandsNext look start t.latest.wanted new after after_turn
+          ((here ++ got.read.given) ++ content) result
           → TakesInner look start t.latest.wanted first new after after_turn history result
       then_turn result stands =
           let given = got.read.given ++ content in
-          let P : List ℕ → Type 0 = λ bytes. StandsNext look start t.latest.wanted new after after_turn bytes result in
+          let P : List ℕ → Type 0 = λ bytes.
+          StandsNext look start t.latest.wanted new after after_turn bytes result in
           record {
             given = so_far.given ++ given;
-            takes = Takes-then look.input (source_of first) (source_of old) (source_of new) so_far.given given so_far.takes
-                (Takes-then look.input (source_of old) (source_of got.mid) (source_of new) got.read.given content got.read.takes got.gave.takes);
-            stands = subst P (append_assoc here got.read.given content ∙ append_assoc history so_far.given given) stands;
+            takes = Takes-then look.input (source_of first) (source_of old) (source_of new)
+                so_far.given given so_far.takes
+                (Takes-then look.input (source_of old) (source_of got.mid) (source_of new)
+                got.read.given content got.read.takes got.gave.takes);
+            stands = subst P (append_assoc here got.read.given content
+                ∙ append_assoc history so_far.given given)
+                stands;
           }
 
     pub turn_taken : Writes look.output look.report before after (on_output part)
         → HasTaken first new begun after t after_turn (next.Stage stage.Message)
     turn_taken writes = λ start history stood at.
         let bytes = here start history stood at in
-        let stands = inner_taken look start old new before u bytes (stood_here start history stood at) (at_here start history stood at) id content
-        (is_continued start history stood at) (got start history stood at) latest part taken after writes in
-        let P : Wanted → Type 0 = λ w. StandsAt look start w stage.Message new after after_turn ((bytes ++ (got start history stood at).read.given) ++ content) in
+        let passed = got start history stood at in
+        let stands = inner_taken look start old new before u bytes
+        (stood_here start history stood at) (at_here start history stood at) id content
+        (is_continued start history stood at) passed latest part taken after writes in
+        let P : Wanted → Type 0 = λ w. StandsAt look start w stage.Message new after after_turn
+        ((bytes ++ passed.read.given) ++ content) in
         then_turn start history stood at (next.Stage stage.Message) (subst P same stands)
 
     pub turn_lost : (fault : IoFault)
@@ -214,9 +211,13 @@ module _ {R W E : Type 0} (look : Looks R W E) where
         → HasTaken first new begun after t after_turn (next.Ended (Err fault))
     turn_lost fault lost = λ start history stood at.
         let bytes = here start history stood at in
-        let ended = inner_lost look start old new before u bytes (stood_here start history stood at) (at_here start history stood at) id content
-        (is_continued start history stood at) (got start history stood at) latest part taken after fault lost in
-        let P : Wanted → Type 0 = λ w. EndedRun look (unpack_tool w) start (devices_at (place_of (source_of new) after)) ((bytes ++ (got start history stood at).read.given) ++ content) (Err fault) in
+        let passed = got start history stood at in
+        let ended = inner_lost look start old new before u bytes
+        (stood_here start history stood at) (at_here start history stood at) id content
+        (is_continued start history stood at) passed latest part taken after fault lost in
+        let P : Wanted → Type 0 = λ w. EndedRun look (unpack_tool w) start
+        (devices_at (place_of (source_of new) after))
+        ((bytes ++ passed.read.given) ++ content) (Err fault) in
         then_turn start history stood at (next.Ended (Err fault)) (subst P same ended)
 
 -- ---- a step, and then inner segments
@@ -232,45 +233,34 @@ few_later look mid new given takes few =
 module _ {R W E : Type 0} (look : Looks R W E) (start : Devices R W E) (wanted : Wanted)
     (old mid new : Session R) (before after : Writers W E) (u : Unpacker)
     (stands : List ℕ → Type 0) (most : ℕ) (history : List ℕ) where
+  -- the inner segments are a step, whose bound is the number of its bytes
+  as_step : (bytes : List ℕ) (result : Next) → length (window_of (source_of mid)) < window_size
+      → (taken : TakesInner look start wanted mid new after u bytes result)
+      → AfterStep look (unpack_tool wanted) start (place_of (source_of mid) before)
+      (place_of (source_of new) after) (StandsIf look start wanted new after u result)
+      (length taken.given) bytes (progress_of result)
+  as_step bytes (next.Stage now) few taken = record {
+    given = taken.given;
+    some = λ some. some;
+    size = omega arith;
+    count = taken.takes.count;
+    window = few_later look.input (source_of mid) (source_of new) taken.given taken.takes few;
+    at = taken.stands;
+  }
+  as_step bytes (next.Ended (Ok status)) few taken =
+      record { given = taken.given; size = omega arith; gave = taken.stands }
+  as_step bytes (next.Ended (Err fault)) few taken =
+      record { given = taken.given; size = omega arith; gave = taken.stands }
+
   pub far_inner : (result : Next) → 0 < most
       → (went : WentOn (source_of old) (source_of mid) stands most history)
       → TakesInner look start wanted mid new after u (history ++ went.given) result
       → AfterUnpackStride look start wanted old new before after u history result
-  far_inner (next.Stage now) some went taken =
-      let P : List ℕ → Type 0 = StandsAt look start wanted now new after u in
-      let fits = went.size in
-      let count = went.count in
-      let later = taken.takes.count in (
-        most + length taken.given,
-        omega arith,
-        record {
-          given = went.given ++ taken.given;
-          some = λ may. let first = went.some some in omega (arith, length-append went.given taken.given);
-          size = omega (arith, length-append went.given taken.given);
-          count = omega (arith, length-append went.given taken.given);
-          window = few_later look.input (source_of mid) (source_of new) taken.given taken.takes went.window;
-          at = subst P (append_assoc history went.given taken.given) taken.stands;
-        },
-      )
-  far_inner (next.Ended (Ok status)) some went taken =
-      let P : List ℕ → Type 0 = λ bytes. EndedRun look (unpack_tool wanted) start (devices_at (place_of (source_of new) after)) bytes (Ok status) in
-      let fits = went.size in (
-        most + length taken.given,
-        omega arith,
-        record {
-          given = went.given ++ taken.given;
-          size = omega (arith, length-append went.given taken.given);
-          gave = subst P (append_assoc history went.given taken.given) taken.stands;
-        },
-      )
-  far_inner (next.Ended (Err fault)) some went taken =
-      let P : List ℕ → Type 0 = λ bytes. EndedRun look (unpack_tool wanted) start (devices_at (place_of (source_of new) after)) bytes (Err fault) in
-      let fits = went.size in (
-        most + length taken.given,
-        omega arith,
-        record {
-          given = went.given ++ taken.given;
-          size = omega (arith, length-append went.given taken.given);
-          gave = subst P (append_assoc history went.given taken.given) taken.stands;
-        },
-      )
+  far_inner result some went taken = (
+    most + length taken.given,
+    omega arith,
+    step_then look (unpack_tool wanted) start (place_of (source_of old) before)
+        (place_of (source_of mid) before) (place_of (source_of new) after) stands
+        (StandsIf look start wanted new after u result) history most (length taken.given)
+        (progress_of result) went (as_step (history ++ went.given) result went.window taken),
+  )

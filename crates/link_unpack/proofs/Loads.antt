@@ -1,21 +1,34 @@
--- Data was made ready in the window, and then a step takes it.
-use Rattle.std.proofs.Common.{ℕ, ◌<◌, ◌≤◌, true, Bool, List, [], ◌∙◌, subst, append-nil, arith}
+-- Data was made ready in the window, and then a step takes it. If none could be, the run ends.
+use Rattle.std.proofs.Common.{◌≡◌, ℕ, ◌<◌, ◌≤◌, true, Bool, List, [], Option, Result, Err, ap, ◌∙◌, subst, append-nil, arith}
 use Rattle.std.specs.Io.KnownBytes.{Consumes}
 use Rattle.std.proofs.KnownBytes.{Consumes-trans}
-use Rattle.link_wire.specs.Session.{source_of, LoadedData}
+use Rattle.link_wire.specs.Session.{source_of, IsSessionAt, LoadedData}
 use Rattle.link_wire.specs.Source.{ahead}
+use Rattle.link_wire.specs.Stream.{reading_of}
+use Rattle.link_wire.specs.declared.IoFault.{IoFault}
+use Rattle.link_wire.specs.declared.IoFault.TheVariants as io
+use Rattle.link_wire.specs.declared.fault.Stop.{Stop}
+use Rattle.link_wire.specs.declared.fault.Stop.TheVariants as stop
 use Rattle.link_wire.specs.declared.session.Session.{Session}
 use Rattle.link_run.specs.Made.{Made}
-use Rattle.link_run.specs.Run.{Looks, Devices}
-use Rattle.link_run.specs.Stages.{Stands}
-use Rattle.link_run.specs.Writers.{place_of}
+use Rattle.link_run.specs.Reading.{ReadsData, HoldsNothingBack}
+use Rattle.link_run.specs.Run.{Looks, Devices, devices_at, LastStep}
+use Rattle.link_run.specs.Stages.{Stands, HandsOn}
+use Rattle.link_run.specs.Writers.{place_of, AfterEnd}
+use Rattle.link_run.specs.declared.run.Status.{Status}
 use Rattle.link_run.specs.declared.writers.Writers.{Writers}
-use Rattle.link_unpack.specs.UnpackRun.{Unpacks, AfterUnpackStep}
+use Rattle.link_run.proofs.Handing.{enough_by, handed_at_end}
+use Rattle.link_run.proofs.Sessions.{data_ended}
+use Rattle.link_unpack.specs.Unpacking.{unpack_tool}
+use Rattle.link_unpack.specs.UnpackRun.{Unpacks, UnpackStands, AfterUnpackStep}
 use Rattle.link_unpack.specs.declared.unpacking.Next.{Next}
 use Rattle.link_unpack.specs.declared.unpacking.Next.TheVariants as next
+use Rattle.link_unpack.specs.declared.unpacking.Stage.{Stage}
 use Rattle.link_unpack.specs.declared.unpacking.Stage.TheVariants as stage
 use Rattle.link_unpack.specs.declared.unpacking.Unpacker.{Unpacker}
 use Rattle.link_unpack.specs.declared.wanted.Wanted.{Wanted}
+use Rattle.link_unpack.proofs.Taken.{stop_is}
+use Rattle.link_unpack.proofs.Texts.{by_reading, made_is}
 
 module _ {R W E : Type 0} (look : Looks R W E) (start : Devices R W E) (old mid : Session R)
     (history : List ℕ) (n : ℕ) (ready : LoadedData look.input old mid history n) where
@@ -23,10 +36,13 @@ module _ {R W E : Type 0} (look : Looks R W E) (start : Devices R W E) (old mid 
       → Stands look made start true (place_of (source_of old) w) history
       → Stands look made start true (place_of (source_of mid) w) history
   stands_ready made w at =
-      let P : List ℕ → Type 0 = λ bytes. Consumes (look.input start.reader).left (ahead look.input (source_of mid)) bytes in
+      let P : List ℕ → Type 0 = λ bytes.
+      Consumes (look.input start.reader).left (ahead look.input (source_of mid)) bytes in
       record {
         written = record {
-          takes = subst P (append-nil history) (Consumes-trans (look.input start.reader).left (ahead look.input (source_of old)) (ahead look.input (source_of mid)) history [] at.written.takes ready.readies.next);
+          takes = subst P (append-nil history)
+              (Consumes-trans (look.input start.reader).left (ahead look.input (source_of old))
+              (ahead look.input (source_of mid)) history [] at.written.takes ready.readies.next);
           count = ready.readies.count ∙ at.written.count;
           writes = at.written.writes;
           reports = at.written.reports;
@@ -72,3 +88,34 @@ module _ {R W E : Type 0} (look : Looks R W E) (start : Devices R W E) (old mid 
   given_ready wanted size piece last new after u (next.Ended answer) some within end =
       let fits = end.size in
       record { given = end.given; size = omega arith; gave = end.gave }
+
+-- ---- no data could be made ready, and the run ends
+
+pub load_ended : {R W E : Type 0} {look : Looks R W E} {start : Devices R W E} {history : List ℕ}
+    {now : Stage} (u : Unpacker) (old new : Session R) (before mid after : Writers W E) (most : ℕ)
+    → UnpackStands look start u.latest.wanted old before history
+    → Unpacks look.input now old u history → (why : Stop) (answer : Result Status IoFault)
+    → ReadsData look old new before mid history (Err why)
+    → AfterEnd look.output look.report why mid after answer
+    → LastStep look (unpack_tool u.latest.wanted) start
+    (devices_at (place_of (source_of new) after)) most history answer
+load_ended {history} u old new before mid after most stood at why answer got gives =
+    let wanted = u.latest.wanted in
+    data_ended (by_reading wanted) (made_is wanted) old new before mid after stood at.session_at
+    most (stop_is wanted (reading_of history) at.taken) why answer got gives
+
+pub load_handed : {R W E : Type 0} {look : Looks R W E} {out_handed : W → Option (List ℕ)}
+    {report_handed : E → Option (List ℕ)} {history : List ℕ} (old new : Session R)
+    (before mid after : Writers W E) (why : Stop) (answer : Result Status IoFault)
+    → IsSessionAt look.input old history
+    → ((history : List ℕ) → IsSessionAt look.input old history
+    → ReadsData look old new before mid history (Err why))
+    → AfterEnd look.output look.report why mid after answer
+    → (next.Ended answer ≡ next.Ended (Err io.Write) → ⊥)
+    → ((◌≡◌ {A = Result ℕ Stop} (Err why) (Err (stop.Io io.Write)) → ⊥)
+    → HoldsNothingBack look out_handed report_handed old mid)
+    → HandsOn look out_handed report_handed old new before after
+load_handed {look} {history} old new before mid after why answer session got gives other held =
+    handed_at_end look old new before mid after why answer (got history session) gives
+    (λ e. other (ap next.Ended e))
+    (λ is. enough_by look.input old (held (λ e. is (cc)) history session))

@@ -21,15 +21,14 @@ use Rattle.link_transfer.specs.declared.joiner.Turn.{Turn}
 use Rattle.link_transfer.specs.declared.joiner.Turn.TheVariants as effects
 use Rattle.link_bundle.specs.Bundle.{payload_in}
 use Rattle.link_run.specs.Run.{Looks, Devices}
-use Rattle.link_run.specs.Stages.{Stands}
-use Rattle.link_run.specs.Writers.{place_of}
 use Rattle.link_run.specs.declared.writers.Writers.{Writers}
 use Rattle.link_run.proofs.Runs.{texts_as, written_as, written_given, sound_given}
 use Rattle.link_unpack.specs.Transfers.{heads_of, Transfer, closes, continued, after_segment, after_message, settled}
-use Rattle.link_unpack.specs.Unpacking.{parts_of, part_of, is_selected, are_good, Unpacked, unpacked_of, order_line, abandoned_line, closed_line, transfers_with, with_head, unpacking_of}
+use Rattle.link_unpack.specs.Unpacking.{parts_of, part_of, is_selected, are_good, Unpacked, unpacked_of, order_line, abandoned_line, closed_line, transfers_with, with_head}
 use Rattle.link_unpack.specs.TransferScan.{IsAtTransfer, begun, grown}
-use Rattle.link_unpack.specs.UnpackRun.{messages_of, AreInOrder, AreTaken, unpacked_from, is_open_after, IsAtOpen, IsOpen, EndsInSegment, IsInData, IsWaiting, IsWaitingAfter, Unpacks, StandsAt, HeadHasCome, IsTaken, IsJoining, IsBeginning}
+use Rattle.link_unpack.specs.UnpackRun.{messages_of, AreInOrder, AreTaken, unpacked_from, is_open_after, IsAtOpen, IsOpen, EndsInSegment, IsInData, IsWaiting, IsWaitingAfter, Unpacks, UnpackStands, StandsAt, StandsNext, AfterUnpackStep, HeadHasCome, IsTaken, IsJoining, IsBeginning}
 use Rattle.link_unpack.specs.declared.transfer.TransferScan.{TransferScan}
+use Rattle.link_unpack.specs.declared.unpacking.Next.{Next}
 use Rattle.link_unpack.specs.declared.unpacking.Stage.{Stage}
 use Rattle.link_unpack.specs.declared.unpacking.Stage.TheVariants as stage
 use Rattle.link_unpack.specs.declared.unpacking.Unpacker.{Unpacker}
@@ -38,6 +37,7 @@ use Rattle.link_unpack.proofs.GoingOn.{kind_of, unpacked_push, unpacked_in_order
 use Rattle.link_unpack.proofs.Heads.{entry, heads_clean, heads_with_message, transfers_same, transfer_begins, transfer_continues, is_whole}
 use Rattle.link_unpack.proofs.Joins.{left_none, stands}
 use Rattle.link_unpack.proofs.Orders.{in_order_more, begins, continues, no_segment, segment_of}
+use Rattle.link_unpack.proofs.Steps.{stage_given}
 use Rattle.link_unpack.proofs.Taken.{texts_taken}
 use Rattle.link_unpack.proofs.Texts.{parts_more, settled_open}
 use Rattle.link_unpack.proofs.Transfers.{part_of-begun}
@@ -74,7 +74,10 @@ by_left P (suc left) now stays goes some all =
 -- if no data is added, the written bytes stay the same
 same_part : (wanted : Wanted) (transfer : Transfer) (closed : Bool)
     → part_of wanted (grown transfer [] closed) ≡ part_of wanted transfer
-same_part wanted transfer closed = ap (λ (xs : List ℕ). if is_selected wanted.only transfer.first.id then (if wanted.payload then payload_in xs else xs) else []) (append-nil transfer.content)
+same_part wanted transfer closed =
+    ap (λ (xs : List ℕ). if is_selected wanted.only transfer.first.id
+    then (if wanted.payload then payload_in xs else xs) else [])
+    (append-nil transfer.content)
 
 pub follows_same : (now : TransferScan) (transfer : Transfer) (closed : Bool)
     (earlier : List Transfer) → IsAtTransfer now transfer earlier
@@ -102,7 +105,8 @@ parts_begun : (starts : Bool) (wanted : Wanted) (transfers : List Transfer) (hea
 parts_begun true wanted transfers head is =
     ap (parts_of wanted) (transfer_begins transfers head [] is)
     ∙ parts_more wanted (begun head (closes head [])) transfers
-    ∙ ap (λ (xs : List ℕ). parts_of wanted transfers ++ xs) (part_of-begun wanted head (closes head []))
+    ∙ ap (λ (xs : List ℕ). parts_of wanted transfers ++ xs)
+    (part_of-begun wanted head (closes head []))
     ∙ append-nil _
 parts_begun false wanted [] head is = ap (parts_of wanted) (transfer_continues [] head [] is)
 parts_begun false wanted (latest ∷ earlier) head is =
@@ -121,49 +125,76 @@ parts_head false wanted transfers offset sent =
     (λ other. ap (parts_of wanted) (transfers_same transfers sent [] other))
     (kind_of sent)
 
+-- ---- the head was read
+
+-- The head of a message was read, and nothing was written since then.
+pub record HeadRead {R W E : Type 0} (look : Looks R W E) (start : Devices R W E)
+    (old new : Session R) (writers : Writers W E) (u : Unpacker) (history : List ℕ) (offset : ℕ)
+    (message : MessageBuffer) : Type 0 where
+  pub stood : UnpackStands look start u.latest.wanted old writers history
+  pub at : Unpacks look.input stage.Message old u history
+  pub got : ReadMessage look.input old new history offset (message_of message)
+
+module _ {R W E : Type 0} {look : Looks R W E} {start : Devices R W E} {old new : Session R}
+    {writers : Writers W E} {u : Unpacker} {history : List ℕ} {offset : ℕ}
+    {message : MessageBuffer}
+    (read : HeadRead look start old new writers u history offset message) where
+  abbrev had : Unpacked
+  had = unpacked_from u.latest.wanted history
+
+  alone : IsAlone (reading_of (history ++ read.got.given)).end
+  alone =
+      let P : Reading → Type 0 = λ r. IsAlone r.end in
+      subst P (sym read.got.reading)
+      (alone_by (nat_lt 0 (data_length (message_of message))) offset (message_of message))
+
+  -- what comes of the head comes of the step
+  pub head_given : (piece : ℕ) (after : Writers W E) (v : Unpacker) (result : Next)
+      → StandsNext look start u.latest.wanted new after v (history ++ read.got.given) result
+      → AfterUnpackStep look start u.latest.wanted piece stage.Message old new after v history
+      result
+  head_given piece after v result stands =
+      stage_given look start u.latest.wanted piece stage.Message old new after v history
+      read.got.given result read.got.takes read.got.some read.got.size alone stands
+
+  pub come : (joiner : Joiner) → HeadHasCome look start had offset None new writers
+      (record { joiner = joiner; latest = u.latest; good = u.good }) message
+      (history ++ read.got.given)
+  come joiner =
+      let clean = read.at.waits.0 in
+      let heads = heads_clean (reading_of history) clean in
+      let T : List Entry → Type 0 = AreTaken u.latest.wanted in
+      let total = read.at.total in
+      record {
+        session_at = read.got.at;
+        window = read.got.takes.window.less read.got.some;
+        had = reading_of history;
+        clean = clean;
+        is_before = ap (unpacked_of u.latest.wanted) (sym heads);
+        taken = subst T heads read.at.taken;
+        reading = read.got.reading;
+        left = read.got.left;
+        is_open = read.at.waits.1;
+        written = written_as look
+            (written_given look start (source_of old) (source_of new) writers history
+            read.got.given _ read.stood.written read.got.takes)
+            refl
+            (texts_taken u.latest.wanted history read.at.taken
+            ∙ texts_as refl (sym (append-nil had.report)));
+        sound = sound_given look (source_of old) (source_of new) writers read.got.given
+            read.stood.sound read.got.takes;
+        sum = read.at.sum;
+        total = omega (arith, length-append history read.got.given);
+        good = read.at.good
+            ∙ ap (λ b. are_good (settled had.transfers) && b) (sym (and-true had.in_order));
+      }
+
 module _ {R W E : Type 0} (look : Looks R W E)
     (start : Devices R W E) where
-  -- ---- the head was read
-
-  module _ (old new : Session R) (before : Writers W E) (u : Unpacker) (history : List ℕ)
-      (stood : Stands look (unpacking_of u.latest.wanted) start true (place_of (source_of old) before) history)
-      (at : Unpacks look.input stage.Message old u history)
-      (offset : ℕ) (message : MessageBuffer)
-      (got : ReadMessage look.input old new history offset (message_of message)) where
-    abbrev had : Unpacked
-    had = unpacked_from u.latest.wanted history
-
-    pub alone : IsAlone (reading_of (history ++ got.given)).end
-    alone = let P : Reading → Type 0 = λ r. IsAlone r.end in subst P (sym got.reading) (alone_by (nat_lt 0 (data_length (message_of message))) offset (message_of message))
-
-    pub come : (joiner : Joiner) → HeadHasCome look start had offset None new before
-        (record { joiner = joiner; latest = u.latest; good = u.good }) message (history ++ got.given)
-    come joiner =
-        let clean = at.waits.0 in
-        let heads = heads_clean (reading_of history) clean in
-        let T : List Entry → Type 0 = AreTaken u.latest.wanted in
-        let total = at.total in
-        record {
-          session_at = got.at;
-          window = got.takes.window.less got.some;
-          had = reading_of history;
-          clean = clean;
-          is_before = ap (unpacked_of u.latest.wanted) (sym heads);
-          taken = subst T heads at.taken;
-          reading = got.reading;
-          left = got.left;
-          is_open = at.waits.1;
-          written = written_as look (written_given look start (source_of old) (source_of new) before history got.given _ stood.written got.takes) refl
-              (texts_taken u.latest.wanted history at.taken ∙ texts_as refl (sym (append-nil had.report)));
-          sound = sound_given look (source_of old) (source_of new) before got.given stood.sound got.takes;
-          sum = at.sum;
-          total = omega (arith, length-append history got.given);
-          good = at.good ∙ ap (λ b. are_good (settled had.transfers) && b) (sym (and-true had.in_order));
-        }
-
   -- ---- what comes of it
 
-  module _ (before : Unpacked) (offset : ℕ) (line : Option OrderFault) (s : Session R) (w : Writers W E) (u : Unpacker) (message : MessageBuffer) (history : List ℕ)
+  module _ (before : Unpacked) (offset : ℕ) (line : Option OrderFault) (s : Session R)
+      (w : Writers W E) (u : Unpacker) (message : MessageBuffer) (history : List ℕ)
       (at : HeadHasCome look start before offset line s w u message history) where
     abbrev pub wanted : Wanted
     wanted = u.latest.wanted
@@ -196,7 +227,8 @@ module _ {R W E : Type 0} (look : Looks R W E)
       inside : reading_of history ≡ joined at.had (ended (Cut offset sent []))
       inside =
           at.reading
-          ∙ ap (λ b. joined at.had (if b then ended (Cut offset sent []) else with_entry head_of (ended Clean)))
+          ∙ ap (λ b. joined at.had (if b then ended (Cut offset sent [])
+          else with_entry head_of (ended Clean)))
           (lt-ltb 0 (data_length sent) (omega (arith, at.left)))
 
       abbrev is_cut : EndsInSegment wanted stray (reading_of history)
@@ -216,8 +248,10 @@ module _ {R W E : Type 0} (look : Looks R W E)
       taken = λ stops.
           let are = at.taken stops in
           let same : before.taken ≡ messages_of at.had.entries =
-          ap (λ (un : Unpacked). un.taken) (sym at.is_before ∙ unpacked_in_order wanted at.had.entries are) in
-          let may = ap (λ ms. refusal ms (event_of sent)) (sym same) ∙ judged.refused ∙ judged.only stops in
+          ap (λ (un : Unpacked). un.taken)
+          (sym at.is_before ∙ unpacked_in_order wanted at.had.entries are) in
+          let may = ap (λ ms. refusal ms (event_of sent)) (sym same) ∙ judged.refused
+          ∙ judged.only stops in
           let P : List Entry → Type 0 = AreInOrder in
           subst P (sym heads_are) (in_order_more at.had.entries head_of are may)
 
@@ -240,7 +274,9 @@ module _ {R W E : Type 0} (look : Looks R W E)
       lines_are = ap (λ l. before.report ++ order_line offset l) judged.refused
 
       joiner_is : IsJoinerAt u.joiner unpacked.taken
-      joiner_is = let J : Unpacked → Type 0 = λ un. IsJoinerAt u.joiner un.taken in subst J (sym unpacked_is) judged.joiner
+      joiner_is =
+          let J : Unpacked → Type 0 = λ un. IsJoinerAt u.joiner un.taken in
+          subst J (sym unpacked_is) judged.joiner
 
       -- ---- a segment that is not stray
 
@@ -257,8 +293,12 @@ module _ {R W E : Type 0} (look : Looks R W E)
         report_is =
             ap (λ (un : Unpacked). un.report) unpacked_is
             ∙ segment_report wanted before offset sent [] belongs head is
-            ∙ ap (λ xs. xs ++ ((if is_start head.flags then abandoned_line wanted before.transfers else []) ++ closed_line wanted after.transfers)) lines_are
-            ∙ ap (λ (un : Unpacked). lines ++ ((if is_start head.flags then abandoned_line wanted before.transfers else []) ++ closed_line wanted un.transfers)) (sym unpacked_is)
+            ∙ ap (λ xs. xs
+            ++ ((if is_start head.flags then abandoned_line wanted before.transfers else [])
+            ++ closed_line wanted after.transfers)) lines_are
+            ∙ ap (λ (un : Unpacked). lines
+            ++ ((if is_start head.flags then abandoned_line wanted before.transfers else [])
+            ++ closed_line wanted un.transfers)) (sym unpacked_is)
 
         opened : is_open_after unpacked ≡ not last
         opened =
@@ -290,11 +330,13 @@ module _ {R W E : Type 0} (look : Looks R W E)
           begins = starts;
           transfers = before.transfers;
           are = transfers_are ∙ transfer_begins before.transfers head [] starts
-              ∙ ap (λ c. record { first = head; content = []; closed = c } ∷ before.transfers) closed;
+              ∙ ap (λ c. record { first = head; content = []; closed = c } ∷ before.transfers)
+              closed;
           before = rw was at.is_open;
           report = lines;
           reports = report_is
-              ∙ ap (λ b. lines ++ ((if b then abandoned_line wanted before.transfers else []) ++ closed_line wanted unpacked.transfers)) starts;
+              ∙ ap (λ b. lines ++ ((if b then abandoned_line wanted before.transfers else [])
+              ++ closed_line wanted unpacked.transfers)) starts;
           written = at.written;
           sound = at.sound;
           sum = at.sum;
@@ -332,26 +374,31 @@ module _ {R W E : Type 0} (look : Looks R W E)
             follows = follows_same u.latest going.transfer _ going.earlier going.follows;
             report = lines;
             reports = report_is
-                ∙ ap (λ b. lines ++ ((if b then abandoned_line wanted before.transfers else []) ++ closed_line wanted unpacked.transfers)) starts
+                ∙ ap (λ b. lines ++ ((if b then abandoned_line wanted before.transfers else [])
+                ++ closed_line wanted unpacked.transfers)) starts
                 ∙ ap (λ ts. lines ++ closed_line wanted ts) continued_are;
             written = written_as look at.written refl
-                (texts_as (ap (parts_of wanted) going.are ∙ same_parts wanted going.transfer _ going.earlier) refl);
+                (texts_as (ap (parts_of wanted) going.are
+                ∙ same_parts wanted going.transfer _ going.earlier) refl);
             sound = at.sound;
             total = at.total;
-            good = good_is going.earlier (ap settled going.are ∙ settled_open going.transfer going.earlier going.is_open);
+            good = good_is going.earlier (ap settled going.are
+                ∙ settled_open going.transfer going.earlier going.is_open);
             opened = opened;
             in_data = in_data;
           }
 
       -- ---- a message that changes no transfer
 
-      module _ (none : ChangesNone wanted before after (order_line offset (refusal before.taken (event_of sent)))) where
+      module _ (none : ChangesNone wanted before after
+          (order_line offset (refusal before.taken (event_of sent)))) where
         still_open : IsOpen (is_open_after unpacked) u.latest unpacked.transfers
         still_open =
             let P : Bool → Type 0 = λ b. IsOpen b u.latest before.transfers in
             let Q : List Transfer → Type 0 = λ ts. IsOpen (is_open_after after) u.latest ts in
             let S : Unpacked → Type 0 = λ un. IsOpen (is_open_after un) u.latest un.transfers in
-            subst S (sym unpacked_is) (subst Q (sym none.transfers) (subst P (sym none.opened) at.is_open))
+            subst S (sym unpacked_is)
+            (subst Q (sym none.transfers) (subst P (sym none.opened) at.is_open))
 
         passed : (now : Stage) → IsWaiting now u.latest unpacked (reading_of history)
             → StandsAt look start wanted now s w u history
@@ -361,13 +408,15 @@ module _ {R W E : Type 0} (look : Looks R W E)
             let report : unpacked.report ≡ lines =
             ap (λ (un : Unpacked). un.report) unpacked_is ∙ none.report ∙ lines_are in
             stands look start now s w u history at.session_at taken joiner_is
-            (written_as look at.written refl (texts_as (ap (parts_of wanted) (sym transfers)) (sym report)))
+            (written_as look at.written refl
+            (texts_as (ap (parts_of wanted) (sym transfers)) (sym report)))
             at.sound (at.sum ∙ ap (λ ts. length (parts_of wanted ts)) (sym transfers)) at.total
             (good_is (settled unpacked.transfers) (ap settled (sym transfers))) waits
 
         passed_all : left_of s ≡ 0 → StandsAt look start wanted stage.Message s w u history
         passed_all all =
-            passed stage.Message (left_none s.offset s.left (reading_of history).end at.session_at.left all, still_open)
+            passed stage.Message
+            (left_none s.offset s.left (reading_of history).end at.session_at.left all, still_open)
 
         passed_head : is_stray before.taken (event_of sent) ≡ true → 0 < left_of s
             → StandsAt look start wanted stage.Stray s w u history
@@ -387,8 +436,9 @@ module _ {R W E : Type 0} (look : Looks R W E)
           let parts = has _ is in
           let turns = begins (open_of before.taken) (event_of sent) abandoned last parts.1 in
           let segment = segment_of sent turns.flags turns.id turns.is in
-          beginning parts.0 segment.head segment.is last (turns.ends ∙ sym (ap is_end segment.has_flags))
-          (is_some abandoned) (ap is_start segment.has_flags ∙ turns.starts) (ap is_some turns.abandons)
+          beginning parts.0 segment.head segment.is last
+          (turns.ends ∙ sym (ap is_end segment.has_flags)) (is_some abandoned)
+          (ap is_start segment.has_flags ∙ turns.starts) (ap is_some turns.abandons)
 
       pub continued_by : (last : Bool) → turn ≡ Some (effects.Continue last)
           → IsJoining look start last s w u history
@@ -396,7 +446,8 @@ module _ {R W E : Type 0} (look : Looks R W E)
           let parts = has _ is in
           let turns = continues (open_of before.taken) (event_of sent) last parts.1 in
           let segment = segment_of sent turns.flags turns.id turns.is in
-          continuing parts.0 segment.head segment.is last (turns.ends ∙ sym (ap is_end segment.has_flags))
+          continuing parts.0 segment.head segment.is last
+          (turns.ends ∙ sym (ap is_end segment.has_flags))
           (ap is_start segment.has_flags ∙ turns.starts)
 
       pub other_by : turn ≡ Some effects.Other

@@ -1,5 +1,5 @@
 -- Quiet messages are passed over. They change neither the order nor the transfers.
-use Rattle.std.proofs.Common.{◌≡◌, ℕ, ◌<◌, inr, Bool, true, false, not, ◌&&◌, is_some, All, List, [], ◌∷◌, ◌++◌, length, None, ⊎_elim, refl, ap, sym, ◌∙◌, subst, append-nil, append_assoc, length-append, arith}
+use Rattle.std.proofs.Common.{◌≡◌, ℕ, Bool, true, false, not, ◌&&◌, is_some, All, List, [], ◌∷◌, ◌++◌, length, None, refl, ap, sym, ◌∙◌, subst, append-nil, append_assoc, length-append, arith}
 use Rattle.std.proofs.Math.Bool.{and-true}
 use Rattle.std.proofs.lemmas.List.Elements.{All-head, All-tail}
 use Rattle.link_wire.specs.Session.{source_of}
@@ -18,12 +18,10 @@ use Rattle.link_transfer.proofs.Joining.{IsJoinerAt-then}
 use Rattle.link_run.proofs.Ends.{standing_unshown}
 use Rattle.link_run.proofs.Runs.{written_as, written_given, sound_given}
 use Rattle.link_run.specs.Run.{Looks, Devices, WentOn}
-use Rattle.link_run.specs.Stages.{Stands}
-use Rattle.link_run.specs.Writers.{place_of}
 use Rattle.link_run.specs.declared.writers.Writers.{Writers}
 use Rattle.link_unpack.specs.Transfers.{heads_of, Transfer, settled}
-use Rattle.link_unpack.specs.Unpacking.{parts_of, are_good, Unpacked, unpacked_of, order_line, unpacking_of}
-use Rattle.link_unpack.specs.UnpackRun.{AreTaken, unpacked_from, is_open_after, IsOpen, Unpacks, StandsAt}
+use Rattle.link_unpack.specs.Unpacking.{parts_of, are_good, Unpacked, unpacked_of, order_line}
+use Rattle.link_unpack.specs.UnpackRun.{AreTaken, unpacked_from, is_open_after, IsOpen, Unpacks, StandsAt, UnpackStands}
 use Rattle.link_unpack.specs.declared.unpacking.Stage.TheVariants as stage
 use Rattle.link_unpack.specs.declared.unpacking.Unpacker.{Unpacker}
 use Rattle.link_unpack.specs.declared.wanted.Wanted.{Wanted}
@@ -74,7 +72,8 @@ module _ (wanted : Wanted) (heads : List Entry) where
       ap (is_stray un.taken) is ∙ other_belongs un.taken in
       let may : (before : List Message) → refusal before (event_of sent) ≡ None =
       λ before. ap (refusal before) is ∙ other_may before in
-      let changes = other_changes wanted un head.offset sent head.content belongs (ap is_segment is) in
+      let changes =
+      other_changes wanted un head.offset sent head.content belongs (ap is_segment is) in
       let pushed = unpacked_push wanted more head in
       record {
         transfers = ap (λ (u : Unpacked). u.transfers) pushed ∙ changes.transfers ∙ same.transfers;
@@ -88,7 +87,8 @@ module _ (wanted : Wanted) (heads : List Entry) where
         joins = λ joiner at.
             let J : List Message → Type 0 = IsJoinerAt joiner in
             let U : Unpacked → Type 0 = λ u. IsJoinerAt joiner u.taken in
-            subst U (sym pushed) (subst J (sym (belongs_taken wanted un head.offset sent head.content belongs))
+            subst U (sym pushed)
+            (subst J (sym (belongs_taken wanted un head.offset sent head.content belongs))
             (IsJoinerAt-then joiner un.taken sent event.Other is (same.joins joiner at)));
         taken = λ taken stops. in_order_more more head (same.taken taken stops) (may _);
       }
@@ -137,7 +137,8 @@ module _ {R W E : Type 0} (look : Looks R W E) (old mid : Session R) (u : Unpack
 
   pub passed_unpacks : Unpacks look.input stage.Message mid u bytes
   passed_unpacks =
-      let P : List Transfer → Type 0 = λ ts. IsOpen (is_open_after (unpacked_from wanted bytes)) u.latest ts in
+      let P : List Transfer → Type 0 = λ ts.
+      IsOpen (is_open_after (unpacked_from wanted bytes)) u.latest ts in
       let Q : Bool → Type 0 = λ b. IsOpen b u.latest (unpacked_from wanted history).transfers in
       let total = at.total in
       record {
@@ -146,29 +147,44 @@ module _ {R W E : Type 0} (look : Looks R W E) (old mid : Session R) (u : Unpack
         joiner = same.joins u.joiner at.joiner;
         sum = at.sum ∙ ap (λ ts. length (parts_of wanted ts)) (sym same.transfers);
         total = omega (arith, length-append history got.given);
-        good = at.good ∙ ap (λ ts. are_good (settled ts) && (unpacked_from wanted history).in_order) (sym same.transfers)
-            ∙ ap (λ b. are_good (settled (unpacked_from wanted bytes).transfers) && b) (sym same.in_order);
+        good = at.good ∙ ap (λ ts. are_good (settled ts) && (unpacked_from wanted history).in_order)
+            (sym same.transfers)
+            ∙ ap (λ b. are_good (settled (unpacked_from wanted bytes).transfers) && b)
+            (sym same.in_order);
         waits = (clean, subst P (sym same.transfers) (subst Q (sym same.opened) at.waits.1));
       }
 
   pub passed_stands : (start : Devices R W E) (w : Writers W E)
-      → Stands look (unpacking_of wanted) start true (place_of (source_of old) w) history
-      → Stands look (unpacking_of wanted) start true (place_of (source_of mid) w) bytes
+      → UnpackStands look start wanted old w history
+      → UnpackStands look start wanted mid w bytes
   passed_stands start w stood = record {
-    written = written_as look (written_given look start (source_of old) (source_of mid) w history got.given _ stood.written got.passed.takes) refl
+    written =
+        written_as look
+        (written_given look start (source_of old) (source_of mid) w history got.given _
+        stood.written got.passed.takes)
+        refl
         (texts_taken wanted history at.taken
-        ∙ ap (λ ts. record { output = parts_of wanted ts; report = (unpacked_from wanted history).report }) (sym same.transfers)
-        ∙ ap (λ report. record { output = parts_of wanted (unpacked_from wanted bytes).transfers; report = report }) (sym same.report)
+        ∙ ap (λ ts. record {
+          output = parts_of wanted ts;
+          report = (unpacked_from wanted history).report;
+        }) (sym same.transfers)
+        ∙ ap (λ report. record {
+          output = parts_of wanted (unpacked_from wanted bytes).transfers;
+          report = report;
+        }) (sym same.report)
         ∙ sym (texts_taken wanted bytes (same.taken at.taken)));
-    sound = sound_given look (source_of old) (source_of mid) w got.given stood.sound got.passed.takes;
-    unshown = unshown_taken wanted bytes (same.taken at.taken) (standing_unshown mid.offset mid.left _ got.passed.at.left);
+    sound =
+        sound_given look (source_of old) (source_of mid) w got.given stood.sound got.passed.takes;
+    unshown =
+        unshown_taken wanted bytes (same.taken at.taken)
+        (standing_unshown mid.offset mid.left _ got.passed.at.left);
   }
 
   -- passing over them is a step that goes on
   pub passed_on : (start : Devices R W E) (w : Writers W E)
-      → Stands look (unpacking_of wanted) start true (place_of (source_of old) w) history
-      → WentOn (source_of old) (source_of mid) (λ given. StandsAt look start wanted stage.Message mid w u given)
-      count history
+      → UnpackStands look start wanted old w history
+      → WentOn (source_of old) (source_of mid)
+      (λ given. StandsAt look start wanted stage.Message mid w u given) count history
   passed_on start w stood =
       let P : _ → Type 0 = λ end. IsLeft mid.offset mid.left end in
       let size = got.size in

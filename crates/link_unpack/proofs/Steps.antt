@@ -17,16 +17,17 @@ use Rattle.link_report.specs.Fault.{fault_text}
 use Rattle.link_report.specs.declared.fault.Fault.TheVariants.{Order}
 use Rattle.link_run.specs.Made.{Made, whole_by, shows_fault, stop_of}
 use Rattle.link_run.specs.Run.{Texts, no_texts, ◌then◌, Looks, Devices, devices_at, LastStep}
-use Rattle.link_run.specs.Stages.{Stands, MayBegin}
+use Rattle.link_run.specs.Stages.{MayBegin}
 use Rattle.link_run.specs.Writers.{place_of, on_report, AfterLastWrite}
 use Rattle.link_run.specs.declared.run.Status.{Status}
 use Rattle.link_run.specs.declared.writers.Writers.{Writers}
 use Rattle.link_run.proofs.Runs.{few_over, texts_as, writes_none, then_none}
 use Rattle.link_run.proofs.Sessions.{SameTexts, then_fault}
 use Rattle.link_run.proofs.Stands.{ends, goes_on}
+use Rattle.link_run.proofs.Strides.{went_with}
 use Rattle.link_unpack.specs.Transfers.{cut_heads, heads_of, transfers_of, settled}
 use Rattle.link_unpack.specs.Unpacking.{parts_of, lines_of, are_good, Unpacked, none_unpacked, unpacked_of, abandoned_line, going_on_by, unpack_tool, unpacking_of, unpacking_by}
-use Rattle.link_unpack.specs.UnpackRun.{most_by, messages_of, AreInOrder, AreTaken, unpacked_from, texts_of, is_open_after, is_good_so_far, IsOpen, IsWaitingAfter, Begins, Unpacks, StandsNext, AfterUnpackStep, AfterFinish, EndsWith}
+use Rattle.link_unpack.specs.UnpackRun.{most_by, messages_of, AreInOrder, AreTaken, unpacked_from, texts_of, is_open_after, is_good_so_far, IsOpen, IsWaitingAfter, Begins, Unpacks, StandsNext, AfterUnpackStep, AfterFinish, EndsWith, UnpackStands}
 use Rattle.link_unpack.specs.declared.unpacking.Next.{Next}
 use Rattle.link_unpack.specs.declared.unpacking.Next.TheVariants as next
 use Rattle.link_unpack.specs.declared.unpacking.Stage.{Stage}
@@ -48,14 +49,23 @@ pub stage_given : {R W E : Type 0} (look : Looks R W E) (start : Devices R W E) 
     → length given ≤ most_by piece now → IsWaitingAfter now (reading_of (history ++ given)).end
     → StandsNext look start wanted new after u (history ++ given) result
     → AfterUnpackStep look start wanted piece now old new after u history result
-stage_given look start wanted piece now old new after u history given (next.Stage stage) takes some size waiting stood =
-    record { given = given; some = λ may. some; size = size; count = takes.count; window = takes.window.less some; at = (stood, waiting) }
-stage_given look start wanted piece now old new after u history given (next.Ended answer) takes some size waiting stood =
+stage_given look start wanted piece now old new after u history given (next.Stage stage) takes some
+    size waiting stood =
+    record {
+      given = given;
+      some = λ may. some;
+      size = size;
+      count = takes.count;
+      window = takes.window.less some;
+      at = (stood, waiting);
+    }
+stage_given look start wanted piece now old new after u history given (next.Ended answer) takes some
+    size waiting stood =
     record { given = given; size = size; gave = stood }
 
 module _ {R W E : Type 0} {look : Looks R W E} {start : Devices R W E} (old new : Session R)
     (before after : Writers W E) (u : Unpacker) {history : List ℕ}
-    (stood : Stands look (unpacking_of u.latest.wanted) start true (place_of (source_of old) before) history)
+    (stood : UnpackStands look start u.latest.wanted old before history)
     (at : Unpacks look.input stage.Message old u history) where
   abbrev pub unpacked : Unpacked
   unpacked = unpacked_from u.latest.wanted history
@@ -71,23 +81,30 @@ module _ {R W E : Type 0} {look : Looks R W E} {start : Devices R W E} (old new 
     made_here : unpacking_of u.latest.wanted (history ++ [])
         ≡ going_on_by u.latest.wanted Clean unpacked
     made_here =
-        ap (unpacking_of u.latest.wanted) (append-nil history) ∙ made_from u.latest.wanted history at.taken
+        ap (unpacking_of u.latest.wanted) (append-nil history)
+        ∙ made_from u.latest.wanted history at.taken
         ∙ ap (λ e. going_on_by u.latest.wanted e unpacked) at.waits.0
 
     pub finished : (answer : Result Status IoFault)
         → AfterFinish look.output look.report u unpacked before after answer
-        → LastStep look (unpack_tool u.latest.wanted) start (devices_at (place_of (source_of new) after)) longest_head history answer
+        → LastStep look (unpack_tool u.latest.wanted) start
+        (devices_at (place_of (source_of new) after)) longest_head history answer
     finished answer gives =
         let line = on_report (abandoned_line u.latest.wanted unpacked.transfers) in
-        let P : ℕ → Type 0 = λ status. AfterLastWrite look.output look.report before after line status answer in
-        ends longest_head (source_of old) (source_of new) before stood got.takes (omega arith) (few_over look.input (source_of new) got.over) after line
+        let P : ℕ → Type 0 = λ status.
+        AfterLastWrite look.output look.report before after line status answer in
+        ends longest_head (source_of old) (source_of new) before stood got.takes (omega arith)
+        (few_over look.input (source_of new) got.over) after line
         (ap (λ (t : Texts). t then line) had_texts
         ∙ texts_as (append-nil (parts_of u.latest.wanted unpacked.transfers)) refl
         ∙ sym (ap (λ (m : Made). (whole_by m.stop m).texts) made_here))
-        (inl got.over) answer (subst P (sym (ap (λ (m : Made). (whole_by m.stop m).status) made_here)) (gives at.good))
+        (inl got.over) answer
+        (subst P (sym (ap (λ (m : Made). (whole_by m.stop m).status) made_here))
+        (gives at.good))
 
   -- without the option, the run ends at a head that is not in order
-  module _ (stops : u.latest.wanted.keep_going ≡ false) (offset : ℕ) (sent : Message) (got : ReadMessage look.input old new history offset sent)
+  module _ (stops : u.latest.wanted.keep_going ≡ false) (offset : ℕ) (sent : Message)
+      (got : ReadMessage look.input old new history offset sent)
       (fault : OrderFault)
       (refused : refusal unpacked.taken (event_of sent) ≡ Some fault) where
     abbrev heads : List Entry
@@ -114,32 +131,50 @@ module _ {R W E : Type 0} {look : Looks R W E} {start : Devices R W E} (old new 
         → HasHead heads offset sent (reading_of ((history ++ got.given) ++ more))
     has_head more =
         let P : Reading → Type 0 = λ r. HasHead heads offset sent r in
-        let Q : Reading → Type 0 = λ r. HasHead heads offset sent (joined r (rest_after (length (history ++ got.given)) new.left r.end more)) in
-        subst P (sym (got.at.goes_on more)) (subst Q (sym got.reading) (head_stays (reading_of history) heads offset sent _ _ more entries_are))
+        let Q : Reading → Type 0 = λ r. HasHead heads offset sent
+        (joined r (rest_after (length (history ++ got.given)) new.left r.end more)) in
+        subst P (sym (got.at.goes_on more))
+        (subst Q (sym got.reading) (head_stays (reading_of history) heads offset sent _ _ more
+        entries_are))
 
     abbrev refused_made : Made
     refused_made = unpacking_by u.latest.wanted Clean (refused_at heads offset fault)
 
-    made_order : (more : List ℕ) → unpacking_of u.latest.wanted ((history ++ got.given) ++ more) ≡ refused_made
-    made_order more = let head = has_head more in made_refused u.latest.wanted heads offset sent fault stops in_order refused_here _ head.content head.others head.are
+    made_order : (more : List ℕ)
+        → unpacking_of u.latest.wanted ((history ++ got.given) ++ more) ≡ refused_made
+    made_order more =
+        let head = has_head more in
+        made_refused u.latest.wanted heads offset sent fault stops in_order refused_here _
+        head.content head.others head.are
 
     made_now : unpacking_of u.latest.wanted (history ++ got.given) ≡ refused_made
-    made_now = ap (unpacking_of u.latest.wanted) (sym (append-nil (history ++ got.given))) ∙ made_order []
+    made_now =
+        ap (unpacking_of u.latest.wanted) (sym (append-nil (history ++ got.given))) ∙ made_order []
 
     order_reported : (answer : Result Status IoFault)
-        → AfterLastWrite look.output look.report before after (on_report (fault_text (Order offset fault))) 3 answer
-        → LastStep look (unpack_tool u.latest.wanted) start (devices_at (place_of (source_of new) after)) longest_head history answer
+        → AfterLastWrite look.output look.report before after
+        (on_report (fault_text (Order offset fault))) 3 answer
+        → LastStep look (unpack_tool u.latest.wanted) start
+        (devices_at (place_of (source_of new) after)) longest_head history answer
     order_reported answer gives =
-        let P : ℕ → Type 0 = λ status. AfterLastWrite look.output look.report before after (on_report (fault_text (Order offset fault))) status answer in
-        ends longest_head (source_of old) (source_of new) before stood got.takes got.size (got.takes.window.less got.some) after (on_report (fault_text (Order offset fault)))
-        (ap (λ (t : Texts). t then on_report (fault_text (Order offset fault))) (had_texts ∙ ap (texts_of u.latest.wanted) here) ∙ then_fault (Order offset fault) (refused_made.texts) ∙ sym (ap (λ (m : Made). (whole_by m.stop m).texts) made_now))
-        (inr (ap (λ (m : Made). shows_fault m.stop) made_now, λ more. made_order more ∙ sym made_now))
+        let P : ℕ → Type 0 = λ status. AfterLastWrite look.output look.report before after
+        (on_report (fault_text (Order offset fault))) status answer in
+        ends longest_head (source_of old) (source_of new) before stood got.takes got.size
+        (got.takes.window.less got.some) after (on_report (fault_text (Order offset fault)))
+        (ap (λ (t : Texts). t then on_report (fault_text (Order offset fault)))
+        (had_texts ∙ ap (texts_of u.latest.wanted) here)
+        ∙ then_fault (Order offset fault) (refused_made.texts)
+        ∙ sym (ap (λ (m : Made). (whole_by m.stop m).texts) made_now))
+        (inr
+        (ap (λ (m : Made). shows_fault m.stop) made_now, λ more. made_order more ∙ sym made_now))
         answer (subst P (sym (ap (λ (m : Made). (whole_by m.stop m).status) made_now)) gives)
 
     -- the same, by what comes next
     pub order_ended : (piece : ℕ) (v : Unpacker) (result : Next)
-        → EndsWith look.output look.report before after (on_report (fault_text (Order offset fault))) 3 result
-        → AfterUnpackStep look start u.latest.wanted piece stage.Message old new after v history result
+        → EndsWith look.output look.report before after
+        (on_report (fault_text (Order offset fault))) 3 result
+        → AfterUnpackStep look start u.latest.wanted piece stage.Message old new after v history
+        result
     order_ended piece v (next.Stage stage) gives = absurd gives
     order_ended piece v (next.Ended answer) gives = order_reported answer gives
 
@@ -170,24 +205,30 @@ module _ (wanted : Wanted) (bytes : List ℕ) (none : heads_of (reading_of bytes
   nothing_made = ap (unpacked_of wanted) none ∙ unpacked_none wanted
 
   nothing_yet : (unpacking_of wanted bytes).texts ≡ no_texts
-  nothing_yet = texts_taken wanted bytes none_taken ∙ ap (texts_of wanted) nothing_made ∙ no_texts_of wanted
+  nothing_yet =
+      texts_taken wanted bytes none_taken ∙ ap (texts_of wanted) nothing_made
+      ∙ no_texts_of wanted
 
 heads_none : heads_of (reading_of []) ≡ []
 heads_none = ap heads_of reading-none
 
 pub before_all : (wanted : Wanted) → SameTexts (by_reading wanted) (reading_of [])
-before_all wanted = same_texts wanted (reading_of []) (none_taken wanted [] heads_none) (ap (λ (r : Reading). cut_heads r.end) reading-none)
+before_all wanted =
+    same_texts wanted (reading_of []) (none_taken wanted [] heads_none)
+    (ap (λ (r : Reading). cut_heads r.end) reading-none)
 
 pub may_begin : (wanted : Wanted) → MayBegin (unpacking_of wanted) true
 may_begin wanted = record {
   texts = nothing_yet wanted [] heads_none;
-  unshown = unshown_taken wanted [] (none_taken wanted [] heads_none) (ap (λ (r : Reading). shows_fault (stop_of r.end)) reading-none);
+  unshown = unshown_taken wanted [] (none_taken wanted [] heads_none)
+      (ap (λ (r : Reading). shows_fault (stop_of r.end)) reading-none);
 }
 
 module _ {R W E : Type 0} {look : Looks R W E} {start : Devices R W E} (old new : Session R)
     (before : Writers W E) (u : Unpacker)
-    (stood : Stands look (unpacking_of u.latest.wanted) start true (place_of (source_of old) before) [])
-    (fresh : Begins look.input old u []) (contact : Contact) (got : ReadContact look.input old new contact) where
+    (stood : UnpackStands look start u.latest.wanted old before [])
+    (fresh : Begins look.input old u []) (contact : Contact)
+    (got : ReadContact look.input old new contact) where
   heads_read : heads_of (reading_of got.given) ≡ []
   heads_read = ap heads_of got.reading
 
@@ -203,17 +244,29 @@ module _ {R W E : Type 0} {look : Looks R W E} {start : Devices R W E} (old new 
         session_at = got.at;
         taken = none_taken u.latest.wanted got.given heads_read;
         joiner = subst J (sym nothing) fresh.joiner;
-        sum = fresh.sum ∙ sym (ap (λ (un : Unpacked). length (parts_of u.latest.wanted un.transfers)) nothing ∙ no_parts u.latest.wanted);
+        sum = fresh.sum
+            ∙ sym (ap (λ (un : Unpacked). length (parts_of u.latest.wanted un.transfers)) nothing
+            ∙ no_parts u.latest.wanted);
         total = omega arith;
         good = fresh.good ∙ sym (ap is_good_so_far nothing ∙ ap (λ b. b && true) none_bad);
-        waits = (ap (λ (r : Reading). r.end) got.reading, subst O (sym nothing) (subst B (sym none_open) refl));
+        waits = (
+          ap (λ (r : Reading). r.end) got.reading,
+          subst O (sym nothing)
+              (subst B (sym none_open) refl),
+        );
       }
 
-  pub contact_step : (piece : ℕ) → AfterUnpackStep look start u.latest.wanted piece stage.Contact old new before u [] (next.Stage stage.Message)
+  pub contact_step : (piece : ℕ)
+      → AfterUnpackStep look start u.latest.wanted piece stage.Contact old new before u []
+      (next.Stage stage.Message)
   contact_step piece =
       let size = got.size in
-      let went = goes_on 6 (source_of old) (source_of new) before stood got.takes (omega arith) (got.takes.window.less (omega arith)) before no_texts
-      (then_none _ ∙ nothing_yet u.latest.wanted [] heads_none ∙ sym (nothing_yet u.latest.wanted got.given heads_read))
-      (unshown_taken u.latest.wanted got.given (none_taken u.latest.wanted got.given heads_read) (ap (λ (r : Reading). shows_fault (stop_of r.end)) got.reading))
-      (λ bytes. Unpacks look.input stage.Message new u bytes) (λ begun. omega arith) contact_known (writes_none look.output look.report before) (λ some. refl) in
-      record { given = went.given; some = went.some; size = went.size; count = went.count; window = went.window; at = (went.at, tt) }
+      let went = goes_on 6 (source_of old) (source_of new) before stood got.takes (omega arith)
+      (got.takes.window.less (omega arith)) before no_texts
+      (then_none _ ∙ nothing_yet u.latest.wanted [] heads_none
+      ∙ sym (nothing_yet u.latest.wanted got.given heads_read))
+      (unshown_taken u.latest.wanted got.given (none_taken u.latest.wanted got.given heads_read)
+      (ap (λ (r : Reading). shows_fault (stop_of r.end)) got.reading))
+      (λ bytes. Unpacks look.input stage.Message new u bytes) (λ begun. omega arith) contact_known
+      (writes_none look.output look.report before) (λ some. refl) in
+      went_with went (went.at, tt)

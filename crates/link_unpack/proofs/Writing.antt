@@ -3,10 +3,12 @@ use Rattle.std.proofs.Common.{◌≡◌, ◌⊎◌, List, [], ℕ, Option, Resul
 use Rattle.link_wire.specs.Device.{Output}
 use Rattle.link_wire.specs.declared.IoFault.{IoFault}
 use Rattle.link_wire.specs.declared.IoFault.TheVariants as io
-use Rattle.link_wire.specs.declared.Source.{Source}
+use Rattle.link_wire.specs.Session.{source_of}
+use Rattle.link_wire.specs.declared.session.Session.{Session}
+use Rattle.link_run.specs.Reading.{HasEnough}
 use Rattle.link_run.specs.Run.{Texts, ◌then◌, Looks}
-use Rattle.link_run.specs.Stages.{HandedOn}
-use Rattle.link_run.specs.Writers.{place_of, on_output, Writes, WritesSome, AfterWrite, AfterLastWrite, HasHandedOn}
+use Rattle.link_run.specs.Stages.{HandsOn}
+use Rattle.link_run.specs.Writers.{on_output, Writes, WritesSome, AfterWrite, AfterLastWrite, HasHandedOn}
 use Rattle.link_run.specs.declared.run.Status.{Status}
 use Rattle.link_run.specs.declared.writers.Writers.{Writers}
 use Rattle.link_run.proofs.Handing.{handed_by}
@@ -59,32 +61,31 @@ then_next out_look report_look old mid new texts (next.Ended (Ok status)) had mo
     (texts then more.0, writes_then out_look report_look old mid new texts more.0 had more.1)
 then_next out_look report_look old mid new texts (next.Ended (Err fault)) had kind = kind
 
--- texts that a step writes after its read were not held back during the read
-pub handed_some : {R W E B : Type 0} (look : Looks R W E) {out_handed : W → Option (List ℕ)}
-    {report_handed : E → Option (List ℕ)} {enough : Type 0} (old new : Source R)
-    (before mid after : Writers W E) (result : Result B IoFault)
-    → Writes look.output look.report before mid (on_output [])
-    → HasHandedOn look.output look.report out_handed report_handed mid ⊎ enough
-    → WritesSome look.output look.report mid after result
-    → ((kind : result ≡ Err io.Write) → ⊥)
-    → HandedOn look out_handed report_handed enough (place_of old before) (place_of new after)
-handed_some look old new before mid after (Ok value) kept held wrote other =
-    handed_by look old new before mid after wrote.0 kept held wrote.1
-handed_some look old new before mid after (Err fault) kept held kind other =
-    absurd (other (ap Err kind))
+module _ {R W E : Type 0} (look : Looks R W E) {out_handed : W → Option (List ℕ)}
+    {report_handed : E → Option (List ℕ)} (old new : Session R)
+    (before mid after : Writers W E) where
+  -- texts that a step writes after its read were not held back during the read
+  pub handed_some : {B : Type 0} (result : Result B IoFault)
+      → Writes look.output look.report before mid (on_output [])
+      → HasHandedOn look.output look.report out_handed report_handed mid
+      ⊎ HasEnough look.input old
+      → WritesSome look.output look.report mid after result
+      → ((kind : result ≡ Err io.Write) → ⊥)
+      → HandsOn look out_handed report_handed old new before after
+  handed_some (Ok value) kept held wrote other =
+      handed_by look (source_of old) (source_of new) before mid after wrote.0 kept held wrote.1
+  handed_some (Err fault) kept held kind other = absurd (other (ap Err kind))
 
--- the same, by what comes next
-pub handed_next : {R W E : Type 0} (look : Looks R W E) {out_handed : W → Option (List ℕ)}
-    {report_handed : E → Option (List ℕ)} {enough : Type 0} (old new : Source R)
-    (before mid after : Writers W E) (result : Next)
-    → Writes look.output look.report before mid (on_output [])
-    → HasHandedOn look.output look.report out_handed report_handed mid ⊎ enough
-    → WritesNext look.output look.report mid after result
-    → (result ≡ next.Ended (Err io.Write) → ⊥)
-    → HandedOn look out_handed report_handed enough (place_of old before) (place_of new after)
-handed_next look old new before mid after (next.Stage stage) kept held wrote other =
-    handed_by look old new before mid after wrote.0 kept held wrote.1
-handed_next look old new before mid after (next.Ended (Ok status)) kept held wrote other =
-    handed_by look old new before mid after wrote.0 kept held wrote.1
-handed_next look old new before mid after (next.Ended (Err fault)) kept held kind other =
-    absurd (other (ap (λ e. next.Ended (Err e)) kind))
+  -- the same, by what comes next
+  pub handed_next : (result : Next) → Writes look.output look.report before mid (on_output [])
+      → HasHandedOn look.output look.report out_handed report_handed mid
+      ⊎ HasEnough look.input old
+      → WritesNext look.output look.report mid after result
+      → (result ≡ next.Ended (Err io.Write) → ⊥)
+      → HandsOn look out_handed report_handed old new before after
+  handed_next (next.Stage stage) kept held wrote other =
+      handed_by look (source_of old) (source_of new) before mid after wrote.0 kept held wrote.1
+  handed_next (next.Ended (Ok status)) kept held wrote other =
+      handed_by look (source_of old) (source_of new) before mid after wrote.0 kept held wrote.1
+  handed_next (next.Ended (Err fault)) kept held kind other =
+      absurd (other (ap (λ e. next.Ended (Err e)) kind))

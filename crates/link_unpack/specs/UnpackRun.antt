@@ -67,6 +67,11 @@ abbrev pub progress_of : Next → Result Progress IoFault
 progress_of (next.Stage stage) = Ok More
 progress_of (next.Ended answer) = answer_of answer
 
+-- the stage after a step at the stage `now`; it stays the same if the run has ended
+abbrev pub stage_after : (now : Stage) → Next → Stage
+stage_after now (next.Stage stage) = stage
+stage_after now (next.Ended answer) = now
+
 -- whether the session permits the call that comes next
 abbrev pub may_follow : {R : Type 0} → Next → Session R → Bool
 may_follow (next.Stage stage) session = may_go_on stage session
@@ -201,11 +206,15 @@ module _ {R : Type 0} (look : R → Input) where
   IsUnpacking stage.Stray unpacker session history = Unpacks stage.Stray session unpacker history
 
 module _ {R W E : Type 0} (look : Looks R W E) (start : Devices R W E) where
-  -- `Stands` and `Unpacks` hold of a run
+  -- `Stands` for a run of `unpack`
+  abbrev pub UnpackStands : Wanted → Session R → Writers W E → (history : List ℕ) → Type 0
+  UnpackStands wanted session writers history =
+      Stands look (unpacking_of wanted) start true (place_of (source_of session) writers) history
+
+  -- `UnpackStands` and `Unpacks` hold of a run
   abbrev pub StandsAt : Wanted → Stage → Session R → Writers W E → Unpacker → List ℕ → Type 0
   StandsAt wanted now session writers unpacker history =
-      Stands look (unpacking_of wanted) start true (place_of (source_of session) writers) history
-      × Unpacks look.input now session unpacker history
+      UnpackStands wanted session writers history × Unpacks look.input now session unpacker history
 
   -- what holds after these bytes were given: a stage comes next, or the run has ended
   abbrev pub StandsNext : Wanted → Session R → Writers W E → Unpacker → (history : List ℕ)

@@ -1,11 +1,11 @@
 //! `unpack`: the data of the transfers of a recorded stream, and a line for each transfer.
 
 ghost use Rattle.std.specs.Prelude.{◌≡◌, ◌+◌, ◌&&◌, ◌<◌, ◌≤◌, true, false, not, [], is_some, if◌then◌else◌, IsTrue, List, length, ℕ, IfSome, Ok, Err, Option, Some, None};
-ghost use Rattle.link_wire.specs.Session.{may_open, may_read, is_opened, left_of, source_of, data_in, IsSessionAt};
-ghost use Rattle.link_run.specs.Reading.{inner_of, HasEnough};
+ghost use Rattle.link_wire.specs.Session.{may_open, may_read, is_opened, left_of, data_in, IsSessionAt};
+ghost use Rattle.link_run.specs.Reading.{inner_of};
 ghost use Rattle.link_run.specs.Run.{Devices, devices_at, looks, AfterRun};
-ghost use Rattle.link_run.specs.Stages.{Stands, HandedOn};
-ghost use Rattle.link_run.specs.Writers.{AfterWrite, WritesSome, on_report, place_of};
+ghost use Rattle.link_run.specs.Stages.{HandsOn};
+ghost use Rattle.link_run.specs.Writers.{AfterWrite, WritesSome, on_report};
 ghost use Rattle.link_report.specs.Fault.{fault_text};
 ghost use Rattle.link_wire.specs.Codes.{is_start};
 ghost use Rattle.link_wire.specs.MessageBuffer.{SegmentHasTotals, message_of};
@@ -16,9 +16,9 @@ ghost use Rattle.link_transfer.specs.Joiner.{IsJoinerAt};
 ghost use Rattle.link_transfer.specs.Order.{refusal};
 ghost use Rattle.link_transfer.specs.declared.fault.OrderFault.{OrderFault};
 ghost use Rattle.link_unpack.specs.Transfers.{Transfer, settled};
-ghost use Rattle.link_unpack.specs.Unpacking.{unpacking_of, unpack_tool, parts_of, line_of, is_good, are_good, judgement_of, Unpacked, abandoned_line};
+ghost use Rattle.link_unpack.specs.Unpacking.{unpack_tool, parts_of, line_of, is_good, are_good, judgement_of, Unpacked, abandoned_line};
 ghost use Rattle.link_unpack.specs.TransferScan.{IsAtTransfer, begun};
-ghost use Rattle.link_unpack.specs.UnpackRun.{may_go_on, may_follow, next_of, is_open_after, IsUnpacking, Begins, Unpacks, HeadHasCome, IsTaken, IsBeginning, IsJoining, IsOpen, AfterUnpackStep, AfterUnpackStride, PassesQuiet, StandsNext, AfterFinish, EndsWith, WritesNext};
+ghost use Rattle.link_unpack.specs.UnpackRun.{may_go_on, may_follow, next_of, progress_of, stage_after, is_open_after, UnpackStands, IsUnpacking, Begins, Unpacks, HeadHasCome, IsTaken, IsBeginning, IsJoining, IsOpen, AfterUnpackStep, AfterUnpackStride, PassesQuiet, StandsNext, AfterFinish, EndsWith, WritesNext};
 
 use self::inner::take_on;
 use crate::transfer::{TransferScan, is_bundle};
@@ -115,13 +115,7 @@ impl<R: InDevice, W: OutDevice, E: OutDevice> Stages<Session<R>, W, E> for Unpac
             &mut self.message,
             &mut self.unpacker,
         );
-        match next {
-            Next::Stage(stage) => {
-                self.stage = stage;
-                Ok(Progress::More)
-            }
-            Next::Ended(answer) => Progress::ended(answer),
-        }
+        keep(&mut self.stage, next)
     }
 
     #[inline(always)]
@@ -137,13 +131,22 @@ impl<R: InDevice, W: OutDevice, E: OutDevice> Stages<Session<R>, W, E> for Unpac
             &mut self.message,
             &mut self.unpacker,
         );
-        match next {
-            Next::Stage(stage) => {
-                self.stage = stage;
-                Ok(Progress::More)
-            }
-            Next::Ended(answer) => Progress::ended(answer),
+        keep(&mut self.stage, next)
+    }
+}
+
+/// Keeps the stage that comes next, unless the run has ended. Returns the result of the step.
+#[inline(always)]
+fn keep(stage: &mut Stage, next: Next) -> Result<Progress, IoFault>
+    ensures progress { result ≡ progress_of next }
+    ensures kept { stage.new ≡ stage_after stage.old next }
+{
+    match next {
+        Next::Stage(later) => {
+            *stage = later;
+            Ok(Progress::More)
         }
+        Next::Ended(answer) => Progress::ended(answer),
     }
 }
 
@@ -159,8 +162,8 @@ fn stride_from<R: InDevice, W: OutDevice, E: OutDevice>(
     requires { IsTrue (may_go_on stage (inner_of input.old)) }
     ensures fits { IsTrue (may_follow result (inner_of input.new)) }
     ensures gives { (start : Devices R W E) (history : List ℕ)
-        → Stands (looks R.state W.state E.state) (unpacking_of unpacker.old.latest.wanted) start true
-        (place_of (source_of (inner_of input.old)) writers.old) history
+        → UnpackStands (looks R.state W.state E.state) start unpacker.old.latest.wanted
+        (inner_of input.old) writers.old history
         → IsUnpacking R.state stage unpacker.old (inner_of input.old) history
         → AfterUnpackStride (looks R.state W.state E.state) start unpacker.old.latest.wanted
         (inner_of input.old) (inner_of input.new) writers.old writers.new unpacker.new history
@@ -168,10 +171,8 @@ fn stride_from<R: InDevice, W: OutDevice, E: OutDevice>(
     ensures handed { (history : List ℕ)
         → IsUnpacking R.state stage unpacker.old (inner_of input.old) history
         → (result ≡ Next.Ended (Err IoFault.Write) → ⊥)
-        → HandedOn (looks R.state W.state E.state) W.handed E.handed
-        (HasEnough R.state (inner_of input.old))
-        (place_of (source_of (inner_of input.old)) writers.old)
-        (place_of (source_of (inner_of input.new)) writers.new) }
+        → HandsOn (looks R.state W.state E.state) W.handed E.handed (inner_of input.old)
+        (inner_of input.new) writers.old writers.new }
     ensures wanted { unpacker.new.latest.wanted ≡ unpacker.old.latest.wanted }
 {
     if let Stage::Message = stage {
@@ -193,8 +194,8 @@ fn stride_message<R: InDevice, W: OutDevice, E: OutDevice>(
     requires { IsTrue (may_read (inner_of input.old)) }
     ensures fits { IsTrue (may_follow result (inner_of input.new)) }
     ensures gives { (start : Devices R W E) (history : List ℕ)
-        → Stands (looks R.state W.state E.state) (unpacking_of unpacker.old.latest.wanted) start true
-        (place_of (source_of (inner_of input.old)) writers.old) history
+        → UnpackStands (looks R.state W.state E.state) start unpacker.old.latest.wanted
+        (inner_of input.old) writers.old history
         → Unpacks R.state Stage.Message (inner_of input.old) unpacker.old history
         → AfterUnpackStride (looks R.state W.state E.state) start unpacker.old.latest.wanted
         (inner_of input.old) (inner_of input.new) writers.old writers.new unpacker.new history
@@ -202,10 +203,8 @@ fn stride_message<R: InDevice, W: OutDevice, E: OutDevice>(
     ensures handed { (history : List ℕ)
         → Unpacks R.state Stage.Message (inner_of input.old) unpacker.old history
         → (result ≡ Next.Ended (Err IoFault.Write) → ⊥)
-        → HandedOn (looks R.state W.state E.state) W.handed E.handed
-        (HasEnough R.state (inner_of input.old))
-        (place_of (source_of (inner_of input.old)) writers.old)
-        (place_of (source_of (inner_of input.new)) writers.new) }
+        → HandsOn (looks R.state W.state E.state) W.handed E.handed (inner_of input.old)
+        (inner_of input.new) writers.old writers.new }
     ensures wanted { unpacker.new.latest.wanted ≡ unpacker.old.latest.wanted }
 {
     let next = take_message(input, writers, message, unpacker);
@@ -260,8 +259,8 @@ fn advance<R: InDevice, W: OutDevice, E: OutDevice>(
     requires piece { 0 < piece }
     ensures fits { IsTrue (may_follow result (inner_of input.new)) }
     ensures gives { (start : Devices R W E) (history : List ℕ)
-        → Stands (looks R.state W.state E.state) (unpacking_of unpacker.old.latest.wanted) start true
-        (place_of (source_of (inner_of input.old)) writers.old) history
+        → UnpackStands (looks R.state W.state E.state) start unpacker.old.latest.wanted
+        (inner_of input.old) writers.old history
         → IsUnpacking R.state stage unpacker.old (inner_of input.old) history
         → AfterUnpackStep (looks R.state W.state E.state) start unpacker.old.latest.wanted piece
         stage
@@ -269,10 +268,8 @@ fn advance<R: InDevice, W: OutDevice, E: OutDevice>(
     ensures handed { (history : List ℕ)
         → IsUnpacking R.state stage unpacker.old (inner_of input.old) history
         → (result ≡ Next.Ended (Err IoFault.Write) → ⊥)
-        → HandedOn (looks R.state W.state E.state) W.handed E.handed
-        (HasEnough R.state (inner_of input.old))
-        (place_of (source_of (inner_of input.old)) writers.old)
-        (place_of (source_of (inner_of input.new)) writers.new) }
+        → HandsOn (looks R.state W.state E.state) W.handed E.handed (inner_of input.old)
+        (inner_of input.new) writers.old writers.new }
     ensures wanted { unpacker.new.latest.wanted ≡ unpacker.old.latest.wanted }
 {
     match stage {
@@ -292,16 +289,15 @@ fn open<R: InDevice, W: OutDevice, E: OutDevice>(
     requires { IsTrue (may_open (inner_of input.old)) }
     ensures fits { IsTrue (may_follow result (inner_of input.new)) }
     ensures gives { (start : Devices R W E) (piece : ℕ) (history : List ℕ)
-        → Stands (looks R.state W.state E.state) (unpacking_of unpacker.now.latest.wanted) start true
-        (place_of (source_of (inner_of input.old)) writers.old) history
+        → UnpackStands (looks R.state W.state E.state) start unpacker.now.latest.wanted
+        (inner_of input.old) writers.old history
         → Begins R.state (inner_of input.old) unpacker.now history
         → AfterUnpackStep (looks R.state W.state E.state) start unpacker.now.latest.wanted piece
-        Stage.Contact (inner_of input.old) (inner_of input.new) writers.new unpacker.now history result }
+        Stage.Contact (inner_of input.old) (inner_of input.new) writers.new unpacker.now history
+        result }
     ensures handed { (result ≡ Next.Ended (Err IoFault.Write) → ⊥)
-        → HandedOn (looks R.state W.state E.state) W.handed E.handed
-        (HasEnough R.state (inner_of input.old))
-        (place_of (source_of (inner_of input.old)) writers.old)
-        (place_of (source_of (inner_of input.new)) writers.new) }
+        → HandsOn (looks R.state W.state E.state) W.handed E.handed (inner_of input.old)
+        (inner_of input.new) writers.old writers.new }
 {
     match input.open() {
         Ok(_) => Next::Stage(Stage::Message),
@@ -320,18 +316,17 @@ fn take_message<R: InDevice, W: OutDevice, E: OutDevice>(
     requires { IsTrue (may_read (inner_of input.old)) }
     ensures fits { IsTrue (may_follow result (inner_of input.new)) }
     ensures gives { (start : Devices R W E) (piece : ℕ) (history : List ℕ)
-        → Stands (looks R.state W.state E.state) (unpacking_of unpacker.old.latest.wanted) start true
-        (place_of (source_of (inner_of input.old)) writers.old) history
+        → UnpackStands (looks R.state W.state E.state) start unpacker.old.latest.wanted
+        (inner_of input.old) writers.old history
         → Unpacks R.state Stage.Message (inner_of input.old) unpacker.old history
         → AfterUnpackStep (looks R.state W.state E.state) start unpacker.old.latest.wanted piece
-        Stage.Message (inner_of input.old) (inner_of input.new) writers.new unpacker.new history result }
+        Stage.Message (inner_of input.old) (inner_of input.new) writers.new unpacker.new history
+        result }
     ensures handed { (history : List ℕ)
         → Unpacks R.state Stage.Message (inner_of input.old) unpacker.old history
         → (result ≡ Next.Ended (Err IoFault.Write) → ⊥)
-        → HandedOn (looks R.state W.state E.state) W.handed E.handed
-        (HasEnough R.state (inner_of input.old))
-        (place_of (source_of (inner_of input.old)) writers.old)
-        (place_of (source_of (inner_of input.new)) writers.new) }
+        → HandsOn (looks R.state W.state E.state) W.handed E.handed (inner_of input.old)
+        (inner_of input.new) writers.old writers.new }
     ensures wanted { unpacker.new.latest.wanted ≡ unpacker.old.latest.wanted }
 {
     let offset = match input.next_message(writers, message) {
@@ -452,18 +447,17 @@ fn pass_stray<R: InDevice, W: OutDevice, E: OutDevice>(
     requires piece { 0 < piece }
     ensures fits { IsTrue (may_follow result (inner_of input.new)) }
     ensures gives { (start : Devices R W E) (history : List ℕ)
-        → Stands (looks R.state W.state E.state) (unpacking_of unpacker.now.latest.wanted) start true
-        (place_of (source_of (inner_of input.old)) writers.old) history
+        → UnpackStands (looks R.state W.state E.state) start unpacker.now.latest.wanted
+        (inner_of input.old) writers.old history
         → Unpacks R.state Stage.Stray (inner_of input.old) unpacker.now history
         → AfterUnpackStep (looks R.state W.state E.state) start unpacker.now.latest.wanted piece
-        Stage.Stray (inner_of input.old) (inner_of input.new) writers.new unpacker.now history result }
+        Stage.Stray (inner_of input.old) (inner_of input.new) writers.new unpacker.now history
+        result }
     ensures handed { (history : List ℕ)
         → Unpacks R.state Stage.Stray (inner_of input.old) unpacker.now history
         → (result ≡ Next.Ended (Err IoFault.Write) → ⊥)
-        → HandedOn (looks R.state W.state E.state) W.handed E.handed
-        (HasEnough R.state (inner_of input.old))
-        (place_of (source_of (inner_of input.old)) writers.old)
-        (place_of (source_of (inner_of input.new)) writers.new) }
+        → HandsOn (looks R.state W.state E.state) W.handed E.handed (inner_of input.old)
+        (inner_of input.new) writers.old writers.new }
 {
     let size = match input.load_data(writers) {
         Ok(ready) => ready.min(piece),
@@ -530,8 +524,8 @@ fn take_data<R: InDevice, W: OutDevice, E: OutDevice>(
     requires piece { 0 < piece }
     ensures fits { IsTrue (may_follow result (inner_of input.new)) }
     ensures gives { (start : Devices R W E) (history : List ℕ)
-        → Stands (looks R.state W.state E.state) (unpacking_of unpacker.old.latest.wanted) start true
-        (place_of (source_of (inner_of input.old)) writers.old) history
+        → UnpackStands (looks R.state W.state E.state) start unpacker.old.latest.wanted
+        (inner_of input.old) writers.old history
         → Unpacks R.state (Stage.Data last) (inner_of input.old) unpacker.old history
         → AfterUnpackStep (looks R.state W.state E.state) start unpacker.old.latest.wanted piece
         (Stage.Data last) (inner_of input.old) (inner_of input.new) writers.new unpacker.new history
@@ -539,10 +533,8 @@ fn take_data<R: InDevice, W: OutDevice, E: OutDevice>(
     ensures handed { (history : List ℕ)
         → Unpacks R.state (Stage.Data last) (inner_of input.old) unpacker.old history
         → (result ≡ Next.Ended (Err IoFault.Write) → ⊥)
-        → HandedOn (looks R.state W.state E.state) W.handed E.handed
-        (HasEnough R.state (inner_of input.old))
-        (place_of (source_of (inner_of input.old)) writers.old)
-        (place_of (source_of (inner_of input.new)) writers.new) }
+        → HandsOn (looks R.state W.state E.state) W.handed E.handed (inner_of input.old)
+        (inner_of input.new) writers.old writers.new }
     ensures wanted { unpacker.new.latest.wanted ≡ unpacker.old.latest.wanted }
 {
     match input.load_data(writers) {
@@ -565,8 +557,8 @@ fn take_loaded<R: InDevice, W: OutDevice, E: OutDevice>(
     requires size { size ≤ length (data_in R.state (inner_of input.old)) }
     ensures fits { IsTrue (may_follow result (inner_of input.new)) }
     ensures gives { (start : Devices R W E) (history : List ℕ) → 0 < size
-        → Stands (looks R.state W.state E.state) (unpacking_of unpacker.old.latest.wanted) start true
-        (place_of (source_of (inner_of input.old)) writers.old) history
+        → UnpackStands (looks R.state W.state E.state) start unpacker.old.latest.wanted
+        (inner_of input.old) writers.old history
         → Unpacks R.state (Stage.Data last) (inner_of input.old) unpacker.old history
         → AfterUnpackStep (looks R.state W.state E.state) start unpacker.old.latest.wanted size
         (Stage.Data last) (inner_of input.old) (inner_of input.new) writers.new unpacker.new history

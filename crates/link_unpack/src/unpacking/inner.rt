@@ -3,15 +3,12 @@
 //! A bundle in short segments has hundreds of them in one window. So they are taken without the
 //! message, the event and the stages of a step.
 
-ghost use Rattle.std.specs.Prelude.{◌≡◌, ◌<◌, ◌≤◌, true, IsTrue, List, length, ℕ};
-ghost use Rattle.link_wire.specs.Session.{may_read, is_opened, source_of, data_in};
+ghost use Rattle.std.specs.Prelude.{◌≡◌, ◌<◌, ◌≤◌, IsTrue, List, length, ℕ};
+ghost use Rattle.link_wire.specs.Session.{may_read, is_opened, data_in};
 ghost use Rattle.link_run.specs.Reading.{inner_of};
 ghost use Rattle.link_run.specs.Run.{Devices, looks};
-ghost use Rattle.link_run.specs.Stages.{Stands};
-ghost use Rattle.link_run.specs.Writers.{place_of};
 ghost use Rattle.link_unpack.specs.InnerRun.{TakesInner};
-ghost use Rattle.link_unpack.specs.Unpacking.{unpacking_of};
-ghost use Rattle.link_unpack.specs.UnpackRun.{may_follow, Unpacks, AfterUnpackStride, WritesNext};
+ghost use Rattle.link_unpack.specs.UnpackRun.{may_follow, UnpackStands, Unpacks, AfterUnpackStride, WritesNext};
 
 use super::{Next, Stage, Unpacker, take_loaded};
 use link_run::{Input, Writers};
@@ -31,8 +28,8 @@ pub(super) fn take_on<R: InDevice, W: OutDevice, E: OutDevice>(
     requires size { size ≤ length (data_in R.state (inner_of input.old)) }
     ensures fits { IsTrue (may_follow result (inner_of input.new)) }
     ensures gives { (start : Devices R W E) (history : List ℕ) → 0 < size
-        → Stands (looks R.state W.state E.state) (unpacking_of unpacker.old.latest.wanted) start true
-        (place_of (source_of (inner_of input.old)) writers.old) history
+        → UnpackStands (looks R.state W.state E.state) start unpacker.old.latest.wanted
+        (inner_of input.old) writers.old history
         → Unpacks R.state (Stage.Data last) (inner_of input.old) unpacker.old history
         → AfterUnpackStride (looks R.state W.state E.state) start unpacker.old.latest.wanted
         (inner_of input.old) (inner_of input.new) writers.old writers.new unpacker.new history
@@ -57,8 +54,8 @@ fn take_inner<R: InDevice, W: OutDevice, E: OutDevice>(
     requires { IsTrue (may_read (inner_of input.old)) }
     ensures fits { IsTrue (may_follow result (inner_of input.new)) }
     ensures gives { (start : Devices R W E) (history : List ℕ)
-        → Stands (looks R.state W.state E.state) (unpacking_of unpacker.old.latest.wanted) start true
-        (place_of (source_of (inner_of input.old)) writers.old) history
+        → UnpackStands (looks R.state W.state E.state) start unpacker.old.latest.wanted
+        (inner_of input.old) writers.old history
         → Unpacks R.state Stage.Message (inner_of input.old) unpacker.old history
         → TakesInner (looks R.state W.state E.state) start unpacker.old.latest.wanted
         (inner_of input.old) (inner_of input.new) writers.new unpacker.new history result }

@@ -1,14 +1,10 @@
-use Rattle.std.proofs.Common.{◌≡◌, ◌<◌, ◌++◌, true, length, Err, sym, ◌∙◌, subst, arith}
+use Rattle.std.proofs.Common.{◌≡◌, ◌++◌, Err, sym, ◌∙◌, subst, arith}
 use Rattle.link_wire.specs.Limits.{longest_head}
-use Rattle.link_wire.specs.Session.{source_of}
 use Rattle.link_wire.specs.declared.IoFault.TheVariants as io
 use Rattle.link_run.specs.Reading.{inner_of}
 use Rattle.link_run.specs.Run.{looks, no_texts}
-use Rattle.link_run.specs.Stages.{Stands}
-use Rattle.link_run.specs.Writers.{place_of}
 use Rattle.link_run.proofs.Runs.{writes_none}
-use Rattle.link_unpack.specs.Unpacking.{unpacking_of}
-use Rattle.link_unpack.specs.UnpackRun.{AfterUnpackStride}
+use Rattle.link_unpack.specs.UnpackRun.{AfterUnpackStride, UnpackStands}
 use Rattle.link_unpack.specs.declared.unpacking.Next.TheVariants as next
 use Rattle.link_unpack.specs.declared.unpacking.Stage.TheVariants as stage
 use Rattle.link_unpack.specs.declared.wanted.Wanted.{Wanted}
@@ -28,16 +24,21 @@ returns-in-Some-clause-gives g c = λ start history at knows.
     let v = c.take_on.new.unpacker in
     let result = c.take_on.result in
     let went = rw c.in-Some.ensures.0 at (c.take_message-next.ensures.gives start 4096 history at knows) in
-    let P : Wanted → Type 0 = λ w. Stands look (unpacking_of w) start true (place_of (source_of read) between) (history ++ went.given) in
-    let Q : Wanted → Type 0 = λ w. AfterUnpackStride look start w read new between after v (history ++ went.given) result in
-    let far = subst Q c.take_message-next.ensures.wanted (c.take_on.ensures.gives start (history ++ went.given) c.in-Some.ensures.1 (subst P (sym c.take_message-next.ensures.wanted) went.at.0.0) went.at.0.1) in
-    far_later look start wanted old read new writers between after v _ longest_head history result went far
+    let P : Wanted → Type 0 = λ w. UnpackStands look start w read between (history ++ went.given) in
+    let Q : Wanted → Type 0 = λ w.
+    AfterUnpackStride look start w read new between after v (history ++ went.given) result in
+    let far = subst Q c.take_message-next.ensures.wanted
+    (c.take_on.ensures.gives start (history ++ went.given) c.in-Some.ensures.1
+    (subst P (sym c.take_message-next.ensures.wanted) went.at.0.0) went.at.0.1) in
+    far_later look start wanted old read new writers between after v _ longest_head history result
+    went far
 
 pub returns-in-Some-clause-handed : goal.returns-in-Some-clause-handed
 returns-in-Some-clause-handed g c = λ history knows other.
-    let look = looks g.R.InDevice.state g.W.OutDevice.state g.E.OutDevice.state in
-    let read = inner_of c.take_message-next.new.input in
-    handed_more look (source_of (inner_of c.args.input.now)) (source_of read) (source_of (inner_of c.take_on.new.input)) c.args.writers.now c.take_message-next.new.writers c.take_on.new.writers c.take_on.result
+    handed_more (looks g.R.InDevice.state g.W.OutDevice.state g.E.OutDevice.state)
+    (inner_of c.args.input.now) (inner_of c.take_message-next.new.input)
+    (inner_of c.take_on.new.input) c.args.writers.now c.take_message-next.new.writers
+    c.take_on.new.writers c.take_on.result
     (c.take_message-next.ensures.handed history knows (λ e.
     let no : next.Stage (stage.Data c.in-Some.last) ≡ next.Ended (Err io.Write) = sym c.in-Some.ensures.0 ∙ e in
     absurd (cc)))
@@ -47,14 +48,18 @@ pub returns-in-None-clause-gives : goal.returns-in-None-clause-gives
 returns-in-None-clause-gives g c = λ start history at knows.
     let look = looks g.R.InDevice.state g.W.OutDevice.state g.E.OutDevice.state in
     rw c.pass_quiet.ensures.same
-    (far_quiet look start c.args.unpacker.now.latest.wanted 4096 stage.Message (inner_of c.args.input.now) (inner_of c.take_message-next.new.input) (inner_of c.pass_quiet.new.input)
-    c.args.writers.now c.take_message-next.new.writers c.take_message-next.new.unpacker history c.take_message-next.result (omega arith)
-    c.take_message-next.ensures.wanted c.pass_quiet.ensures.other c.pass_quiet.ensures.passed (c.take_message-next.ensures.gives start 4096 history at knows))
+    (far_quiet look start c.args.unpacker.now.latest.wanted 4096 stage.Message
+    (inner_of c.args.input.now) (inner_of c.take_message-next.new.input)
+    (inner_of c.pass_quiet.new.input) c.args.writers.now c.take_message-next.new.writers
+    c.take_message-next.new.unpacker history c.take_message-next.result (omega arith)
+    c.take_message-next.ensures.wanted c.pass_quiet.ensures.other c.pass_quiet.ensures.passed
+    (c.take_message-next.ensures.gives start 4096 history at knows))
 
 pub returns-in-None-clause-handed : goal.returns-in-None-clause-handed
 returns-in-None-clause-handed g c = λ history knows other.
     let look = looks g.R.InDevice.state g.W.OutDevice.state g.E.OutDevice.state in
     let after = c.take_message-next.new.writers in
-    handed_more look (source_of (inner_of c.args.input.now)) (source_of (inner_of c.take_message-next.new.input)) (source_of (inner_of c.pass_quiet.new.input)) c.args.writers.now after after (next.Stage stage.Message)
+    handed_more look (inner_of c.args.input.now) (inner_of c.take_message-next.new.input)
+    (inner_of c.pass_quiet.new.input) c.args.writers.now after after (next.Stage stage.Message)
     (c.take_message-next.ensures.handed history knows (λ e. other (c.pass_quiet.ensures.same ∙ e)))
     (no_texts, writes_none look.output look.report after) (λ e. absurd (cc))

@@ -1,31 +1,20 @@
-use Rattle.std.proofs.Common.{◌<◌, ap, arith}
+use Rattle.std.proofs.Common.{◌<◌, arith}
 use Rattle.link_wire.specs.Session.{source_of}
-use Rattle.link_wire.specs.Stream.{reading_of}
 use Rattle.link_run.specs.Reading.{inner_of}
 use Rattle.link_run.specs.Run.{looks}
-use Rattle.link_run.proofs.Handing.{enough_by, handed_at_end}
-use Rattle.link_run.proofs.Sessions.{data_ended}
+use Rattle.link_run.proofs.Handing.{enough_by}
 use Rattle.link_run.proofs.Stands.{settled}
 use Rattle.link_unpack.specs.Unpacking.{unpacking_of}
-use Rattle.link_unpack.specs.declared.unpacking.Next.TheVariants as next
 use Rattle.link_unpack.proofs.Data.{some_left}
-use Rattle.link_unpack.proofs.Loads.{stands_ready, unpacks_ready, given_ready}
-use Rattle.link_unpack.proofs.Taken.{stop_is}
-use Rattle.link_unpack.proofs.Texts.{by_reading, made_is}
+use Rattle.link_unpack.proofs.Loads.{stands_ready, unpacks_ready, given_ready, load_ended, load_handed}
 use Rattle.link_unpack.proofs.Writing.{handed_next}
 use Rattle.link_unpack.proofs.unpacking.take_data.Goals as goal
 
 pub returns-in-Err-clause-gives : goal.returns-in-Err-clause-gives
 returns-in-Err-clause-gives g c = λ start history at knows.
-    let wanted = c.args.unpacker.now.latest.wanted in
-    data_ended (by_reading wanted) (made_is wanted) (inner_of c.args.input.now) (inner_of c.load_data.new.self) c.args.writers.now c.load_data.new.writers c.end.new.self at knows.session_at c.args.piece
-    (stop_is wanted (reading_of history) knows.taken) c.in-Err.stop _ (c.in-Err.ensures.gives history knows.session_at) c.end.ensures
-
-pub returns-in-Err-clause-handed : goal.returns-in-Err-clause-handed
-returns-in-Err-clause-handed g c = λ history knows other.
-    handed_at_end (looks g.R.InDevice.state g.W.OutDevice.state g.E.OutDevice.state) (inner_of c.args.input.now) (inner_of c.load_data.new.self) c.args.writers.now c.load_data.new.writers c.end.new.self c.in-Err.stop _
-    (c.in-Err.ensures.gives history knows.session_at) c.end.ensures (λ e. other (ap next.Ended e))
-    (λ is. enough_by g.R.InDevice.state (inner_of c.args.input.now) (c.in-Err.ensures.handed (λ e. is (cc)) history knows.session_at))
+    load_ended c.args.unpacker.now (inner_of c.args.input.now) (inner_of c.load_data.new.self)
+    c.args.writers.now c.load_data.new.writers c.end.new.self c.args.piece at knows c.in-Err.stop _
+    (c.in-Err.ensures.gives history knows.session_at) c.end.ensures
 
 pub returns-in-Ok-clause-gives : goal.returns-in-Ok-clause-gives
 returns-in-Ok-clause-gives g c = λ start history at knows.
@@ -36,16 +25,29 @@ returns-in-Ok-clause-gives g c = λ start history at knows.
     let both = c.in-Ok.ensures.gives history knows.session_at in
     let got = both.1 in
     let stood = settled (source_of old) c.args.writers.now c.load_data.new.writers at both.0 in
-    let ready = got.some (some_left look start c.args.last old c.args.writers.now u history at knows) in
+    let ready = got.some (some_left knows) in
     let some : 0 < c.min.result = omega (arith, ready, c.requires.piece, c.min.ensures) in
-    given_ready look start old mid history _ got u.latest.wanted c.min.result c.args.piece c.args.last (inner_of c.take_loaded.new.input) c.take_loaded.new.writers c.take_loaded.new.unpacker c.take_loaded.result
-    some (omega (arith, c.min.ensures))
-    (c.take_loaded.ensures.gives start history some (stands_ready look start old mid history _ got (unpacking_of u.latest.wanted) c.load_data.new.writers stood) (unpacks_ready look start old mid history _ got c.args.last u knows))
+    given_ready look start old mid history _ got u.latest.wanted c.min.result c.args.piece
+    c.args.last (inner_of c.take_loaded.new.input) c.take_loaded.new.writers
+    c.take_loaded.new.unpacker c.take_loaded.result some (omega (arith, c.min.ensures))
+    (c.take_loaded.ensures.gives start history some
+    (stands_ready look start old mid history _ got (unpacking_of u.latest.wanted)
+    c.load_data.new.writers stood)
+    (unpacks_ready look start old mid history _ got c.args.last u knows))
+
+pub returns-in-Err-clause-handed : goal.returns-in-Err-clause-handed
+returns-in-Err-clause-handed g c = λ history knows other.
+    load_handed (inner_of c.args.input.now) (inner_of c.load_data.new.self) c.args.writers.now
+    c.load_data.new.writers c.end.new.self c.in-Err.stop _ knows.session_at
+    c.in-Err.ensures.gives c.end.ensures other c.in-Err.ensures.handed
 
 pub returns-in-Ok-clause-handed : goal.returns-in-Ok-clause-handed
 returns-in-Ok-clause-handed g c = λ history knows other.
     let look = looks g.R.InDevice.state g.W.OutDevice.state g.E.OutDevice.state in
     let old = inner_of c.args.input.now in
     let got = c.in-Ok.ensures.gives history knows.session_at in
-    handed_next look (source_of old) (source_of (inner_of c.take_loaded.new.input)) c.args.writers.now c.load_data.new.writers c.take_loaded.new.writers c.take_loaded.result got.0
-    (enough_by look.input old (c.in-Ok.ensures.handed (λ e. absurd (cc)) history knows.session_at)) c.take_loaded.ensures.writes other
+    handed_next look old (inner_of c.take_loaded.new.input) c.args.writers.now
+    c.load_data.new.writers c.take_loaded.new.writers c.take_loaded.result got.0
+    (enough_by look.input old
+    (c.in-Ok.ensures.handed (λ e. absurd (cc)) history knows.session_at))
+    c.take_loaded.ensures.writes other

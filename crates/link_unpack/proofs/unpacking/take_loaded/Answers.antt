@@ -1,68 +1,86 @@
-use Rattle.std.proofs.Common.{◌≡◌, ◌<◌, ◌++◌, ℕ, List, length, take, refl, sym, subst, arith, length-take}
-use Rattle.link_wire.specs.Session.{data_in, PassedBytes}
+use Rattle.std.proofs.Common.{◌<◌, ◌++◌, ℕ, List, length, take, sym, subst, ap, arith, length-take}
+use Rattle.link_wire.specs.Session.{PassedBytes}
 use Rattle.link_run.specs.Reading.{inner_of}
-use Rattle.link_run.specs.Run.{looks}
+use Rattle.link_run.specs.Run.{Devices, looks}
 use Rattle.link_run.specs.Writers.{on_output}
-use Rattle.link_unpack.specs.UnpackRun.{next_of, StandsNext}
+use Rattle.link_unpack.specs.UnpackRun.{next_of, Unpacks, UnpackStands, StandsNext}
 use Rattle.link_unpack.specs.declared.unpacking.Stage.TheVariants as stage
-use Rattle.link_unpack.specs.declared.unpacking.Unpacker.{Unpacker}
 use Rattle.link_unpack.specs.declared.wanted.Wanted.{Wanted}
-use Rattle.link_unpack.proofs.Data.{goes, room, closing, grows, part_lost}
+use Rattle.link_unpack.proofs.Data.{DataTaken, grows, part_lost}
 use Rattle.link_unpack.proofs.Steps.{stage_given}
 use Rattle.link_unpack.proofs.Writing.{then_some, some_next}
+use Rattle.link_unpack.proofs.unpacking.take_loaded.Given.{Over}
 use Rattle.link_unpack.proofs.unpacking.take_loaded.Goals as goal
+use Rattle.link_unpack.proofs.unpacking.take_loaded.Goals.{After-pass}
+
+-- the bytes were given, and the scan has taken them
+data_taken : (g : Over) (c : After-pass g)
+    {start : Devices g.row.R.Denot g.row.W.Denot g.row.E.Denot} {history : List ℕ}
+    → 0 < c.args.size
+    → UnpackStands (looks g.R.InDevice.state g.W.OutDevice.state g.E.OutDevice.state) start
+    c.args.unpacker.now.latest.wanted (inner_of c.args.input.now) c.args.writers.now history
+    → Unpacks g.R.InDevice.state (stage.Data c.args.last) (inner_of c.args.input.now)
+    c.args.unpacker.now history
+    → DataTaken (looks g.R.InDevice.state g.W.OutDevice.state g.E.OutDevice.state) start
+    c.args.last (inner_of c.args.input.now) (inner_of c.pass.new.self) c.args.writers.now
+    c.args.unpacker.now c.take-part.new.self history (take c.args.size c.loaded.result.now)
+    c.take-part.result.now
+data_taken g c {history} more at knows =
+    let P : List ℕ → Type 0 = λ shown. PassedBytes g.R.InDevice.state (inner_of c.args.input.now)
+    (inner_of c.pass.new.self) history (take c.args.size shown) in
+    let ready = ap length c.loaded.ensures in
+    record {
+      stood = at;
+      at = knows;
+      gave = subst P (sym c.loaded.ensures) (c.pass.ensures.gives history knows.session_at);
+      some = omega (
+        arith,
+        more,
+        ready,
+        c.requires.size,
+        length-take c.args.size c.loaded.result.now,
+      );
+      taken = record {
+        follows = c.take-part.ensures.follows;
+        selects = c.take-part.ensures.part;
+        wanted = c.take-part.ensures.wanted;
+        total = c.take-part.ensures.total;
+      };
+    }
 
 pub returns-in-Ok-clause-gives : goal.returns-in-Ok-clause-gives
 returns-in-Ok-clause-gives g c = λ start history more at knows.
+    let taken = data_taken g (goal.at.returns-in-Ok-clause-gives g c).After-pass more at knows in
     let look = looks g.R.InDevice.state g.W.OutDevice.state g.E.OutDevice.state in
-    let old = inner_of c.args.input.now in
     let new = inner_of c.pass.new.self in
-    let writers = c.args.writers.now in
-    let u = c.args.unpacker.now in
     let bytes : List ℕ = take c.args.size c.loaded.result.now in
-    let P : List ℕ → Type 0 = λ d. PassedBytes look.input old new history (take c.args.size d) in
-    let gave = subst P (sym c.loaded.ensures) (c.pass.ensures.gives history knows.session_at) in
-    let on = goes look start c.args.last old writers u history at knows in
-    let size : length bytes ≡ c.args.size = rw c.loaded.ensures (omega (arith, c.requires.size, length-take c.args.size (data_in look.input old))) in
-    let some : 0 < length bytes = omega (arith, size, more) in
-    let bound = room look start c.args.last old writers u history at knows new bytes gave some in
-    let closes = closing look start c.args.last old writers u history at knows new bytes gave some in
-    let follows = c.take-part.ensures.follows on.transfer closes on.earlier bound on.follows in
-    let part = c.take-part.ensures.part on.transfer closes on.earlier bound on.follows in
-    let v : Unpacker = record { joiner = u.joiner; latest = c.take-part.new.self; good = u.good } in
-    let joins = grows look start c.args.last old writers u history at knows new bytes gave some
-    c.take-part.result.now part c.write_output-written.new.self v c.in-Ok.ensures.gives follows c.take-part.ensures.wanted c.take-part.ensures.total refl refl in
-    let Q : Wanted → Type 0 = λ w. StandsNext look start w new c.go_on.new.writers c.go_on.new.unpacker (history ++ bytes) (next_of c.go_on.result) in
-    let stands = subst Q c.take-part.ensures.wanted (c.go_on.ensures.gives start (history ++ bytes) joins) in
-    rw c.of.ensures (stage_given look start u.latest.wanted c.args.size (stage.Data c.args.last) old new c.go_on.new.writers c.go_on.new.unpacker history bytes (next_of c.go_on.result)
-    gave.takes some (omega (arith, size)) tt stands)
+    let P : Wanted → Type 0 = λ w. StandsNext look start w new c.go_on.new.writers
+    c.go_on.new.unpacker (history ++ bytes) (next_of c.go_on.result) in
+    let stands = subst P c.take-part.ensures.wanted
+    (c.go_on.ensures.gives start (history ++ bytes)
+    (grows taken c.write_output-written.new.self c.in-Ok.ensures.gives)) in
+    rw c.of.ensures
+    (stage_given look start c.args.unpacker.now.latest.wanted c.args.size (stage.Data c.args.last)
+    (inner_of c.args.input.now) new c.go_on.new.writers c.go_on.new.unpacker history bytes
+    (next_of c.go_on.result) taken.gave.takes taken.some
+    (omega (arith, length-take c.args.size c.loaded.result.now)) tt stands)
 
 pub returns-in-Ok-clause-writes : goal.returns-in-Ok-clause-writes
 returns-in-Ok-clause-writes g c =
-    rw c.of.ensures (some_next g.W.OutDevice.state g.E.OutDevice.state c.args.writers.now c.go_on.new.writers c.go_on.result
-    (then_some g.W.OutDevice.state g.E.OutDevice.state c.args.writers.now c.write_output-written.new.self c.go_on.new.writers (on_output c.take-part.result.now) c.go_on.result c.in-Ok.ensures.gives c.go_on.ensures.writes))
+    rw c.of.ensures
+    (some_next g.W.OutDevice.state g.E.OutDevice.state c.args.writers.now c.go_on.new.writers
+    c.go_on.result
+    (then_some g.W.OutDevice.state g.E.OutDevice.state c.args.writers.now
+    c.write_output-written.new.self c.go_on.new.writers (on_output c.take-part.result.now)
+    c.go_on.result c.in-Ok.ensures.gives c.go_on.ensures.writes))
 
 pub returns-in-Err-clause-gives : goal.returns-in-Err-clause-gives
 returns-in-Err-clause-gives g c = λ start history more at knows.
-    let look = looks g.R.InDevice.state g.W.OutDevice.state g.E.OutDevice.state in
-    let old = inner_of c.args.input.now in
-    let new = inner_of c.pass.new.self in
-    let writers = c.args.writers.now in
-    let u = c.args.unpacker.now in
-    let bytes : List ℕ = take c.args.size c.loaded.result.now in
-    let P : List ℕ → Type 0 = λ d. PassedBytes look.input old new history (take c.args.size d) in
-    let gave = subst P (sym c.loaded.ensures) (c.pass.ensures.gives history knows.session_at) in
-    let on = goes look start c.args.last old writers u history at knows in
-    let size : length bytes ≡ c.args.size = rw c.loaded.ensures (omega (arith, c.requires.size, length-take c.args.size (data_in look.input old))) in
-    let some : 0 < length bytes = omega (arith, size, more) in
-    let bound = room look start c.args.last old writers u history at knows new bytes gave some in
-    let closes = closing look start c.args.last old writers u history at knows new bytes gave some in
-    let part = c.take-part.ensures.part on.transfer closes on.earlier bound on.follows in
+    let taken = data_taken g (goal.at.returns-in-Err-clause-gives g c).After-pass more at knows in
     record {
-      given = bytes;
-      size = omega (arith, size);
-      gave = part_lost look start c.args.last old writers u history at knows new bytes gave some
-          c.take-part.result.now part c.write_output-written.new.self c.in-Err.fault c.in-Err.ensures.gives;
+      given = take c.args.size c.loaded.result.now;
+      size = omega (arith, length-take c.args.size c.loaded.result.now);
+      gave = part_lost taken c.write_output-written.new.self c.in-Err.fault c.in-Err.ensures.gives;
     }
 
 pub returns-in-Err-clause-writes : goal.returns-in-Err-clause-writes

@@ -1,11 +1,8 @@
-use Rattle.std.proofs.Common.{◌≡◌, List, ℕ, ◌++◌, true, ap, sym, ◌∙◌, subst}
-use Rattle.link_wire.specs.Session.{source_of}
+use Rattle.std.proofs.Common.{◌++◌, ap, sym, ◌∙◌, subst}
 use Rattle.link_run.specs.Reading.{inner_of}
 use Rattle.link_run.specs.Run.{looks}
-use Rattle.link_run.specs.Stages.{Stands}
-use Rattle.link_run.specs.Writers.{place_of}
 use Rattle.link_unpack.specs.InnerRun.{TakesInner}
-use Rattle.link_unpack.specs.Unpacking.{unpacking_of}
+use Rattle.link_unpack.specs.UnpackRun.{UnpackStands}
 use Rattle.link_unpack.specs.declared.unpacking.Next.TheVariants as next
 use Rattle.link_unpack.specs.declared.unpacking.Stage.TheVariants as stage
 use Rattle.link_unpack.specs.declared.wanted.Wanted.{Wanted}
@@ -23,25 +20,37 @@ returns-in-Stage-Message-clause-gives g c = λ start history some at knows.
     let comes = rw c.in-Stage-Message.is at c.in-Stage-Message.field-0-is in
     let is = c.in-Stage-Message.is ∙ ap next.Stage comes in
     let went = rw is at (c.take_loaded-next.ensures.gives start history some at knows) in
-    let P : Wanted → Type 0 = λ w. Stands look (unpacking_of w) start true (place_of (source_of mid) between) (history ++ went.given) in
-    let Q : Wanted → Type 0 = λ w. TakesInner look start w mid (inner_of c.take_inner.new.input) c.take_inner.new.writers c.take_inner.new.unpacker (history ++ went.given) c.take_inner.result in
-    let taken = subst Q same (c.take_inner.ensures.gives start (history ++ went.given) (subst P (sym same) went.at.0.0) went.at.0.1) in
-    far_inner look start c.args.unpacker.now.latest.wanted (inner_of c.args.input.now) mid (inner_of c.take_inner.new.input) c.args.writers.now c.take_inner.new.writers c.take_inner.new.unpacker _ c.args.size history
-    c.take_inner.result some went taken
+    let P : Wanted → Type 0 = λ w. UnpackStands look start w mid between (history ++ went.given) in
+    let Q : Wanted → Type 0 = λ w. TakesInner look start w mid (inner_of c.take_inner.new.input)
+    c.take_inner.new.writers c.take_inner.new.unpacker (history ++ went.given)
+    c.take_inner.result in
+    let taken = subst Q same (c.take_inner.ensures.gives start (history ++ went.given)
+    (subst P (sym same) went.at.0.0) went.at.0.1) in
+    far_inner look start c.args.unpacker.now.latest.wanted (inner_of c.args.input.now) mid
+    (inner_of c.take_inner.new.input) c.args.writers.now c.take_inner.new.writers
+    c.take_inner.new.unpacker _ c.args.size history c.take_inner.result some went taken
 
 pub returns-in-Stage-Message-clause-writes : goal.returns-in-Stage-Message-clause-writes
 returns-in-Stage-Message-clause-writes g c =
     let comes = rw c.in-Stage-Message.is at c.in-Stage-Message.field-0-is in
     let is = c.in-Stage-Message.is ∙ ap next.Stage comes in
     let wrote = rw is at c.take_loaded-next.ensures.writes in
-    then_next g.W.OutDevice.state g.E.OutDevice.state c.args.writers.now c.take_loaded-next.new.writers c.take_inner.new.writers wrote.0 c.take_inner.result wrote.1 c.take_inner.ensures.writes
+    then_next g.W.OutDevice.state g.E.OutDevice.state c.args.writers.now
+    c.take_loaded-next.new.writers c.take_inner.new.writers wrote.0 c.take_inner.result wrote.1
+    c.take_inner.ensures.writes
 
 pub returns-in_default-clause-gives : goal.returns-in_default-clause-gives
 returns-in_default-clause-gives g c = λ start history some at knows.
-    far_step (looks g.R.InDevice.state g.W.OutDevice.state g.E.OutDevice.state) start c.args.unpacker.now.latest.wanted c.args.size (stage.Data c.args.last) (inner_of c.args.input.now) (inner_of c.take_loaded-next.new.input) c.args.writers.now c.take_loaded-next.new.writers c.take_loaded-next.new.unpacker history c.take_loaded-next.result
-    some (c.take_loaded-next.ensures.gives start history some at knows)
+    far_step (looks g.R.InDevice.state g.W.OutDevice.state g.E.OutDevice.state) start
+    c.args.unpacker.now.latest.wanted c.args.size (stage.Data c.args.last)
+    (inner_of c.args.input.now) (inner_of c.take_loaded-next.new.input) c.args.writers.now
+    c.take_loaded-next.new.writers c.take_loaded-next.new.unpacker history
+    c.take_loaded-next.result some (c.take_loaded-next.ensures.gives start history some at knows)
 
 pub returns-in_default-2-clause-gives : goal.returns-in_default-2-clause-gives
 returns-in_default-2-clause-gives g c = λ start history some at knows.
-    far_step (looks g.R.InDevice.state g.W.OutDevice.state g.E.OutDevice.state) start c.args.unpacker.now.latest.wanted c.args.size (stage.Data c.args.last) (inner_of c.args.input.now) (inner_of c.take_loaded-next.new.input) c.args.writers.now c.take_loaded-next.new.writers c.take_loaded-next.new.unpacker history c.take_loaded-next.result
-    some (c.take_loaded-next.ensures.gives start history some at knows)
+    far_step (looks g.R.InDevice.state g.W.OutDevice.state g.E.OutDevice.state) start
+    c.args.unpacker.now.latest.wanted c.args.size (stage.Data c.args.last)
+    (inner_of c.args.input.now) (inner_of c.take_loaded-next.new.input) c.args.writers.now
+    c.take_loaded-next.new.writers c.take_loaded-next.new.unpacker history
+    c.take_loaded-next.result some (c.take_loaded-next.ensures.gives start history some at knows)

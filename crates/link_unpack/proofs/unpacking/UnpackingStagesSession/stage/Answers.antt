@@ -1,0 +1,29 @@
+use Rattle.std.proofs.Common.{ap, ◌∙◌}
+use Rattle.link_run.specs.Reading.{inner_of}
+use Rattle.link_run.specs.Run.{looks}
+use Rattle.link_unpack.specs.UnpackRun.{progress_of}
+use Rattle.link_unpack.proofs.Strides.{never_none, fits_kept, step_kept}
+use Rattle.link_unpack.proofs.unpacking.UnpackingStagesSession.stage.Goals as goal
+
+pub returns-clause-fits : goal.returns-clause-fits
+returns-clause-fits g c =
+    rw (c.keep.ensures.progress, c.keep.ensures.kept)
+    (fits_kept c.args.self.now.stage c.advance-next.result (inner_of c.advance-next.new.input)
+    c.advance-next.ensures.fits)
+
+pub returns-clause-gives : goal.returns-clause-gives
+returns-clause-gives g c = λ start history at knows.
+    rw (c.keep.ensures.progress, c.keep.ensures.kept)
+    (step_kept (looks g.R.InDevice.state g.W.OutDevice.state g.E.OutDevice.state) start
+    c.args.self.now.unpacker.latest.wanted (inner_of c.args.input.now)
+    (inner_of c.advance-next.new.input) c.args.writers.now c.advance-next.new.writers
+    c.advance-next.new.unpacker history c.args.self.now.stage c.advance-next.result
+    (c.advance-next.ensures.gives start history at knows))
+
+pub returns-clause-goes_on : goal.returns-clause-goes_on
+returns-clause-goes_on g c = never_none c.keep.new.stage
+
+pub returns-clause-handed : goal.returns-clause-handed
+returns-clause-handed g c = λ history knows some other.
+    c.advance-next.ensures.handed history knows
+    (λ e. other (c.keep.ensures.progress ∙ ap progress_of e))
