@@ -8,6 +8,7 @@ use crate::{
 use arrayvec::ArrayVec;
 use link_bundle_types::{BundleFault, BundleInfo, BundleView, Eid, EidView};
 use link_transfer::Announced;
+use std::process::Abort;
 use std::test::Fail;
 
 /// A bundle with a payload of five bytes.
@@ -43,6 +44,16 @@ fn transfer(id: u64, start: u64, written: u64, length: u64, judgement: Judgement
     }
 }
 
+/// Checks the line of each transfer.
+fn all_report(rt: &impl Abort, rows: &[(TransferEntry, &str)]) {
+    let mut line = Line::new();
+    for (entry, want) in rows {
+        line.clear();
+        transfer_line(&mut line, entry);
+        assert_eq!(rt; line.as_slice(), want.as_bytes(), "{want}");
+    }
+}
+
 #[test]
 fn lines_of_transfers(rt: HostRuntime) {
     let differs = Judgement::LengthDiffers(35);
@@ -53,7 +64,8 @@ fn lines_of_transfers(rt: HostRuntime) {
         ),
         (
             transfer(1, 10, 34, 34, Judgement::Good(whole())),
-            "transfer 1 start=10 written=34 length=34 good source=ipn:1.1 time=0 sequence=0 destination=ipn:2.1 payload=5\n",
+            "transfer 1 start=10 written=34 length=34 good \
+            source=ipn:1.1 time=0 sequence=0 destination=ipn:2.1 payload=5\n",
         ),
         (
             transfer(0, 0, 0, 10, Judgement::Abandoned),
@@ -67,6 +79,13 @@ fn lines_of_transfers(rt: HostRuntime) {
             transfer(0, 0, 34, 34, Judgement::BadLengthItem),
             "transfer 0 start=0 written=34 length=34 bad-length-item\n",
         ),
+    ];
+    all_report(&rt, &rows);
+}
+
+#[test]
+fn lines_of_bad_bundles(rt: HostRuntime) {
+    let rows = [
         (
             transfer(0, 0, 5, 37, Judgement::Bad(BundleFault::CheckDiffers, 33)),
             "transfer 0 start=0 written=5 length=37 bad=B13 byte=33\n",
@@ -90,97 +109,115 @@ fn lines_of_transfers(rt: HostRuntime) {
             "transfer 0 start=0 written=0 length=0 bad=B1 byte=0\n",
         ),
     ];
+    all_report(&rt, &rows);
+}
+
+/// Checks the line of this bundle, packed as the second one into two segments.
+fn reports_packed(rt: &impl Abort, info: BundleInfo, want: &str) {
+    let entry = PackedEntry {
+        number: 1,
+        segments: 2,
+        length: 34,
+        info,
+    };
     let mut line = Line::new();
-    for (entry, want) in &rows {
-        line.clear();
-        transfer_line(&mut line, entry);
-        assert_eq!(rt; line.as_slice(), want.as_bytes(), "{want}");
-    }
+    packed_line(&mut line, &entry);
+    assert_eq!(rt; line.as_slice(), want.as_bytes(), "{want}");
 }
 
 #[test]
-fn lines_of_packed_bundles(rt: HostRuntime) -> Result<(), Fail> {
+fn lines_of_packed_bundles(rt: HostRuntime) {
     let rows = [
         (
             whole(),
-            "bundle 1 segments=2 length=34 source=ipn:1.1 time=0 sequence=0 destination=ipn:2.1 payload=5\n",
+            "bundle 1 segments=2 length=34 \
+            source=ipn:1.1 time=0 sequence=0 destination=ipn:2.1 payload=5\n",
         ),
         (
             bundle(Eid::Ipn(1, 1), Eid::Ipn(2, 1), Some((5, 10))),
-            "bundle 1 segments=2 length=34 source=ipn:1.1 time=0 sequence=0 destination=ipn:2.1 payload=5 fragment=5/10\n",
+            "bundle 1 segments=2 length=34 \
+            source=ipn:1.1 time=0 sequence=0 destination=ipn:2.1 payload=5 fragment=5/10\n",
         ),
+    ];
+    for (info, want) in rows {
+        reports_packed(&rt, info, want);
+    }
+}
+
+/// Each form of an endpoint ID, as a source and as a destination.
+#[test]
+fn endpoints_of_packed_bundles(rt: HostRuntime) -> Result<(), Fail> {
+    let rows = [
         (
             bundle(Eid::Ipn(1, 1), name(b"//node/a")?, None),
-            "bundle 1 segments=2 length=34 source=ipn:1.1 time=0 sequence=0 destination=dtn://node/a payload=5\n",
+            "bundle 1 segments=2 length=34 \
+            source=ipn:1.1 time=0 sequence=0 destination=dtn://node/a payload=5\n",
         ),
         (
             bundle(Eid::Ipn(1, 1), Eid::Ipn3(0, 2, 1), None),
-            "bundle 1 segments=2 length=34 source=ipn:1.1 time=0 sequence=0 destination=ipn:0.2.1 payload=5\n",
+            "bundle 1 segments=2 length=34 \
+            source=ipn:1.1 time=0 sequence=0 destination=ipn:0.2.1 payload=5\n",
         ),
         (
             bundle(Eid::Ipn3(1000, 1, 1), Eid::Ipn(2, 1), None),
-            "bundle 1 segments=2 length=34 source=ipn:1000.1.1 time=0 sequence=0 destination=ipn:2.1 payload=5\n",
+            "bundle 1 segments=2 length=34 \
+            source=ipn:1000.1.1 time=0 sequence=0 destination=ipn:2.1 payload=5\n",
         ),
         (
             bundle(Eid::DtnNone, name(b"")?, None),
-            "bundle 1 segments=2 length=34 source=dtn:none time=0 sequence=0 destination=dtn: payload=5\n",
+            "bundle 1 segments=2 length=34 \
+            source=dtn:none time=0 sequence=0 destination=dtn: payload=5\n",
         ),
         (
             bundle(name(b"a \\~\xff")?, Eid::DtnNone, None),
-            "bundle 1 segments=2 length=34 source=dtn:a\\x20\\x5c~\\xff time=0 sequence=0 destination=dtn:none payload=5\n",
+            "bundle 1 segments=2 length=34 \
+            source=dtn:a\\x20\\x5c~\\xff time=0 sequence=0 destination=dtn:none payload=5\n",
         ),
     ];
-    let mut line = Line::new();
     for (info, want) in rows {
-        line.clear();
-        let entry = PackedEntry {
-            number: 1,
-            segments: 2,
-            length: 34,
-            info,
-        };
-        packed_line(&mut line, &entry);
-        assert_eq!(rt; line.as_slice(), want.as_bytes(), "{want}");
+        reports_packed(&rt, info, want);
     }
     Ok(())
 }
 
-/// The code and the text of each fault, which is also the text of its error type.
+/// Each fault of a bundle, its code and its text.
+const CODES: [(BundleFault, &str, &str); 17] = [
+    (BundleFault::Cut, "B1", "input ends inside a bundle"),
+    (BundleFault::Trailing, "B2", "bytes after the bundle"),
+    (BundleFault::NotABundle, "B3", "not a bundle"),
+    (BundleFault::BadHead, "B4", "ill-formed head"),
+    (BundleFault::WrongKind, "B5", "wrong kind of item"),
+    (BundleFault::BadCount, "B6", "wrong number of elements"),
+    (BundleFault::BadVersion, "B7", "unsupported bundle version"),
+    (BundleFault::BadCheckType, "B8", "unknown check type"),
+    (BundleFault::BadScheme, "B9", "unknown endpoint scheme"),
+    (
+        BundleFault::BadSpecificPart,
+        "B10",
+        "wrong scheme-specific part",
+    ),
+    (BundleFault::EidTooLong, "B11", "endpoint id too long"),
+    (BundleFault::BadCheckLength, "B12", "wrong check length"),
+    (BundleFault::CheckDiffers, "B13", "check differs"),
+    (BundleFault::BadBlockNumber, "B14", "wrong block number"),
+    (
+        BundleFault::RepeatedBlockNumber,
+        "B15",
+        "repeated block number",
+    ),
+    (BundleFault::TooManyBlocks, "B16", "too many blocks"),
+    (
+        BundleFault::NoPayloadLast,
+        "B17",
+        "no payload block at the end",
+    ),
+];
+
+/// The code and the text of each fault are in lines. The text is also that of its error type.
 #[test]
 fn codes_of_faults(rt: HostRuntime) -> Result<(), Fail> {
-    let rows = [
-        (BundleFault::Cut, "B1", "input ends inside a bundle"),
-        (BundleFault::Trailing, "B2", "bytes after the bundle"),
-        (BundleFault::NotABundle, "B3", "not a bundle"),
-        (BundleFault::BadHead, "B4", "ill-formed head"),
-        (BundleFault::WrongKind, "B5", "wrong kind of item"),
-        (BundleFault::BadCount, "B6", "wrong number of elements"),
-        (BundleFault::BadVersion, "B7", "unsupported bundle version"),
-        (BundleFault::BadCheckType, "B8", "unknown check type"),
-        (BundleFault::BadScheme, "B9", "unknown endpoint scheme"),
-        (
-            BundleFault::BadSpecificPart,
-            "B10",
-            "wrong scheme-specific part",
-        ),
-        (BundleFault::EidTooLong, "B11", "endpoint id too long"),
-        (BundleFault::BadCheckLength, "B12", "wrong check length"),
-        (BundleFault::CheckDiffers, "B13", "check differs"),
-        (BundleFault::BadBlockNumber, "B14", "wrong block number"),
-        (
-            BundleFault::RepeatedBlockNumber,
-            "B15",
-            "repeated block number",
-        ),
-        (BundleFault::TooManyBlocks, "B16", "too many blocks"),
-        (
-            BundleFault::NoPayloadLast,
-            "B17",
-            "no payload block at the end",
-        ),
-    ];
     let mut line = Line::new();
-    for (fault, code, words) in &rows {
+    for (fault, code, words) in &CODES {
         line.clear();
         fault_line(&mut line, &Fault::Bundle(1, 3, *fault));
         let want = format!(in rt.alloc(); "tcpclkit: bundle 1 byte 3: {code} {words}\n")?;
@@ -228,8 +265,8 @@ fn lines_by_reference(rt: HostRuntime) {
     };
     let mut line = Line::new();
     transfer_view_line(&mut line, &transfer);
-    let want =
-        "transfer 1 start=34 written=5 length=40 good source=ipn:0.2.1 time=1 sequence=2 destination=dtn://node/a payload=5\n";
+    let want = "transfer 1 start=34 written=5 length=40 good \
+        source=ipn:0.2.1 time=1 sequence=2 destination=dtn://node/a payload=5\n";
     assert_eq!(rt; line.as_slice(), want.as_bytes());
     let packed = PackedView {
         number: 7,
@@ -239,75 +276,64 @@ fn lines_by_reference(rt: HostRuntime) {
     };
     line.clear();
     packed_view_line(&mut line, &packed);
-    let want =
-        "bundle 7 segments=3 length=40 source=ipn:0.2.1 time=1 sequence=2 destination=dtn://node/a payload=5\n";
+    let want = "bundle 7 segments=3 length=40 \
+        source=ipn:0.2.1 time=1 sequence=2 destination=dtn://node/a payload=5\n";
     assert_eq!(rt; line.as_slice(), want.as_bytes());
 }
 
-/// The first judgement that holds is reported.
+/// The first judgement that holds is reported, for data that is no bundle.
 ///
 /// The beginning of another transfer comes first, then the items, the length and the fault.
 #[test]
-fn first_judgement_that_holds(rt: HostRuntime) {
-    let info = whole();
-    let good = Ok(info.view());
-    let bad = Err((BundleFault::Cut, 10));
+fn first_judgement_of_a_bad_bundle(rt: HostRuntime) {
+    let bad = (BundleFault::Cut, 10);
     let rows = [
-        (
-            true,
-            Announced::Malformed,
-            10,
-            bad,
-            JudgementView::Abandoned,
-        ),
-        (true, Announced::Absent, 34, good, JudgementView::Abandoned),
-        (
-            false,
-            Announced::Malformed,
-            10,
-            bad,
-            JudgementView::BadLengthItem,
-        ),
+        (true, Announced::Malformed, JudgementView::Abandoned),
+        (false, Announced::Malformed, JudgementView::BadLengthItem),
         (
             false,
             Announced::Total(35),
-            10,
-            bad,
             JudgementView::LengthDiffers(35),
         ),
         (
             false,
-            Announced::Total(9),
-            10,
-            good,
-            JudgementView::LengthDiffers(9),
-        ),
-        (
-            false,
             Announced::Total(10),
-            10,
-            bad,
             JudgementView::Bad(BundleFault::Cut, 10),
         ),
         (
             false,
             Announced::Absent,
-            10,
-            bad,
             JudgementView::Bad(BundleFault::Cut, 10),
+        ),
+    ];
+    for (abandoned, announced, want) in rows {
+        assert!(rt; judge_view(abandoned, announced, 10, Err(bad)) == want);
+        assert!(rt; judge(abandoned, announced, 10, Err(bad)).view() == want);
+    }
+}
+
+/// The first judgement that holds is reported, for data that is a bundle.
+#[test]
+fn first_judgement_of_a_good_bundle(rt: HostRuntime) {
+    let info = whole();
+    let rows = [
+        (true, Announced::Absent, 34, JudgementView::Abandoned),
+        (
+            false,
+            Announced::Total(9),
+            10,
+            JudgementView::LengthDiffers(9),
         ),
         (
             false,
             Announced::Total(34),
             34,
-            good,
             JudgementView::Good(info.view()),
         ),
     ];
-    for (abandoned, announced, length, verdict, want) in rows {
-        assert!(rt; judge_view(abandoned, announced, length, verdict) == want);
-        let verdict = verdict.map(|_| whole());
-        assert!(rt; judge(abandoned, announced, length, verdict).view() == want);
+    for (abandoned, announced, length, want) in rows {
+        assert!(rt; judge_view(abandoned, announced, length, Ok(info.view())) == want);
+        assert!(rt; judge(abandoned, announced, length, Ok(whole())).view() == want);
     }
 }
 

@@ -7,6 +7,7 @@ use link_wire::{
     Contact, Fields, Item, Items, Message, MessageBuffer, NodeId, SegmentHead, TEXT_MAX, Text,
     WireFault,
 };
+use std::process::Abort;
 use std::test::Fail;
 
 const WITH_TOTAL: Item = Item {
@@ -85,30 +86,47 @@ fn numbers_of_each_length(rt: HostRuntime) -> Result<(), Fail> {
     Ok(())
 }
 
+/// Checks the line of a message at this offset.
+fn lists(rt: &impl Abort, offset: u64, message: &Message, want: &str) {
+    let mut line = Line::new();
+    message_line(&mut line, offset, message);
+    assert_eq!(rt; line.as_slice(), want.as_bytes(), "{want}");
+}
+
 #[test]
-fn lines_of_messages(rt: HostRuntime) -> Result<(), Fail> {
+fn lines_of_sessions(rt: HostRuntime) -> Result<(), Fail> {
     let two = [item(0x01, 0x1234, 1), item(0x00, 0xabcd, 0)];
     let rows = [
         (
-            6,
             session(b"ipn:1.0", &[])?,
-            "6 sess-init keepalive=60 segment-mru=65536 transfer-mru=1048576 node=ipn:1.0 items=0\n",
+            "6 sess-init keepalive=60 segment-mru=65536 transfer-mru=1048576 \
+            node=ipn:1.0 items=0\n",
         ),
         (
-            6,
             session(b"ipn:1.0", &two)?,
-            "6 sess-init keepalive=60 segment-mru=65536 transfer-mru=1048576 node=ipn:1.0 items=2 item=01:1234:1 item=00:abcd:0\n",
+            "6 sess-init keepalive=60 segment-mru=65536 transfer-mru=1048576 \
+            node=ipn:1.0 items=2 item=01:1234:1 item=00:abcd:0\n",
         ),
         (
-            6,
             session(b"\x20\x5c\xff", &[])?,
-            "6 sess-init keepalive=60 segment-mru=65536 transfer-mru=1048576 node=\\x20\\x5c\\xff items=0\n",
+            "6 sess-init keepalive=60 segment-mru=65536 transfer-mru=1048576 \
+            node=\\x20\\x5c\\xff items=0\n",
         ),
         (
-            6,
             session(b"", &[])?,
-            "6 sess-init keepalive=60 segment-mru=65536 transfer-mru=1048576 node= items=0\n",
+            "6 sess-init keepalive=60 segment-mru=65536 transfer-mru=1048576 \
+            node= items=0\n",
         ),
+    ];
+    for (message, want) in rows {
+        lists(&rt, 6, &message, want);
+    }
+    Ok(())
+}
+
+#[test]
+fn lines_of_segments(rt: HostRuntime) -> Result<(), Fail> {
+    let rows = [
         (
             38,
             segment(0x03, &[], 34)?,
@@ -124,62 +142,85 @@ fn lines_of_messages(rt: HostRuntime) -> Result<(), Fail> {
             segment(0x01, &[], 17)?,
             "90 xfer-segment flags=01 id=0 length=17\n",
         ),
-        (
-            38,
-            Message::Ack {
-                flags: 0x01,
-                id: 0,
-                length: 34,
-            },
-            "38 xfer-ack flags=01 id=0 length=34\n",
-        ),
-        (66, Message::Keepalive, "66 keepalive\n"),
     ];
-    let mut line = Line::new();
-    for (offset, message, want) in &rows {
-        line.clear();
-        message_line(&mut line, *offset, message);
-        assert_eq!(rt; line.as_slice(), want.as_bytes(), "{want}");
+    for (offset, message, want) in rows {
+        lists(&rt, offset, &message, want);
     }
-    line.clear();
+    Ok(())
+}
+
+#[test]
+fn lines_of_numbers(rt: HostRuntime) {
+    let ack = Message::Ack {
+        flags: 0x01,
+        id: 0,
+        length: 34,
+    };
+    lists(&rt, 38, &ack, "38 xfer-ack flags=01 id=0 length=34\n");
+    lists(&rt, 66, &Message::Keepalive, "66 keepalive\n");
+    let mut line = Line::new();
     contact_line(&mut line, &Contact { flags: 0x00 });
     assert_eq!(rt;
         line.as_slice(),
         b"0 contact version=4 flags=00\n".as_slice()
     );
+}
+
+/// Checks the line of a message in a buffer in which the node ID and the items of a SESS_INIT stay.
+fn lists_in_place(rt: &impl Abort, fields: Fields, want: &str) -> Result<(), Fail> {
+    let mut message = MessageBuffer::new();
+    message.node = NodeId::try_from(b"ipn:1.0".as_slice())?;
+    message.items.try_push(WITH_TOTAL)?;
+    message.fields = fields;
+    let mut page = [b'-'; TEXT_MAX + 2];
+    let text = MessageText {
+        offset: 6,
+        message: &message,
+        kept: &KeptDigits::new(),
+    };
+    let end = text.put(&mut page, 2);
+    assert_eq!(rt; &page[2..end], want.as_bytes(), "{want}");
+    assert_eq!(rt; &page[..2], b"--".as_slice());
     Ok(())
 }
 
-/// Messages in a buffer in which the node ID and the items of a SESS_INIT stay.
-///
-/// No other message shows that node ID. Of the others, only a segment with START shows items.
 #[test]
-fn lines_of_messages_in_place(rt: HostRuntime) -> Result<(), Fail> {
+fn session_in_place(rt: HostRuntime) -> Result<(), Fail> {
+    let fields = Fields::SessInit {
+        keepalive: 60,
+        segment_mru: 65536,
+        transfer_mru: 1048576,
+    };
+    let want = "6 sess-init keepalive=60 segment-mru=65536 transfer-mru=1048576 \
+        node=ipn:1.0 items=1 item=00:0001:8\n";
+    lists_in_place(&rt, fields, want)
+}
+
+/// Only a segment with START shows the items. No segment shows the node ID.
+#[test]
+fn segments_in_place(rt: HostRuntime) -> Result<(), Fail> {
     let rows = [
         (
-            Fields::SessInit {
-                keepalive: 60,
-                segment_mru: 65536,
-                transfer_mru: 1048576,
-            },
-            "6 sess-init keepalive=60 segment-mru=65536 transfer-mru=1048576 node=ipn:1.0 items=1 item=00:0001:8\n",
-        ),
-        (
-            Fields::Segment {
-                flags: 0x02,
-                id: 0,
-                length: 17,
-            },
+            0x02,
             "6 xfer-segment flags=02 id=0 items=1 item=00:0001:8 length=17\n",
         ),
-        (
-            Fields::Segment {
-                flags: 0x01,
-                id: 0,
-                length: 17,
-            },
-            "6 xfer-segment flags=01 id=0 length=17\n",
-        ),
+        (0x01, "6 xfer-segment flags=01 id=0 length=17\n"),
+    ];
+    for (flags, want) in rows {
+        let fields = Fields::Segment {
+            flags,
+            id: 0,
+            length: 17,
+        };
+        lists_in_place(&rt, fields, want)?;
+    }
+    Ok(())
+}
+
+/// The other messages show neither the node ID nor the items.
+#[test]
+fn other_messages_in_place(rt: HostRuntime) -> Result<(), Fail> {
+    let rows = [
         (
             Fields::Ack {
                 flags: 0x01,
@@ -211,20 +252,8 @@ fn lines_of_messages_in_place(rt: HostRuntime) -> Result<(), Fail> {
             "6 msg-reject reason=01/message-type-unknown header=16\n",
         ),
     ];
-    let mut message = MessageBuffer::new();
-    message.node = NodeId::try_from(b"ipn:1.0".as_slice())?;
-    message.items.try_push(WITH_TOTAL)?;
-    let mut page = [b'-'; TEXT_MAX + 2];
-    for (fields, want) in &rows {
-        message.fields = *fields;
-        let text = MessageText {
-            offset: 6,
-            message: &message,
-            kept: &KeptDigits::new(),
-        };
-        let end = text.put(&mut page, 2);
-        assert_eq!(rt; &page[2..end], want.as_bytes(), "{want}");
-        assert_eq!(rt; &page[..2], b"--".as_slice());
+    for (fields, want) in rows {
+        lists_in_place(&rt, fields, want)?;
     }
     Ok(())
 }
@@ -238,140 +267,141 @@ fn longest_node(rt: HostRuntime) -> Result<(), Fail> {
     Ok(())
 }
 
-/// The codes of RFC 9174, tables 6 (XFER_REFUSE), 10 (SESS_TERM) and 4 (MSG_REJECT).
-///
-/// The first codes past them follow.
+/// The codes of RFC 9174, table 6, and the first code past them.
 #[test]
-fn names_of_reasons(rt: HostRuntime) {
-    let refuse = |reason| Message::Refuse { reason, id: 0 };
-    let term = |reason| Message::SessTerm {
-        flags: 0x01,
-        reason,
-    };
-    let reject = |reason| Message::MsgReject {
-        reason,
-        header: 0x16,
-    };
+fn reasons_of_xfer_refuse(rt: HostRuntime) {
     let rows = [
-        (refuse(0x00), "56 xfer-refuse reason=00/unknown id=0\n"),
-        (refuse(0x01), "56 xfer-refuse reason=01/completed id=0\n"),
-        (refuse(0x02), "56 xfer-refuse reason=02/no-resources id=0\n"),
-        (refuse(0x03), "56 xfer-refuse reason=03/retransmit id=0\n"),
-        (
-            refuse(0x04),
-            "56 xfer-refuse reason=04/not-acceptable id=0\n",
-        ),
-        (
-            refuse(0x05),
-            "56 xfer-refuse reason=05/extension-failure id=0\n",
-        ),
-        (
-            refuse(0x06),
-            "56 xfer-refuse reason=06/session-terminating id=0\n",
-        ),
-        (refuse(0x07), "56 xfer-refuse reason=07/? id=0\n"),
-        (term(0x00), "56 sess-term flags=01 reason=00/unknown\n"),
-        (term(0x01), "56 sess-term flags=01 reason=01/idle-timeout\n"),
-        (
-            term(0x02),
-            "56 sess-term flags=01 reason=02/version-mismatch\n",
-        ),
-        (term(0x03), "56 sess-term flags=01 reason=03/busy\n"),
-        (
-            term(0x04),
-            "56 sess-term flags=01 reason=04/contact-failure\n",
-        ),
-        (
-            term(0x05),
-            "56 sess-term flags=01 reason=05/resource-exhaustion\n",
-        ),
-        (term(0x06), "56 sess-term flags=01 reason=06/?\n"),
-        (term(0x7f), "56 sess-term flags=01 reason=7f/?\n"),
-        (reject(0x00), "56 msg-reject reason=00/? header=16\n"),
-        (
-            reject(0x01),
-            "56 msg-reject reason=01/message-type-unknown header=16\n",
-        ),
-        (
-            reject(0x02),
-            "56 msg-reject reason=02/message-unsupported header=16\n",
-        ),
-        (
-            reject(0x03),
-            "56 msg-reject reason=03/message-unexpected header=16\n",
-        ),
-        (reject(0x04), "56 msg-reject reason=04/? header=16\n"),
+        (0x00, "56 xfer-refuse reason=00/unknown id=0\n"),
+        (0x01, "56 xfer-refuse reason=01/completed id=0\n"),
+        (0x02, "56 xfer-refuse reason=02/no-resources id=0\n"),
+        (0x03, "56 xfer-refuse reason=03/retransmit id=0\n"),
+        (0x04, "56 xfer-refuse reason=04/not-acceptable id=0\n"),
+        (0x05, "56 xfer-refuse reason=05/extension-failure id=0\n"),
+        (0x06, "56 xfer-refuse reason=06/session-terminating id=0\n"),
+        (0x07, "56 xfer-refuse reason=07/? id=0\n"),
     ];
-    let mut line = Line::new();
-    for (message, want) in &rows {
-        line.clear();
-        message_line(&mut line, 56, message);
-        assert_eq!(rt; line.as_slice(), want.as_bytes(), "{want}");
+    for (reason, want) in rows {
+        lists(&rt, 56, &Message::Refuse { reason, id: 0 }, want);
     }
 }
 
+/// The codes of RFC 9174, table 10, the first code past them, and a later one.
+#[test]
+fn reasons_of_sess_term(rt: HostRuntime) {
+    let rows = [
+        (0x00, "56 sess-term flags=01 reason=00/unknown\n"),
+        (0x01, "56 sess-term flags=01 reason=01/idle-timeout\n"),
+        (0x02, "56 sess-term flags=01 reason=02/version-mismatch\n"),
+        (0x03, "56 sess-term flags=01 reason=03/busy\n"),
+        (0x04, "56 sess-term flags=01 reason=04/contact-failure\n"),
+        (
+            0x05,
+            "56 sess-term flags=01 reason=05/resource-exhaustion\n",
+        ),
+        (0x06, "56 sess-term flags=01 reason=06/?\n"),
+        (0x7f, "56 sess-term flags=01 reason=7f/?\n"),
+    ];
+    for (reason, want) in rows {
+        let message = Message::SessTerm {
+            flags: 0x01,
+            reason,
+        };
+        lists(&rt, 56, &message, want);
+    }
+}
+
+/// The codes of RFC 9174, table 4, and the codes before and after them.
+#[test]
+fn reasons_of_msg_reject(rt: HostRuntime) {
+    let rows = [
+        (0x00, "56 msg-reject reason=00/? header=16\n"),
+        (
+            0x01,
+            "56 msg-reject reason=01/message-type-unknown header=16\n",
+        ),
+        (
+            0x02,
+            "56 msg-reject reason=02/message-unsupported header=16\n",
+        ),
+        (
+            0x03,
+            "56 msg-reject reason=03/message-unexpected header=16\n",
+        ),
+        (0x04, "56 msg-reject reason=04/? header=16\n"),
+    ];
+    for (reason, want) in rows {
+        let message = Message::MsgReject {
+            reason,
+            header: 0x16,
+        };
+        lists(&rt, 56, &message, want);
+    }
+}
+
+/// Each fault of the wire and of the order, and its line.
+const FAULT_LINES: [(Fault, &str); 13] = [
+    (
+        Fault::Wire(0, WireFault::Truncated),
+        "tcpclkit: byte 0: truncated\n",
+    ),
+    (
+        Fault::Wire(0, WireFault::BadMagic),
+        "tcpclkit: byte 0: not a contact header\n",
+    ),
+    (
+        Fault::Wire(0, WireFault::BadVersion(3)),
+        "tcpclkit: byte 0: unsupported version 3\n",
+    ),
+    (
+        Fault::Wire(38, WireFault::UnknownType(0x16)),
+        "tcpclkit: byte 38: unknown message type 16\n",
+    ),
+    (
+        Fault::Wire(6, WireFault::NodeIdTooLong(1025)),
+        "tcpclkit: byte 6: node id too long: 1025\n",
+    ),
+    (
+        Fault::Wire(6, WireFault::ListTooLong(4097)),
+        "tcpclkit: byte 6: extension list too long: 4097\n",
+    ),
+    (
+        Fault::Wire(6, WireFault::TooManyItems),
+        "tcpclkit: byte 6: too many extension items\n",
+    ),
+    (
+        Fault::Wire(6, WireFault::ItemsOverrun),
+        "tcpclkit: byte 6: extension items overrun their list\n",
+    ),
+    (
+        Fault::Order(38, OrderFault::SecondSessInit),
+        "tcpclkit: byte 38: second session initiation\n",
+    ),
+    (
+        Fault::Order(6, OrderFault::SegmentBeforeSessInit),
+        "tcpclkit: byte 6: segment before session initiation\n",
+    ),
+    (
+        Fault::Order(38, OrderFault::NoSuchOpenTransfer),
+        "tcpclkit: byte 38: no such open transfer\n",
+    ),
+    (
+        Fault::Order(70, OrderFault::StartRepeatsOpenId),
+        "tcpclkit: byte 70: start repeats the open transfer\n",
+    ),
+    (
+        Fault::Order(115, OrderFault::StartAfterSessTerm),
+        "tcpclkit: byte 115: start after session termination\n",
+    ),
+];
+
+/// The error types of faults have the same texts as the lines.
 #[test]
 fn lines_of_faults(rt: HostRuntime) -> Result<(), Fail> {
-    let rows = [
-        (
-            Fault::Wire(0, WireFault::Truncated),
-            "tcpclkit: byte 0: truncated\n",
-        ),
-        (
-            Fault::Wire(0, WireFault::BadMagic),
-            "tcpclkit: byte 0: not a contact header\n",
-        ),
-        (
-            Fault::Wire(0, WireFault::BadVersion(3)),
-            "tcpclkit: byte 0: unsupported version 3\n",
-        ),
-        (
-            Fault::Wire(38, WireFault::UnknownType(0x16)),
-            "tcpclkit: byte 38: unknown message type 16\n",
-        ),
-        (
-            Fault::Wire(6, WireFault::NodeIdTooLong(1025)),
-            "tcpclkit: byte 6: node id too long: 1025\n",
-        ),
-        (
-            Fault::Wire(6, WireFault::ListTooLong(4097)),
-            "tcpclkit: byte 6: extension list too long: 4097\n",
-        ),
-        (
-            Fault::Wire(6, WireFault::TooManyItems),
-            "tcpclkit: byte 6: too many extension items\n",
-        ),
-        (
-            Fault::Wire(6, WireFault::ItemsOverrun),
-            "tcpclkit: byte 6: extension items overrun their list\n",
-        ),
-        (
-            Fault::Order(38, OrderFault::SecondSessInit),
-            "tcpclkit: byte 38: second session initiation\n",
-        ),
-        (
-            Fault::Order(6, OrderFault::SegmentBeforeSessInit),
-            "tcpclkit: byte 6: segment before session initiation\n",
-        ),
-        (
-            Fault::Order(38, OrderFault::NoSuchOpenTransfer),
-            "tcpclkit: byte 38: no such open transfer\n",
-        ),
-        (
-            Fault::Order(70, OrderFault::StartRepeatsOpenId),
-            "tcpclkit: byte 70: start repeats the open transfer\n",
-        ),
-        (
-            Fault::Order(115, OrderFault::StartAfterSessTerm),
-            "tcpclkit: byte 115: start after session termination\n",
-        ),
-    ];
     let mut line = Line::new();
-    for (fault, want) in &rows {
+    for (fault, want) in &FAULT_LINES {
         line.clear();
         fault_line(&mut line, fault);
         assert_eq!(rt; line.as_slice(), want.as_bytes(), "{want}");
-        // the error types have the same texts
         let shown = match fault {
             Fault::Wire(offset, fault) => format!(in rt.alloc(); "{offset}: {fault}\n")?,
             Fault::Order(offset, fault) => format!(in rt.alloc(); "{offset}: {fault}\n")?,

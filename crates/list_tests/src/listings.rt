@@ -6,13 +6,15 @@ use crate::rows::{FAULTS, MESSAGE_LINES, MESSAGES, Row, SESSIONS, TRANSFERS};
 use std::alloc::Global;
 use std::test::Fail;
 use toolkit_tests::rows::TRANSFER;
-use toolkit_tests::running::{Expected, Tool, ended_over, gives, gives_at_each_pace};
+use toolkit_tests::running::{
+    Expected, Tool, ended_in_place, ended_over, gives, gives_at_each_pace, gives_in_place,
+};
 use toolkit_tests::stream::{
     CONTACT, CONTACT_LINE, NO_ITEMS, NODE, PARAMETERS, SESSION_LINE, SESSION_WORDS, WHOLE_TRANSFER,
     joined,
 };
 
-/// Checks the result of listing for each row.
+/// Checks the result of listing for each row, also if the reader holds the stream.
 fn all_given(alloc: Global, rows: &[Row]) -> Result<(), Fail> {
     for row in rows {
         let stream = joined(alloc, row.stream)?;
@@ -24,6 +26,7 @@ fn all_given(alloc: Global, rows: &[Row]) -> Result<(), Fail> {
             status: row.status,
         };
         gives_at_each_pace(alloc, row.name, &stream, &want)?;
+        gives_in_place(alloc, row.name, &stream, &want)?;
     }
     Ok(())
 }
@@ -131,7 +134,8 @@ fn long_segment(rt: HostRuntime) -> Result<(), Fail> {
         &[CONTACT_LINE, SESSION_LINE, line, b"9060 keepalive\n"],
     )?;
     let want = listing(&output, b"");
-    gives_at_each_pace(rt.alloc(), "a long segment", &stream, &want)
+    gives_at_each_pace(rt.alloc(), "a long segment", &stream, &want)?;
+    gives_in_place(rt.alloc(), "a long segment", &stream, &want)
 }
 
 /// The offsets at which the contact header and each of the messages end.
@@ -180,6 +184,15 @@ fn reads(alloc: Global, stream: &[u8], per_call: usize) -> (usize, usize)
 {
     let end = ended_over(alloc, Tool::List, stream, per_call);
     (end.reader.calls(), end.reader.given())
+}
+
+/// Over a reader that holds all bytes, heads are read, and data is passed over in place.
+#[test]
+fn data_in_place(rt: HostRuntime) -> Result<(), Fail> {
+    let stream = joined(rt.alloc(), TRANSFER)?;
+    let end = ended_in_place(rt.alloc(), Tool::List, &stream, usize::MAX, 1);
+    assert_eq!(rt; (end.reader.given(), end.reader.passed()), (60, 34));
+    Ok(())
 }
 
 /// Each read asks for a whole window of 8,192 bytes. At the end the reader is called once more.

@@ -34,19 +34,17 @@ const WORDS_16: &[u8] = b" item=00:abcd:0 item=00:abcd:0 item=00:abcd:0 item=00:
     \x20item=00:abcd:0 item=00:abcd:0 item=00:abcd:0 item=00:abcd:0\
     \x20item=00:abcd:0 item=00:abcd:0 item=00:abcd:0 item=00:abcd:0";
 
+/// An XFER_ACK, an XFER_REFUSE, a KEEPALIVE, a SESS_TERM, a MSG_REJECT and another SESS_TERM.
+const SHORT_MESSAGES: &[u8] =
+    b"\x02\x01\x00\x00\x00\x00\x00\x00\x00\x00\x00\x00\x00\x00\x00\x00\x00\x22\
+    \x03\x02\x00\x00\x00\x00\x00\x00\x00\x00\
+    \x04\
+    \x05\x01\x03\
+    \x06\x01\x16\
+    \x05\x00\x7f";
+
 /// A stream of every kind of message but segments, without extension items.
-pub const MESSAGES: &[&[u8]] = &[
-    CONTACT,
-    PARAMETERS,
-    NODE,
-    NO_ITEMS,
-    b"\x02\x01\x00\x00\x00\x00\x00\x00\x00\x00\x00\x00\x00\x00\x00\x00\x00\x22",
-    b"\x03\x02\x00\x00\x00\x00\x00\x00\x00\x00",
-    b"\x04",
-    b"\x05\x01\x03",
-    b"\x06\x01\x16",
-    b"\x05\x00\x7f",
-];
+pub const MESSAGES: &[&[u8]] = &[CONTACT, PARAMETERS, NODE, NO_ITEMS, SHORT_MESSAGES];
 
 /// The lines of `MESSAGES`: one for the contact header, and one for each message.
 pub const MESSAGE_LINES: &[&[u8]] = &[
@@ -86,7 +84,8 @@ pub const SESSIONS: [Row; 8] = [
         ],
         output: &[
             CONTACT_LINE,
-            b"6 sess-init keepalive=60 segment-mru=65536 transfer-mru=1048576 node=ipn:1.0 items=2 item=01:1234:1 item=00:abcd:0\n",
+            SESSION_WORDS,
+            b" node=ipn:1.0 items=2 item=01:1234:1 item=00:abcd:0\n",
         ],
         report: b"",
         status: 0,
@@ -142,7 +141,8 @@ pub const SESSIONS: [Row; 8] = [
         stream: &[CONTACT, PARAMETERS, b"\x00\x03 \x5c\xff", NO_ITEMS],
         output: &[
             CONTACT_LINE,
-            b"6 sess-init keepalive=60 segment-mru=65536 transfer-mru=1048576 node=\\x20\\x5c\\xff items=0\n",
+            SESSION_WORDS,
+            b" node=\\x20\\x5c\\xff items=0\n",
         ],
         report: b"",
         status: 0,
@@ -155,7 +155,8 @@ pub const SESSIONS: [Row; 8] = [
         output: &[
             CONTACT_LINE,
             SESSION_LINE,
-            b"38 sess-init keepalive=60 segment-mru=65536 transfer-mru=1048576 node=ipn:1.0 items=0\n",
+            b"38 sess-init keepalive=60 segment-mru=65536 transfer-mru=1048576",
+            b" node=ipn:1.0 items=0\n",
         ],
         report: b"",
         status: 0,
@@ -271,16 +272,12 @@ pub const TRANSFERS: [Row; 5] = [
             LAST_SEGMENT,
             LENGTH_17,
             BACK,
-            b"\x02\x01\x00\x00\x00\x00\x00\x00\x00\x00\x00\x00\x00\x00\x00\x00\x00\x22",
-            b"\x03\x02\x00\x00\x00\x00\x00\x00\x00\x00",
-            b"\x04",
-            b"\x05\x01\x03",
-            b"\x06\x01\x16",
-            b"\x05\x00\x7f",
+            SHORT_MESSAGES,
         ],
         output: &[
             CONTACT_LINE,
-            b"6 sess-init keepalive=60 segment-mru=65536 transfer-mru=1048576 node=ipn:1.0 items=2 item=01:1234:1 item=00:abcd:0\n",
+            SESSION_WORDS,
+            b" node=ipn:1.0 items=2 item=01:1234:1 item=00:abcd:0\n",
             b"49 xfer-segment flags=02 id=0 items=1 item=00:0001:8 length=17\n",
             b"101 xfer-segment flags=01 id=0 length=17\n",
             b"136 xfer-ack flags=01 id=0 length=34\n",

@@ -6,7 +6,9 @@ use std::alloc::Global;
 use std::test::Fail;
 use toolkit_tests::packing::{DEFAULTS, Packing};
 use toolkit_tests::rows::{ALL, BUNDLE_REPORT, TWO_BUNDLES_REPORT};
-use toolkit_tests::running::{Expected, Tool, ended_over, gives_at_each_pace, steps_alike};
+use toolkit_tests::running::{
+    Expected, Tool, ended_in_place, ended_over, gives_at_each_pace, gives_in_place, steps_alike,
+};
 use toolkit_tests::stepping::{TestPackRun, is_done, packs_on, test_pack_run};
 use toolkit_tests::stream::{
     CONTACT_LINE, PLAIN, SESSION, SESSION_LINE, built, joined, put_segment,
@@ -24,7 +26,7 @@ fn gives_in_steps(
     steps_alike(alloc, want.tool, input, 1)
 }
 
-/// Checks the result of packing for each row.
+/// Checks the result of packing for each row, also if the reader holds the input.
 fn all_given(alloc: Global, rows: &[Row]) -> Result<(), Fail> {
     for row in rows {
         let input = joined(alloc, row.input)?;
@@ -37,6 +39,7 @@ fn all_given(alloc: Global, rows: &[Row]) -> Result<(), Fail> {
             status: row.status,
         };
         gives_in_steps(alloc, row.name, &input, &want)?;
+        gives_in_place(alloc, row.name, &input, &want)?;
     }
     Ok(())
 }
@@ -49,6 +52,16 @@ fn whole_bundles(rt: HostRuntime) -> Result<(), Fail> {
 #[test]
 fn faults(rt: HostRuntime) -> Result<(), Fail> {
     all_given(rt.alloc(), &FAULTS)
+}
+
+/// Over a reader that holds all bytes, the first is read, and the others are passed over in place.
+#[test]
+fn bundles_in_place(rt: HostRuntime) -> Result<(), Fail> {
+    let input = joined(rt.alloc(), IN_HALVES.input)?;
+    let tool = Tool::Pack(IN_HALVES.packing);
+    let end = ended_in_place(rt.alloc(), tool, &input, usize::MAX, usize::MAX);
+    assert_eq!(rt; (end.reader.given(), end.reader.passed()), (1, 67));
+    Ok(())
 }
 
 /// A bundle that is cut after each of its bytes but the last.

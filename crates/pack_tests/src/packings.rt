@@ -2,9 +2,7 @@
 
 use toolkit_tests::packing::{DEFAULTS, Packing};
 use toolkit_tests::rows::TWO_BUNDLES;
-use toolkit_tests::stream::{
-    BACK, CONTACT, FIRST_10, FIRST_SEGMENT, FRONT, LENGTH_17, NO_ITEMS, PLAIN, Part, SESSION,
-};
+use toolkit_tests::stream::{BACK, CONTACT, FIRST_10, FRONT, NO_ITEMS, PLAIN, Part, SESSION};
 
 /// Segments of 17 bytes: half the bundle.
 const HALVES: Packing = Packing {
@@ -50,20 +48,20 @@ const UNENDED_BACK: &[u8] = b"\x00\x82\x00\x00\x00\x85\x01\x01\x00\x00\x45hello\
 const WRONG_FRONT: &[u8] = b"\x9f\x88\x07\x40\x00\x82\x02\x82\x02\x01\x82\x02\x82\x01\x01\x82\x01";
 
 /// The line of a first bundle in one segment.
-const IN_ONE: &[u8] =
-    b"bundle 0 segments=1 length=34 source=ipn:1.1 time=0 sequence=0 destination=ipn:2.1 payload=5\n";
+const IN_ONE: &[u8] = b"bundle 0 segments=1 length=34 source=ipn:1.1 time=0 sequence=0 \
+    destination=ipn:2.1 payload=5\n";
 
 /// The line of a first bundle in two segments.
-const IN_TWO: &[u8] =
-    b"bundle 0 segments=2 length=34 source=ipn:1.1 time=0 sequence=0 destination=ipn:2.1 payload=5\n";
+const IN_TWO: &[u8] = b"bundle 0 segments=2 length=34 source=ipn:1.1 time=0 sequence=0 \
+    destination=ipn:2.1 payload=5\n";
 
 /// The line of a first bundle in four segments.
-const IN_FOUR: &[u8] =
-    b"bundle 0 segments=4 length=34 source=ipn:1.1 time=0 sequence=0 destination=ipn:2.1 payload=5\n";
+const IN_FOUR: &[u8] = b"bundle 0 segments=4 length=34 source=ipn:1.1 time=0 sequence=0 \
+    destination=ipn:2.1 payload=5\n";
 
 /// The line of a second bundle in two segments.
-const SECOND_IN_TWO: &[u8] =
-    b"bundle 1 segments=2 length=34 source=ipn:1.1 time=0 sequence=0 destination=ipn:2.1 payload=5\n";
+const SECOND_IN_TWO: &[u8] = b"bundle 1 segments=2 length=34 source=ipn:1.1 time=0 sequence=0 \
+    destination=ipn:2.1 payload=5\n";
 
 /// The fault line of a first bundle of more than 33 bytes, if the peer takes no more.
 const PAST_33: &[u8] = b"tcpclkit: bundle 0 byte 33: P1 longer than the peer's transfer limit\n";
@@ -109,12 +107,10 @@ pub const ANNOUNCED: Row = Row {
     input: PLAIN,
     output: &[
         Part::Bytes(SESSION),
-        Part::Bytes(&[
-            FIRST_SEGMENT,
-            b"\x00\x00\x00\x0d\x00\x00\x01\x00\x08\x00\x00\x00\x00\x00\x00\x00\x22",
-            LENGTH_17,
-            FRONT,
-        ]),
+        Part::Listed(
+            &[b"\x00\x00\x00\x0d\x00\x00\x01\x00\x08\x00\x00\x00\x00\x00\x00\x00\x22"],
+            &[FRONT],
+        ),
         Part::Segment(1, 0, &[BACK]),
     ],
     report: &[IN_TWO],

@@ -1,13 +1,14 @@
 //! Test devices, worked streams, and checks of runs of the tools over test devices.
 //!
-//! The devices move bytes in small pieces, and fail at a chosen call. The crates `list_tests`,
-//! `unpack_tests` and `pack_tests` have the tests of each tool. A check of this crate returns a
-//! [`std::test::Fail`] that says what differs.
+//! The devices move bytes in small pieces, hold some of them, and fail at a chosen call. The crates
+//! `list_tests`, `unpack_tests` and `pack_tests` have the tests of each tool. A check of this crate
+//! returns a [`std::test::Fail`] that says what differs.
 #![tactic(auto)]
 
 pub mod checks;
 mod device;
 pub mod failures;
+mod holding;
 mod pace;
 pub mod packing;
 pub mod rows;
@@ -16,4 +17,5 @@ pub mod stepping;
 pub mod stream;
 
 pub use device::{TestReader, TestWriter};
+pub use holding::HoldingReader;
 pub use pace::Failing;

@@ -5,9 +5,11 @@ ghost use Rattle.std.specs.Prelude.{◌≡◌, ◌<◌, false};
 use crate::checks::{exits, reported, wrote};
 use crate::packing::Packing;
 use crate::stepping::ended;
-use crate::{Failing, TestReader, TestWriter};
-use link_tools::{RunEnd, Wanted, cutter_for, list, list_run, pack, pack_run, unpack, unpack_run};
-use link_wire::{InDevice, OutDevice};
+use crate::{Failing, HoldingReader, TestReader, TestWriter};
+use link_tools::{
+    RunEnd, Status, Wanted, cutter_for, list, list_run, pack, pack_run, unpack, unpack_run,
+};
+use link_wire::{InDevice, IoFault, OutDevice};
 use std::alloc::Global;
 use std::test::Fail;
 
@@ -24,14 +26,14 @@ pub enum Tool {
 
 impl Tool {
     /// Runs the tool in one call.
-    pub fn run<'a>(
+    pub fn run<R: InDevice>(
         self,
         alloc: Global,
-        reader: TestReader<'a>,
+        reader: R,
         output: TestWriter,
         report: TestWriter,
-    ) -> End<'a>
-        requires reader { (⟦<TestReader<'a> as InDevice>⟧.state reader).failed ≡ false }
+    ) -> RunEnd<R, TestWriter, TestWriter>
+        requires reader { (R.state reader).failed ≡ false }
         requires output { (⟦<TestWriter as OutDevice>⟧.state output).failed ≡ false }
         requires report { (⟦<TestWriter as OutDevice>⟧.state report).failed ≡ false }
     {
@@ -139,9 +141,20 @@ pub fn gives(
     requires { 0 < per_call }
 {
     let end = ended_over(alloc, want.tool, stream, per_call);
-    wrote(name, end.output.written(), want.output)?;
-    reported(name, end.report.written(), want.report)?;
-    exits(name, &end.answer, (want.status, ""))
+    is_expected(name, &end.output, &end.report, &end.answer, want)
+}
+
+/// Checks what a run has written, and how it has ended.
+fn is_expected(
+    name: &str,
+    output: &TestWriter,
+    report: &TestWriter,
+    answer: &Result<Status, IoFault>,
+    want: &Expected<'_>,
+) -> Result<(), Fail> {
+    wrote(name, output.written(), want.output)?;
+    reported(name, report.written(), want.report)?;
+    exits(name, answer, (want.status, ""))
 }
 
 /// Checks that a tool does in steps what it does in one call.
@@ -176,4 +189,61 @@ pub fn gives_at_each_pace(
     gives(alloc, name, stream, 7, want)?;
     gives(alloc, name, stream, 1, want)?;
     steps_alike(alloc, want.tool, stream, usize::MAX)
+}
+
+/// A run over a reader that holds bytes, which has ended.
+pub type EndInPlace<'a> = RunEnd<HoldingReader<'a>, TestWriter, TestWriter>;
+
+/// Runs a tool over an input whose reader holds up to `room` bytes of it.
+///
+/// A read gives at most `per_call` bytes. The writers take all bytes in a call. No device fails.
+pub fn ended_in_place<'a>(
+    alloc: Global,
+    tool: Tool,
+    stream: &'a [u8],
+    room: usize,
+    per_call: usize,
+) -> EndInPlace<'a>
+    requires room { 0 < room }
+    requires moves { 0 < per_call }
+{
+    tool.run(
+        alloc,
+        HoldingReader::new(stream, room, per_call),
+        TestWriter::new(alloc, usize::MAX, Failing::Never),
+        TestWriter::new(alloc, usize::MAX, Failing::Never),
+    )
+}
+
+/// Checks that a tool gives this result for an input whose reader holds up to `room` bytes of it.
+///
+/// A read gives at most `per_call` bytes.
+pub fn gives_held(
+    alloc: Global,
+    name: &str,
+    stream: &[u8],
+    room: usize,
+    per_call: usize,
+    want: &Expected<'_>,
+) -> Result<(), Fail>
+    requires room { 0 < room }
+    requires moves { 0 < per_call }
+{
+    let end = ended_in_place(alloc, want.tool, stream, room, per_call);
+    is_expected(name, &end.output, &end.report, &end.answer, want)
+}
+
+/// Checks that a tool gives this result for an input that its reader holds.
+///
+/// The reader holds all bytes, and a read gives one byte or seven. Then it holds up to seven bytes,
+/// and a read gives all of them.
+pub fn gives_in_place(
+    alloc: Global,
+    name: &str,
+    stream: &[u8],
+    want: &Expected<'_>,
+) -> Result<(), Fail> {
+    gives_held(alloc, name, stream, usize::MAX, 1, want)?;
+    gives_held(alloc, name, stream, usize::MAX, 7, want)?;
+    gives_held(alloc, name, stream, 7, usize::MAX, want)
 }

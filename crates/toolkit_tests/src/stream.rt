@@ -90,15 +90,31 @@ pub enum Part {
     Bytes(&'static [&'static [u8]]),
     /// A segment without extension items: its flags, its transfer ID and the pieces of its data.
     Segment(u8, u64, &'static [&'static [u8]]),
+    /// A segment with START of transfer 0: the pieces of its extension list, with the list's
+    /// length, and the pieces of its data.
+    Listed(&'static [&'static [u8]], &'static [&'static [u8]]),
 }
 
 /// Appends a segment (section 5.2.2), with an empty extension list if it has START.
 pub fn put_segment(stream: &mut Vec<u8>, flags: u8, id: u64, data: &[&[u8]]) -> Result<(), Fail> {
+    if flags & 2 != 0 {
+        put_listed(stream, flags, id, &[NO_ITEMS], data)
+    } else {
+        put_listed(stream, flags, id, &[], data)
+    }
+}
+
+/// Appends a segment with the pieces of its extension list. Without START there are none.
+fn put_listed(
+    stream: &mut Vec<u8>,
+    flags: u8,
+    id: u64,
+    list: &[&[u8]],
+    data: &[&[u8]],
+) -> Result<(), Fail> {
     stream.extend_from_slice(&[1, flags])?;
     stream.extend_from_slice(&id.to_be_bytes())?;
-    if flags & 2 != 0 {
-        stream.extend_from_slice(NO_ITEMS)?;
-    }
+    append(stream, list)?;
     let mut length: u64 = 0;
     for piece in data {
         length = length.saturating_add(piece.len() as u64);
@@ -114,6 +130,7 @@ pub fn built(alloc: Global, parts: &[Part]) -> Result<Vec<u8>, Fail> {
         match *part {
             Part::Bytes(pieces) => append(&mut stream, pieces)?,
             Part::Segment(flags, id, data) => put_segment(&mut stream, flags, id, data)?,
+            Part::Listed(list, data) => put_listed(&mut stream, 2, 0, list, data)?,
         }
     }
     Ok(stream)

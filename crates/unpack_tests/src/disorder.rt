@@ -197,7 +197,7 @@ pub const EACH_FAULT: [Row; 5] = [
 ];
 
 /// Streams in which faults of the order meet each other or an option.
-pub const TOGETHER: [Row; 6] = [
+pub const TOGETHER: [Row; 8] = [
     STRAY_FIRST,
     Row {
         name: "heads with two faults",
@@ -216,6 +216,37 @@ pub const TOGETHER: [Row; 6] = [
             b"transfer 0 start=10 written=34 length=34",
             GOOD,
             b"tcpclkit: byte 94: segment before session initiation\n",
+        ],
+        status: 1,
+    },
+    Row {
+        name: "inner segments of no open transfer before SESS_INIT",
+        wanted: GOING_ON,
+        stream: &[
+            Part::Bytes(&[CONTACT]),
+            Part::Segment(0, 0, &[FRONT]),
+            Part::Segment(0, 0, &[BACK]),
+        ],
+        output: &[],
+        report: &[
+            b"tcpclkit: byte 6: segment before session initiation\n",
+            b"tcpclkit: byte 41: segment before session initiation\n",
+        ],
+        status: 1,
+    },
+    Row {
+        name: "an inner segment of the open transfer before SESS_INIT",
+        wanted: GOING_ON,
+        stream: &[
+            Part::Bytes(&[CONTACT]),
+            Part::Segment(2, 0, &[FRONT]),
+            Part::Segment(0, 0, &[BACK]),
+        ],
+        output: PLAIN,
+        report: &[
+            b"tcpclkit: byte 6: segment before session initiation\n",
+            b"tcpclkit: byte 45: segment before session initiation\n",
+            b"transfer 0 start=0 written=34 length=34 abandoned\n",
         ],
         status: 1,
     },

@@ -4,7 +4,7 @@ use crate::disorder::{
     EACH_FAULT, ENDED, GOING_ON, STRAY_BETWEEN, STRAY_CUT, STRAY_FIRST, TOGETHER,
 };
 use crate::transfers::{PARTS, Row, WHOLE};
-use crate::unpacking::{after_each_step, all_given, row_gives};
+use crate::unpacking::{after_each_step, all_given, row_gives, row_gives_in_place};
 use link_tools::Wanted;
 use std::alloc::Global;
 use std::test::Fail;
@@ -99,13 +99,14 @@ fn long_stray_step_by_step(rt: HostRuntime) -> Result<(), Fail> {
     after_each_step(rt.alloc(), &STRAY_FIRST, &stream, &written)
 }
 
-/// The data of a segment of no open transfer may end at any byte.
+/// The data of a segment of no open transfer may end at any byte, also of what the reader holds.
 #[test]
 fn cut_stray(rt: HostRuntime) -> Result<(), Fail> {
     let stream = long_stray(rt.alloc())?;
     for size in [56, 57, 4151, 4152, 4153, 8191, 8192, 8193, 10_055] {
         let prefix = stream.get(..size).ok_or("more than the stream")?;
         row_gives(rt.alloc(), &STRAY_CUT, prefix)?;
+        row_gives_in_place(rt.alloc(), &STRAY_CUT, prefix)?;
     }
     Ok(())
 }

@@ -3,8 +3,8 @@
 use link_tools::Wanted;
 use toolkit_tests::rows::{ALL, BUNDLE_REPORT, GOOD, TWO_BUNDLES, TWO_BUNDLES_REPORT};
 use toolkit_tests::stream::{
-    BACK, CONTACT, FIRST_10, FIRST_SEGMENT, FRONT, LENGTH_17, LENGTH_34, NO_ITEMS, NODE,
-    PARAMETERS, PLAIN, Part, SESSION, WHOLE_TRANSFER,
+    BACK, CONTACT, FIRST_10, FRONT, LENGTH_34, NO_ITEMS, NODE, PARAMETERS, PLAIN, Part, SESSION,
+    WHOLE_TRANSFER,
 };
 
 /// All data of transfers with ID 1.
@@ -38,6 +38,9 @@ pub struct Row {
     pub report: &'static [&'static [u8]],
     pub status: u8,
 }
+
+/// A Transfer Length item that announces 35 bytes.
+const TOTAL_35: &[u8] = b"\x00\x00\x01\x00\x08\x00\x00\x00\x00\x00\x00\x00\x23";
 
 /// A transfer with ten bytes of the bundle, and then another transfer.
 pub const ABANDONED: &[Part] = &[
@@ -140,12 +143,7 @@ pub const WHOLE: [Row; 9] = [
         wanted: ALL,
         stream: &[
             Part::Bytes(SESSION),
-            Part::Bytes(&[
-                FIRST_SEGMENT,
-                b"\x00\x00\x00\x0d\x00\x00\x01\x00\x08\x00\x00\x00\x00\x00\x00\x00\x23",
-                LENGTH_17,
-                FRONT,
-            ]),
+            Part::Listed(&[b"\x00\x00\x00\x0d", TOTAL_35], &[FRONT]),
             Part::Segment(1, 0, &[BACK]),
         ],
         output: PLAIN,
@@ -157,14 +155,7 @@ pub const WHOLE: [Row; 9] = [
         wanted: ALL,
         stream: &[
             Part::Bytes(SESSION),
-            Part::Bytes(&[
-                FIRST_SEGMENT,
-                b"\x00\x00\x00\x1a",
-                b"\x00\x00\x01\x00\x08\x00\x00\x00\x00\x00\x00\x00\x23",
-                b"\x00\x00\x01\x00\x08\x00\x00\x00\x00\x00\x00\x00\x23",
-                LENGTH_17,
-                FRONT,
-            ]),
+            Part::Listed(&[b"\x00\x00\x00\x1a", TOTAL_35, TOTAL_35], &[FRONT]),
             Part::Segment(1, 0, &[BACK]),
         ],
         output: PLAIN,
@@ -176,12 +167,7 @@ pub const WHOLE: [Row; 9] = [
         wanted: ALL,
         stream: &[
             Part::Bytes(SESSION),
-            Part::Bytes(&[
-                FIRST_SEGMENT,
-                b"\x00\x00\x00\x05\x00\x00\x01\x00\x00",
-                b"\x00\x00\x00\x00\x00\x00\x00\x0a",
-                FIRST_10,
-            ]),
+            Part::Listed(&[b"\x00\x00\x00\x05\x00\x00\x01\x00\x00"], &[FIRST_10]),
             Part::Segment(3, 1, PLAIN),
         ],
         output: &[FIRST_10, FRONT, BACK],

@@ -9,27 +9,44 @@ use link_tools::Run;
 use std::alloc::Global;
 use std::test::Fail;
 use toolkit_tests::rows::{ALL, BUNDLE_REPORT, TRANSFER, TWO_BUNDLES};
-use toolkit_tests::running::{Expected, Tool, gives_at_each_pace};
+use toolkit_tests::running::{
+    Expected, Tool, ended_in_place, gives_at_each_pace, gives_held, gives_in_place,
+};
 use toolkit_tests::stepping::{is_done, test_unpack_run, unpacks_on};
 use toolkit_tests::stream::{EDGE, PLAIN, SESSION, built, joined, put_segment};
+
+/// The result of unpacking that the row says, in these texts of the row.
+fn expected<'a>(row: &Row, output: &'a [u8], report: &'a [u8]) -> Expected<'a> {
+    Expected {
+        tool: Tool::Unpack(row.wanted),
+        output,
+        report,
+        status: row.status,
+    }
+}
 
 /// Checks that unpacking the stream gives the result of the row.
 pub fn row_gives(alloc: Global, row: &Row, stream: &[u8]) -> Result<(), Fail> {
     let output = joined(alloc, row.output)?;
     let report = joined(alloc, row.report)?;
-    let want = Expected {
-        tool: Tool::Unpack(row.wanted),
-        output: &output,
-        report: &report,
-        status: row.status,
-    };
+    let want = expected(row, &output, &report);
     gives_at_each_pace(alloc, row.name, stream, &want)
 }
 
-/// Checks the result of unpacking for each row.
+/// Checks that unpacking the stream gives the result of the row, if the reader holds the stream.
+pub fn row_gives_in_place(alloc: Global, row: &Row, stream: &[u8]) -> Result<(), Fail> {
+    let output = joined(alloc, row.output)?;
+    let report = joined(alloc, row.report)?;
+    let want = expected(row, &output, &report);
+    gives_in_place(alloc, row.name, stream, &want)
+}
+
+/// Checks the result of unpacking for each row, also if the reader holds the stream.
 pub fn all_given(alloc: Global, rows: &[Row]) -> Result<(), Fail> {
     for row in rows {
-        row_gives(alloc, row, &built(alloc, row.stream)?)?;
+        let stream = built(alloc, row.stream)?;
+        row_gives(alloc, row, &stream)?;
+        row_gives_in_place(alloc, row, &stream)?;
     }
     Ok(())
 }
@@ -62,6 +79,34 @@ fn after_keepalives(rt: HostRuntime) -> Result<(), Fail> {
         row_gives(rt.alloc(), &WHOLE_BUNDLES, &stream)?;
         row_gives(rt.alloc(), &PAYLOADS, &stream)?;
     }
+    Ok(())
+}
+
+/// The same streams. The reader holds what follows the window when a read of 8,192 bytes fills it.
+#[test]
+fn after_keepalives_in_place(rt: HostRuntime) -> Result<(), Fail> {
+    let whole = built(rt.alloc(), TWO_BUNDLES)?;
+    assert_eq!(rt; whole.len(), 186);
+    let (session, transfers) = whole.split_at(38);
+    let output = joined(rt.alloc(), WHOLE_BUNDLES.output)?;
+    let report = joined(rt.alloc(), WHOLE_BUNDLES.report)?;
+    let want = expected(&WHOLE_BUNDLES, &output, &report);
+    let name = "two bundles in place";
+    for size in EDGE - 148..=EDGE {
+        let mut stream = joined(rt.alloc(), &[session])?;
+        stream.resize(size, 4)?;
+        stream.extend_from_slice(transfers)?;
+        gives_held(rt.alloc(), name, &stream, usize::MAX, usize::MAX, &want)?;
+    }
+    Ok(())
+}
+
+/// Over a reader that holds all bytes, heads are read, and data is passed over in place.
+#[test]
+fn data_in_place(rt: HostRuntime) -> Result<(), Fail> {
+    let stream = built(rt.alloc(), TWO_BUNDLES)?;
+    let end = ended_in_place(rt.alloc(), Tool::Unpack(ALL), &stream, usize::MAX, 1);
+    assert_eq!(rt; (end.reader.given(), end.reader.passed()), (118, 68));
     Ok(())
 }
 

@@ -57,18 +57,22 @@ fn take_all(alloc: Global, cutter: &mut Cutter, given: &mut Vec<Given>) -> Resul
 
 /// Takes bytes until a chunk is ready, or all, and returns how many.
 ///
-/// A chunk that can be cut where it lies is taken, and the bytes are not pushed.
-fn place(
+/// With `in_place`, a chunk that can be cut where it lies is taken, and its bytes are not pushed.
+fn advance(
     alloc: Global,
     cutter: &mut Cutter,
     piece: &[u8],
     last: bool,
+    in_place: bool,
     given: &mut Vec<Given>,
 ) -> Result<usize, AllocError>
     requires quiet { cut_waits cutter.old ≡ false }
     requires some { 0 < length piece.now }
     ensures { IfOk result (λ size. (0 < size) × (size ≤ length piece.now)) }
 {
+    if !in_place {
+        return Ok(cutter.push_slice(piece, last));
+    }
     let size = cutter.wanted().min(piece.len());
     let part = &piece[..size];
     let ends = last && size == piece.len();
@@ -82,27 +86,6 @@ fn place(
         }
     }
     Ok(size)
-}
-
-/// Takes bytes until a chunk is ready, or all, and returns how many.
-///
-/// With `in_place`, a chunk is cut where it lies if it can be.
-fn advance(
-    alloc: Global,
-    cutter: &mut Cutter,
-    piece: &[u8],
-    last: bool,
-    in_place: bool,
-    given: &mut Vec<Given>,
-) -> Result<usize, AllocError>
-    requires quiet { cut_waits cutter.old ≡ false }
-    requires some { 0 < length piece.now }
-    ensures { IfOk result (λ size. (0 < size) × (size ≤ length piece.now)) }
-{
-    if in_place {
-        return place(alloc, cutter, piece, last, given);
-    }
-    Ok(cutter.push_slice(piece, last))
 }
 
 /// Pushes a piece of a bundle, and takes each chunk as soon as it is ready.

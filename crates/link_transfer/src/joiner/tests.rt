@@ -98,11 +98,11 @@ fn judge(rt: &impl Abort, name: &str, messages: &[Judged]) {
     }
 }
 
-/// Each fault, with no other fault beside it.
+/// Refuses a second SESS_INIT, with no other fault beside it.
 ///
-/// A refused message changes nothing.
+/// In this test and in the next four, a refused message changes nothing.
 #[test]
-fn refuses_each_fault(rt: HostRuntime) {
+fn refuses_a_second_session_initiation(rt: HostRuntime) {
     judge(
         &rt,
         "second session initiation",
@@ -114,6 +114,10 @@ fn refuses_each_fault(rt: HostRuntime) {
             (Sent::Segment(END, 0), LAST, None),
         ],
     );
+}
+
+#[test]
+fn refuses_a_segment_before_session_initiation(rt: HostRuntime) {
     judge(
         &rt,
         "segment before session initiation",
@@ -127,6 +131,10 @@ fn refuses_each_fault(rt: HostRuntime) {
             (Sent::Segment(START | END, 0), whole(None), None),
         ],
     );
+}
+
+#[test]
+fn refuses_a_segment_of_no_open_transfer(rt: HostRuntime) {
     judge(
         &rt,
         "no such open transfer",
@@ -138,6 +146,10 @@ fn refuses_each_fault(rt: HostRuntime) {
             (Sent::Segment(0, 4), MORE, Some(4)),
         ],
     );
+}
+
+#[test]
+fn refuses_a_start_of_the_open_transfer(rt: HostRuntime) {
     judge(
         &rt,
         "start repeats the open transfer",
@@ -152,6 +164,10 @@ fn refuses_each_fault(rt: HostRuntime) {
             (Sent::Segment(END, 4), LAST, None),
         ],
     );
+}
+
+#[test]
+fn refuses_a_start_after_session_termination(rt: HostRuntime) {
     judge(
         &rt,
         "start after session termination",
