@@ -5,7 +5,7 @@ use Rattle.std.specs.Io.KnownBytes.{Appends, Keeps, append_known, prepend_known}
 use Rattle.link_wire.specs.Device.{Input, Output}
 use Rattle.link_wire.specs.TextWriter.{AppendsPart}
 use Rattle.link_wire.specs.declared.DeviceFault.{DeviceFault}
-use Rattle.tcpclkit.specs.BufferedEnd.{AreFirst, HandsOn}
+use Rattle.tcpclkit.specs.BufferedEnd.{AreFirst, HandsOver}
 
 nothing_before : (rest : Option (List ℕ)) → prepend_known [] rest ≡ rest
 nothing_before None = refl
@@ -27,12 +27,12 @@ first_handed None new waiting count written = (0, tt)
 first_handed (Some xs) None waiting count written = absurd written
 first_handed (Some xs) (Some ys) waiting count written = (length xs + count, rw (take-append-add xs waiting count) written)
 
--- `HandsOn` for a stream that failed before all that waited was handed on
+-- `HandsOver` for a stream that failed before all that waited was handed on
 pub handed_part : (answer : Result (Unit {0}) DeviceFault) (old new : Output) (waiting : List ℕ)
     → is_ok answer ≡ false
     → OnErr answer (AppendsPart old.written new.written waiting)
     → MatchResult answer (λ _. new.failed ≡ old.failed) (λ _. new.failed ≡ true)
-    → HandsOn (record { written = append_known old.written waiting; failed = old.failed }) new
+    → HandsOver (record { written = append_known old.written waiting; failed = old.failed }) new
 handed_part (Ok done) old new waiting is part failed = absurd (cc)
 handed_part (Err fault) old new waiting is part failed = record {
   failed = λ had_failed. failed;
