@@ -22,7 +22,7 @@ impl<W: OutDevice, E: OutDevice> Writers<W, E> {
     ghost use Rattle.link_run.specs.Writers.{AfterWrite, AfterLastWrite, AfterEnd, AfterSettle, next_line, on_output, on_report};
 
     /// Makes the writers of a run, with an empty line.
-    pub fn new(output: W, report: E) -> Writers<W, E>
+    pub(crate) fn new(output: W, report: E) -> Writers<W, E>
         ensures output { result.output ≡ output }
         ensures report { result.report ≡ report }
         ensures line { next_line result ≡ [] }
