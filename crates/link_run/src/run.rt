@@ -107,7 +107,7 @@ pub trait Run<R: InDevice, W: OutDevice, E: OutDevice>: Sized {
             (place self.new) (stands self.new start) (most self.old) history result }
         ensures handed { (start : Devices R W E) (history : List ℕ) → stands self.old start history
             → 0 < most self.old → (result ≡ Err IoFault.Write → ⊥)
-            → HandedOn (looks R.state W.state E.state) W.handed E.handed (has_next self.old)
+            → HandedOn (looks R.state W.state E.state) (has_next self.old)
             (place self.old) (place self.new) }
         ensures goes_on { most self.new ≡ 0 → EndsRun result }
         ensures ends { EndsRun result → has_ended self.new result }
@@ -130,7 +130,7 @@ pub trait Run<R: InDevice, W: OutDevice, E: OutDevice>: Sized {
             (place self.new) (stands self.new start) (most self.old) history result }
         ensures handed { (start : Devices R W E) (history : List ℕ) → stands self.old start history
             → 0 < most self.old → (result ≡ Err IoFault.Write → ⊥)
-            → HandedOn (looks R.state W.state E.state) W.handed E.handed (has_next self.old)
+            → HandedOn (looks R.state W.state E.state) (has_next self.old)
             (place self.old) (place self.new) }
         ensures goes_on { most self.new ≡ 0 → EndsRun result }
         ensures ends { EndsRun result → has_ended self.new result }
