@@ -116,9 +116,9 @@ pub trait Run<R: InDevice, W: OutDevice, E: OutDevice>: Sized {
 
     /// Does at least one step, and as many more as the bytes at hand allow: a *stride*.
     ///
-    /// It leaves what that many steps would have left, one after another, and it ends at the first
-    /// fault, failure or end. What was written before it is handed on as [`Run::step`] does it. It
-    /// has no bound on the bytes that it is given.
+    /// After it, the texts are those that the bytes given determine, as after a step. What was
+    /// written before it is handed on as [`Run::step`] does it. No clause bounds the bytes that it
+    /// is given, or says that none of them comes after a fault.
     ///
     /// # Errors
     ///
