@@ -8,10 +8,12 @@ pub record Input : Type 0 where
   pub failed : Bool
   pub held : List ℕ
 
--- an output device: the bytes written, `None` if they are not known, and whether it has failed
+-- an output device: the bytes written, `None` if they are not known, whether it has failed, and
+-- those of the bytes written that it no longer holds back
 pub record Output : Type 0 where
   pub written : Option (List ℕ)
   pub failed : Bool
+  pub handed : Option (List ℕ)
 
 -- the bytes, if they are known, begin with these
 abbrev pub BeginsWith : Option (List ℕ) → List ℕ → Type 0

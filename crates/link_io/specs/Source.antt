@@ -66,6 +66,12 @@ module _ {R : Type 0} where
       then window_of source
       else held_from source.flow (longest_input - source.given) (look source.reader).held
 
+  -- How far the input is at hand: the offset after the bytes of the window and those that the
+  -- reader holds. Only a read changes it.
+  abbrev pub reach : (R → Input) → Source R → ℕ
+  reach look source =
+      source.given + (length (window_of source) + length (look source.reader).held)
+
   -- the source has given exactly these bytes since it was made
   pub record IsSourceAt (source : Source R) (history : List ℕ) : Type 0 where
     pub bytes : AreBytes history

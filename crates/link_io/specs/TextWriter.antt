@@ -24,4 +24,5 @@ module _ {D : Type 0} where
   output_of look writer = record {
     written = append_known (look writer.device).written (waiting writer);
     failed = (look writer.device).failed;
+    handed = (look writer.device).handed;
   }

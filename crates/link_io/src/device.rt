@@ -61,16 +61,14 @@ pub trait InDevice {
         requires { count ≤ length (state self.old).held }
         ensures bytes { Consumes (state self.old).left (state self.new).left
             (take count (state self.old).held) }
-        ensures failed { (state self.new).failed ≡ (state self.old).failed };
+        ensures failed { (state self.new).failed ≡ (state self.old).failed }
+        ensures rest { (state self.new).held ≡ drop count (state self.old).held };
 }
 
 /// A device that bytes are written to.
 pub trait OutDevice {
-    /// The bytes written, if they are known, and whether the device has failed.
+    /// The bytes written, whether the device has failed, and what was handed on.
     ghost state: { Self → Output };
-
-    /// The written bytes that the device no longer holds back, if they are known.
-    ghost handed: { Self → Option (List ℕ) };
 
     /// Writes a prefix of the bytes, and returns its length, at least 1 for a nonempty slice.
     ///
@@ -113,7 +111,7 @@ pub trait OutDevice {
     /// Hands on the written bytes that the device still holds back.
     fn settle(&mut self) -> Result<(), DeviceFault>
         ensures bytes { Keeps (state self.old).written (state self.new).written }
-        ensures handed { OnOk result (handed self.new ≡ (state self.new).written) }
+        ensures handed { OnOk result ((state self.new).handed ≡ (state self.new).written) }
         ensures failed { MatchResult result
             (λ _. (state self.new).failed ≡ (state self.old).failed)
             (λ _. (state self.new).failed ≡ true) };
@@ -252,7 +250,7 @@ impl<W: Write> Writer<W> {
     /// Makes a device that has not failed.
     pub fn new(inner: W) -> Self
         ensures { ⟦<Writer<W> as OutDevice>⟧.state result
-            ≡ record { written = W.contents inner; failed = false } }
+            ≡ record { written = W.contents inner; failed = false; handed = W.contents inner } }
     {
         Writer {
             inner,
@@ -270,10 +268,12 @@ impl<W: Write> Writer<W> {
 }
 
 impl<W: Write> OutDevice for Writer<W> {
-    ghost state = { λ w. record { written = W.contents w.inner; failed = w.failed } };
-
     // All that std's writer was given counts as handed on: nothing says what it holds back.
-    ghost handed = { λ w. W.contents w.inner };
+    ghost state = { λ w. record {
+      written = W.contents w.inner;
+      failed = w.failed;
+      handed = W.contents w.inner;
+    } };
 
     fn write(&mut self, bytes: &[u8]) -> Result<usize, DeviceFault> {
         match self.inner.write(bytes) {

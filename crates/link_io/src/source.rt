@@ -57,7 +57,7 @@ pub struct Source<R> {
 impl<R: InDevice> Source<R> {
     ghost use Rattle.std.specs.Prelude.{◌≡◌, ◌+◌, ◌-◌, ◌<◌, ◌≤◌, ◌==◌, true, false, [], length, take, drop, IfOk, IfErr, OnOk, MatchResult, IsTrue};
     ghost use Rattle.link_io.specs.Limits.{window_size};
-    ghost use Rattle.link_io.specs.Source.{IsSourceAt, is_fresh, reader_of, given_by, taken_by, window_of, front_of, ahead, IsLive, IsOver, HasEnded, HasFailed, Takes, StopsAfter, AfterReady, AfterReadyFront};
+    ghost use Rattle.link_io.specs.Source.{IsSourceAt, is_fresh, reader_of, given_by, taken_by, window_of, front_of, ahead, reach, IsLive, IsOver, HasEnded, HasFailed, Takes, StopsAfter, AfterReady, AfterReadyFront};
 
     /// Makes a source that has taken nothing.
     pub fn new(reader: R) -> Source<R>
@@ -186,6 +186,7 @@ impl<R: InDevice> Source<R> {
         ensures takes { Takes R.state self.old self.new (take count (front_of R.state self.old)) }
         ensures live { IsLive R.state self.old → IsLive R.state self.new }
         ensures none { count ≡ 0 → self.new ≡ self.old }
+        ensures unread { reach R.state self.new ≡ reach R.state self.old }
     {
         if self.start < self.end {
             return self.give(count);
@@ -203,6 +204,7 @@ impl<R: InDevice> Source<R> {
         requires held { size ≤ length (front_of R.state self.old) }
         ensures takes { Takes R.state self.old self.new (take size (front_of R.state self.old)) }
         ensures live { IsLive R.state self.old → IsLive R.state self.new }
+        ensures unread { reach R.state self.new ≡ reach R.state self.old }
     {
         // This call is for the proof: by its contract, the elements of the front are bytes.
         let _front = self.front();
@@ -219,6 +221,7 @@ impl<R: InDevice> Source<R> {
         ensures rest { window_of self.new ≡ drop count (window_of self.old) }
         ensures reader { reader_of self.new ≡ reader_of self.old }
         ensures none { count ≡ 0 → self.new ≡ self.old }
+        ensures unread { reach R.state self.new ≡ reach R.state self.old }
     {
         // This call is for the proof: by its contract, the elements of the window are bytes.
         let _window = self.window();

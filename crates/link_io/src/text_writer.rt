@@ -25,7 +25,7 @@ pub struct TextWriter<D> {
     page: Vec<u8>,
     /// The number of bytes of the page that wait to be handed on.
     end: usize,
-    ghost room: { 16384 ≤ length page.items },
+    ghost room: { length page.items ≡ 65536 },
     ghost within: { end ≤ length page.items },
 }
 
@@ -46,7 +46,7 @@ impl<D: OutDevice + Drop> TextWriter<D> {
 impl<D: OutDevice> TextWriter<D> {
     /// Makes a writer over the device, with this page.
     fn over(device: D, page: Vec<u8>) -> TextWriter<D>
-        requires { LARGE ≤ length page.items }
+        requires { length page.items ≡ 65536 }
         ensures { output_of D.state result ≡ D.state device }
     {
         TextWriter {
@@ -158,8 +158,6 @@ impl<D: OutDevice> OutDevice for TextWriter<D> {
 
     ghost state = { output_of D.state };
 
-    ghost handed = { λ writer. D.handed writer.device };
-
     #[inline(always)]
     fn write(&mut self, bytes: &[u8]) -> Result<usize, DeviceFault> {
         if bytes.len() < LARGE && bytes.len() <= self.page.len() - self.end {
@@ -186,7 +184,7 @@ impl<D: OutDevice> OutDevice for TextWriter<D> {
     fn settle(&mut self) -> Result<(), DeviceFault>
         ensures bytes { Keeps (output_of D.state self.old).written
             (output_of D.state self.new).written }
-        ensures handed { OnOk result (D.handed self.new.device
+        ensures handed { OnOk result ((output_of D.state self.new).handed
             ≡ (output_of D.state self.new).written) }
         ensures failed { MatchResult result
             (λ _. (output_of D.state self.new).failed ≡ (output_of D.state self.old).failed)

@@ -117,7 +117,7 @@ fn step<R: InDevice, W: OutDevice, E: OutDevice>(
         → IsListing R.state tool.old.stage (latest_line tool.old.latest) (inner_of input.old)
         history
         → (result ≡ Err IoFault.Write → ⊥)
-        → HandsOn (looks R.state W.state E.state) W.handed E.handed
+        → HandsOn (looks R.state W.state E.state)
         (inner_of input.old) (inner_of input.new) writers.old writers.new }
 {
     if let Stage::Contact = tool.stage {
@@ -155,7 +155,7 @@ fn list_contact<R: InDevice, W: OutDevice, E: OutDevice>(
         (place_of (source_of (inner_of input.new)) writers.new)
         (Lists R.state Stage.Message line (inner_of input.new)) 6 history result }
     ensures handed { (result ≡ Err IoFault.Write → ⊥)
-        → HandsOn (looks R.state W.state E.state) W.handed E.handed
+        → HandsOn (looks R.state W.state E.state)
         (inner_of input.old) (inner_of input.new) writers.old writers.new }
 {
     match input.open() {
@@ -190,7 +190,7 @@ fn advance<R: InDevice, W: OutDevice, E: OutDevice>(
     ensures handed { (history : List ℕ)
         → IsListing R.state stage (latest_line latest.old) (inner_of input.old) history
         → (result ≡ Read.Ended (Err IoFault.Write) → ⊥)
-        → HandsOn (looks R.state W.state E.state) W.handed E.handed
+        → HandsOn (looks R.state W.state E.state)
         (inner_of input.old) (inner_of input.new) writers.old writers.new }
 {
     match stage {
@@ -217,7 +217,7 @@ fn read_message<R: InDevice, W: OutDevice, E: OutDevice>(
     ensures handed { (history : List ℕ)
         → Lists R.state Stage.Message (latest_line latest.old) (inner_of input.old) history
         → (result ≡ Read.Ended (Err IoFault.Write) → ⊥)
-        → HandsOn (looks R.state W.state E.state) W.handed E.handed
+        → HandsOn (looks R.state W.state E.state)
         (inner_of input.old) (inner_of input.new) writers.old writers.new }
 {
     match input.next_message(writers, &mut latest.message) {
@@ -249,7 +249,7 @@ fn pass_data<R: InDevice, W: OutDevice, E: OutDevice>(
     ensures handed { (line history : List ℕ)
         → Lists R.state Stage.Data line (inner_of input.old) history
         → (result ≡ Read.Ended (Err IoFault.Write) → ⊥)
-        → HandsOn (looks R.state W.state E.state) W.handed E.handed
+        → HandsOn (looks R.state W.state E.state)
         (inner_of input.old) (inner_of input.new) writers.old writers.new }
 {
     match input.load_data(writers) {

@@ -127,12 +127,11 @@ module _ {W E : Type 0} (out_look : W → Output) (report_look : E → Output) w
 
 -- ---- what was written is handed on before the read
 
-module _ {R W E : Type 0} (look : Looks R W E) {out_handed : W → Option (List ℕ)}
-    {report_handed : E → Option (List ℕ)} {enough : Type 0} (old new : Source R) (before mid after : Writers W E)
+module _ {R W E : Type 0} (look : Looks R W E) {enough : Type 0} (old new : Source R) (before mid after : Writers W E)
     (kept : Writes look.output look.report before mid (on_output []))
-    (held : HasHandedOn look.output look.report out_handed report_handed mid ⊎ enough) where
+    (held : HasHandedOn look.output look.report mid ⊎ enough) where
   abbrev Handed : Type 0
-  Handed = HandedOn look out_handed report_handed enough (place_of old before) (place_of new after)
+  Handed = HandedOn look enough (place_of old before) (place_of new after)
 
   handed_last : (texts : Texts) (status : ℕ) (answer : Result Status IoFault)
       → AfterLastWrite look.output look.report mid after texts status answer

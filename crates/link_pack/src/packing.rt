@@ -151,7 +151,7 @@ fn take_bundles<R: InDevice, W: OutDevice, E: OutDevice>(
         (Packs R.state packer.new (inner_of input.new)) most history result }
     ensures handed { (history : List ℕ) → Packs R.state packer.old (inner_of input.old) history
         → (result ≡ Err IoFault.Write → ⊥)
-        → HandedOn (looks R.state W.state E.state) W.handed E.handed
+        → HandedOn (looks R.state W.state E.state)
         (HasBytes (ahead R.state (inner_of input.old)))
         (place_of (inner_of input.old) writers.old) (place_of (inner_of input.new) writers.new) }
     ensures options { packer.new.options ≡ packer.old.options }

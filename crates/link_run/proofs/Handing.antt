@@ -17,14 +17,13 @@ use Rattle.link_run.specs.declared.run.Status.{Status}
 use Rattle.link_run.specs.declared.writers.Writers.{Writers}
 use Rattle.link_run.proofs.Runs.{writes_none}
 
-module _ {R W E : Type 0} (look : Looks R W E) {out_handed : W → Option (List ℕ)}
-    {report_handed : E → Option (List ℕ)} {enough : Type 0} (old new : Source R)
+module _ {R W E : Type 0} (look : Looks R W E) {enough : Type 0} (old new : Source R)
     (before mid after : Writers W E) where
   -- the texts of a step are written after its read
   pub handed_by : (texts : Texts) → Writes look.output look.report before mid (on_output [])
-      → HasHandedOn look.output look.report out_handed report_handed mid ⊎ enough
+      → HasHandedOn look.output look.report mid ⊎ enough
       → Writes look.output look.report mid after texts
-      → HandedOn look out_handed report_handed enough (place_of old before) (place_of new after)
+      → HandedOn look enough (place_of old before) (place_of new after)
   handed_by texts kept held wrote = record {
     output = mid.output;
     report = mid.report;
@@ -39,18 +38,18 @@ module _ {R W E : Type 0} (look : Looks R W E) {out_handed : W → Option (List 
   -- the same, by the result of the write, which did not fail
   pub handed_written : (texts : Texts) (written : Result (Unit {0}) IoFault)
       → Writes look.output look.report before mid (on_output [])
-      → HasHandedOn look.output look.report out_handed report_handed mid ⊎ enough
+      → HasHandedOn look.output look.report mid ⊎ enough
       → AfterWrite look.output look.report mid after texts written
       → (progress_after written ≡ Err io.Write → ⊥)
-      → HandedOn look out_handed report_handed enough (place_of old before) (place_of new after)
+      → HandedOn look enough (place_of old before) (place_of new after)
   handed_written texts (Ok done) kept held writes other = handed_by texts kept held writes
   handed_written texts (Err fault) kept held part other = absurd (other (ap Err part.kind))
 
   -- a later step reads nothing, and writes more texts
   pub handed_later : {between : Source R} (texts : Texts)
-      → HandedOn look out_handed report_handed enough (place_of old before) (place_of between mid)
+      → HandedOn look enough (place_of old before) (place_of between mid)
       → Writes look.output look.report mid after texts
-      → HandedOn look out_handed report_handed enough (place_of old before) (place_of new after)
+      → HandedOn look enough (place_of old before) (place_of new after)
   handed_later texts handed writes = record {
     output = handed.output;
     report = handed.report;
@@ -68,19 +67,19 @@ module _ {R W E : Type 0} (look : Looks R W E) {out_handed : W → Option (List 
 
   -- the same, by the result of the write, which did not fail
   pub handed_then : {between : Source R} (texts : Texts) (written : Result (Unit {0}) IoFault)
-      → HandedOn look out_handed report_handed enough (place_of old before) (place_of between mid)
+      → HandedOn look enough (place_of old before) (place_of between mid)
       → AfterWrite look.output look.report mid after texts written
       → (progress_after written ≡ Err io.Write → ⊥)
-      → HandedOn look out_handed report_handed enough (place_of old before) (place_of new after)
+      → HandedOn look enough (place_of old before) (place_of new after)
   handed_then texts (Ok done) handed writes other = handed_later texts handed writes
   handed_then texts (Err fault) handed part other = absurd (other (ap Err part.kind))
 
   -- the same, if only that is known of the texts
   pub handed_some : {between : Source R} (written : Result (Unit {0}) IoFault)
-      → HandedOn look out_handed report_handed enough (place_of old before) (place_of between mid)
+      → HandedOn look enough (place_of old before) (place_of between mid)
       → WritesSome look.output look.report mid after written
       → (progress_after written ≡ Err io.Write → ⊥)
-      → HandedOn look out_handed report_handed enough (place_of old before) (place_of new after)
+      → HandedOn look enough (place_of old before) (place_of new after)
   handed_some (Ok done) handed some other = handed_later some.0 handed some.1
   handed_some (Err fault) handed kind other = absurd (other (ap Err kind))
 
@@ -105,14 +104,13 @@ module _ {R W E : Type 0} (look : Looks R W E) (old new : Session R)
       let P : Stop → Type 0 = λ w. AfterEnd look.output look.report w mid after answer in
       (subst P is gives).0
 
-module _ {R W E : Type 0} (look : Looks R W E) {out_handed : W → Option (List ℕ)}
-    {report_handed : E → Option (List ℕ)} (old new : Session R)
+module _ {R W E : Type 0} (look : Looks R W E) (old new : Session R)
     (before mid after : Writers W E) where
   ended_on : (why : Stop) (answer : Result Status IoFault)
       → AfterEnd look.output look.report why mid after answer → (answer ≡ Err io.Write → ⊥)
       → Writes look.output look.report before mid (on_output [])
-      → HasHandedOn look.output look.report out_handed report_handed mid ⊎ HasEnough look.input old
-      → HandsOn look out_handed report_handed old new before after
+      → HasHandedOn look.output look.report mid ⊎ HasEnough look.input old
+      → HandsOn look old new before after
   ended_on (stop.Wire offset fault) (Ok status) gives other kept held =
       handed_by look (source_of old) (source_of new) before mid after _ kept held gives.0
   ended_on (stop.Wire offset fault) (Err failure) gives other kept held =
@@ -129,8 +127,8 @@ module _ {R W E : Type 0} (look : Looks R W E) {out_handed : W → Option (List 
       ⊎ NotHandedOn look old new before mid why
       → AfterEnd look.output look.report why mid after answer → (answer ≡ Err io.Write → ⊥)
       → ((why ≡ stop.Io io.Write → ⊥)
-      → HasHandedOn look.output look.report out_handed report_handed mid ⊎ HasEnough look.input old)
-      → HandsOn look out_handed report_handed old new before after
+      → HasHandedOn look.output look.report mid ⊎ HasEnough look.input old)
+      → HandsOn look old new before after
   handed_at_end why answer got gives other held =
       ⊎_elim
       (λ read. ended_on why answer gives other read.0

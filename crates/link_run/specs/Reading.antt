@@ -73,23 +73,20 @@ ReadsBytes look old new before after (Err fault) =
 
 -- Nothing is held back while a read waits: everything written was handed on, or the session has
 -- enough bytes left for what comes next.
-abbrev pub HoldsNothingBack : {R W E : Type 0} → Looks R W E
-    → (W → Option (List ℕ)) → (E → Option (List ℕ)) → Session R → Writers W E → Type 0
-HoldsNothingBack look out_handed report_handed session after =
+abbrev pub HoldsNothingBack : {R W E : Type 0} → Looks R W E → Session R → Writers W E → Type 0
+HoldsNothingBack look session after =
     (history : List ℕ) → IsSessionAt look.input session history
-    → HasHandedOn look.output look.report out_handed report_handed after
-    ⊎ HasNext look.input session
+    → HasHandedOn look.output look.report after ⊎ HasNext look.input session
 
 -- what holds after a call that reads the head of the next message into `message`
-pub record GetsMessage {R W E : Type 0} (look : Looks R W E) (out_handed : W → Option (List ℕ))
-    (report_handed : E → Option (List ℕ)) (old new : Session R) (before after : Writers W E)
+pub record GetsMessage {R W E : Type 0} (look : Looks R W E)
+    (old new : Session R) (before after : Writers W E)
     (message : MessageBuffer) (result : Result (Option ℕ) Stop) : Type 0 where
   pub opened : IsTrue (is_opened new)
   pub gives : (history : List ℕ) → IsSessionAt look.input old history
       → ReadsMessage look old new before after history
       (with_message_read (message_of message) result)
-  pub handed : (result ≡ Err (stop.Io io.Write) → ⊥)
-      → HoldsNothingBack look out_handed report_handed old after
+  pub handed : (result ≡ Err (stop.Io io.Write) → ⊥) → HoldsNothingBack look old after
   -- the items of a segment have their totals
   pub totals : IfOk result (λ got. IfSome got (λ offset. SegmentHasTotals message))
   pub left : IfErr result (λ why. left_of new ≡ left_of old)
@@ -98,8 +95,6 @@ pub record GetsMessage {R W E : Type 0} (look : Looks R W E) (out_handed : W →
       → (new ≡ old) × (after ≡ before) × (result ≡ Err why)
 
 -- everything written was handed on, or the input has a byte left
-abbrev pub HoldsNoBytesBack : {R W E : Type 0} → Looks R W E
-    → (W → Option (List ℕ)) → (E → Option (List ℕ)) → Source R → Writers W E → Type 0
-HoldsNoBytesBack look out_handed report_handed source after =
-    HasHandedOn look.output look.report out_handed report_handed after
-    ⊎ HasBytes (ahead look.input source)
+abbrev pub HoldsNoBytesBack : {R W E : Type 0} → Looks R W E → Source R → Writers W E → Type 0
+HoldsNoBytesBack look source after =
+    HasHandedOn look.output look.report after ⊎ HasBytes (ahead look.input source)

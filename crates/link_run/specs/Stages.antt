@@ -52,24 +52,23 @@ AfterStageStride look made start begun old new knows most history result =
 -- Nothing was held back while a step waited for input. At its read the writers were `output` and
 -- `report`. By then everything written had been handed on, or the input had enough bytes left. The
 -- texts of the step itself were written after the read.
-pub record HandedOn {R W E : Type 0} (look : Looks R W E) (out_handed : W → Option (List ℕ))
-    (report_handed : E → Option (List ℕ)) (enough : Type 0) (old new : Place R W E) : Type 0 where
+pub record HandedOn {R W E : Type 0} (look : Looks R W E) (enough : Type 0)
+    (old new : Place R W E) : Type 0 where
   pub output : W
   pub report : E
   pub output_kept : Appends (look.output old.output).written (look.output output).written []
   pub report_kept : Appends (look.report old.report).written (look.report report).written []
-  pub held : ((out_handed output ≡ (look.output output).written)
-      × (report_handed report ≡ (look.report report).written)) ⊎ enough
+  pub held : (((look.output output).handed ≡ (look.output output).written)
+      × ((look.report report).handed ≡ (look.report report).written)) ⊎ enough
   pub texts : Texts
   pub writes : Appends (look.output output).written (look.output new.output).written texts.output
   pub reports : Appends (look.report report).written (look.report new.report).written texts.report
 
 -- as `HandedOn`, for a stage that reads a session
-abbrev pub HandsOn : {R W E : Type 0} → Looks R W E
-    → (W → Option (List ℕ)) → (E → Option (List ℕ))
-    → (old new : Session R) → (before after : Writers W E) → Type 0
-HandsOn look out_handed report_handed old new before after =
-    HandedOn look out_handed report_handed (HasEnough look.input old)
+abbrev pub HandsOn : {R W E : Type 0} → Looks R W E → (old new : Session R)
+    → (before after : Writers W E) → Type 0
+HandsOn look old new before after =
+    HandedOn look (HasEnough look.input old)
     (place_of (source_of old) before) (place_of (source_of new) after)
 
 -- the step was not the last

@@ -106,10 +106,8 @@ module _ {W E : Type 0} (out_look : W → Output) (report_look : E → Output) w
   AfterSettle old new (Ok done) = Writes old new (on_output [])
   AfterSettle old new (Err fault) = Unsettled old new fault
 
--- No writer holds back anything that was written. The functions `out_handed` and `report_handed`
--- give what a writer has handed on.
+-- No writer holds back anything that was written.
 pub record HasHandedOn {W E : Type 0} (out_look : W → Output) (report_look : E → Output)
-    (out_handed : W → Option (List ℕ)) (report_handed : E → Option (List ℕ))
     (writers : Writers W E) : Type 0 where
-  pub output : out_handed writers.output ≡ (out_look writers.output).written
-  pub report : report_handed writers.report ≡ (report_look writers.report).written
+  pub output : (out_look writers.output).handed ≡ (out_look writers.output).written
+  pub report : (report_look writers.report).handed ≡ (report_look writers.report).written

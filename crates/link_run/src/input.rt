@@ -94,6 +94,7 @@ impl<S> Input<S> {
 impl<R: InDevice> Input<Session<R>> {
     ghost use Rattle.std.specs.Prelude.{◌≤◌, None, take};
     ghost use Rattle.link_wire.specs.Session.{source_of, may_open, HasNext, PassedBytes, AfterOpen};
+    ghost use Rattle.link_wire.specs.Source.{reach};
     ghost use Rattle.link_wire.specs.Whole.{ReadWhole, PassedQuiet};
     ghost use Rattle.link_run.specs.Reading.{inner_of};
 
@@ -126,7 +127,7 @@ impl<R: InDevice> Input<Session<R>> {
         message: &mut MessageBuffer,
     ) -> Result<Option<u64>, Stop>
         requires { IsTrue (may_read (inner_of self.old)) }
-        ensures { GetsMessage (looks R.state W.state E.state) W.handed E.handed
+        ensures { GetsMessage (looks R.state W.state E.state)
             (inner_of self.old) (inner_of self.new) writers.old writers.new message.new result }
     {
         match self.inner.next_here(message) {
@@ -155,6 +156,8 @@ impl<R: InDevice> Input<Session<R>> {
         ensures shrinks { IfSome result (λ offset.
             length (window_of (source_of (inner_of self.new)))
             < length (window_of (source_of (inner_of self.old)))) }
+        ensures unread { reach R.state (source_of (inner_of self.new))
+            ≡ reach R.state (source_of (inner_of self.old)) }
     {
         self.inner.next_whole(message)
     }
@@ -174,6 +177,8 @@ impl<R: InDevice> Input<Session<R>> {
         ensures stopped { (stop : _) → HasStopped (inner_of self.old) stop → result ≡ 0 }
         ensures here { (history : List ℕ) → IsSessionAt R.state (inner_of self.old) history
             → 0 < result → HasNext R.state (inner_of self.old) }
+        ensures unread { reach R.state (source_of (inner_of self.new))
+            ≡ reach R.state (source_of (inner_of self.old)) }
     {
         self.inner.pass_quiet()
     }
@@ -199,7 +204,7 @@ impl<R: InDevice> Input<Session<R>> {
             → ReadsData (looks R.state W.state E.state) (inner_of self.old) (inner_of self.new)
             writers.old writers.new history result }
         ensures handed { (result ≡ Err (Stop.Io IoFault.Write) → ⊥)
-            → HoldsNothingBack (looks R.state W.state E.state) W.handed E.handed
+            → HoldsNothingBack (looks R.state W.state E.state)
             (inner_of self.old) writers.new }
         ensures left { IfErr result
             (λ _. left_of (inner_of self.new) ≡ left_of (inner_of self.old)) }
@@ -232,6 +237,8 @@ impl<R: InDevice> Input<Session<R>> {
         ensures none { count ≡ 0 → self.new ≡ self.old }
         ensures stopped { (stop : _) → HasStopped (inner_of self.old) stop
             → HasStopped (inner_of self.new) stop }
+        ensures unread { reach R.state (source_of (inner_of self.new))
+            ≡ reach R.state (source_of (inner_of self.old)) }
     {
         self.inner.pass(count);
     }
@@ -251,7 +258,7 @@ impl<R: InDevice> Input<Session<R>> {
 impl<R: InDevice> Input<Source<R>> {
     ghost use Rattle.std.specs.Prelude.{◌≤◌, Ok, take};
     ghost use Rattle.link_wire.specs.Bytes.{AreBytes};
-    ghost use Rattle.link_wire.specs.Source.{front_of, Takes};
+    ghost use Rattle.link_wire.specs.Source.{front_of, reach, Takes};
     ghost use Rattle.link_run.specs.Reading.{inner_of};
 
     /// Makes bytes ready, as [`Source::ready_front`] does, and returns how many are at hand: 0 at
@@ -274,7 +281,7 @@ impl<R: InDevice> Input<Source<R>> {
             × (writers.new ≡ writers.old)
             × (result ≡ Ok (length (front_of R.state (inner_of self.old)))) }
         ensures handed { (result ≡ Err IoFault.Write → ⊥)
-            → HoldsNoBytesBack (looks R.state W.state E.state) W.handed E.handed
+            → HoldsNoBytesBack (looks R.state W.state E.state)
             (inner_of self.old) writers.new }
         ensures line { next_line writers.new ≡ next_line writers.old }
         ensures ended { HasEnded (inner_of self.old) → (self.new ≡ self.old)
@@ -309,6 +316,7 @@ impl<R: InDevice> Input<Source<R>> {
             (take count (front_of R.state (inner_of self.old))) }
         ensures live { IsLive R.state (inner_of self.old) → IsLive R.state (inner_of self.new) }
         ensures none { count ≡ 0 → self.new ≡ self.old }
+        ensures unread { reach R.state (inner_of self.new) ≡ reach R.state (inner_of self.old) }
     {
         self.inner.give_front(count);
     }
@@ -323,7 +331,7 @@ fn read_message<R: InDevice, W: OutDevice, E: OutDevice>(
     message: &mut MessageBuffer,
 ) -> Result<Option<u64>, Stop>
     requires { IsTrue (may_read session.old) }
-    ensures { GetsMessage (looks R.state W.state E.state) W.handed E.handed
+    ensures { GetsMessage (looks R.state W.state E.state)
         session.old session.new writers.old writers.new message.new result }
 {
     settle_before(session, writers)?;
@@ -342,7 +350,7 @@ fn settle_before<R: InDevice, W: OutDevice, E: OutDevice>(
         (NotHandedOn (looks R.state W.state E.state) session.now session.now
         writers.old writers.new) }
     ensures handed { OnOk result
-        (HoldsNothingBack (looks R.state W.state E.state) W.handed E.handed
+        (HoldsNothingBack (looks R.state W.state E.state)
         session.now writers.new) }
     ensures line { next_line writers.new ≡ next_line writers.old }
     ensures stopped { (stop : _) → HasStopped session.now stop
@@ -370,7 +378,7 @@ fn settle_before_bytes<R: InDevice, W: OutDevice, E: OutDevice>(
         (λ fault. (length (window_of source.now) < window_size)
         × Unsettled W.state E.state writers.old writers.new fault) }
     ensures handed { OnOk result
-        (HoldsNoBytesBack (looks R.state W.state E.state) W.handed E.handed
+        (HoldsNoBytesBack (looks R.state W.state E.state)
         source.now writers.new) }
     ensures line { next_line writers.new ≡ next_line writers.old }
 {

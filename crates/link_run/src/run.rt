@@ -107,7 +107,7 @@ pub trait Run<R: InDevice, W: OutDevice, E: OutDevice>: Sized {
             (place self.new) (stands self.new start) (most self.old) history result }
         ensures handed { (start : Devices R W E) (history : List ℕ) → stands self.old start history
             → 0 < most self.old → (result ≡ Err IoFault.Write → ⊥)
-            → HandedOn (looks R.state W.state E.state) W.handed E.handed (has_next self.old)
+            → HandedOn (looks R.state W.state E.state) (has_next self.old)
             (place self.old) (place self.new) }
         ensures goes_on { most self.new ≡ 0 → EndsRun result }
         ensures ends { EndsRun result → has_ended self.new result }
@@ -116,9 +116,9 @@ pub trait Run<R: InDevice, W: OutDevice, E: OutDevice>: Sized {
 
     /// Does at least one step, and as many more as the bytes at hand allow: a *stride*.
     ///
-    /// It leaves what that many steps would have left, one after another, and it ends at the first
-    /// fault, failure or end. What was written before it is handed on as [`Run::step`] does it. It
-    /// has no bound on the bytes that it is given.
+    /// After it, the texts are those that the bytes given determine, as after a step. What was
+    /// written before it is handed on as [`Run::step`] does it. No clause bounds the bytes that it
+    /// is given, or says that none of them comes after a fault.
     ///
     /// # Errors
     ///
@@ -130,7 +130,7 @@ pub trait Run<R: InDevice, W: OutDevice, E: OutDevice>: Sized {
             (place self.new) (stands self.new start) (most self.old) history result }
         ensures handed { (start : Devices R W E) (history : List ℕ) → stands self.old start history
             → 0 < most self.old → (result ≡ Err IoFault.Write → ⊥)
-            → HandedOn (looks R.state W.state E.state) W.handed E.handed (has_next self.old)
+            → HandedOn (looks R.state W.state E.state) (has_next self.old)
             (place self.old) (place self.new) }
         ensures goes_on { most self.new ≡ 0 → EndsRun result }
         ensures ends { EndsRun result → has_ended self.new result }

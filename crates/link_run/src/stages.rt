@@ -53,7 +53,7 @@ pub trait Stages<S: Feed, W: OutDevice, E: OutDevice>: Sized {
         ensures goes_on { most self.new ≡ 0 → EndsRun result }
         ensures handed { (history : List ℕ) → knows self.old (inner_of input.old) history
             → 0 < most self.old → (result ≡ Err IoFault.Write → ⊥)
-            → HandedOn (looks S.Reader.state W.state E.state) W.handed E.handed
+            → HandedOn (looks S.Reader.state W.state E.state)
             (S.has_next (inner_of input.old))
             (place_of (S.source (inner_of input.old)) writers.old)
             (place_of (S.source (inner_of input.new)) writers.new) };
@@ -81,7 +81,7 @@ pub trait Stages<S: Feed, W: OutDevice, E: OutDevice>: Sized {
         ensures goes_on { most self.new ≡ 0 → EndsRun result }
         ensures handed { (history : List ℕ) → knows self.old (inner_of input.old) history
             → 0 < most self.old → (result ≡ Err IoFault.Write → ⊥)
-            → HandedOn (looks S.Reader.state W.state E.state) W.handed E.handed
+            → HandedOn (looks S.Reader.state W.state E.state)
             (S.has_next (inner_of input.old))
             (place_of (S.source (inner_of input.old)) writers.old)
             (place_of (S.source (inner_of input.new)) writers.new) }

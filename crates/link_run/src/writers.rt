@@ -115,9 +115,9 @@ impl<W: OutDevice, E: OutDevice> Writers<W, E> {
     /// report.
     pub fn settle(&mut self) -> Result<(), IoFault>
         ensures gives { AfterSettle W.state E.state self.old self.new result }
-        ensures output { OnOk result (W.handed self.new.output
+        ensures output { OnOk result ((W.state self.new.output).handed
             ≡ (W.state self.new.output).written) }
-        ensures report { OnOk result (E.handed self.new.report
+        ensures report { OnOk result ((E.state self.new.report).handed
             ≡ (E.state self.new.report).written) }
         ensures line { next_line self.new ≡ next_line self.old }
     {

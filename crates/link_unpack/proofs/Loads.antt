@@ -104,8 +104,7 @@ load_ended {history} u old new before mid after most stood at why answer got giv
     data_ended (by_reading wanted) (made_is wanted) old new before mid after stood at.session_at
     most (stop_is wanted (reading_of history) at.taken) why answer got gives
 
-pub load_handed : {R W E : Type 0} {look : Looks R W E} {out_handed : W → Option (List ℕ)}
-    {report_handed : E → Option (List ℕ)} {history : List ℕ} (old new : Session R)
+pub load_handed : {R W E : Type 0} {look : Looks R W E} {history : List ℕ} (old new : Session R)
     (before mid after : Writers W E) (why : Stop) (answer : Result Status IoFault)
     → IsSessionAt look.input old history
     → ((history : List ℕ) → IsSessionAt look.input old history
@@ -113,8 +112,8 @@ pub load_handed : {R W E : Type 0} {look : Looks R W E} {out_handed : W → Opti
     → AfterEnd look.output look.report why mid after answer
     → (next.Ended answer ≡ next.Ended (Err io.Write) → ⊥)
     → ((◌≡◌ {A = Result ℕ Stop} (Err why) (Err (stop.Io io.Write)) → ⊥)
-    → HoldsNothingBack look out_handed report_handed old mid)
-    → HandsOn look out_handed report_handed old new before after
+    → HoldsNothingBack look old mid)
+    → HandsOn look old new before after
 load_handed {look} {history} old new before mid after why answer session got gives other held =
     handed_at_end look old new before mid after why answer (got history session) gives
     (λ e. other (ap next.Ended e))

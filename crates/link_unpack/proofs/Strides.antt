@@ -152,15 +152,14 @@ module _ {R W E : Type 0} (look : Looks R W E) (start : Devices R W E) (wanted :
   stride_kept (next.Ended (Ok status)) far = (far.0, λ some. far.1, far.2)
   stride_kept (next.Ended (Err fault)) far = (far.0, λ some. far.1, far.2)
 
-module _ {R W E : Type 0} (look : Looks R W E) {out_handed : W → Option (List ℕ)}
-    {report_handed : E → Option (List ℕ)} (old mid new : Session R)
+module _ {R W E : Type 0} (look : Looks R W E) (old mid new : Session R)
     (before between after : Writers W E) where
   -- a later step reads nothing, and writes more texts
   pub handed_more : (result : Next)
-      → HandsOn look out_handed report_handed old mid before between
+      → HandsOn look old mid before between
       → WritesNext look.output look.report between after result
       → (result ≡ next.Ended (Err io.Write) → ⊥)
-      → HandsOn look out_handed report_handed old new before after
+      → HandsOn look old new before after
   handed_more (next.Stage now) handed wrote other =
       handed_later look (source_of old) (source_of new) before between after
       {between = source_of mid} wrote.0 handed wrote.1

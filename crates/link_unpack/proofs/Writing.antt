@@ -61,28 +61,27 @@ then_next out_look report_look old mid new texts (next.Ended (Ok status)) had mo
     (texts then more.0, writes_then out_look report_look old mid new texts more.0 had more.1)
 then_next out_look report_look old mid new texts (next.Ended (Err fault)) had kind = kind
 
-module _ {R W E : Type 0} (look : Looks R W E) {out_handed : W → Option (List ℕ)}
-    {report_handed : E → Option (List ℕ)} (old new : Session R)
+module _ {R W E : Type 0} (look : Looks R W E) (old new : Session R)
     (before mid after : Writers W E) where
   -- texts that a step writes after its read were not held back during the read
   pub handed_some : {B : Type 0} (result : Result B IoFault)
       → Writes look.output look.report before mid (on_output [])
-      → HasHandedOn look.output look.report out_handed report_handed mid
+      → HasHandedOn look.output look.report mid
       ⊎ HasEnough look.input old
       → WritesSome look.output look.report mid after result
       → ((kind : result ≡ Err io.Write) → ⊥)
-      → HandsOn look out_handed report_handed old new before after
+      → HandsOn look old new before after
   handed_some (Ok value) kept held wrote other =
       handed_by look (source_of old) (source_of new) before mid after wrote.0 kept held wrote.1
   handed_some (Err fault) kept held kind other = absurd (other (ap Err kind))
 
   -- the same, by what comes next
   pub handed_next : (result : Next) → Writes look.output look.report before mid (on_output [])
-      → HasHandedOn look.output look.report out_handed report_handed mid
+      → HasHandedOn look.output look.report mid
       ⊎ HasEnough look.input old
       → WritesNext look.output look.report mid after result
       → (result ≡ next.Ended (Err io.Write) → ⊥)
-      → HandsOn look out_handed report_handed old new before after
+      → HandsOn look old new before after
   handed_next (next.Stage stage) kept held wrote other =
       handed_by look (source_of old) (source_of new) before mid after wrote.0 kept held wrote.1
   handed_next (next.Ended (Ok status)) kept held wrote other =

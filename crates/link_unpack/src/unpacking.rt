@@ -171,7 +171,7 @@ fn stride_from<R: InDevice, W: OutDevice, E: OutDevice>(
     ensures handed { (history : List ℕ)
         → IsUnpacking R.state stage unpacker.old (inner_of input.old) history
         → (result ≡ Next.Ended (Err IoFault.Write) → ⊥)
-        → HandsOn (looks R.state W.state E.state) W.handed E.handed (inner_of input.old)
+        → HandsOn (looks R.state W.state E.state) (inner_of input.old)
         (inner_of input.new) writers.old writers.new }
     ensures wanted { unpacker.new.latest.wanted ≡ unpacker.old.latest.wanted }
 {
@@ -203,7 +203,7 @@ fn stride_message<R: InDevice, W: OutDevice, E: OutDevice>(
     ensures handed { (history : List ℕ)
         → Unpacks R.state Stage.Message (inner_of input.old) unpacker.old history
         → (result ≡ Next.Ended (Err IoFault.Write) → ⊥)
-        → HandsOn (looks R.state W.state E.state) W.handed E.handed (inner_of input.old)
+        → HandsOn (looks R.state W.state E.state) (inner_of input.old)
         (inner_of input.new) writers.old writers.new }
     ensures wanted { unpacker.new.latest.wanted ≡ unpacker.old.latest.wanted }
 {
@@ -268,7 +268,7 @@ fn advance<R: InDevice, W: OutDevice, E: OutDevice>(
     ensures handed { (history : List ℕ)
         → IsUnpacking R.state stage unpacker.old (inner_of input.old) history
         → (result ≡ Next.Ended (Err IoFault.Write) → ⊥)
-        → HandsOn (looks R.state W.state E.state) W.handed E.handed (inner_of input.old)
+        → HandsOn (looks R.state W.state E.state) (inner_of input.old)
         (inner_of input.new) writers.old writers.new }
     ensures wanted { unpacker.new.latest.wanted ≡ unpacker.old.latest.wanted }
 {
@@ -296,7 +296,7 @@ fn open<R: InDevice, W: OutDevice, E: OutDevice>(
         Stage.Contact (inner_of input.old) (inner_of input.new) writers.new unpacker.now history
         result }
     ensures handed { (result ≡ Next.Ended (Err IoFault.Write) → ⊥)
-        → HandsOn (looks R.state W.state E.state) W.handed E.handed (inner_of input.old)
+        → HandsOn (looks R.state W.state E.state) (inner_of input.old)
         (inner_of input.new) writers.old writers.new }
 {
     match input.open() {
@@ -325,7 +325,7 @@ fn take_message<R: InDevice, W: OutDevice, E: OutDevice>(
     ensures handed { (history : List ℕ)
         → Unpacks R.state Stage.Message (inner_of input.old) unpacker.old history
         → (result ≡ Next.Ended (Err IoFault.Write) → ⊥)
-        → HandsOn (looks R.state W.state E.state) W.handed E.handed (inner_of input.old)
+        → HandsOn (looks R.state W.state E.state) (inner_of input.old)
         (inner_of input.new) writers.old writers.new }
     ensures wanted { unpacker.new.latest.wanted ≡ unpacker.old.latest.wanted }
 {
@@ -456,7 +456,7 @@ fn pass_stray<R: InDevice, W: OutDevice, E: OutDevice>(
     ensures handed { (history : List ℕ)
         → Unpacks R.state Stage.Stray (inner_of input.old) unpacker.now history
         → (result ≡ Next.Ended (Err IoFault.Write) → ⊥)
-        → HandsOn (looks R.state W.state E.state) W.handed E.handed (inner_of input.old)
+        → HandsOn (looks R.state W.state E.state) (inner_of input.old)
         (inner_of input.new) writers.old writers.new }
 {
     let size = match input.load_data(writers) {
@@ -533,7 +533,7 @@ fn take_data<R: InDevice, W: OutDevice, E: OutDevice>(
     ensures handed { (history : List ℕ)
         → Unpacks R.state (Stage.Data last) (inner_of input.old) unpacker.old history
         → (result ≡ Next.Ended (Err IoFault.Write) → ⊥)
-        → HandsOn (looks R.state W.state E.state) W.handed E.handed (inner_of input.old)
+        → HandsOn (looks R.state W.state E.state) (inner_of input.old)
         (inner_of input.new) writers.old writers.new }
     ensures wanted { unpacker.new.latest.wanted ≡ unpacker.old.latest.wanted }
 {

@@ -1,10 +1,10 @@
 -- How each call of a session changes its state.
-use Rattle.std.proofs.Common.{⊎_elim, ◌≡◌, ℕ, ◌+◌, ◌<◌, ◌≤◌, true, eqb, eqb-true, List, [], ◌∷◌, ◌++◌, length, take, Some, Result, Ok, Err, arith, refl, ap, sym, ◌∙◌, subst, append_assoc, append-nil, length-append}
+use Rattle.std.proofs.Common.{⊎_elim, ◌⊎◌, inl, inr, ◌≡◌, ℕ, ◌+◌, ◌<◌, ◌≤◌, true, eqb, eqb-true, List, [], ◌∷◌, ◌++◌, length, take, drop, Some, Result, Ok, Err, arith, refl, ap, sym, ◌∙◌, subst, append_assoc, append-nil, length-append}
 use Rattle.std.specs.Prelude.{IsErrAnd}
 use Rattle.std.proofs.lemmas.Bool.{cases_lt}
-use Rattle.std.proofs.lemmas.List.{nil_from_length}
+use Rattle.std.proofs.lemmas.List.{nil_from_length, take-append-drop}
 use Rattle.link_io.specs.Device.{Input}
-use Rattle.link_wire.specs.Part.{number_at}
+use Rattle.link_wire.specs.Part.{Part, number_at}
 use Rattle.link_wire.specs.Message.{contact_at, message_at, fields_at, data_length}
 use Rattle.link_io.specs.Source.{window_of, is_fresh, IsSourceAt, IsLive, IsOver, Takes, Readies}
 use Rattle.link_wire.specs.Limits.{window_size}
@@ -15,9 +15,10 @@ use Rattle.link_io.proofs.Sources.{and_true, fresh_at, fresh_live, IsSourceAt-th
 use Rattle.link_wire.proofs.Gettings.{after, IsFault-then, cut_then}
 use Rattle.link_wire.proofs.FieldReads.{IsPart-byte}
 use Rattle.link_wire.proofs.Shrinks.{shrinks_message}
-use Rattle.link_wire.proofs.Within.{within_contact, within_message, part_size, needed_size}
+use Rattle.link_wire.proofs.Steady.{steady_contact, steady_message}
+use Rattle.link_wire.proofs.Within.{Steady, within_contact, within_message, part_size, needed_size}
 use Rattle.link_wire.proofs.Streams.{stream_at-head, stream_at-fault}
-use Rattle.link_wire.proofs.Contacts.{contact_taken, reading-contact, reading-refused}
+use Rattle.link_wire.proofs.Contacts.{contact_taken, reading-contact, reading-refused, reading-none}
 use Rattle.link_wire.proofs.Rests.{appended, begun, begun_by, begun_left, data_by, data_left, clean_end, settled, goes_on_from}
 use Rattle.link_wire.specs.Halt.{stop_at}
 use Rattle.link_wire.specs.Whole.{followed, AreMessages, PassedMessages, ReadWhole}
@@ -67,12 +68,32 @@ none_left s reading may = eqb-true s.left 0 (ap (λ p. reads_next p s.left) (sym
 
 -- ---- the contact header
 
--- no proper prefix of the bytes that a contact header needs shows a fault
+-- a proper prefix of the bytes that a contact header needs has none, and shows no fault
 contact_shown : (given : List ℕ) → Needs contact_at given → ShownLast [] given
 contact_shown given needs = λ count fewer.
     let read = reading-refused (take count given) wire.Truncated (needs count fewer) in
-    let P : End → Type 0 = IsUndecided in
-    subst P (sym (ap (λ (r : Reading). r.end) read)) refl
+    rw (read, reading-none) (record { contact = refl; entries = refl }, refl)
+
+-- whether a field is missing
+is_missing : (fault : WireFault) → (fault ≡ wire.Truncated) ⊎ (fault ≡ wire.Truncated → ⊥)
+is_missing wire.Truncated = inl refl
+is_missing fault = inr (λ is. cc)
+
+-- if a field is missing in some bytes, one is missing in each prefix of them
+module _ {A : Type 0} (part : List ℕ → Part A) (steady : Steady part) (bytes more : List ℕ)
+    (cut : part (bytes ++ more) ≡ Err wire.Truncated) where
+  cut_by : (read : Part A) → part bytes ≡ read → part bytes ≡ Err wire.Truncated
+  cut_by (Ok (value, rest)) is = absurd (cc (steady.read bytes more value rest is))
+  cut_by (Err fault) is =
+      ⊎_elim (λ missing. is ∙ ap Err missing)
+      (λ other. absurd (other (cc (steady.faulty bytes more fault other is))))
+      (is_missing fault)
+
+needs_by : {A : Type 0} (part : List ℕ → Part A) (bytes : List ℕ) → Steady part
+    → part bytes ≡ Err wire.Truncated → Needs part bytes
+needs_by part bytes steady cut = λ count fewer.
+    let first = take count bytes in
+    cut_by part steady first (drop count bytes) (ap part (take-append-drop count bytes) ∙ cut) (part first) refl
 
 module _ {R : Type 0} {look : R → Input} where
   -- the state of a session after a part of the stream has been added to the reading
@@ -115,6 +136,7 @@ module _ {R : Type 0} {look : R → Input} where
         takes = got.by.takes;
         reading = settled begins given (ended Clean) new.offset new.left (length given) is reads;
         size = six;
+        shown_last = contact_shown given got.by.is.needs;
         at = stands new given begins (ended Clean) contact (IsSourceAt-then look old.source new.source [] given got.by.takes (opens_at look old fresh)) got.by.live going refl is (λ _. got.by.takes.window.less (omega (arith, six))) reads;
         between = none;
       }
@@ -135,6 +157,7 @@ module _ {R : Type 0} {look : R → Input} where
     given = met.by.given;
     stops = met.by.stops;
     size = within_contact.cut met.by.given met.by.is_cut;
+    shown_last = contact_shown met.by.given (needs_by contact_at met.by.given steady_contact met.by.is_cut);
     reading = reading-refused met.by.given wire.Truncated met.by.is_cut;
     stopped = stopped;
   }
@@ -156,6 +179,25 @@ module _ {R : Type 0} {look : R → Input} where
         → reading_of (history ++ bytes)
         ≡ joined (reading_of history) (stream_at (length history) bytes)
     from_here bytes = at.goes_on bytes ∙ ap (λ end. joined (reading_of history) (rest_after (length history) old.left end bytes)) clean
+
+    -- bytes that end inside a head do not change the messages, and more bytes may mend the end
+    cut_here : (given : List ℕ) → message_at given ≡ Err wire.Truncated
+        → SameMessages (reading_of history) (reading_of (history ++ given))
+        × IsUndecided (reading_of (history ++ given)).end
+    cut_here [] is = rw append-nil (record { contact = refl; entries = refl }, rw clean tt)
+    cut_here (kind ∷ given) is =
+        let read = from_here (kind ∷ given) ∙ ap (joined (reading_of history)) (stream_at-fault (length history) kind given wire.Truncated is) in
+        let P : End → Type 0 = IsUndecided in (
+          record {
+            contact = ap (λ (r : Reading). r.contact) read;
+            entries = ap (λ (r : Reading). r.entries) read ∙ append-nil (reading_of history).entries;
+          },
+          subst P (sym (ap (λ (r : Reading). r.end) read)) refl,
+        )
+
+    -- a proper prefix of the bytes that a head needs makes no message, and shows no fault
+    head_shown : (given : List ℕ) → Needs message_at given → ShownLast history given
+    head_shown given needs = λ count fewer. cut_here (take count given) (needs count fewer)
 
     -- the head of a message was read
     pub came : (new : Session R) (message : Message)
@@ -182,6 +224,7 @@ module _ {R : Type 0} {look : R → Input} where
           size = part_size within_message given message got.is;
           offset_is = refl;
           left = left;
+          shown_last = head_shown given got.is.needs;
           reading = settled (reading_of history) (history ++ given) (begun here message) new.offset new.left (length (history ++ given)) is reads;
           at = stands new (history ++ given) (reading_of history) (begun here message) at.contact (IsSourceAt-then look old.source new.source history given got.takes at.at) got.live going at.has_contact is (λ _. got.takes.window.less some) reads;
         }
@@ -228,21 +271,6 @@ module _ {R : Type 0} {look : R → Input} where
             passed = passed one (subst P (sym parts) (one_message (length history) head content message is size));
           }
 
-    -- bytes that end inside a head do not change the messages, and more bytes may mend the end
-    cut_here : (given : List ℕ) → message_at given ≡ Err wire.Truncated
-        → SameMessages (reading_of history) (reading_of (history ++ given))
-        × IsUndecided (reading_of (history ++ given)).end
-    cut_here [] is = rw append-nil (record { contact = refl; entries = refl }, rw clean tt)
-    cut_here (kind ∷ given) is =
-        let read = from_here (kind ∷ given) ∙ ap (joined (reading_of history)) (stream_at-fault (length history) kind given wire.Truncated is) in
-        let P : End → Type 0 = IsUndecided in (
-          record {
-            contact = ap (λ (r : Reading). r.contact) read;
-            entries = ap (λ (r : Reading). r.entries) read ∙ append-nil (reading_of history).entries;
-          },
-          subst P (sym (ap (λ (r : Reading). r.end) read)) refl,
-        )
-
     -- a fault in the message that begins here
     fault_here : (kind : ℕ) (given more : List ℕ) (fault : WireFault)
         → message_at ((kind ∷ given) ++ more) ≡ Err fault
@@ -281,7 +309,7 @@ module _ {R : Type 0} {look : R → Input} where
             size = needed_size within_message (kind ∷ given) is.needs;
             offset_is = refl;
             is_read = record { over = met.by.over; all = λ more may. fault_here kind given more fault (is.is_fault more may) };
-            shown_last = λ count fewer. (cut_here (take count (kind ∷ given)) (is.needs count fewer)).1;
+            shown_last = head_shown (kind ∷ given) is.needs;
             stopped = stopped;
           }
       next_refused new (halt.Io fault) met stopped =
@@ -292,6 +320,7 @@ module _ {R : Type 0} {look : R → Input} where
             given = kind ∷ given;
             stops = StopsAfter-then look old.source mid new.source (kind ∷ []) given fault first.takes met.by.stops;
             size = within_message.cut (kind ∷ given) is_cut;
+            shown_last = head_shown (kind ∷ given) (needs_by message_at (kind ∷ given) steady_message is_cut);
             same = here.0;
             undecided = here.1;
             stopped = stopped;

@@ -94,10 +94,12 @@ pub record SameMessages (first second : Reading) : Type 0 where
   pub contact : second.contact ≡ first.contact
   pub entries : second.entries ≡ first.entries
 
--- after the history, no proper prefix of the bytes shows a fault or ends in data
+-- After the history, a proper prefix of the bytes makes no message, and shows no fault.
 abbrev pub ShownLast : (history bytes : List ℕ) → Type 0
 ShownLast history bytes =
-    (count : ℕ) → count < length bytes → IsUndecided (reading_of (history ++ take count bytes)).end
+    (count : ℕ) → count < length bytes
+    → SameMessages (reading_of history) (reading_of (history ++ take count bytes))
+    × IsUndecided (reading_of (history ++ take count bytes)).end
 
 abbrev pub is_unopened : Phase → Bool
 is_unopened phase.Unopened = true
@@ -195,6 +197,7 @@ module _ {R : Type 0} where
     pub takes : Takes look old.source new.source given
     pub reading : reading_of given ≡ record { contact = Some contact; entries = []; end = Clean }
     pub size : length given ≡ 6
+    pub shown_last : ShownLast [] given
     pub at : IsSessionAt look new given
     pub between : left_of new ≡ 0
 
@@ -216,6 +219,7 @@ module _ {R : Type 0} where
     pub given : List ℕ
     pub stops : StopsAfter look old.source new.source given fault
     pub size : length given < 6
+    pub shown_last : ShownLast [] given
     pub reading : reading_of given
         ≡ record { contact = None; entries = []; end = Fault 0 wire.Truncated }
     pub stopped : HasStopped new (stop.Io fault)
@@ -235,6 +239,7 @@ module _ {R : Type 0} where
     pub size : length given ≤ longest_head
     pub offset_is : offset ≡ length history
     pub left : left_of new ≡ data_length message
+    pub shown_last : ShownLast history given
     pub reading : reading_of (history ++ given) ≡ with_message offset message (reading_of history)
     pub at : IsSessionAt look new (history ++ given)
 
@@ -264,6 +269,7 @@ module _ {R : Type 0} where
     pub given : List ℕ
     pub stops : StopsAfter look old.source new.source given fault
     pub size : length given < longest_head
+    pub shown_last : ShownLast history given
     pub same : SameMessages (reading_of history) (reading_of (history ++ given))
     pub undecided : IsUndecided (reading_of (history ++ given)).end
     pub stopped : HasStopped new (stop.Io fault)

@@ -323,7 +323,7 @@ impl<R: InDevice> Session<R> {
 /// The calls for messages that lie whole in the window.
 impl<R: InDevice> Session<R> {
     ghost use Rattle.std.specs.Prelude.{◌≡◌, ◌+◌, ◌<◌, ◌≤◌, ℕ, List, length, IfSome, None, IsTrue};
-    ghost use Rattle.link_io.specs.Source.{reader_of, window_of};
+    ghost use Rattle.link_io.specs.Source.{reader_of, window_of, reach};
     ghost use Rattle.link_wire.specs.Message.{data_length};
     ghost use Rattle.link_wire.specs.MessageBuffer.{message_of, message_with, SegmentHasTotals};
     ghost use Rattle.link_wire.specs.Plain.{IsHead};
@@ -351,7 +351,7 @@ impl<R: InDevice> Session<R> {
         ensures here { (history : List ℕ) → IsSessionAt R.state self.old history
             → IfSome result (λ offset. HasNext R.state self.old) }
         ensures shrinks { IfSome result (λ offset.
-            length (window_of (source_of self.new)) < length (window_of (source_of self.old))) }
+            length (window_of (source_of self.new)) < length (window_of (source_of self.old))) }        ensures unread { reach R.state (source_of self.new) ≡ reach R.state (source_of self.old) }
     {
         let window = self.source.window();
         match self.phase {
@@ -379,6 +379,7 @@ impl<R: InDevice> Session<R> {
         ensures gives { (history : List ℕ) → IsSessionAt R.state self.old history
             → ReadWhole R.state self.old self.new history result (message_of message.new) }
         ensures totals { SegmentHasTotals message.new }
+        ensures unread { reach R.state self.new.source ≡ reach R.state self.old.source }
     {
         let offset = self.source.given();
         self.source.give(size + fields.data_length() as usize);
@@ -404,6 +405,7 @@ impl<R: InDevice> Session<R> {
         ensures stopped { (stop : _) → HasStopped self.old stop → result ≡ 0 }
         ensures here { (history : List ℕ) → IsSessionAt R.state self.old history → 0 < result
             → HasNext R.state self.old }
+        ensures unread { reach R.state (source_of self.new) ≡ reach R.state (source_of self.old) }
     {
         if let Phase::Stopped(_) = self.phase {
             return 0;
@@ -417,7 +419,8 @@ impl<R: InDevice> Session<R> {
 /// The calls for the data of segments.
 impl<R: InDevice> Session<R> {
     ghost use Rattle.std.specs.Prelude.{◌≡◌, ◌<◌, ◌≤◌, ℕ, List, length, take, drop, IfOk, IfErr, Ok, Err, IsTrue};
-    ghost use Rattle.link_wire.specs.Session.{is_opened, IsSessionAt, HasNext, HasStopped, left_of, data_in, PassedBytes, AfterData, LoadsData};
+    ghost use Rattle.link_io.specs.Source.{reach};
+    ghost use Rattle.link_wire.specs.Session.{source_of, is_opened, IsSessionAt, HasNext, HasStopped, left_of, data_in, PassedBytes, AfterData, LoadsData};
     ghost use Rattle.link_wire.specs.declared.session.Phase.TheVariants as phase;
 
     /// Copies the next bytes of the segment's data, after at most one read, and returns how many.
@@ -532,6 +535,7 @@ impl<R: InDevice> Session<R> {
             → PassedBytes R.state self.old self.new history (take count (data_in R.state self.old)) }
         ensures none { count ≡ 0 → self.new ≡ self.old }
         ensures stopped { (stop : _) → HasStopped self.old stop → HasStopped self.new stop }
+        ensures unread { reach R.state (source_of self.new) ≡ reach R.state (source_of self.old) }
     {
         self.source.give_front(count);
         self.left -= count as u64;

@@ -56,10 +56,10 @@ pub fn buffered<R: Read + Drop, W: Write + Drop, E: Write + Drop>(
         ≡ record { left = R.remaining input; failed = false; held = [] }) }
     ensures output { IfOk result
         (λ streams. ⟦<TextWriter<Writer<W>> as OutDevice>⟧.state streams.output
-        ≡ record { written = W.contents output; failed = false }) }
+        ≡ record { written = W.contents output; failed = false; handed = W.contents output }) }
     ensures report { IfOk result
         (λ streams. ⟦<TextWriter<Writer<E>> as OutDevice>⟧.state streams.report
-        ≡ record { written = E.contents report; failed = false }) }
+        ≡ record { written = E.contents report; failed = false; handed = E.contents report }) }
     ensures err { IfErr result (λ error. error_kind error ≡ ErrorKind.OutOfMemory) }
 {
     let reader = BufReader::with_capacity(alloc, INPUT_BUFFER, input)?;
@@ -153,7 +153,7 @@ fn handed_on_after<W: OutDevice, E: Write + Drop>(
     _output: &W,
     report: TextWriter<Writer<E>>,
 ) -> Writer<E>
-    requires { W.handed _output.now ≡ (W.state _output.now).written }
+    requires { (W.state _output.now).handed ≡ (W.state _output.now).written }
     ensures { HandsOver (⟦<TextWriter<Writer<E>> as OutDevice>⟧.state report)
         (⟦<Writer<E> as OutDevice>⟧.state result) }
 {

@@ -80,7 +80,7 @@ impl TestWriter {
     pub fn new(alloc: Global, per_call: usize, failing: Failing) -> TestWriter
         requires { 0 < per_call }
         ensures state { ⟦<TestWriter as OutDevice>⟧.state result
-            ≡ record { written = Some []; failed = false } }
+            ≡ record { written = Some []; failed = false; handed = Some [] } }
         ensures pace { (result.pace.per_call ≡ per_call) × (result.pace.failing ≡ failing) }
     {
         TestWriter {
@@ -95,6 +95,7 @@ impl TestWriter {
             ≡ record {
               written = Some result.now;
               failed = (⟦<TestWriter as OutDevice>⟧.state self.now).failed;
+              handed = Some result.now;
             } }
     {
         self.written.as_slice()
@@ -109,9 +110,11 @@ impl TestWriter {
 }
 
 impl OutDevice for TestWriter {
-    ghost state = { λ w. record { written = Some w.written.items; failed = w.pace.failed } };
-
-    ghost handed = { λ w. Some w.written.items };
+    ghost state = { λ w. record {
+      written = Some w.written.items;
+      failed = w.pace.failed;
+      handed = Some w.written.items;
+    } };
 
     /// The device also fails if a request for memory is refused.
     fn write(&mut self, bytes: &[u8]) -> Result<usize, DeviceFault> {

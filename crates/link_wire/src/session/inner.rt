@@ -39,7 +39,7 @@ fn inner_size(window: &[u8], id: u64) -> Option<usize>
 
 impl<R: InDevice> Session<R> {
     ghost use Rattle.std.specs.Prelude.{◌≡◌, ◌<◌, ℕ, List, length, IfSome, None, IsTrue};
-    ghost use Rattle.link_io.specs.Source.{reader_of, window_of};
+    ghost use Rattle.link_io.specs.Source.{reader_of, window_of, reach};
     ghost use Rattle.link_wire.specs.Inner.{IsInner, inner_bytes, PassedInner};
     ghost use Rattle.link_wire.specs.Session.{source_of, may_read, is_opened, HasStopped, IsSessionAt};
 
@@ -80,6 +80,7 @@ impl<R: InDevice> Session<R> {
             (inner_bytes (window_of (source_of self.old)) size) }
         ensures shrinks { length (window_of (source_of self.new))
             < length (window_of (source_of self.old)) }
+        ensures unread { reach R.state (source_of self.new) ≡ reach R.state (source_of self.old) }
     {
         let offset = self.source.given();
         self.source.give(PLAIN_HEAD);

@@ -102,7 +102,7 @@ then_handed : (g : Over) (c : After-event g) {history : List ℕ}
     → WritesNext g.W.OutDevice.state g.E.OutDevice.state c.next_message.new.writers after result
     → (result ≡ next.Ended (Err io.Write) → ⊥)
     → HandsOn (looks g.R.InDevice.state g.W.OutDevice.state g.E.OutDevice.state)
-    g.W.OutDevice.handed g.E.OutDevice.handed (inner_of c.args.input.now)
+    (inner_of c.args.input.now)
     (inner_of c.next_message.new.self) c.args.writers.now after
 then_handed g c {history} knows after result wrote other =
     let got = rw c.in-Ok-Some.field-0-is at
