@@ -1,8 +1,8 @@
 """Edits: files that replace texts of a crate, so that a function has a wrong body.
 
 An edit has a line `file: PATH` and then pairs of lines, `old: TEXT` and `new: TEXT`. Each old text
-has to occur exactly once in the file. A pair is applied to what the pairs before it made. A line
-`# promise: NAME` names the promise that the wrong body breaks.
+has to occur exactly once in the file. A pair is applied to what the pairs before it made. Lines
+`# promise: NAME` name the promises that the wrong body breaks.
 """
 
 import os
@@ -26,12 +26,12 @@ def read(path):
 
 
 class Edit:
-    """An edit of a crate: its pairs of texts, and the name of its promise."""
+    """An edit of a crate: its pairs of texts, and the names of its promises."""
 
     def __init__(self, crate, path):
         self.crate, self.path = crate, path
         self.name = re.sub(r"\.edit$", "", os.path.basename(path))
-        self.pairs, self.promise, self.problem = [], None, None
+        self.pairs, self.promises, self.problem = [], [], None
         # What `place` finds: the files that it changes, and the function and its body if it
         # changes only one
         self.texts, self.function, self.body = {}, None, None
@@ -58,7 +58,7 @@ class Edit:
             elif word == "old":
                 old = rest
             elif word != "new":
-                self.promise = rest
+                self.promises.append(rest)
             elif file and old:
                 self.pairs.append((file, old, rest))
                 old = None
