@@ -21,6 +21,8 @@ ERROR = re.compile(r"error(\[[\w-]+\])?: (.*)", re.DOTALL)
 NOT_READ = re.compile(
     r"is not in scope|has no field|is no name|operand is missing|expected the end|cannot continue"
 )
+# Words of a note that refuses a function; other notes are advice.
+NOT_PROVED = re.compile(r"it is not proved that|found no proof")
 NAMES_ONLY = re.compile(r"has no field|is not in scope|has no `|was not admitted")
 LIMIT = re.compile(
     r"antt ran out of (?:stack|the (?:steps|memory) that the check of one declaration may)"
@@ -62,7 +64,7 @@ class Line(NamedTuple):
 
     def is_refusal(self):
         """Returns whether it says that something is not proved, or that a proof is wrong."""
-        return self.whole.startswith("note: ") or bool(ERROR.match(self.text))
+        return bool(ERROR.match(self.text) or NOT_PROVED.search(self.text))
 
 
 class Said(NamedTuple):
@@ -113,7 +115,7 @@ class Output:
         """Returns the lines that refuse a function: the notes before its line, and its proofs'."""
         folder = "proofs/" + "/".join(name.split("::")[1:]) + "/"
         proofs = [line for line in self.placed if line.file.startswith(folder)]
-        return self.functions[name].notes + [line for line in proofs if ERROR.match(line.text)]
+        return [line for line in self.functions[name].notes + proofs if line.is_refusal()]
 
     def compiler_errors(self):
         """Returns the errors of the front end that have a place."""
@@ -127,10 +129,13 @@ def first(lines):
 
 def by_lines(lines):
     """Returns the verdict that these refusals come to, or None if there are none."""
-    strong = [line for line in lines if not NAMES_ONLY.search(line.text)]
-    if strong:
-        return Verdict(REFUSED, first(strong))
-    return Verdict(WEAK, first(lines)) if lines else None
+    limits = [line for line in lines if LIMIT.search(line.text)]
+    names = [line for line in lines if NAMES_ONLY.search(line.text)]
+    strong = [line for line in lines if line not in limits and line not in names]
+    for kind, found in [(REFUSED, strong), (AT_LIMIT, limits), (WEAK, names)]:
+        if found:
+            return Verdict(kind, first(found))
+    return None
 
 
 def of_function(output, function):
