@@ -126,7 +126,7 @@ class Prover:
         return Run(ran.returncode, text, used.ru_utime + used.ru_stime, used.ru_maxrss * 1024)
 
     def prove(self, crate):
-        """Proves a crate as it is. What this leaves in its out/ is the base of the checks of edits."""
+        """Proves a crate as it is. The checks of edits begin with what this leaves in its out/."""
         return self.run(["rt", "check", "--jobs", "1"], crate.folder)
 
     def _words(self, crate):
