@@ -1,7 +1,9 @@
 """Runs of the prover: on a crate as it is, and on a copy of it with edits."""
 
 import contextlib
+import glob
 import os
+import re
 import shlex
 import shutil
 import signal
@@ -127,6 +129,7 @@ class Prover:
 
     def prove(self, crate):
         """Proves a crate as it is. The checks of edits begin with what this leaves in its out/."""
+        sweep(crate)
         return self.run(["rt", "check", "--jobs", "1"], crate.folder)
 
     def _words(self, crate):
@@ -154,7 +157,8 @@ class Prover:
 
         The copy is in out/, since links need the same file system.
         """
-        with tempfile.TemporaryDirectory(prefix="rt-edit-", dir=f"{crate.folder}/out") as room:
+        prefix, out = f"rt-edit-{os.getpid()}-", f"{crate.folder}/out"
+        with tempfile.TemporaryDirectory(prefix=prefix, dir=out) as room:
             for part in PARTS:
                 if os.path.isdir(f"{crate.folder}/{part}"):
                     shutil.copytree(f"{crate.folder}/{part}", f"{room}/{part}")
@@ -166,6 +170,14 @@ class Prover:
         if judge.STALE.search(ran.text):
             raise RuntimeError(f"the kept work of a crate below {crate.name} cannot be used")
         return ran
+
+
+def sweep(crate):
+    """Removes the copies that a script left which was killed."""
+    for path in glob.glob(f"{crate.folder}/out/rt-edit-*"):
+        owner = re.match(r"rt-edit-(\d+)-", os.path.basename(path))
+        if owner and not os.path.exists(f"/proc/{owner[1]}"):
+            shutil.rmtree(path, ignore_errors=True)
 
 
 def link_tree(folder, to):
