@@ -33,6 +33,22 @@ def batches_of(found):
     return [as_task(batch) for batch in batches] + [as_task([edit]) for edit in alone]
 
 
+def for_promises(found):
+    """Returns one edit for each promise, so that few of them change the same function."""
+    chosen, covered, by_promise, taken = [], set(), defaultdict(list), Counter()
+    for edit in found:
+        for promise in edit.promises:
+            by_promise[edit.crate, promise].append(edit)
+    # A promise that fewer functions keep has less choice, so it comes first.
+    for key in sorted(by_promise, key=lambda key: len({it.function for it in by_promise[key]})):
+        if key not in covered:
+            edit = min(by_promise[key], key=lambda it: (it.function is None, taken[it.function]))
+            chosen.append(edit)
+            taken[edit.function] += 1
+            covered.update((edit.crate, promise) for promise in edit.promises)
+    return chosen
+
+
 def as_task(batch):
     """Returns the task that tries these edits together."""
     return Task(batch[0].crate, tuple(batch), len(batch) == 1)
