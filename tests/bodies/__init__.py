@@ -1,0 +1,9 @@
+"""Wrong bodies of functions, which the prover has to refuse, and the promises that they break.
+
+    source    the functions of a source file
+    edit      edits: what makes a wrong body
+    prover    runs of the prover
+    judge     what its output says of each edit
+    kept      verdicts of earlier runs
+    trying    which edits are tried together, and which alone
+"""

@@ -1,0 +1,176 @@
+"""What the prover's output says of the edits that were applied.
+
+`of_function` judges an edit among others, by the lines on its own function. `of_whole` judges an
+edit that was applied alone: then everything that is refused is refused because of it.
+"""
+
+import re
+from typing import NamedTuple
+
+# The prover refuses the wrong body. Weakly: only since a proof names what the edit took away.
+REFUSED, WEAK = "refused", "weakly refused"
+# These fail. An edit that is unjudged among others is tried alone.
+ACCEPTED, UNREADABLE, AT_LIMIT = "let through", "not compiled", "at a limit"
+UNJUDGED, UNFIT = "not judged", "cannot be applied"
+
+FUNCTION = re.compile(r"fn (\S+): (proved|not proved|no proof|could not tell)\b(.*)")
+OTHER = re.compile(r"(?:struct|enum|union|impl|trait|law|const|static|type) \S+: ")
+PLACED = re.compile(r"(note: )?(?:\./)?(\S+?):(\d+):\d+: (.*)", re.DOTALL)
+ERROR = re.compile(r"error(\[[\w-]+\])?: (.*)", re.DOTALL)
+# Words of antt where a text cannot be read, and where a proof cites what is not there.
+NOT_READ = re.compile(
+    r"is not in scope|has no field|is no name|operand is missing|expected the end|cannot continue"
+)
+# Words of a note that refuses a function; other notes are advice.
+NOT_PROVED = re.compile(r"it is not proved that|found no proof")
+NAMES_ONLY = re.compile(r"has no field|is not in scope|has no `|was not admitted")
+LIMIT = re.compile(
+    r"antt ran out of (?:stack|the (?:steps|memory) that the check of one declaration may)"
+    r"|(?:outgrew the memory limit|stopped at the step limit) \(|rattle: no verdict"
+)
+STALE = re.compile(r"module .Rattle-\w+-.*Run the lower steps again")
+SHOWN = 160
+
+
+class Verdict(NamedTuple):
+    """What came of an edit, and the line that shows it."""
+    kind: str
+    text: str
+
+    def is_good(self):
+        """Returns whether the edit was refused, as it must be."""
+        return self.kind in (REFUSED, WEAK)
+
+
+class Line(NamedTuple):
+    """A line of the output that has a place, with the indented lines after it."""
+    file: str
+    number: int
+    text: str
+    whole: str
+
+    def is_compiler_error(self):
+        """Returns whether the front end refuses the text."""
+        found = ERROR.match(self.text)
+        return bool(found and found[1])
+
+    def is_unread(self):
+        """Returns whether antt cannot read the text there, in a clause or a definition."""
+        found = ERROR.match(self.text)
+        if not found or found[1] or not self.file.startswith(("src/", "specs/")):
+            return False
+        is_of_a_goal = found[2].startswith("`")
+        return not is_of_a_goal or bool(NOT_READ.search(re.sub(r"`[^`]*`", "", found[2])))
+
+    def is_refusal(self):
+        """Returns whether it says that something is not proved, or that a proof is wrong."""
+        return bool(ERROR.match(self.text) or NOT_PROVED.search(self.text))
+
+
+class Said(NamedTuple):
+    """The line of a function: its state, the rest of the line, and the notes before it."""
+    state: str
+    rest: str
+    notes: list
+
+
+class Output:
+    """The output of a check, by its lines."""
+
+    def __init__(self, status, text):
+        self.status, self.lines = status, re.split(r"\n(?!  )", text.rstrip("\n"))
+        self.functions, self.placed = {}, []
+        self.is_stale = bool(STALE.search(text))
+        notes = []
+        for line in self.lines:
+            function = FUNCTION.match(line)
+            placed = PLACED.match(line)
+            if function:
+                self.functions[function[1]] = Said(function[2], function[3], notes)
+            if placed:
+                self.placed.append(Line(placed[2], int(placed[3]), placed[4], line))
+                notes = [*notes, self.placed[-1]] if placed[1] else notes
+            elif function or OTHER.match(line):
+                notes = []
+
+    def ended(self):
+        """Returns whether the prover came to its functions."""
+        return bool(self.functions)
+
+    def named(self, function):
+        """Returns the name under which a function is printed, if it is.
+
+        A method has its type's module, also if it is written in another one.
+        """
+        if function in self.functions:
+            return function
+        crate, tail = function.split("::")[0], function.split("::")[-2:]
+        found = [
+            name for name in self.functions
+            if name.split("::")[0] == crate and name.split("::")[-2:] == tail
+        ]
+        return found[0] if len(tail) == 2 and len(found) == 1 else None
+
+    def own_lines(self, name):
+        """Returns the lines that refuse a function: the notes before its line, and its proofs'."""
+        folder = "proofs/" + "/".join(name.split("::")[1:]) + "/"
+        proofs = [line for line in self.placed if line.file.startswith(folder)]
+        return [line for line in self.functions[name].notes + proofs if line.is_refusal()]
+
+    def compiler_errors(self):
+        """Returns the errors of the front end that have a place."""
+        return [line for line in self.placed if line.is_compiler_error()]
+
+
+def first(lines):
+    """Returns the beginning of the first of these lines."""
+    return lines[0].whole.split("\n")[0][:SHOWN] if lines else ""
+
+
+def by_lines(lines):
+    """Returns the verdict that these refusals come to, or None if there are none."""
+    limits = [line for line in lines if LIMIT.search(line.text)]
+    names = [line for line in lines if NAMES_ONLY.search(line.text)]
+    strong = [line for line in lines if line not in limits and line not in names]
+    for kind, found in [(REFUSED, strong), (AT_LIMIT, limits), (WEAK, names)]:
+        if found:
+            return Verdict(kind, first(found))
+    return None
+
+
+def of_function(output, function):
+    """Judges an edit of one function, by what is said of that function."""
+    name = output.named(function)
+    if not name:
+        return Verdict(UNJUDGED, f"no line of the output is on {function}")
+    state, rest, _ = output.functions[name]
+    line = f"fn {name}: {state}{rest}"[:SHOWN]
+    lines = output.own_lines(name)
+    unread = [it for it in lines if it.is_unread()]
+    if unread:
+        return Verdict(UNREADABLE, first(unread))
+    if state == "proved":
+        return Verdict(ACCEPTED, line)
+    if state == "could not tell":
+        return Verdict(AT_LIMIT, line)
+    if state == "no proof" and "expected answers" not in rest and not lines:
+        return Verdict(UNJUDGED, line)
+    return by_lines(lines) or Verdict(UNJUDGED, line)
+
+
+def of_whole(output):
+    """Judges an edit that was applied alone, by all that the output says."""
+    last = output.lines[-1]
+    errors = output.compiler_errors()
+    unread = [line for line in output.placed if line.is_unread()]
+    if output.status == 0:
+        return Verdict(ACCEPTED, last[:SHOWN])
+    if errors or unread and output.status == 1:
+        return Verdict(UNREADABLE, first(errors or unread))
+    if output.status == 1 and last.startswith("logic=not-proved"):
+        refusals = [line for line in output.placed if line.is_refusal()]
+        return by_lines(refusals) or Verdict(UNJUDGED, last[:SHOWN])
+    limit = next((line for line in output.lines if LIMIT.search(line)), "")
+    if limit:
+        return Verdict(AT_LIMIT, limit[:SHOWN])
+    return Verdict(UNJUDGED, f"the check ended with status {output.status}: {last[:SHOWN]}")

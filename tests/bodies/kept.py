@@ -1,0 +1,99 @@
+"""What earlier runs found: the edits that were refused, by a checksum of all that a verdict reads.
+
+The entries are beside the kit, or in the user's cache if nothing can be written there. So a run in
+any checkout on this machine uses them. Only refusals are kept.
+"""
+
+import hashlib
+import json
+import os
+import tempfile
+
+from . import edit as edits
+from .judge import REFUSED, WEAK, Verdict
+
+FOLDER = "rattle-kept-edits"
+# A verdict also depends on how output is judged.
+JUDGE = f"{os.path.dirname(__file__)}/judge.py"
+
+
+def content(path):
+    """Returns the bytes of a file."""
+    with open(path, "rb") as file:
+        return file.read()
+
+
+def sum_of(*parts):
+    """Returns a checksum of these values."""
+    return hashlib.sha256(repr(parts).encode()).hexdigest()
+
+
+def files_of(folder):
+    """Returns the paths and contents of what a check of a crate reads, in a fixed order."""
+    found = []
+    for part in edits.PARTS:
+        for at, folders, names in os.walk(f"{folder}/{part}"):
+            folders.sort()
+            paths = [f"{at}/{name}" for name in sorted(names)]
+            found += [(os.path.relpath(path, folder), content(path)) for path in paths]
+    return found
+
+
+class Sums:
+    """The checksums of crates, each with those of the crates below it."""
+
+    def __init__(self, kit, crates):
+        self.crates, self.known = crates, {}
+        self.base = sum_of(kit.identity, content(JUDGE))
+
+    def of(self, name):
+        """Returns the checksum of a crate."""
+        if name not in self.known:
+            crate = self.crates[name]
+            below = [self.of(it) for it in crate.own_below]
+            self.known[name] = sum_of(self.base, crate.line, files_of(crate.folder), below)
+        return self.known[name]
+
+
+class Kept:
+    """The refusals that earlier runs kept, unless the run is to try all anew."""
+
+    def __init__(self, kit, sums, anew=False):
+        self.sums, self.anew, self.folder = sums, anew, None
+        cache = os.environ.get("XDG_CACHE_HOME") or os.path.expanduser("~/.cache")
+        for folder in [os.path.dirname(kit.folder), f"{cache}/tcpclkit"]:
+            try:
+                os.makedirs(f"{folder}/{FOLDER}", 0o700, exist_ok=True)
+            except OSError:
+                continue
+            if os.access(f"{folder}/{FOLDER}", os.W_OK):
+                self.folder = f"{folder}/{FOLDER}"
+                return
+
+    def _path(self, edit):
+        """Returns the file of an edit's verdict."""
+        return f"{self.folder}/{sum_of(self.sums.of(edit.crate), edit.pairs)}"
+
+    def get(self, edit):
+        """Returns the verdict that an earlier run kept of an edit, or None."""
+        if not self.folder or self.anew:
+            return None
+        try:
+            with open(self._path(edit), encoding="utf-8") as file:
+                verdict = Verdict(**json.load(file))
+        except (OSError, ValueError, TypeError):
+            return None
+        return verdict if verdict.is_good() else None
+
+    def put(self, edit, verdict):
+        """Keeps the verdict on an edit that was refused."""
+        if not self.folder or verdict.kind not in (REFUSED, WEAK):
+            return
+        try:
+            with tempfile.NamedTemporaryFile(
+                "w", dir=self.folder, delete=False, encoding="utf-8"
+            ) as file:
+                json.dump(verdict._asdict(), file)
+            os.replace(file.name, self._path(edit))
+        except OSError:
+            self.folder = None
