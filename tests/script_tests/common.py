@@ -190,6 +190,18 @@ def run(room, name, *words, stdin=subprocess.DEVNULL, stdout=subprocess.PIPE, pa
     return ended.returncode, ended.stdout, ended.stderr
 
 
+# Runs a script, and writes how many KiB of memory it took at most.
+PEAK = """
+import runpy, sys
+sys.argv = sys.argv[1:]
+try:
+    runpy.run_path(sys.argv[0], run_name="__main__")
+finally:
+    with open("/proc/self/status") as it:
+        print(next(line.split()[1] for line in it if line.startswith("VmHWM:")), file=sys.stderr)
+"""
+
+
 def write(path, content, mode=0o644):
     """Writes a file."""
     with open(path, "wb") as it:

@@ -10,6 +10,7 @@ from .common import (
     EXAMPLES,
     HEAD,
     NO_MESSAGE,
+    PEAK,
     START,
     TOP,
     TRANSFERS,
@@ -125,18 +126,6 @@ def split_many():
         yield "split 10,000 transfers: report", True, report == "".join(lines)
         yield "split 10,000 transfers: files", True, files == wanted
         yield "split 10,000 transfers: output", True, output == joined + b"open"
-
-
-# Runs a script, and writes how many KiB of memory it took at most.
-PEAK = """
-import runpy, sys
-sys.argv = sys.argv[1:]
-try:
-    runpy.run_path(sys.argv[0], run_name="__main__")
-finally:
-    with open("/proc/self/status") as it:
-        print(next(line.split()[1] for line in it if line.startswith("VmHWM:")), file=sys.stderr)
-"""
 
 
 def split_large():
