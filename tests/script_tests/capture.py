@@ -8,6 +8,7 @@ packet has is marked, and the marks are counted.
 import gzip
 import os
 import random
+import shutil
 import struct
 import sys
 from typing import NamedTuple
@@ -543,13 +544,31 @@ def no_tshark():
     with empty_room() as at:
         os.symlink(sys.executable, f"{at}/python3")
         text = "tshark is not found; `apt-get install tshark` installs it on Debian"
-        got = run(at, "capture", "made", SESSION, path=at)
+        got = run(at, "capture", "--tcpclkit", PROGRAM, "made", SESSION, path=at)
         yield "capture: no tshark", (4, "", noted(text)), got
         yield "capture: no tshark: nothing is written", ["python3"], os.listdir(at)
 
 
+def installed():
+    """The script finds tcpclkit-pair and the program in its folder, and leaves nothing there."""
+    with empty_room() as at:
+        os.mkdir(f"{at}/bin")
+        for name in ("capture", "pair"):
+            shutil.copy(f"{TOP}/scripts/{name}", f"{at}/bin/tcpclkit-{name}")
+        shutil.copy(PROGRAM, f"{at}/bin/tcpclkit")
+        words, path = (f"{at}/bin/tcpclkit-capture", "made", SESSION), os.environ["PATH"]
+        got = run(at, *words, path=path)
+        yield "capture: installed", (1, LINES, strays("made")), got
+        names = ["tcpclkit", "tcpclkit-capture", "tcpclkit-pair"]
+        yield "capture: installed: the folder", names, sorted(os.listdir(f"{at}/bin"))
+        os.unlink(f"{at}/bin/tcpclkit-pair")
+        text = "tcpclkit-pair is not found; it has to be in the folder of this script"
+        yield "capture: no tcpclkit-pair", (4, "", noted(text)), run(at, *words, path=path)
+
+
 PARTS = [
     no_tshark,
+    installed,
     example_session,
     merged_sessions,
     gaps,

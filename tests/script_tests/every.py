@@ -61,7 +61,8 @@ def missing_programs():
     """Without the program, nothing is written."""
     with empty_room() as at:
         os.symlink(sys.executable, f"{at}/python3")
-        for name, words in [("split", ["A", "made"]), ("pair", ["A", "A"])]:
+        cases = [("split", ["A", "made"]), ("pair", ["A", "A"]), ("capture", ["made", "A"])]
+        for name, words in cases:
             text = f"tcpclkit-{name}: tcpclkit is not found; --tcpclkit PATH says where it is\n"
             yield f"{name}: no program", (4, "", text), run(at, name, *words, path=at)
             got = run(at, name, "--tcpclkit", "nothing", *words)
