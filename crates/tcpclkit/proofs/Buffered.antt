@@ -32,7 +32,9 @@ pub handed_part : (answer : Result (Unit {0}) DeviceFault) (old new : Output) (w
     → is_ok answer ≡ false
     → OnErr answer (AppendsPart old.written new.written waiting)
     → MatchResult answer (λ _. new.failed ≡ old.failed) (λ _. new.failed ≡ true)
-    → HandsOver (record { written = append_known old.written waiting; failed = old.failed }) new
+    → HandsOver
+    (record { written = append_known old.written waiting; failed = old.failed; handed = old.handed })
+    new
 handed_part (Ok done) old new waiting is part failed = absurd (cc)
 handed_part (Err fault) old new waiting is part failed = record {
   failed = λ had_failed. failed;
