@@ -169,6 +169,13 @@ def over_ipv6(it):
     return it[:12] + bytes.fromhex("8100000786dd") + ip + it[34:]
 
 
+def refusal(it):
+    """Returns an error message of ICMP about a frame, which quotes it. Its data is another one."""
+    quoted = it[14:54] + b"\xff" * (len(it) - 54)
+    ip = struct.pack(">BBHHHBBH", 0x45, 0, 28 + len(quoted), 0, 0, 64, 1, 0) + it[30:34] + it[26:30]
+    return it[6:12] + it[:6] + it[12:14] + ip + struct.pack(">BBHI", 3, 4, 0, 0) + quoted
+
+
 # ---- sessions
 
 
@@ -427,6 +434,10 @@ def formats():
         yield "capture of IPv6", (1, LINES, strays("6")), run(at, made, "6", "6.pcap")
         streams = "stream 0 a=[2001:db8::1]:49152 b=[2001:db8::2]:4556\n"
         yield "capture of IPv6: streams", streams, read(f"{at}/6/streams").decode()
+        errors = [refusal(it) for it in frames[3:5]]
+        numbers = [*range(3), 2, 2, *range(3, len(frames))]
+        write(f"{at}/icmp.pcap", pcap(frames[:3] + errors + frames[3:], numbers))
+        yield "capture with ICMP errors", (1, LINES, strays("i")), run(at, made, "i", "icmp.pcap")
         other = [it.replace(b"\x11\xcc", b"\xc0\x00") for it in frames]
         write(f"{at}/same.pcap", pcap(other))
         yield "capture of one port", (1, LINES, strays("s")), run(at, made, "s", "same.pcap")
