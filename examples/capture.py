@@ -1,7 +1,7 @@
-"""A capture of one TCP connection, in the pcap format: Ethernet, IPv4 and TCP, with their checksums.
+"""Captures in the pcap format: Ethernet, IPv4, and one TCP connection or UDP datagrams, with their checksums.
 
 Packet by packet the same bytes each time: the addresses, the first sequence numbers and the times are constants. It is no
-program: `make.py` uses it.
+program: `make.py`, `recipes.py` and `tls.py` use it.
 """
 
 import struct
@@ -9,6 +9,9 @@ from dataclasses import dataclass
 
 # Flags of TCP (RFC 9293 section 3.1)
 FIN, SYN, PSH, ACK = 0x01, 0x02, 0x08, 0x10
+
+# Protocol numbers of IPv4
+TCP, UDP = 6, 17
 
 # 2026-01-01 00:00:00 UTC, in seconds; a packet each 10 milliseconds
 BEGIN = 1767225600
@@ -34,15 +37,27 @@ def checksum(data):
     return ~total & 0xFFFF
 
 
+def ipv4(sender, receiver, protocol, content, at, number):
+    """An Ethernet frame with an IPv4 packet. `at` is where the checksum of the content is; `number` is the identification."""
+    pseudo = sender.address + receiver.address + struct.pack(">BBH", 0, protocol, len(content))
+    content = content[:at] + struct.pack(">H", checksum(pseudo + content)) + content[at + 2 :]
+    ip = struct.pack(">BBHHHBBH", 0x45, 0, 20 + len(content), number, 0x4000, 64, protocol, 0) + sender.address + receiver.address
+    ip = ip[:10] + struct.pack(">H", checksum(ip)) + ip[12:]
+    return receiver.mac + sender.mac + struct.pack(">H", 0x0800) + ip + content
+
+
 def frame(sender, receiver, flags, data, number):
-    """An Ethernet frame with an IPv4 packet with a TCP segment. `number` is the packet's identification."""
+    """The frame of a TCP segment."""
     seen = receiver.next if flags & ACK else 0
     tcp = struct.pack(">HHIIBBHHH", sender.port, receiver.port, sender.next, seen, 5 << 4, flags, 65535, 0, 0) + data
-    pseudo = sender.address + receiver.address + struct.pack(">BBH", 0, 6, len(tcp))
-    tcp = tcp[:16] + struct.pack(">H", checksum(pseudo + tcp)) + tcp[18:]
-    ip = struct.pack(">BBHHHBBH", 0x45, 0, 20 + len(tcp), number, 0x4000, 64, 6, 0) + sender.address + receiver.address
-    ip = ip[:10] + struct.pack(">H", checksum(ip)) + ip[12:]
-    return receiver.mac + sender.mac + struct.pack(">H", 0x0800) + ip + tcp
+    return ipv4(sender, receiver, TCP, tcp, 16, number)
+
+
+def ends():
+    """The two ends: `a`, which connects or sends datagrams, and `b`."""
+    a = End(bytes.fromhex("020000000001"), bytes([192, 0, 2, 1]), 49152, 1000)
+    b = End(bytes.fromhex("020000000002"), bytes([192, 0, 2, 2]), 4556, 2000)
+    return a, b
 
 
 def frames(turns):
@@ -50,8 +65,7 @@ def frames(turns):
 
     A turn is (side, data, times): `a`, which connects, or `b`, and how many times the packet is seen.
     """
-    a = End(bytes.fromhex("020000000001"), bytes([192, 0, 2, 1]), 49152, 1000)
-    b = End(bytes.fromhex("020000000002"), bytes([192, 0, 2, 2]), 4556, 2000)
+    a, b = ends()
     opening = [("a", SYN, b"", 1), ("b", SYN | ACK, b"", 1), ("a", ACK, b"", 1)]
     closing = [("a", FIN | ACK, b"", 1), ("b", FIN | ACK, b"", 1), ("a", ACK, b"", 1)]
     made = []
@@ -63,10 +77,17 @@ def frames(turns):
     return made
 
 
-def pcap(turns):
+def datagrams(contents):
+    """The frames of UDP datagrams from `a` to `b`, one of each content (RFC 768)."""
+    a, b = ends()
+    udp = [struct.pack(">HHHH", a.port, b.port, 8 + len(it), 0) + it for it in contents]
+    return [ipv4(a, b, UDP, it, 6, number) for number, it in enumerate(udp, 1)]
+
+
+def pcap(packets):
     """The file: the header of pcap, for Ethernet and with times in microseconds, and each frame with its own."""
     out = struct.pack("<IHHiIII", 0xA1B2C3D4, 2, 4, 0, 0, 65535, 1)
-    for number, it in enumerate(frames(turns)):
+    for number, it in enumerate(packets):
         out += struct.pack("<IIII", BEGIN, number * MICROSECONDS, len(it), len(it)) + it
     return out
 

@@ -9,7 +9,7 @@ import struct
 import sys
 from pathlib import Path
 
-from capture import pcap, stream
+from capture import frames, pcap, stream
 
 # RFC 9174 section 4.2: `dtn!`, version 4, flags 00
 CONTACT = b"dtn!" + bytes([4, 0x00])
@@ -206,7 +206,7 @@ FILES = {
     "order-faults.tcpcl": ORDER_FAULTS,
     "late-transfers.tcpcl": LATE_TRANSFERS,
     "two.bundles": TWO_BUNDLES,
-    "session.pcap": pcap(SESSION),
+    "session.pcap": pcap(frames(SESSION)),
     "session-a.tcpcl": stream(SESSION, "a"),
     "session-b.tcpcl": stream(SESSION, "b"),
 }
