@@ -7,7 +7,7 @@ import sys
 
 from .common import HEAD, PROGRAM, TOP, empty_room, read, run, write
 
-SCRIPTS = ["split", "pair", "resync"]
+SCRIPTS = ["split", "pair", "resync", "json"]
 
 
 def help_texts():
