@@ -35,6 +35,7 @@ exit status: the highest that applies
 """
 
 import argparse
+import asyncio
 import glob
 import heapq
 import os
@@ -50,6 +51,8 @@ DEVICES = 4
 SMALL = 1 << 20
 # How many seconds there are between two lines that show how far the run is
 PACE = 1.0
+# How many seconds the script waits for the first worker of a cluster
+PATIENCE = 60
 
 
 # ---- in a worker
@@ -184,6 +187,8 @@ def judged(client, names, given, progress):
         batch = batches.pop(task.key)
         if task.status == "finished":
             total.merge(task.result())
+        elif task.status != "error":
+            raise OSError("the scheduler has gone")
         elif len(batch) == 1:
             total.add_unread(batch[0], f"{type(task.exception()).__name__} of its worker")
         else:  # Some file of the batch ends its worker, so each gets a task of its own.
@@ -246,9 +251,11 @@ def cluster(given):
     """Returns a client of the cluster that is named, or of workers that are started here."""
     from dask.distributed import Client
 
-    if given.scheduler:
-        return Client(given.scheduler)
-    return Client(n_workers=given.workers, threads_per_worker=1, dashboard_address=None)
+    if not given.scheduler:
+        return Client(n_workers=given.workers, threads_per_worker=1, dashboard_address=None)
+    client = Client(given.scheduler)
+    client.wait_for_workers(1, timeout=PATIENCE)
+    return client
 
 
 def main(words):
@@ -263,6 +270,9 @@ def main(words):
             show(total, progress.seconds())
     except ImportError as error:
         print(f"{NAME}: {error}; apt-get install python3-distributed", file=sys.stderr)
+        return DEVICES
+    except asyncio.TimeoutError:
+        print(f"{NAME}: the scheduler has no workers", file=sys.stderr)
         return DEVICES
     except OSError as error:
         print(f"{NAME}: {error}", file=sys.stderr)
