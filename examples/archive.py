@@ -181,7 +181,7 @@ def judged(client, names, given, progress):
 
     bag = dask.bag.from_sequence(names, partition_size=given.batch)
     tasks = client.compute(bag.map_partitions(summary_of, given.top).to_delayed())
-    batches = {task.key: names[at * given.batch:][:given.batch] for at, task in enumerate(tasks)}
+    batches = {task.key: names[at * given.batch :][: given.batch] for at, task in enumerate(tasks)}
     total, waiting = Summary(given.top), as_completed(tasks)
     for task in waiting:
         batch = batches.pop(task.key)
@@ -216,6 +216,7 @@ def show(total, seconds):
     rows += [("good", total.found.pop("good", 0)), *sorted(total.found.items())]
     for name in ("files", "bytes"):
         rows.append((f"{name} a second", round(total.counts[name] / seconds)))
+    rows.append(("seconds", f"{seconds:.2f}"))
     width = max(len(name) for name, _ in rows)
     for name, count in rows:
         print(f"{name:{width}} {count:>14}")
