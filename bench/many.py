@@ -46,7 +46,9 @@ def environment():
 
 def make_files(folder, count, transfers):
     """Makes recordings, 1,000 in a folder. Returns the number of their bytes."""
-    segments = (make.xfer_segment(make.START | make.END, it, make.BUNDLE) for it in range(transfers))
+    segments = (
+        make.xfer_segment(make.START | make.END, it, make.BUNDLE) for it in range(transfers)
+    )
     content = b"".join([make.CONTACT, make.sess_init(), *segments])
     for number in range(count):
         os.makedirs(f"{folder}/{number // 1000}", exist_ok=True)
@@ -72,7 +74,11 @@ def seconds_of_archive(workers, folder, count):
     python = "/usr/bin/python3" if os.path.exists("/usr/bin/python3") else sys.executable
     words = [python, f"{TOP}/examples/archive.py", "--workers", str(workers), folder]
     ended = subprocess.run(
-        words, env=environment(), stdout=subprocess.PIPE, stderr=subprocess.DEVNULL, encoding="utf-8"
+        words,
+        env=environment(),
+        stdout=subprocess.PIPE,
+        stderr=subprocess.DEVNULL,
+        encoding="utf-8",
     )
     rows = dict(re.findall(r"^(files|seconds) +([0-9.]+)$", ended.stdout, re.MULTILINE))
     if ended.returncode != 0 or int(rows["files"]) != count:
