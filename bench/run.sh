@@ -1,12 +1,12 @@
 #!/usr/bin/env bash
 # Measures `tcpclkit list`, `unpack` and `pack`: bench/run.sh [PROGRAM [ROUNDS]]
-# PROGRAM is by default the one that `rt run` or `rt check` left in crates/tcpclkit/out.
+# PROGRAM is by default the one that `./build` left in crates/tcpclkit/out.
 set -eu
 here=$(cd "$(dirname "$0")" && pwd)
 program=${1:-$here/../crates/tcpclkit/out/tcpclkit}
 rounds=${2:-5}
 [ -x "$program" ] || {
-  echo "$program is no program: build it first, by 'rt run' in crates/tcpclkit" >&2
+  echo "$program is no program: build it first, by ./build" >&2
   exit 1
 }
 for tool in python3 cat; do

@@ -2,7 +2,7 @@
 """Measures a run from start to end on a contact header: `bench/start.py [PROGRAM [ROUNDS]]`.
 
 The program and `true` are started in turn, in the same way. The medians of their times are
-compared. PROGRAM is by default the one that `rt run` leaves in crates/tcpclkit/out.
+compared. PROGRAM is by default the one that `./build` leaves in crates/tcpclkit/out.
 """
 
 import os
@@ -33,7 +33,7 @@ def main():
     program = sys.argv[1] if len(sys.argv) > 1 else str(built)
     rounds = int(sys.argv[2]) if len(sys.argv) > 2 else 500
     if not os.access(program, os.X_OK):
-        sys.exit(f"{program} is no program: build it first, by 'rt run' in crates/tcpclkit")
+        sys.exit(f"{program} is no program: build it first, by ./build")
     with tempfile.NamedTemporaryFile() as recording:
         recording.write(CONTACT)
         recording.flush()
