@@ -252,8 +252,23 @@ def cut_chunks():
             yield content, [("pack", {"node": "n", "peer_transfer": most, "peer_segment": 10, "announce": 30, "end": True})]
 
 
+def option_values():
+    """Each option that has a number, with the numbers up to 255 and those around powers of two.
+
+    `--transfer` comes with each choice of the other options of `unpack`.
+    """
+    whole, _ = spelled([primary((2, 1), (1, 1), None), canonical(1, 1, b"hello")])
+    flags = [dict.fromkeys(names, True) for count in range(3) for names in itertools.combinations(("payload", "keep_going"), count)]
+    limits = {"keepalive": 2**16, "segment_mru": 2**64, "transfer_mru": 2**64, "peer_segment": 2**64, "peer_transfer": 2**64, "announce": 2**20 + 1}
+    for value in sorted({*range(256), *[2**bits + more for bits in range(8, 65) for more in (-1, 0, 1)]}):
+        if value < 2**64:
+            yield stream(segment(START | END, value, whole)), [("unpack", {**it, "transfer": value}) for it in flags]
+        names = [name for name, limit in limits.items() if (name == "peer_segment") <= value < limit]
+        yield whole, [("pack", {"node": "", name: value}) for name in names]
+
+
 def groups():
     """The groups of this file."""
     for make in (item_counts, length_items, longest_lines, block_counts, block_numbers, block_shapes, damaged, order,
-                 going_on, worked_rows, refused_and_cut, every_byte, long_bundles, cut_chunks):
+                 going_on, worked_rows, refused_and_cut, every_byte, long_bundles, cut_chunks, option_values):
         yield f"limits: {make.__name__.replace('_', ' ')}", make

@@ -27,7 +27,15 @@ fn name_of(outcome: &Result<Invocation, UsageFault>) -> &'static str {
     }
 }
 
-/// Checks that each line has the expected outcome, by its name in `name_of`.
+/// Whether an outcome with a text has one that ends with its line.
+fn has_text(outcome: &Result<Invocation, UsageFault>) -> bool {
+    match outcome {
+        Err(UsageFault::Help(text) | UsageFault::Words(text)) => text.as_str().ends_with("\n"),
+        _ => true,
+    }
+}
+
+/// Checks that each line has the expected outcome, by its name in `name_of`, and with its text.
 fn all_come_to(
     rt: &impl Abort,
     alloc: Global,
@@ -42,6 +50,7 @@ fn all_come_to(
             "{line:?} is {}",
             name_of(&outcome)
         );
+        assert!(rt; has_text(&outcome), "{line:?} has no text");
     }
     Ok(())
 }
@@ -360,10 +369,16 @@ const HELP_TEXTS: [(&[&str], &[&str]); 5] = [
         &["pack", "--help"],
         &[
             "--node <TEXT>",
+            "--keepalive <N>",
             "0 to 65535 [default: 60]",
+            "--segment-mru <N>",
             "[default: 65536]",
+            "--transfer-mru <N>",
             "[default: 1048576]",
+            "--peer-segment <N>",
+            "--peer-transfer <N>",
             "[default: 18446744073709551615]",
+            "--announce <N>",
             "0 to 1048576 [default: 0]",
             "--end",
             "Exit status:",

@@ -2,4 +2,6 @@
 #![tactic(auto)]
 
 #[cfg(test)]
+mod sizes;
+#[cfg(test)]
 mod std_devices;

@@ -1,5 +1,5 @@
 -- A cutter and its history, after one more cut.
-use Rattle.std.proofs.Common.{◌≡◌, ℕ, zero, suc, ◌+◌, ◌-◌, ◌*◌, ◌<◌, ◌≤◌, Bool, true, false, not, ltb, leb, eqb, cond, ◌&&◌, [], ◌∷◌, ◌++◌, length, take, drop, min, Option, Some, None, is_some, refl, ap, ap₂, subst, sym, ◌∙◌, arith}
+use Rattle.std.proofs.Common.{◌≡◌, ℕ, zero, suc, ◌+◌, ◌-◌, ◌*◌, ◌<◌, ◌≤◌, Bool, true, false, not, ltb, leb, eqb, cond, ◌&&◌, [], ◌∷◌, ◌++◌, length, take, drop, min, max, Option, Some, None, is_some, refl, ap, ap₂, subst, sym, ◌∙◌, arith}
 use Rattle.std.specs.Bool.{OnTrue}
 use Rattle.std.proofs.lemmas.List.{length-drop, length-take, length_push, take_min, drop_min, drop-drop, drop_all}
 use Rattle.std.proofs.lemmas.List.Elements.{All-nil}
@@ -8,7 +8,7 @@ use Rattle.std.proofs.lemmas.Bool.Decides.{nat_tests}
 use Rattle.link_wire.specs.Bytes.{IsByte}
 use Rattle.link_transfer.specs.Chunks.{chunk_count, chunks, first_chunks}
 use Rattle.link_transfer.specs.Cutting.{Cutting, beginning, due, due_of, announcement, is_first, is_last, next_chunk, next_cut, after_cut, without_chunk, uncut}
-use Rattle.link_transfer.specs.Cutter.{IsCutterAt, IsGiven, cut_waits}
+use Rattle.link_transfer.specs.Cutter.{IsCutterAt, IsGiven, cut_waits, kept_size}
 use Rattle.link_transfer.specs.Held.{is_last_of, announcement_of, cut_of}
 use Rattle.link_transfer.specs.declared.cut.Cut.{Cut}
 use Rattle.link_transfer.specs.declared.cutter.Cutter.{Cutter}
@@ -102,6 +102,7 @@ IsCutterAt-unshown old new so_far segment hold given bytes begun ended at = reco
   chunk = given;
   begun = begun ∙ at.begun;
   ended = ended ∙ at.ended;
+  kept = omega (arith, ap length given, ap length bytes, at.kept);
 }
 
 -- a cut while no chunk is ready
@@ -149,6 +150,14 @@ rest_is : (old new : Cutter) (so_far : Cutting) (last : Bool) → Gives old new 
     → new.held.bytes ≡ drop so_far.segment (uncut so_far)
 rest_is old new so_far last gives at =
     gives.bytes ∙ ap₂ (λ segment bytes. drop (min segment (length bytes)) bytes) at.segment at.held ∙ drop_min so_far.segment (uncut so_far)
+
+-- a cut keeps no more than was kept before
+kept_after : (old new : Cutter) (so_far : Cutting) (last : Bool) → Gives old new last
+    → IsCutterAt old so_far
+    → kept_size new ≤ max so_far.segment (so_far.hold + 1)
+kept_after old new so_far last gives at =
+    let count = min old.segment (length old.held.bytes) in
+    omega (arith, ap length gives.given, ap length gives.bytes, length-take count old.held.bytes, length-drop count old.held.bytes, at.kept)
 
 -- the next chunk is the last if the bundle is whole and has that many chunks
 whole_last : (so_far : Cutting) → is_last so_far ≡ true → so_far.whole ≡ true
@@ -206,6 +215,7 @@ with_next old new so_far true is gives at few =
       chunk = chunk_given old new so_far true gives at few;
       begun = gives.begun;
       ended = gives.ended ∙ and_false old.ended;
+      kept = kept_after old new so_far true gives at;
     }
   where
     and_false : (a : Bool) → (a && false) ≡ false
@@ -231,6 +241,7 @@ with_next old new so_far false is gives at few =
       chunk = chunk_given old new so_far false gives at few;
       begun = gives.begun ∙ some;
       ended = gives.ended ∙ and_true old.ended ∙ at.ended;
+      kept = kept_after old new so_far false gives at;
     }
   where
     and_true : (a : Bool) → (a && true) ≡ a

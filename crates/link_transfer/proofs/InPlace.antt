@@ -89,6 +89,7 @@ module _ (old : Cutter) (so_far : Cutting) (bytes : List ℕ) (last : Bool)
         bytes = sym (ap (λ held. held ++ bytes) (nil_from_length old.held.bytes none));
         begun = refl;
         ended = refl;
+        room = omega (arith, none, few);
       }) at
 
   waiting : cut_waits taken ≡ true

@@ -1,5 +1,5 @@
 -- A cutter and its history, after one more step.
-use Rattle.std.proofs.Common.{◌≡◌, ℕ, ◌+◌, ◌-◌, ◌*◌, ◌<◌, ◌≤◌, Bool, true, false, ltb, cond, List, [], ◌∷◌, ◌++◌, length, Option, Some, None, is_some, ◌||◌, refl, ap, subst, sym, ◌∙◌, arith}
+use Rattle.std.proofs.Common.{◌≡◌, ℕ, ◌+◌, ◌-◌, ◌*◌, ◌<◌, ◌≤◌, max, Bool, true, false, ltb, cond, List, [], ◌∷◌, ◌++◌, length, Option, Some, None, is_some, ◌||◌, refl, ap, subst, sym, ◌∙◌, arith}
 use Rattle.std.proofs.lemmas.List.Elements.{All-nil, All-append}
 use Rattle.std.proofs.lemmas.Bool.{false≢true}
 use Rattle.link_wire.specs.Bytes.{IsByte, AreBytes}
@@ -8,6 +8,7 @@ use Rattle.std.proofs.lemmas.Bool.Decides.{nat_tests}
 use Rattle.std.proofs.lemmas.List.{length-drop, length-append, drop-append-le, drop_all}
 use Rattle.link_transfer.specs.Cutting.{Cutting, beginning, due, due_of, next_cut, with_bytes, shown_by}
 use Rattle.link_transfer.specs.Cutter.{IsCutterAt, IsGiven, cut_waits}
+use Rattle.link_transfer.specs.Held.{waits}
 use Rattle.link_transfer.specs.declared.cutter.Cutter.{Cutter}
 use Rattle.link_transfer.proofs.Chunking.{first_chunks-zero, first_chunks-append}
 use Rattle.link_transfer.proofs.Due.{waits_as_due, given_within, due_more, chunk_left}
@@ -84,7 +85,14 @@ IsCutterAt-new cutter segment hold some same_segment same_hold given bytes begun
   chunk = given;
   begun = begun;
   ended = ended;
+  kept = omega (arith, ap length given, ap length bytes);
 }
+
+-- while no chunk is ready, there is room for one more byte
+pub quiet_room : (begun ended : Bool) (segment hold size : ℕ)
+    → waits begun ended segment hold size ≡ false
+    → size + 1 ≤ max segment (hold + 1)
+quiet_room begun ended segment hold size quiet = grind (arith, nat_tests)
 
 -- the changes by a push
 pub record Pushes (old new : Cutter) (pushed : List ℕ) (last : Bool) : Type 0 where
@@ -94,6 +102,7 @@ pub record Pushes (old new : Cutter) (pushed : List ℕ) (last : Bool) : Type 0 
   pub bytes : new.held.bytes ≡ old.held.bytes ++ pushed
   pub begun : new.begun ≡ old.begun
   pub ended : new.ended ≡ last
+  pub room : length old.held.bytes + length pushed ≤ max old.segment (old.hold + 1)
 
 pub IsCutterAt-push : (old new : Cutter) (so_far : Cutting) (byte : ℕ)
     (bytes : List ℕ) (last : Bool)
@@ -122,4 +131,6 @@ IsCutterAt-push old new so_far byte bytes last are quiet pushes at =
       chunk = pushes.given;
       begun = pushes.begun ∙ at.begun;
       ended = pushes.ended;
+      kept = rw (sym at.segment, sym at.hold)
+          (omega (arith, ap length pushes.given, ap length pushes.bytes, length-append old.held.bytes (byte ∷ bytes), pushes.room));
     }

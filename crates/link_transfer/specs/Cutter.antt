@@ -1,5 +1,5 @@
 -- The history of a cutter, and what follows from its fields.
-use Rattle.std.specs.Prelude.{◌≡◌, ℕ, ◌<◌, ◌≤◌, Bool, true, nat_lt, List, [], length, Option, Some, None}
+use Rattle.std.specs.Prelude.{◌≡◌, ℕ, ◌+◌, ◌<◌, ◌≤◌, max, Bool, true, nat_lt, List, [], length, Option, Some, None}
 use Rattle.link_wire.specs.Bytes.{AreBytes}
 use Rattle.link_transfer.specs.Chunks.{first_chunks}
 use Rattle.link_transfer.specs.Cutting.{Cutting, due, uncut}
@@ -18,6 +18,10 @@ wanted_by cutter = wanted_size cutter.begun cutter.segment cutter.hold (length c
 -- the number of bytes that were not cut
 abbrev pub held_size : Cutter → ℕ
 held_size cutter = length cutter.held.bytes
+
+-- the number of bytes kept: those of the chunk of the last cut, and those that were not cut
+abbrev pub kept_size : Cutter → ℕ
+kept_size cutter = length cutter.held.given + length cutter.held.bytes
 
 -- the chunk of the last cut is this and has a byte, or there is none
 abbrev pub IsGiven : Option (List ℕ) → List ℕ → Type 0
@@ -40,3 +44,5 @@ pub record IsCutterAt (cutter : Cutter) (so_far : Cutting) : Type 0 where
   pub chunk : IsGiven so_far.chunk cutter.held.given
   pub begun : cutter.begun ≡ nat_lt 0 (length so_far.given)
   pub ended : cutter.ended ≡ so_far.whole
+  -- no more is kept than the bytes of one segment, or one byte more than may be announced
+  pub kept : kept_size cutter ≤ max so_far.segment (so_far.hold + 1)

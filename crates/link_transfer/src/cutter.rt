@@ -61,7 +61,7 @@ impl Cutter {
         requires positive { 0 < segment }
         requires hold_within { hold ≤ 1048576 }
         requires empty { IfOk memory (λ buffer. buffer.items ≡ []) }
-        requires room { IfOk memory (λ buffer. max segment (hold + 1) ≤ vec_capacity buffer) }
+        requires room { IfOk memory (λ buffer. vec_capacity buffer ≡ max segment (hold + 1)) }
         ensures start { IfOk result (λ cutter. IsCutterAt cutter (beginning segment hold)) }
         ensures quiet { IfOk result (λ cutter. cut_waits cutter ≡ false) }
         ensures given { is_ok result ≡ is_ok memory }

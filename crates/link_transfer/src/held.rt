@@ -67,10 +67,10 @@ fn with_room(buffer: &mut Vec<u8>, start: usize, count: usize, room: usize) -> u
 }
 
 impl Held {
-    /// A buffer that holds no bytes, in this memory, which has room for `room` bytes.
+    /// A buffer that holds no bytes, in this memory, which has room for exactly `room` bytes.
     pub fn new(buffer: Vec<u8>, room: usize) -> Held
         requires empty { buffer.items ≡ [] }
-        requires room { room ≤ vec_capacity buffer }
+        requires room { vec_capacity buffer ≡ room }
         ensures { result ≡ record { room = room; given = []; bytes = [] } }
     {
         Held {

@@ -1,4 +1,4 @@
-use Rattle.std.proofs.Common.{◌≡◌, ◌<◌, ◌≤◌, length, take, min, eqb, ◌&&◌, refl, ap, ◌∙◌, arith}
+use Rattle.std.proofs.Common.{◌≡◌, ◌+◌, ◌<◌, ◌≤◌, length, take, min, eqb, ◌&&◌, refl, ap, subst, ◌∙◌, arith}
 use Rattle.std.proofs.lemmas.Bool.Decides.{nat_tests}
 use Rattle.std.proofs.lemmas.List.{length-take-le}
 use Rattle.std.proofs.lemmas.List.Elements.{All-take, All-from_get_or}
@@ -35,6 +35,8 @@ returns-clause-pushed c = λ so_far at.
       bytes = ap (λ (h : HeldBytes). h.bytes) c.append.ensures;
       begun = refl;
       ended = ended;
+      room = subst (λ room. length c.args.self.now.held.bytes + length (take count bytes) ≤ room) c.args.self.now.room
+          (omega (arith, c.wanted.ensures.room, length-take-le count bytes within));
     })
     at
 

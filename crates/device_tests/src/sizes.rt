@@ -1,0 +1,190 @@
+//! Tests of the calls that a device makes of its reader or writer, with pieces of many sizes.
+
+ghost use Rattle.std.specs.Prelude.{◌≤◌, length};
+
+use link_wire::{BufferedReader, DeviceFault, InDevice, OutDevice, Reader, Writer};
+use std::alloc::Global;
+use std::io::{self, BufReader, ErrorKind, Read, Write};
+use std::process::Abort;
+use std::test::Fail;
+
+/// The size in bytes of the program's input buffer, and of its window.
+const BUFFER: usize = 64 << 10;
+
+const WINDOW: usize = 8192;
+
+/// Sizes around a page, a window and the buffer.
+const SIZES: [usize; 10] = [
+    1, 4095, 4096, 4097, 5000, 8191, 8193, 65_535, 65_536, 65_537,
+];
+
+/// The number of a call that is never reached.
+const NEVER: usize = usize::MAX;
+
+/// A reader of pieces of one size, without an end. It is interrupted at one call, and goes on then.
+///
+/// Calls are counted from 1.
+#[derive(Drop)]
+struct Pieces {
+    size: usize,
+    calls: usize,
+    interrupted_at: usize,
+}
+
+impl Read for Pieces {
+    fn read(&mut self, buffer: &mut [u8]) -> io::Result<usize> {
+        self.calls = self.calls.saturating_add(1);
+        if self.calls == self.interrupted_at {
+            return Err(io::Error::from(ErrorKind::Interrupted));
+        }
+        Ok(self.size.min(buffer.len()))
+    }
+}
+
+fn reader_of(size: usize, interrupted_at: usize) -> Pieces {
+    Pieces {
+        size,
+        calls: 0,
+        interrupted_at,
+    }
+}
+
+/// A writer that takes everything, and counts its calls.
+#[derive(Drop)]
+struct Takes {
+    writes: usize,
+    flushes: usize,
+}
+
+impl Write for Takes {
+    fn write(&mut self, bytes: &[u8]) -> io::Result<usize> {
+        self.writes = self.writes.saturating_add(1);
+        Ok(bytes.len())
+    }
+
+    fn flush(&mut self) -> io::Result<()> {
+        self.flushes = self.flushes.saturating_add(1);
+        Ok(())
+    }
+}
+
+/// A buffered device over this reader.
+fn buffered<'a>(
+    alloc: Global,
+    capacity: usize,
+    reader: &'a mut Pieces,
+) -> io::Result<BufferedReader<&'a mut Pieces>> {
+    Ok(BufferedReader::new(BufReader::with_capacity(alloc, capacity, reader)?))
+}
+
+/// Passes over all that the device holds.
+fn pass_all<R: Read>(device: &mut BufferedReader<R>) {
+    let count = device.held().len();
+    device.pass_held(count);
+}
+
+/// A read gives what one call of the reader gave, and holds the rest.
+fn reads_once(rt: &impl Abort, alloc: Global, size: usize) -> Result<(), Fail> {
+    let mut reader = reader_of(size, NEVER);
+    let mut device = buffered(alloc, BUFFER, &mut reader)?;
+    let mut room = [0; WINDOW];
+    let there = size.min(BUFFER);
+    let given = size.min(WINDOW);
+    assert_eq!(rt; device.read(&mut room), Ok(given));
+    assert_eq!(rt; device.held().len().checked_add(given), Some(there));
+    pass_all(&mut device);
+    assert!(rt; device.held().is_empty());
+    assert_eq!(rt; device.read_first(&mut room), Ok(1));
+    assert_eq!(rt; device.held().len().checked_add(1), Some(there));
+    pass_all(&mut device);
+    assert!(rt; device.held().is_empty());
+    drop(device);
+    assert_eq!(rt; reader.calls, 2);
+    Ok(())
+}
+
+#[test]
+fn a_buffered_read_reads_once(rt: HostRuntime) -> Result<(), Fail> {
+    for size in SIZES {
+        reads_once(&rt, rt.alloc(), size)?;
+    }
+    Ok(())
+}
+
+/// Reads pieces of this size, by either call, until the reader is interrupted at its third call.
+fn stops(rt: &impl Abort, alloc: Global, size: usize, first: bool) -> Result<(), Fail> {
+    let mut reader = reader_of(size, 3);
+    let mut device = buffered(alloc, BUFFER, &mut reader)?;
+    let mut room = [0; WINDOW];
+    for whole in [true, true, false] {
+        let read = if first {
+            device.read_first(&mut room)
+        } else {
+            device.read(&mut room)
+        };
+        assert_eq!(rt; (read.is_ok(), device.failed()), (whole, !whole));
+        pass_all(&mut device);
+    }
+    drop(device);
+    assert_eq!(rt; reader.calls, 3);
+    Ok(())
+}
+
+/// An error of the reader is a failure at once, and the reader is not asked again.
+#[test]
+fn interrupted_buffered_reader(rt: HostRuntime) -> Result<(), Fail> {
+    for size in SIZES {
+        stops(&rt, rt.alloc(), size, false)?;
+        stops(&rt, rt.alloc(), size, true)?;
+    }
+    Ok(())
+}
+
+/// Each of these sizes is read and written with one call, by each device.
+fn each_whole(rt: &impl Abort, alloc: Global, sizes: &[usize]) -> Result<(), Fail> {
+    let mut room = vec![in alloc; 0u8; 70_000]?;
+    let room = room.as_mut_slice();
+    let mut reader = Reader::new(reader_of(usize::MAX, NEVER));
+    let mut unbuffered = reader_of(usize::MAX, NEVER);
+    let mut below = buffered(alloc, 1, &mut unbuffered)?;
+    let mut writer = Writer::new(Takes {
+        writes: 0,
+        flushes: 0,
+    });
+    for size in sizes {
+        let bytes = room.get_mut(..*size).ok_or("more than the room")?;
+        assert_eq!(rt; reader.read(bytes), Ok(*size));
+        assert_eq!(rt; below.read(bytes), Ok(*size));
+        assert_eq!(rt; writer.write(bytes), Ok(*size));
+    }
+    drop(below);
+    assert_eq!(rt; reader.into_inner().calls, sizes.len());
+    assert_eq!(rt; unbuffered.calls, sizes.len());
+    assert_eq!(rt; writer.into_inner().writes, sizes.len());
+    Ok(())
+}
+
+#[test]
+fn each_size_is_read_and_written(rt: HostRuntime) -> Result<(), Fail> {
+    let mut sizes = Vec::new(rt.alloc());
+    for size in 1..=8193 {
+        sizes.push(size)?;
+    }
+    each_whole(&rt, rt.alloc(), &sizes)?;
+    each_whole(&rt, rt.alloc(), &SIZES)
+}
+
+/// Handing on flushes once, and writing flushes never.
+#[test]
+fn handing_on_flushes_once(rt: HostRuntime) {
+    let mut writer = Writer::new(Takes {
+        writes: 0,
+        flushes: 0,
+    });
+    for _ in 0..3 {
+        assert_eq!(rt; writer.write(b"tcpclkit"), Ok(8));
+    }
+    assert_eq!(rt; writer.settle(), Ok(()));
+    let taken = writer.into_inner();
+    assert_eq!(rt; (taken.writes, taken.flushes), (3, 1));
+}
