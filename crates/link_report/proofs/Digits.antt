@@ -1,10 +1,8 @@
--- The digits of a number, and where they are written.
-use Rattle.std.proofs.Common.{◌≡◌, ℕ, zero, suc, ◌+◌, ◌*◌, ◌/◌, ◌^◌, ◌<◌, ◌≤◌, List, ◌++◌, ◌∙◌, length, take, drop, ap, sym, append_assoc, length-append, take-append-drop, arith}
+-- How many digits a number has.
+use Rattle.std.proofs.Common.{◌≡◌, ℕ, zero, suc, ◌+◌, ◌*◌, ◌/◌, ◌^◌, ◌<◌, ◌≤◌, ◌∙◌, length, ap, length-append, arith}
 use Rattle.std.specs.Fmt.{decimal}
 use Rattle.std.proofs.Math.Nat.{pow-suc}
-use Rattle.std.proofs.Math.Seq.{take-append_seam}
 use Rattle.std.proofs.lemmas.Fmt.{decimal_digit, decimal_step}
-use Rattle.std.proofs.lemmas.List.{length-take-le}
 
 pub length_of_digit : (n : ℕ) → n < 10 → length (decimal n) ≡ 1
 length_of_digit n few = ap length (decimal_digit n few)
@@ -25,12 +23,3 @@ pub length_of_three : (n : ℕ) → 100 ≤ n → n < 1000 → length (decimal n
 length_of_three n many few = length_from_power 2 n (omega arith) (omega arith) (omega arith)
 
 pub ruleset few_digits = (length_of_digit, length_of_two, length_of_three)
-
--- a text that was written from an index on
-pub text_from : (old new text : List ℕ) (at end : ℕ) → at ≤ length old → at + length text ≡ end
-    → take at new ≡ take at old → drop at new ≡ text ++ drop end old
-    → take end new ≡ take at old ++ text
-text_from old new text at end within ends before written =
-    let whole : new ≡ (take at old ++ text) ++ drop end old = sym (take-append-drop at new) ∙ rw (before, written) (sym (append_assoc (take at old) text (drop end old))) in
-    let size : length (take at old ++ text) ≡ end = length-append (take at old) text ∙ omega (arith, length-take-le at old within) in
-    ap (take end) whole ∙ (rw size at (take-append_seam (take at old ++ text) (drop end old)))

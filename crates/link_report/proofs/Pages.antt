@@ -1,8 +1,16 @@
 -- The text in a page.
 use Rattle.std.proofs.Common.{◌≡◌, ℕ, ◌+◌, ◌-◌, ◌≤◌, List, ◌++◌, length, take, drop, refl, ap, sym, ◌∙◌, append_assoc, length-append, take-append-drop, arith}
-use Rattle.std.proofs.Math.Seq.{take-append-add}
+use Rattle.std.proofs.Math.Seq.{take-append-add, take-append_seam}
 use Rattle.std.proofs.lemmas.List.{length-take-le, take-append-le}
-use Rattle.link_report.proofs.Digits.{text_from}
+
+-- a text that was written from an index on
+pub text_from : (old new text : List ℕ) (at end : ℕ) → at ≤ length old → at + length text ≡ end
+    → take at new ≡ take at old → drop at new ≡ text ++ drop end old
+    → take end new ≡ take at old ++ text
+text_from old new text at end within ends before written =
+    let whole : new ≡ (take at old ++ text) ++ drop end old = sym (take-append-drop at new) ∙ rw (before, written) (sym (append_assoc (take at old) text (drop end old))) in
+    let size : length (take at old ++ text) ≡ end = length-append (take at old) text ∙ omega (arith, length-take-le at old within) in
+    ap (take end) whole ∙ (rw size at (take-append_seam (take at old ++ text) (drop end old)))
 
 -- the first bytes of a text in a page
 pub front_behind : (old new text : List ℕ) (at end count : ℕ) → at ≤ length old

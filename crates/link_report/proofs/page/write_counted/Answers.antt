@@ -1,6 +1,6 @@
 use Rattle.std.proofs.Common.{◌≡◌, arith}
 use Rattle.std.specs.Fmt.{decimal}
-use Rattle.link_report.proofs.Digits.{text_from}
+use Rattle.link_report.proofs.Pages.{text_from}
 use Rattle.link_report.proofs.page.write_counted.Goals as goal
 
 pub returns-clause-text : goal.returns-clause-text

@@ -1,5 +1,4 @@
-use Rattle.std.proofs.Common.{◌≡◌, length, sym}
-use Rattle.std.specs.Fmt.{decimal}
+use Rattle.std.proofs.Common.{sym}
 use Rattle.link_report.proofs.Digits.{length_from_power}
 use Rattle.link_report.proofs.page.write_long.Goals as goal
 
