@@ -122,8 +122,9 @@ pub(crate) fn write_hex4(page: &mut [u8], at: usize, number: u16) -> usize
     ensures end { result ≡ at + 4 }
     ensures size { length page.new ≡ length page.old }
 {
-    let at = write_hex2(page, at, (number >> 8) as u8);
-    write_hex2(page, at, (number & 0xff) as u8)
+    let [high, low] = number.to_be_bytes();
+    let at = write_hex2(page, at, high);
+    write_hex2(page, at, low)
 }
 
 /// Whether a byte stays as it is in an escaped text: 21 to 7e, except the backslash.
