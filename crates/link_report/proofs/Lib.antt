@@ -1,6 +1,6 @@
 pub mod Faults
 mod Digits
+mod Zeros
 mod Lengths
 mod Segments
 mod Pages
-mod Pairs

@@ -14,10 +14,6 @@ hex2 byte = hex_digit (byte / 16) ∷ hex_digit (byte % 16) ∷ []
 unfoldable pub hex4 : ℕ → List ℕ
 hex4 number = hex2 (number / 256) ++ hex2 (number % 256)
 
--- a number below 100 as two decimal digits
-abbrev pub two_digits : ℕ → List ℕ
-two_digits number = (48 + number / 10) ∷ (48 + number % 10) ∷ []
-
 -- whether a byte stays as it is in an escaped text
 unfoldable pub is_plain : ℕ → Bool
 is_plain byte = nat_le 0x21 byte && (nat_le byte 0x7e && not (byte == 0x5c))

@@ -1,58 +1,65 @@
 //! Digits that are kept from one number to the next.
 
-ghost use Rattle.std.specs.Prelude.{◌≡◌, ◌+◌, ◌<◌, ◌≤◌, ◌++◌, length, take, decimal};
+ghost use Rattle.std.specs.Prelude.{◌≡◌, ◌+◌, ◌%◌, ◌<◌, ◌≤◌, ◌++◌, length, take, decimal};
 
-use crate::page::{write_decimal, write_four_digits};
+use crate::page::write_decimal;
 use link_wire::copy_into;
 
-/// The digits of a number without its last four, kept for the next number.
+/// The digits of a multiple of 10,000, kept for the next number.
 ///
-/// Numbers that grow slowly, such as offsets, mostly have the same ones.
+/// Numbers that grow slowly, such as offsets, mostly have the same digits except the last four.
 #[derive(Drop)]
 pub struct KeptDigits {
-    /// The number without its last four digits.
-    front: u64,
-    /// Its text, and then bytes without a meaning.
+    /// The multiple of 10,000.
+    round: u64,
+    /// Its text, which ends with four zeros, and then bytes without a meaning.
     text: [u8; 20],
     len: usize,
-    ghost some: { 0 < front },
+    ghost some: { 0 < round },
+    ghost zeros: { round % 10_000 ≡ 0 },
     ghost within: { len ≤ 20 },
-    ghost kept: { take len text ≡ decimal front },
+    ghost kept: { take len text ≡ decimal round },
 }
 
 impl KeptDigits {
-    /// Keeps the digit 1, that of a number from 10,000 to 19,999.
+    /// Keeps the digits of 10,000.
     pub fn new() -> KeptDigits {
-        KeptDigits::of(1)
+        KeptDigits::of(10_000)
     }
 
-    /// The digits of this number.
-    fn of(front: u64) -> KeptDigits
-        requires { 0 < front }
+    /// The digits of this multiple of 10,000.
+    fn of(round: u64) -> KeptDigits
+        requires some { 0 < round }
+        requires zeros { round % 10_000 ≡ 0 }
     {
         let mut text = [0; 20];
-        let len = write_decimal(&mut text, 0, front);
-        KeptDigits { front, text, len }
+        let len = write_decimal(&mut text, 0, round);
+        KeptDigits { round, text, len }
     }
 
-    /// Keeps the digits of a number, if it has more than four.
+    /// Keeps the digits of a number except its last four, if it has more than four.
     #[inline(always)]
     pub fn keep(&mut self, number: u64) {
-        if number / 10_000 != self.front {
-            self.set(number / 10_000);
+        let round = number - number % 10_000;
+        if round != self.round {
+            self.set(round);
         }
     }
 
-    /// Keeps these digits in place of others.
+    /// Keeps the digits of this multiple of 10,000 in place of others.
     #[cold]
     #[inline(never)]
-    fn set(&mut self, front: u64) {
-        if front > 0 {
-            *self = KeptDigits::of(front);
+    fn set(&mut self, round: u64)
+        requires { round % 10_000 ≡ 0 }
+    {
+        if round > 0 {
+            *self = KeptDigits::of(round);
         }
     }
 
     /// Writes a number in decimal, with the kept digits if they are its own.
+    ///
+    /// Then its last four digits are written over the four zeros.
     #[inline(always)]
     pub(crate) fn write(&self, page: &mut [u8], at: usize, number: u64) -> usize
         requires { at + 20 ≤ length page.old }
@@ -60,12 +67,14 @@ impl KeptDigits {
         ensures fits { result ≤ at + 20 }
         ensures size { length page.new ≡ length page.old }
     {
-        let front = number / 10_000;
-        if front != self.front {
+        let last = number % 10_000;
+        if number - last != self.round {
             return write_decimal(page, at, number);
         }
         let text = self.text;
         copy_into(page, at, &text);
-        write_four_digits(page, at + self.len, (number - front * 10_000) as u32)
+        let end = at + self.len;
+        itoa::write_digits(last, page, end);
+        end
     }
 }

@@ -2,15 +2,11 @@
 //!
 //! Each call returns the index after its text.
 
-ghost use Rattle.std.specs.Prelude.{◌≡◌, ◌+◌, ◌*◌, ◌/◌, ◌%◌, ◌<◌, ◌≤◌, [], ◌∷◌, ◌++◌, length, take, decimal};
+ghost use Rattle.std.specs.Prelude.{◌≡◌, ◌+◌, ◌*◌, ◌<◌, ◌≤◌, [], ◌∷◌, ◌++◌, length, take, decimal};
 ghost use Rattle.std.specs.List.{flat_map};
-ghost use Rattle.link_report.specs.Text.{hex2, hex4, escaped, escaped_byte, is_plain, number_text, two_digits};
+ghost use Rattle.link_report.specs.Text.{hex2, hex4, escaped, escaped_byte, is_plain, number_text};
 
 use link_wire::copy_into;
-
-/// The two digits of each number below 100.
-static PAIRS: [u8; 200] =
-    *b"00010203040506070809101112131415161718192021222324252627282930313233343536373839404142434445464748495051525354555657585960616263646566676869707172737475767778798081828384858687888990919293949596979899";
 
 #[inline(always)]
 pub(crate) fn write_text(page: &mut [u8], at: usize, text: &str) -> usize
@@ -45,100 +41,39 @@ fn write_byte(page: &mut [u8], at: usize, byte: u8) -> usize
     at + 1
 }
 
-#[tactic(auto, using(crate::proofs::Lengths::one_digit))]
+/// Writes `number` in decimal, if that has `count` digits.
 #[inline(always)]
-fn write_digit(page: &mut [u8], at: usize, digit: u64) -> usize
-    requires digit { digit < 10 }
-    requires room { at < length page.old }
-    ensures text { take result page.new ≡ take at page.old ++ decimal digit }
-    ensures end { result ≡ at + 1 }
-    ensures size { length page.new ≡ length page.old }
-{
-    write_byte(page, at, b'0' + digit as u8)
-}
-
-/// Writes a number below 100 as two digits.
-#[inline(always)]
-pub(crate) fn write_pair(page: &mut [u8], at: usize, pair: u32) -> usize
-    requires pair { pair < 100 }
-    requires room { at + 2 ≤ length page.old }
-    ensures text { take result page.new ≡ take at page.old ++ two_digits pair }
-    ensures end { result ≡ at + 2 }
-    ensures size { length page.new ≡ length page.old }
-{
-    let from = pair as usize * 2;
-    let (ten, one) = (PAIRS[from], PAIRS[from + 1]);
-    let at = write_byte(page, at, ten);
-    write_byte(page, at, one)
-}
-
-/// Writes a number below 1,000.
-///
-/// Most numbers of a line are that small, except its offset.
-#[tactic(auto, using(crate::proofs::Digits::few_digits))]
-#[inline(always)]
-fn write_few_digits(page: &mut [u8], at: usize, number: u64) -> usize
-    requires few { number < 1000 }
-    requires room { at + 3 ≤ length page.old }
+fn write_counted(page: &mut [u8], at: usize, number: u64, count: usize) -> usize
+    requires count { count ≡ length (decimal number) }
+    requires room { at + count ≤ length page.old }
     ensures text { take result page.new ≡ take at page.old ++ decimal number }
-    ensures end { result ≡ at + length (decimal number) }
+    ensures end { result ≡ at + count }
     ensures size { length page.new ≡ length page.old }
 {
-    match number {
-        0..10 => write_digit(page, at, number),
-        10..100 => write_pair(page, at, number as u32),
-        _ => {
-            let at = write_digit(page, at, number / 100);
-            write_pair(page, at, (number % 100) as u32)
-        }
-    }
+    let end = at + count;
+    itoa::write_digits(number, page, end);
+    end
 }
 
-/// Writes a number below 10,000 as four digits, with leading zeros.
-#[inline(always)]
-pub(crate) fn write_four_digits(page: &mut [u8], at: usize, number: u32) -> usize
-    requires few { number < 10000 }
-    requires room { at + 4 ≤ length page.old }
-    ensures text { take result page.new ≡ take at page.old ++ two_digits (number / 100)
-        ++ two_digits (number % 100) }
-    ensures end { result ≡ at + 4 }
-    ensures size { length page.new ≡ length page.old }
-{
-    let at = write_pair(page, at, number / 100);
-    write_pair(page, at, number % 100)
-}
-
-/// Writes a number of more than three digits, four of them at a time.
-#[tactic(auto, using(crate::proofs::Digits::four_digits))]
+/// Writes a number of more than three digits.
+#[tactic(auto, using(crate::proofs::Lengths::length_of_decimal))]
 #[inline(never)]
-fn write_many_digits(page: &mut [u8], at: usize, number: u64) -> usize
+fn write_long(page: &mut [u8], at: usize, number: u64) -> usize
     requires many { 1000 ≤ number }
-    requires room { at + length (decimal number) ≤ length page.old }
+    requires room { at + 20 ≤ length page.old }
     ensures text { take result page.new ≡ take at page.old ++ decimal number }
-    ensures end { result ≡ at + length (decimal number) }
+    ensures fits { result ≤ at + 20 }
     ensures size { length page.new ≡ length page.old }
 {
-    if number < 10_000 {
-        return write_four_digits(page, at, number as u32);
-    }
-    let front = number / 10_000;
-    let last = (number % 10_000) as u32;
-    if front < 1000 {
-        let at = write_few_digits(page, at, front);
-        return write_four_digits(page, at, last);
-    }
-    if front < 10_000 {
-        let at = write_four_digits(page, at, front as u32);
-        return write_four_digits(page, at, last);
-    }
-    let at = write_many_digits(page, at, front);
-    write_four_digits(page, at, last)
+    let count = number.ilog10() as usize + 1;
+    write_counted(page, at, number, count)
 }
 
 /// Writes `number` in decimal, without leading zeros.
 ///
-/// There has to be room for 20 digits.
-#[tactic(auto, using(crate::proofs::Lengths::length_of_decimal))]
+/// There has to be room for 20 digits. Most numbers of a line are below 1,000, except its offset.
+/// Where the number of digits is a constant, the compiler leaves only the stores.
+#[tactic(auto, using(crate::proofs::Digits::few_digits))]
 #[inline(always)]
 pub(crate) fn write_decimal(page: &mut [u8], at: usize, number: u64) -> usize
     requires { at + 20 ≤ length page.old }
@@ -146,10 +81,12 @@ pub(crate) fn write_decimal(page: &mut [u8], at: usize, number: u64) -> usize
     ensures fits { result ≤ at + 20 }
     ensures size { length page.new ≡ length page.old }
 {
-    if number < 1000 {
-        return write_few_digits(page, at, number);
+    match number {
+        0..10 => write_counted(page, at, number, 1),
+        10..100 => write_counted(page, at, number, 2),
+        100..1000 => write_counted(page, at, number, 3),
+        _ => write_long(page, at, number),
     }
-    write_many_digits(page, at, number)
 }
 
 /// The two lower-case hexadecimal digits of a byte.
@@ -185,8 +122,9 @@ pub(crate) fn write_hex4(page: &mut [u8], at: usize, number: u16) -> usize
     ensures end { result ≡ at + 4 }
     ensures size { length page.new ≡ length page.old }
 {
-    let at = write_hex2(page, at, (number >> 8) as u8);
-    write_hex2(page, at, (number & 0xff) as u8)
+    let [high, low] = number.to_be_bytes();
+    let at = write_hex2(page, at, high);
+    write_hex2(page, at, low)
 }
 
 /// Whether a byte stays as it is in an escaped text: 21 to 7e, except the backslash.

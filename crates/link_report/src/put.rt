@@ -4,8 +4,9 @@ ghost use Rattle.std.specs.Prelude.{◌≡◌, ◌+◌, ◌≤◌, [], ◌++◌,
 ghost use Rattle.arrayvec.specs.ArrayVec.{array_vec_len};
 ghost use Rattle.link_report.specs.Text.{hex2, number_text};
 
-use crate::page::{hex_digits, write_decimal};
+use crate::page::hex_digits;
 use arrayvec::ArrayVec;
+use itoa::Buffer;
 use link_wire::{TEXT_MAX, Text};
 
 /// The greatest length of a line in bytes, with its newline.
@@ -47,16 +48,14 @@ pub(crate) fn put_hex2(line: &mut Line, byte: u8)
 }
 
 /// Appends `label` and `number` in decimal.
-#[tactic(auto, unfolding(crate::specs::Text::number_text))]
+#[tactic(auto, using(crate::proofs::Lengths::length_of_decimal), unfolding(crate::specs::Text::number_text))]
 pub(crate) fn put_number(line: &mut Line, label: &str, number: u64)
     requires { array_vec_len line.old + length label.now + 20 ≤ LINE_MAX }
     ensures items { line.new.items ≡ line.old.items ++ number_text label.now number }
     ensures len { array_vec_len line.new ≤ array_vec_len line.old + length label.now + 20 }
 {
     put_text(line, label);
-    let mut digits = [0; 20];
-    let end = write_decimal(&mut digits, 0, number);
-    put_bytes(line, &digits[..end]);
+    put_text(line, Buffer::new().format(number));
 }
 
 /// Writes a text into an empty line.

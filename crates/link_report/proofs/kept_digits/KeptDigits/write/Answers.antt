@@ -1,34 +1,26 @@
-use Rattle.std.proofs.Common.{◌≡◌, ℕ, ◌+◌, ◌-◌, ◌*◌, ◌/◌, ◌%◌, ◌^◌, ◌<◌, ◌≤◌, List, ◌++◌, length, take, ap, sym, ◌∙◌, append_assoc, arith}
+use Rattle.std.proofs.Common.{◌≡◌, ◌%◌, ◌++◌, length, take, ap, sym, ◌∙◌, arith}
 use Rattle.std.specs.Fmt.{decimal}
 use Rattle.std.proofs.lemmas.List.{length-take-le}
-use Rattle.itoa.proofs.Decimal.{decimal_four, length_four}
-use Rattle.link_report.proofs.Lengths.{length-decimal-le_20}
-use Rattle.link_report.proofs.Pages.{front_behind}
+use Rattle.link_report.proofs.Pages.{front_behind, over_end}
+use Rattle.link_report.proofs.Zeros.{room_for_last, over_zeros}
 use Rattle.link_report.proofs.kept_digits.KeptDigits.write.Goals as goal
 
--- the kept digits leave room for the last four
-short : (number len : ℕ) (text : List ℕ) → 10000 ≤ number → number < 2 ^ 64 → len ≤ length text
-    → take len text ≡ decimal (number / 10000) → len + 4 ≤ 20
-short number len text many fits within kept =
-    omega (arith, length-decimal-le_20 number fits, length_four number many fits, ap length kept, length-take-le len text within)
-
-pub write_four_digits-requires-clause-room : goal.write_four_digits-requires-clause-room
-write_four_digits-requires-clause-room c =
-    let kept = c.args.self.now.kept ∙ ap decimal (sym c.if-front-self.false) in
-    let room = short c.args.number c.args.self.now.len c.args.self.now.text (omega arith) c.ranges.number.fits (omega arith) kept in
-    omega arith
+pub write_digits-requires : goal.write_digits-requires
+write_digits-requires c =
+    let kept = c.args.self.now in
+    let room = room_for_last c.args.number kept.round kept.some (omega arith) kept.zeros in
+    let size = length-take-le kept.len kept.text (omega arith) in (
+      omega (arith, room, size, ap length kept.kept),
+      omega arith,
+    )
 
 pub returns-clause-text : goal.returns-clause-text
 returns-clause-text c =
-    let kept = c.args.self.now.kept ∙ ap decimal (sym c.if-front-self.false) in
-    let old = take c.args.at c.args.page.now in
-    let front = front_behind c.args.page.now c.copy_into.new.page c.args.self.now.text c.args.at c.copy_into.result c.args.self.now.len (omega arith) (omega arith) c.copy_into.ensures.text in
-    let last : c.args.number - c.args.number / 10000 * 10000 ≡ c.args.number % 10000 = omega arith in
-    c.write_four_digits.ensures.text ∙ rw (front, kept, last) (append_assoc (old ++ decimal (c.args.number / 10000)) _ _ ∙ append_assoc old _ _)
-    ∙ ap (λ text. old ++ text) (sym (decimal_four c.args.number (omega arith) c.ranges.number.fits))
-
-pub returns-clause-fits : goal.returns-clause-fits
-returns-clause-fits c =
-    let kept = c.args.self.now.kept ∙ ap decimal (sym c.if-front-self.false) in
-    let room = short c.args.number c.args.self.now.len c.args.self.now.text (omega arith) c.ranges.number.fits (omega arith) kept in
-    omega arith
+    let kept = c.args.self.now in
+    let old = c.args.page.now in
+    let number = c.args.number in
+    let room = room_for_last number kept.round kept.some (omega arith) kept.zeros in
+    let size : kept.len ≡ length (decimal kept.round) = sym (length-take-le kept.len kept.text (omega arith)) ∙ ap length kept.kept in
+    let copied = front_behind old c.copy_into.new.page kept.text c.args.at c.copy_into.result kept.len (omega arith) (omega arith) c.copy_into.ensures.text in
+    over_end old c.copy_into.new.page c.write_digits.new.buf (decimal kept.round) (decimal (number % 10000)) c.args.at c.write_digits.result _ (omega arith) room (omega arith) (omega arith) c.write_digits.ensures.start (copied ∙ ap (λ text. take c.args.at old ++ text) kept.kept) c.write_digits.ensures.before c.write_digits.ensures.written
+    ∙ ap (λ text. take c.args.at old ++ text) (over_zeros number kept.round kept.some c.ranges.number.fits kept.zeros (omega arith))
