@@ -21,7 +21,8 @@ be read.
 options:
   --scheduler ADDRESS  the scheduler of a cluster, such as tcp://a.example:8786
   --workers N          how many workers to start on this machine; 2 by default
-  --batch N            how many files are one task of a worker; 200 by default
+  --batch N            how many files are one task of a worker; by default at
+                       most 200, and so few that each worker gets some tasks
   --top N              how many of the slowest and largest are shown; 5 by
                        default
   -h, --help           write this text, and do nothing else
@@ -39,6 +40,7 @@ import asyncio
 import glob
 import heapq
 import os
+import re
 import subprocess
 import sys
 import time
@@ -49,6 +51,13 @@ DEVICES = 4
 
 # How many bytes a recording has at most that is read whole
 SMALL = 1 << 20
+# About how many bytes of a report are counted at once
+PIECE = 1 << 20
+# A line of the report: the judgement of a transfer, or the text of a fault
+LINE = re.compile(rb"^(?:transfer (?:\S+ ){4}(\S+)|tcpclkit: byte \d+: (.+))", re.MULTILINE)
+# How many files are one task at most, and how many tasks each worker gets at least, if nothing is
+# said of it
+BATCH, TASKS = 200, 8
 # How many seconds there are between two lines that show how far the run is
 PACE = 1.0
 # How many seconds the script waits for the first worker of a cluster
@@ -66,14 +75,11 @@ class Summary:
         self.counts, self.found = Counter(), Counter()
         self.slowest, self.largest, self.not_read = [], [], []
 
-    def add_line(self, line):
-        """Counts a line of the report of `unpack`."""
-        words = line.decode("ascii", "replace").split()
-        if words[0] == "transfer":
-            self.counts["transfers"] += 1
-            self.found[words[5]] += 1
-        else:
-            self.found[" ".join(words[3:])] += 1
+    def add_lines(self, lines):
+        """Counts lines of the report of `unpack`."""
+        for (judgement, fault), count in Counter(LINE.findall(lines)).items():
+            self.counts["transfers"] += count if judgement else 0
+            self.found[(judgement or fault).decode()] += count
 
     def add_file(self, name, size, seconds, status):
         """Counts a file that was judged."""
@@ -103,23 +109,24 @@ def judge_small(content, summary):
     import tcpclkit  # only a worker needs it
 
     run = tcpclkit.unpack(content, keep_going=True)
-    for line in run.report.splitlines():
-        summary.add_line(line)
+    summary.add_lines(run.report)
     return run.exit_status
 
 
 def judge_large(name, summary):
-    """Judges a recording by the program, line by line of its report. Returns the status."""
+    """Judges a recording by the program, and its report as it comes. Returns the status."""
     words = ["tcpclkit", "unpack", "--keep-going", "--", name]
     pipes = {"stdout": subprocess.DEVNULL, "stderr": subprocess.PIPE}
-    last = b""
+    lines = rest = b""
     with subprocess.Popen(words, **pipes) as process:
-        for last in process.stderr:
-            if last.startswith((b"transfer ", b"tcpclkit: byte ")):
-                summary.add_line(last)
-    if process.returncode not in (0, 1, 3):
-        raise OSError(last.decode().strip() or f"tcpclkit ended with status {process.returncode}")
-    return process.returncode
+        for piece in iter(lambda: process.stderr.read(PIECE), b""):
+            lines, _, rest = (rest + piece).rpartition(b"\n")
+            summary.add_lines(lines)
+    status = process.returncode
+    if status not in (0, 1, 3):
+        last = lines.rpartition(b"\n")[2].decode()
+        raise OSError(last or f"tcpclkit ended with status {status}")
+    return status
 
 
 def judge(name, summary):
@@ -179,9 +186,10 @@ def judged(client, names, given, progress):
     import dask.bag
     from dask.distributed import as_completed
 
-    bag = dask.bag.from_sequence(names, partition_size=given.batch)
+    size = given.batch or fitting(len(names), sum(client.nthreads().values()))
+    bag = dask.bag.from_sequence(names, partition_size=size)
     tasks = client.compute(bag.map_partitions(summary_of, given.top).to_delayed())
-    batches = {task.key: names[at * given.batch :][: given.batch] for at, task in enumerate(tasks)}
+    batches = {task.key: names[at * size :][:size] for at, task in enumerate(tasks)}
     total, waiting = Summary(given.top), as_completed(tasks)
     for task in waiting:
         batch = batches.pop(task.key)
@@ -198,6 +206,11 @@ def judged(client, names, given, progress):
                 waiting.add(alone)
         progress.show(total.counts["files"])
     return total
+
+
+def fitting(count, workers):
+    """Returns how many of that many files are one task, for that many workers."""
+    return max(1, min(BATCH, count // (TASKS * workers)))
 
 
 def names_of(words):
@@ -239,11 +252,11 @@ def arguments(words):
     parser.format_help = lambda: __doc__
     parser.add_argument("--scheduler", metavar="ADDRESS")
     parser.add_argument("--workers", type=int, default=2)
-    parser.add_argument("--batch", type=int, default=200)
+    parser.add_argument("--batch", type=int)
     parser.add_argument("--top", type=int, default=5)
     parser.add_argument("names", metavar="NAME", nargs="*")
     given = parser.parse_args(words)
-    if min(given.workers, given.batch, given.top) < 1:
+    if min(given.workers, given.top, 1 if given.batch is None else given.batch) < 1:
         parser.error("a number is at least 1")
     return given
 
