@@ -351,7 +351,8 @@ impl<R: InDevice> Session<R> {
         ensures here { (history : List ℕ) → IsSessionAt R.state self.old history
             → IfSome result (λ offset. HasNext R.state self.old) }
         ensures shrinks { IfSome result (λ offset.
-            length (window_of (source_of self.new)) < length (window_of (source_of self.old))) }        ensures unread { reach R.state (source_of self.new) ≡ reach R.state (source_of self.old) }
+            length (window_of (source_of self.new)) < length (window_of (source_of self.old))) }
+        ensures unread { reach R.state (source_of self.new) ≡ reach R.state (source_of self.old) }
     {
         let window = self.source.window();
         match self.phase {
