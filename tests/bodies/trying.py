@@ -193,7 +193,7 @@ class Trial:
 
 
 def judged_alone(edit, output):
-    """Judges an edit that was applied alone. Without a verdict, the line on its function says why."""
+    """Judges an edit that was applied alone. If it has no verdict, its function's line says why."""
     verdict = judge.of_whole(output)
     if verdict.kind == UNJUDGED and edit.function and output.named(edit.function):
         return Verdict(UNJUDGED, judge.of_function(output, edit.function).text)
