@@ -146,7 +146,7 @@ class Trial:
         output = judge.Output(ran.status, ran.text)
         if task.alone:
             self.alone[task.crate] += 1
-            self._settle(task.edits[0], judge.of_whole(output))
+            self._settle(task.edits[0], judged_alone(task.edits[0], output))
             follow = []
         elif not output.ended():
             follow = parted(task.edits, output, texts)
@@ -190,6 +190,14 @@ class Trial:
         again = f", {count} to be tried again" if count else ""
         what = task.edits[0].name if task.alone else f"{len(task.edits)} edits"
         self.say(f"{task.crate}: {what} in {ran.seconds:.0f} s{again}")
+
+
+def judged_alone(edit, output):
+    """Judges an edit that was applied alone. If it has no verdict, its function's line says why."""
+    verdict = judge.of_whole(output)
+    if verdict.kind == UNJUDGED and edit.function and output.named(edit.function):
+        return Verdict(UNJUDGED, judge.of_function(output, edit.function).text)
+    return verdict
 
 
 def told(edit, verdict):
