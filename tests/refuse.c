@@ -2,7 +2,7 @@
 //
 // LD_PRELOAD loads it before the C library. A request is a call of malloc or realloc. With REFUSE=N
 // in the environment, request number N is refused, and a line on standard error says so; requests
-// are counted from 1. With COUNT, the last line on standard error has the numbers of the process:
+// are counted from 1. With COUNT=1, the last line on standard error has the numbers of the process:
 //
 //     memory: 36 taken 36 freed 232315 bytes
 //

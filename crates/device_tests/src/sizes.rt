@@ -1,16 +1,15 @@
 //! Tests of the calls that a device makes of its reader or writer, with pieces of many sizes.
 
-ghost use Rattle.std.specs.Prelude.{◌≤◌, length};
-
 use link_wire::{BufferedReader, DeviceFault, InDevice, OutDevice, Reader, Writer};
 use std::alloc::Global;
 use std::io::{self, BufReader, ErrorKind, Read, Write};
 use std::process::Abort;
 use std::test::Fail;
 
-/// The size in bytes of the program's input buffer, and of its window.
+/// The size in bytes of the program's input buffer.
 const BUFFER: usize = 64 << 10;
 
+/// The size in bytes of a source's window.
 const WINDOW: usize = 8192;
 
 /// Sizes around a page, a window and the buffer.

@@ -26,6 +26,7 @@ use Rattle.link_pack.specs.declared.packer.Found.{Found}
 use Rattle.link_pack.specs.declared.packer.Found.TheVariants as found
 use Rattle.link_pack.specs.declared.packer.Packer.{Packer}
 use Rattle.link_pack.proofs.Dividing.{none_front, none_goes}
+use Rattle.link_pack.proofs.Keeping.{kept_few}
 use Rattle.link_pack.proofs.Sending.{all_given_open, all_given_ended, open_none}
 
 -- the texts of segments, followed by a line
@@ -84,6 +85,8 @@ module _ {W E : Type 0} (out_look : W → Output) (report_look : E → Output) w
       front = took.0.front;
       goes = took.1;
       within = rw options took.0.within;
+      kept = kept_few packed.options packed.cutter (begun ++ run)
+          (rw (options, sym (all_given_open (segment_size old.options) old.options.announce begun run some)) cut);
     }
 
     -- the bundle is whole
@@ -99,6 +102,8 @@ module _ {W E : Type 0} (out_look : W → Output) (report_look : E → Output) w
       front = none_front;
       goes = none_goes;
       within = omega arith;
+      kept = kept_few packed.options packed.cutter []
+          (rw (options, open_none (segment_size old.options) old.options.announce, sym (all_given_ended (segment_size old.options) old.options.announce begun run some)) cut);
     }
     next_begun took packed (Err fault) options cut scanned number = tt
 

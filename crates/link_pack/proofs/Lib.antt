@@ -1,6 +1,7 @@
 pub mod Dividing
 mod Texts
 pub mod Sending
+mod Keeping
 mod Writing
 mod Taking
 pub mod Outcomes

@@ -103,7 +103,7 @@ segments_kept id segment hold bundle run last (suc count) some next few =
 
 -- ---- an incomplete bundle, with all due chunks given
 
-first_chunks-length : (segment count : ℕ) (bundle : List ℕ)
+pub first_chunks-length : (segment count : ℕ) (bundle : List ℕ)
     → length (first_chunks segment count bundle) ≡ count
 unfolding first_chunks
 first_chunks-length segment zero bundle = refl

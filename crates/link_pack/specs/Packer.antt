@@ -1,5 +1,5 @@
 -- The history of a packer, and what a run of bytes shows of the current bundle.
-use Rattle.std.specs.Prelude.{◌≡◌, ℕ, ◌-◌, ◌<◌, ◌≤◌, Bool, true, false, List, [], ◌++◌, length, take, Option, Some, None, Ok, Err}
+use Rattle.std.specs.Prelude.{◌≡◌, ℕ, ◌-◌, ◌<◌, ◌≤◌, max, Bool, true, false, List, [], ◌++◌, length, take, Option, Some, None, Ok, Err}
 use Rattle.link_bundle.specs.Bundle.{verdict, bundle_goes}
 use Rattle.link_bundle.specs.Scan.{HasScanned}
 use Rattle.link_bundle_types.specs.Faults.{lasts}
@@ -7,7 +7,7 @@ use Rattle.link_bundle_types.specs.declared.fault.BundleFault.{BundleFault}
 use Rattle.link_bundle_types.specs.declared.fault.State.{State}
 use Rattle.link_bundle_types.specs.declared.fault.State.TheVariants as state
 use Rattle.link_bundle_types.specs.declared.info.BundleInfo.{BundleInfo}
-use Rattle.link_transfer.specs.Cutter.{IsCutterAt, cut_waits}
+use Rattle.link_transfer.specs.Cutter.{IsCutterAt, cut_waits, kept_size}
 use Rattle.link_transfer.specs.Cutting.{Cutting, beginning}
 use Rattle.link_transfer.specs.declared.cutter.Cutter.{Cutter}
 use Rattle.link_report.specs.declared.fault.Fault.{Fault}
@@ -39,6 +39,9 @@ pub record Holds (packer : Packer) (bundles : List Packed) (begun : List ℕ) : 
   pub front : bundle_prefix begun ≡ begun
   pub goes : bundle_goes begun ≡ true
   pub within : length begun ≤ packer.options.peer_transfer
+  -- the cutter keeps less than a segment, or a bundle whose length may still be announced
+  pub kept : kept_size packer.cutter
+      ≤ max (segment_size packer.options - 1) packer.options.announce
 
 -- the bytes `run` have come after the bytes `begun`
 pub record Grows (packer : Packer) (begun run : List ℕ) : Type 0 where

@@ -1,5 +1,6 @@
-use Rattle.std.proofs.Common.{refl, arith}
+use Rattle.std.proofs.Common.{[], refl, arith}
 use Rattle.link_pack.proofs.Sending.{open_none}
+use Rattle.link_pack.proofs.Keeping.{kept_few}
 use Rattle.link_pack.proofs.Dividing.{none_front, none_goes}
 use Rattle.link_pack.proofs.packer.Packer.new.Goals as goal
 
@@ -11,4 +12,5 @@ returns-clause-start c = record {
   front = none_front;
   goes = none_goes;
   within = omega arith;
+  kept = kept_few c.args.options c.args.cutter [] (rw open_none c.requires.0);
 }
