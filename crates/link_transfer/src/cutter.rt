@@ -284,6 +284,3 @@ impl Cutter {
         Some(size as u64)
     }
 }
-
-#[cfg(test)]
-mod tests;

@@ -240,5 +240,3 @@ impl Joiner {
 }
 
 mod parts;
-#[cfg(test)]
-mod tests;

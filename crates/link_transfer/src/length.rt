@@ -49,6 +49,3 @@ pub fn announced(items: &Items) -> Announced
     }
     announced
 }
-
-#[cfg(test)]
-mod tests;

@@ -3,7 +3,8 @@
 ghost use Rattle.std.specs.Prelude.{◌≡◌, ◌<◌, ◌≤◌, false, length, IfOk, OnOk};
 ghost use Rattle.link_transfer.specs.Cutter.{cut_waits};
 
-use super::*;
+use link_transfer::{Cut, Cutter};
+use std::alloc::{AllocError, Global};
 use std::process::Abort;
 use std::test::Fail;
 
@@ -201,14 +202,5 @@ fn gives_the_chunks(rt: HostRuntime) -> Result<(), Fail> {
             }
         }
     }
-    Ok(())
-}
-
-/// Without memory there is no cutter, and with memory there is one.
-#[test]
-fn reports_want_of_memory(rt: HostRuntime) -> Result<(), Fail> {
-    assert!(rt; Cutter::over(Err(AllocError), SEGMENT, 0).is_err());
-    let memory = Vec::with_capacity(rt.alloc(), SEGMENT)?;
-    assert!(rt; Cutter::over(Ok(memory), SEGMENT, 0).is_ok());
     Ok(())
 }

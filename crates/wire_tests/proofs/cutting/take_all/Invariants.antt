@@ -1,5 +1,5 @@
 use Rattle.link_transfer.specs.Cutter.{held_size}
-use Rattle.link_transfer.proofs.cutter.tests.take_all.Given as goal
+use Rattle.wire_tests.proofs.cutting.take_all.Given as goal
 
 abbrev pub decreases-loop-cut : goal.decreases-loop-cut
 decreases-loop-cut l = held_size l.cutter

@@ -1,6 +1,6 @@
 use Rattle.std.proofs.Common.{◌≡◌, ◌≤◌, ◌-◌, false, length}
 use Rattle.link_transfer.specs.Cutter.{cut_waits}
-use Rattle.link_transfer.proofs.cutter.tests.push_piece.Given as goal
+use Rattle.wire_tests.proofs.cutting.push_piece.Given as goal
 
 abbrev pub invariant-loop-at : goal.invariant-loop-at
 invariant-loop-at l = (l.at ≤ length l.piece) × (cut_waits l.cutter ≡ false)

@@ -1,6 +1,6 @@
 use Rattle.std.proofs.Common.{◌≡◌, false}
 use Rattle.link_transfer.specs.Cutter.{cut_waits}
-use Rattle.link_transfer.proofs.cutter.tests.in_bytes.Given as goal
+use Rattle.wire_tests.proofs.cutting.in_bytes.Given as goal
 
 abbrev pub invariant-loop-turn : goal.invariant-loop-turn
 invariant-loop-turn g l = cut_waits l.cutter ≡ false

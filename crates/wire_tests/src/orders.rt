@@ -1,7 +1,7 @@
 //! The order of messages.
 
-use super::*;
-use link_wire::{Items, NodeId, SegmentHead};
+use link_transfer::{Event, Joiner, OrderFault, Turn};
+use link_wire::{Items, Message, NodeId, SegmentHead};
 use std::process::Abort;
 
 /// A message to be judged.

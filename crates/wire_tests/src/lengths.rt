@@ -2,8 +2,14 @@
 
 ghost use Rattle.link_wire.specs.Message.{HasTotal, HasTotals};
 
-use super::*;
+use link_transfer::{Announced, announced};
+use link_wire::{Item, Items};
 use std::process::Abort;
+
+/// The item type of Transfer Length (RFC 9174 section 5.2.5.1), and the length of its value.
+const TRANSFER_LENGTH: u16 = 0x0001;
+
+const TOTAL_LENGTH: u16 = 8;
 
 /// The list of items of these types and lengths, with a total of 35 in Transfer Length items.
 fn items_of(kinds: &[(u16, u16)]) -> Items
