@@ -489,15 +489,20 @@ fn bundles_in_pieces(rt: HostRuntime) {
     }
 }
 
+/// Compares a scan with one that was fed nothing.
+fn expect_new(rt: &impl Abort, scan: &BundleScan) {
+    assert_eq!(rt; scan.count(), 0);
+    assert_eq!(rt; scan.state(), State::Going);
+    assert_eq!(rt; scan.payload_seen(), None);
+}
+
 /// A restarted scan is like a new one after each fault.
 #[test]
 fn faults_do_not_outlast_a_restart(rt: HostRuntime) {
     let mut scan = BundleScan::new();
     for (bytes, _, _) in FAULTS {
         scan.restart();
-        assert_eq!(rt; scan.count(), 0);
-        assert_eq!(rt; scan.state(), State::Going);
-        assert_eq!(rt; scan.payload_seen(), None);
+        expect_new(&rt, &scan);
         assert!(rt; bytes.len() < 1_000);
         give(&mut scan, bytes);
         scan.restart();
