@@ -1,11 +1,12 @@
-use Rattle.std.proofs.Common.{◌≡◌, ℕ, sym, ◌∙◌, refl}
+-- The numbers of messages and of a session are in their ranges, and show the event.
+use Rattle.std.proofs.Common.{◌≡◌, ℕ, ◌≤◌, Bool, true, List, refl, ◌∙◌, sym, arith}
 use Rattle.link_wire.specs.declared.message.Message.{Message}
 use Rattle.link_wire.specs.declared.message.Message.TheVariants as message
 use Rattle.link_transfer.specs.Event.{event_of}
-use Rattle.tcpclkit_c.specs.Order.{event_by, HasNumbers}
-use Rattle.tcpclkit_c.proofs.order.tcpclkit_raw_order.Goals as goal
+use Rattle.tcpclkit_c.specs.Order.{bit, event_by, HasNumbers, IsOrderAt, is_in_range}
+use Rattle.tcpclkit_c.specs.declared.order.Order.{Order}
 
-same_event : (message : Message) (kind flags id : ℕ) → HasNumbers message kind flags id
+pub same_event : (message : Message) (kind flags id : ℕ) → HasNumbers message kind flags id
     → event_of message ≡ event_by kind flags id
 same_event (message.SessInit interval segment_mru transfer_mru node items) kind flags id has =
     rw has.same refl
@@ -15,8 +16,3 @@ same_event (message.Refuse reason refused) kind flags id has = rw has.same refl
 same_event message.Keepalive kind flags id has = rw has.same refl
 same_event (message.SessTerm own reason) kind flags id has = rw has.same refl
 same_event (message.MsgReject reason header) kind flags id has = rw has.same refl
-
-pub returns-clause-accepted : goal.returns-clause-accepted
-returns-clause-accepted c = λ before message has order zero.
-    c.judge.ensures.accepted before message
-    (same_event message c.args.kind c.args.flags c.args.id has ∙ sym c.event_by.ensures) order zero
