@@ -1,10 +1,9 @@
 -- The numbers of messages and of a session are in their ranges, and show the event.
-use Rattle.std.proofs.Common.{◌≡◌, ℕ, ◌≤◌, Bool, true, List, refl, ◌∙◌, sym, arith}
+use Rattle.std.proofs.Common.{◌≡◌, ℕ, refl}
 use Rattle.link_wire.specs.declared.message.Message.{Message}
 use Rattle.link_wire.specs.declared.message.Message.TheVariants as message
 use Rattle.link_transfer.specs.Event.{event_of}
-use Rattle.tcpclkit_c.specs.Order.{bit, event_by, HasNumbers, IsOrderAt, is_in_range}
-use Rattle.tcpclkit_c.specs.declared.order.Order.{Order}
+use Rattle.tcpclkit_c.specs.Order.{event_by, HasNumbers}
 
 pub same_event : (message : Message) (kind flags id : ℕ) → HasNumbers message kind flags id
     → event_of message ≡ event_by kind flags id

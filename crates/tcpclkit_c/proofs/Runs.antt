@@ -1,5 +1,5 @@
 -- A run over slices: it never fails, and what it has written is in its slices.
-use Rattle.std.proofs.Common.{◌≡◌, ◌<◌, ◌≤◌, ◌⊎◌, ℕ, ◌+◌, ◌-◌, ◌^◌, min, nat_le, Bool, true, false, List, [], ◌++◌, length, Option, Some, None, Result, Ok, Err, refl, sym, ap, ◌∙◌, subst, inl, inr, ⊎_elim, append-nil, append_assoc, arith}
+use Rattle.std.proofs.Common.{◌≡◌, ◌≤◌, ◌⊎◌, ℕ, ◌+◌, ◌-◌, ◌^◌, min, nat_le, Bool, true, false, List, [], ◌++◌, length, Some, None, Result, Ok, Err, refl, sym, ap, ◌∙◌, subst, inl, inr, ⊎_elim, append-nil, append_assoc, arith}
 use Rattle.std.specs.Prelude.{if◌then◌else◌}
 use Rattle.std.specs.declared.alloc.AllocError.{AllocError}
 use Rattle.std.proofs.lemmas.List.{length-append}
@@ -166,6 +166,13 @@ module _ {R W E : Type 0} (look : Looks R W E)
       lacking (job.Pack options (Err refused)) (Err fault) fault refl (λ wrote. wrote) run
 
 -- ---- what is returned of a run
+
+-- a text is left in the slice of its writer
+pub left_in : {text before old slice last : List ℕ} {written : Written} → before ≡ old → last ≡ slice
+    → Leaves text before slice written → Leaves text old last written
+left_in {text} {before} {old} {slice} {last} {written} same_before same_slice left =
+    subst (λ (xs : List ℕ). Leaves text old xs written) (sym same_slice)
+    (subst (λ (xs : List ℕ). Leaves text xs slice written) same_before left)
 
 module _ (wants : Wants) (old new : Slices) (output_text report_text : List ℕ)
     (output report : Written) (run : Run) (code : ℕ)

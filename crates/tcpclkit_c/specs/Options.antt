@@ -1,6 +1,6 @@
 -- The options of the whole tools, as words of a caller. A word that is missing has the default of
 -- the program. A word that this version does not know has to be 0.
-use Rattle.std.specs.Prelude.{◌≡◌, ℕ, ◌^◌, ◌-◌, Bool, not, ◌&&◌, ◌==◌, nat_lt, nat_le, List, length, drop, get_or, Option, Some, None, if◌then◌else◌}
+use Rattle.std.specs.Prelude.{◌≡◌, ℕ, ◌^◌, ◌-◌, Bool, not, ◌&&◌, ◌==◌, nat_lt, nat_le, List, drop, get_or, Option, Some, None, if◌then◌else◌}
 use Rattle.std.specs.List.{list_any}
 use Rattle.link_pack.specs.declared.options.PackOptions.{PackOptions}
 use Rattle.link_unpack.specs.declared.wanted.Wanted.{Wanted}

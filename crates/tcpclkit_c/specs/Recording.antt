@@ -1,5 +1,5 @@
 -- A contact header, a message and an extension item as numbers.
-use Rattle.std.specs.Prelude.{◌≡◌, ℕ, ◌+◌, ◌-◌, nat_le, min, List, length, drop, Option, Some, None, Ok, Err, if◌then◌else◌}
+use Rattle.std.specs.Prelude.{◌≡◌, ℕ, ◌+◌, ◌-◌, nat_le, min, List, length, Option, Some, None, Ok, Err, if◌then◌else◌}
 use Rattle.link_wire.specs.InSlice.{LiesAt, ItemLies}
 use Rattle.link_wire.specs.Message.{item_head_at, total_at}
 use Rattle.link_wire.specs.Part.{Part, ◌>>=◌}

@@ -61,13 +61,6 @@ pub record Leaves (text before slice : List ℕ) (written : Written) : Type 0 wh
   pub count : written.count ≡ min (length text) (2 ^ 64 - 1)
   pub fits : written.fits ≡ nat_le (length text) (length slice)
 
--- the slice has the output that a run of the tool has written, beside this report
-pub record RanWithOutput (tool : Job) (bytes old new report_text : List ℕ)
-    (answer : Result Status IoFault) (written : Written) : Type 0 where
-  pub output_text : List ℕ
-  pub wrote : HasWritten tool bytes output_text report_text answer
-  pub output : Leaves output_text old new written
-
 -- the slices have the texts that a run of the tool has written
 pub record RanWhole (tool : Job) (bytes : List ℕ) (old new : Slices) (ended : Ended) : Type 0 where
   pub output_text : List ℕ

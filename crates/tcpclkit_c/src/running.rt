@@ -3,7 +3,7 @@
 ghost use Rattle.std.specs.Prelude.{◌≡◌, [], length};
 ghost use Rattle.link_tools.specs.Options.{IsReady};
 ghost use Rattle.tcpclkit_c.specs.Tool.{texts_status};
-ghost use Rattle.tcpclkit_c.specs.Run.{HasRun, Leaves, RanWithOutput, RanWhole, ReturnsJob};
+ghost use Rattle.tcpclkit_c.specs.Run.{HasRun, Leaves, RanWhole, ReturnsJob};
 
 use crate::device::{SliceReader, SliceWriter};
 use crate::status::{MEMORY, OK, TOO_SMALL};
@@ -115,25 +115,6 @@ fn written_by(writer: &SliceWriter<'_>) -> Written
     }
 }
 
-/// Runs the tool over the bytes to its end, into this slice and this writer.
-fn run_with_output<'c>(
-    job: Job,
-    bytes: &[u8],
-    output: &mut [u8],
-    report: &mut SliceWriter<'c>,
-) -> (Result<Status, IoFault>, Written)
-    requires ready { IsReady job }
-    requires no_report { report.old.history.text ≡ [] }
-    ensures report { report.new.room.ghost_name ≡ report.old.room.ghost_name }
-    ensures report_before { report.new.history.before ≡ report.old.history.before }
-    ensures run { RanWithOutput job bytes.now output.old output.new report.new.history.text
-        result.0 result.1 }
-{
-    let mut to_output = SliceWriter::new(output);
-    let answer = run_into(job, bytes, &mut to_output, report);
-    (answer, written_by(&to_output))
-}
-
 /// Runs the tool over the bytes to its end, into these slices.
 fn run_whole(job: Job, bytes: &[u8], output: &mut [u8], report: &mut [u8]) -> Ended
     requires { IsReady job }
@@ -142,11 +123,12 @@ fn run_whole(job: Job, bytes: &[u8], output: &mut [u8], report: &mut [u8]) -> En
         (record { output = output.new; report = report.new })
         result }
 {
+    let mut to_output = SliceWriter::new(output);
     let mut to_report = SliceWriter::new(report);
-    let (answer, output) = run_with_output(job, bytes, output, &mut to_report);
+    let answer = run_into(job, bytes, &mut to_output, &mut to_report);
     Ended {
         answer,
-        output,
+        output: written_by(&to_output),
         report: written_by(&to_report),
     }
 }

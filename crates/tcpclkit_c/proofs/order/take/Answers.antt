@@ -1,4 +1,3 @@
-use Rattle.tcpclkit_c.specs.Order.{IsOrderAt}
 use Rattle.link_transfer.specs.Order.{with_taken}
 use Rattle.tcpclkit_c.proofs.order.take.Goals as goal
 

@@ -1,8 +1,6 @@
-use Rattle.std.proofs.Common.{◌≡◌, ℕ, List, [], ◌++◌, length, Some, Option, Result, false, refl, sym, ap, ◌∙◌, subst, arith}
+use Rattle.std.proofs.Common.{◌≡◌, ℕ, List, ◌++◌, Some, false, refl, sym, ap, ◌∙◌, subst, arith}
 use Rattle.link_run.specs.Run.{looks, Devices}
-use Rattle.link_run.specs.declared.run.Status.{Status}
 use Rattle.link_wire.specs.Device.{Input, Output}
-use Rattle.link_wire.specs.declared.IoFault.{IoFault}
 use Rattle.tcpclkit_c.specs.Run.{HasRun}
 use Rattle.tcpclkit_c.specs.Slice.{labelled}
 use Rattle.tcpclkit_c.specs.declared.device.SliceReader.{SliceReader}

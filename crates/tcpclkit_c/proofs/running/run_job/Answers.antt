@@ -1,4 +1,4 @@
-use Rattle.std.proofs.Common.{◌≡◌, ℕ, Result, refl, ap, subst}
+use Rattle.std.proofs.Common.{ℕ, Result, refl, ap, subst}
 use Rattle.link_run.specs.declared.run.Status.{Status}
 use Rattle.link_wire.specs.declared.IoFault.{IoFault}
 use Rattle.tcpclkit_c.specs.Run.{HasWritten}

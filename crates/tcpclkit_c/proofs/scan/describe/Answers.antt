@@ -1,4 +1,3 @@
-use Rattle.std.proofs.Common.{◌≡◌}
 use Rattle.link_bundle.proofs.Pieces.{all_judged}
 use Rattle.tcpclkit_c.proofs.scan.describe.Goals as goal
 

@@ -1,5 +1,5 @@
 -- The memory is lent to `describe` as a scan to look at, for a lifetime that ends with the call.
-use Rattle.tcpclkit_c.proofs.Walks.{ℕ, List, [], ◌∷◌, ◌++◌, length, refl, w32, Bor, proved, full_share, emp, id⊢, ftrue, flft, named, vptr, fact, fact_i, tables, lft_new, lft_end, lent_back, whole, sub, agg, ‵, raw, ◌⊛◌, some, later, prop, ◌$◌, ◌∵◌, !, qed, done, move, keep, drop, use0, use1, use2, split, join, fsplit, fpick, pick, await, regoal, suffices, group, enter, of_opd, addr, from, fld, hop, stop, no_more, and_then, returns, alloc_all, pass_all, free_all, look_at, look_in_at, get, get_in, through, sets, lands_as, u8, u32, yes, shows, Is, uint_Lawful, Ptr, RawPtr, block_ptr, lies_at, in_a_block, rawptr_vals, rawptr_Tells, MutRef, mut_vals, mut_Tells, MutSlice, slice_val, mut_slice_vals, mut_slice_Tells, plain, mut_ref_to, mut_slice_of, nothing, heard, peeks, calls_at, Lasts, lasts, triple_of, Stays, walk_of, stay_dropped, Goes-dropped, ends_at, framed, stay_passed, Goes-passed}
+use Rattle.tcpclkit_c.proofs.Walks.{ℕ, [], ◌∷◌, ◌++◌, length, refl, w32, Bor, proved, full_share, emp, id⊢, ftrue, flft, named, vptr, fact, fact_i, tables, lft_new, lft_end, lent_back, whole, sub, agg, ‵, raw, ◌⊛◌, some, later, prop, ◌$◌, ◌∵◌, !, qed, done, move, keep, drop, use0, use1, use2, split, join, fsplit, fpick, pick, await, regoal, suffices, group, enter, of_opd, addr, from, fld, hop, stop, no_more, and_then, returns, alloc_all, pass_all, free_all, look_at, look_in_at, get, get_in, through, sets, lands_as, u8, u32, yes, shows, Is, uint_Lawful, Ptr, RawPtr, block_ptr, lies_at, in_a_block, rawptr_vals, rawptr_Tells, MutRef, mut_vals, mut_Tells, MutSlice, slice_val, mut_slice_vals, mut_slice_Tells, plain, mut_ref_to, mut_slice_of, nothing, heard, peeks, calls_at, Lasts, lasts, triple_of, Stays, walk_of, stay_dropped, Goes-dropped, ends_at, framed, stay_passed, Goes-passed}
 use prog.Wp.{WpFn}
 use Rattle.tcpclkit_c.specs.declared.scan.MarkedScan.{MarkedScan}
 use Rattle.tcpclkit_c.specs.contracts.scan.MarkedScan.{the_row as R}

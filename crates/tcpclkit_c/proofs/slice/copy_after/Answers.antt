@@ -1,4 +1,4 @@
-use Rattle.std.proofs.Common.{◌≡◌, ℕ, ◌++◌, ◌-◌, ◌^◌, List, length, min, take, drop, ap, sym, ◌∙◌, arith}
+use Rattle.std.proofs.Common.{◌≡◌, ℕ, ◌++◌, List, length, min, take, drop, ap, ◌∙◌, arith}
 use Rattle.tcpclkit_c.specs.Slice.{overlaid}
 use Rattle.tcpclkit_c.proofs.Overlays.{after_piece, overlaid_length}
 use Rattle.tcpclkit_c.proofs.slice.copy_after.Goals as goal
