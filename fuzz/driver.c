@@ -430,6 +430,8 @@ static void ask_take(struct tcpclkit_order order, const struct tcpclkit_message 
     SAME(it, *turn);
     SAME(order, *after);
   }
+  if (!before.is_open)
+    before.transfer = 0; /* No transfer has a meaning then, and the call leaves 0. */
   if (it.turn == TCPCLKIT_TURN_STRAY)
     SAME(order, before);
   count(15, it.turn, it.fault, it.abandons * 2 + it.last);

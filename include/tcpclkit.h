@@ -33,7 +33,7 @@
  * and the forked child of a process with threads, may call all functions but tcpclkit_pack.
  *
  * Memory. Only tcpclkit_pack takes memory: it calls malloc and free of the C library for one block.
- * On the stack, a whole tool takes up to 104 KiB and any other function up to 20 KiB. An alternate
+ * On the stack, a whole tool takes up to 120 KiB and any other function up to 20 KiB. An alternate
  * stack for signal handlers often has 8 KiB (SIGSTKSZ), which is too little. The code is for
  * x86-64-v2: it uses SSE 4.2, and no AVX.
  *

@@ -268,7 +268,7 @@ static void longest_head(void) {
   struct tcpclkit_message message;
   head[0] = TCPCLKIT_SESS_INIT;
   head[19] = TCPCLKIT_NODE_ID_LIMIT >> 8;
-  head[1047] = 65536 >> 16; /* the length of the list, in 32 bits */
+  head[1046] = 65536 >> 16; /* the length of the list, in 32 bits */
   head[1052] = 65531 >> 8;  /* the length of its one item, in 16 bits */
   head[1053] = 65531 & 255;
   CHECK(tcpclkit_read_message(head, sizeof head, 0, &message) == TCPCLKIT_OK);
@@ -476,7 +476,9 @@ static void rests(void) {
   CHECK(is_marked(to + 4, sizeof to - 4) && is_marked(from + 3, sizeof from - 3));
 }
 
-int main(void) {
+/* With an argument, stacks are not measured: valgrind refuses to read one after its thread. */
+int main(int argc, char **argv) {
+  (void)argv;
   verdicts();
   infos();
   scans();
@@ -491,7 +493,7 @@ int main(void) {
   names_of_codes();
   longest_texts();
   rests();
-  test_tools();
+  test_tools(argc == 1);
   test_mistakes();
   printf("%u passed, %u failed\n", passed, failed);
   return failed > 0;

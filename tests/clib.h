@@ -11,8 +11,8 @@
 /* Counts a check, and prints one that does not hold. */
 void count(int holds, const char *file, int line, const char *what);
 
-/* What the other files test. */
-void test_tools(void);
+/* What the other files test. The first measures stacks if it is told to. */
+void test_tools(int measures_stacks);
 void test_mistakes(void);
 
 /* Whether the slice begins with these bytes. */

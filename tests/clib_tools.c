@@ -316,7 +316,7 @@ static void stacks(void) {
   size_t thread = stack_of(no_call), small = stack_of(small_calls), tool = stack_of(tool_calls);
   printf("stack: %zu bytes, and %zu bytes for a tool\n", small - thread, tool - thread);
   CHECK(small - thread <= 20480);
-  CHECK(tool - thread <= 106496);
+  CHECK(tool - thread <= 122880);
 }
 
 #ifdef REFUSES_MEMORY
@@ -367,7 +367,7 @@ static void numbers_of_options(void) {
   }
 }
 
-void test_tools(void) {
+void test_tools(int measures_stacks) {
   lists();
   unpacks();
   goes_on();
@@ -377,7 +377,8 @@ void test_tools(void) {
   rooms(2);
   unwritten_runs();
   numbers_of_options();
-  stacks();
+  if (measures_stacks)
+    stacks();
 #ifdef REFUSES_MEMORY
   refusals();
 #endif
