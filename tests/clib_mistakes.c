@@ -85,7 +85,7 @@ static void cut_names(void) {
 
 /* After a fault there is no endpoint ID, and the text of none is refused. */
 static void names_after_a_fault(void) {
-  static const uint64_t zeros[sizeof(struct tcpclkit_bundle) / 8];
+  static const uint64_t zeros[sizeof(struct tcpclkit_bundle) / 8] = {0};
   struct tcpclkit_bundle info;
   uint8_t text[100];
   uint64_t written;
@@ -103,7 +103,7 @@ static void names_after_a_fault(void) {
 /* -- answers that are read after a fault */
 
 static void zeros_after_a_fault(void) {
-  static const uint64_t zeros[sizeof(struct tcpclkit_message) / 8];
+  static const uint64_t zeros[sizeof(struct tcpclkit_message) / 8] = {0};
   struct tcpclkit_contact contact;
   struct tcpclkit_message message;
   struct tcpclkit_item item;
