@@ -9,6 +9,6 @@ int main(int count, char **words) {
   size_t length = fread(bytes, 1, sizeof bytes, stdin);
   unsigned long good = 0, rounds = count > 1 ? strtoul(words[1], NULL, 10) : 0;
   for (unsigned long round = 0; round < rounds; round++)
-    good += tcpclkit_bundle_verdict(bytes, length, &verdict) == TCPCLKIT_OK;
+    good += tcpclkit_judge_bundle(bytes, length, &verdict) == TCPCLKIT_OK;
   return good != rounds;
 }

@@ -31,13 +31,11 @@ enum { INPUT, FIRST, SECOND, MEMORY, SLICES };
 
 #define CHECK(holds) check(holds, __func__, __LINE__)
 #define SAME(one, other) CHECK(memcmp(&(one), &(other), sizeof(one)) == 0)
-/* Two answers with one status are the same. After a fault only the field `fault` has a meaning. */
+/* Two answers with one status are the same. Nothing is written after these two statuses. */
 #define SAME_ANSWER(status, one, other)                                      \
   do {                                                                       \
-    if ((status) == TCPCLKIT_OK || (status) == TCPCLKIT_DATA_TRUNCATED)      \
+    if ((status) != TCPCLKIT_RANGE && (status) != TCPCLKIT_END)              \
       SAME(one, other);                                                      \
-    if ((status) == TCPCLKIT_TRUNCATED || (status) == TCPCLKIT_FAULT)        \
-      SAME((one).fault, (other).fault);                                      \
   } while (0)
 
 static uint8_t *ends[SLICES];
@@ -107,8 +105,8 @@ static uint32_t ask_verdict(const uint8_t *bytes, size_t length, struct tcpclkit
   uint32_t status;
   memset(it, 0x11, sizeof *it);
   memset(&again, 0xee, sizeof again);
-  status = tcpclkit_bundle_verdict(bytes, length, it);
-  CHECK(tcpclkit_bundle_verdict(bytes, length, &again) == status);
+  status = tcpclkit_judge_bundle(bytes, length, it);
+  CHECK(tcpclkit_judge_bundle(bytes, length, &again) == status);
   SAME(*it, again);
   CHECK(status == TCPCLKIT_OK || status == TCPCLKIT_TRUNCATED || status == TCPCLKIT_FAULT);
   if (it->has_payload)
@@ -152,7 +150,7 @@ static uint32_t ask_info(const uint8_t *bytes, size_t length, int fill, struct n
   uint8_t *source = lend(SECOND, it->rooms[1], fill);
   uint32_t status;
   memset(&it->bundle, fill, sizeof it->bundle);
-  status = tcpclkit_bundle_info(bytes, length, destination, it->rooms[0], source, it->rooms[1],
+  status = tcpclkit_describe_bundle(bytes, length, destination, it->rooms[0], source, it->rooms[1],
                                 &it->bundle);
   give_back(FIRST, it->rooms[0]);
   give_back(SECOND, it->rooms[1]);
@@ -183,7 +181,8 @@ static void ask_cut_names(const uint8_t *bytes, size_t length, const struct name
   CHECK(status == wanted);
 }
 
-static void ask_texts_of_eid(const struct tcpclkit_eid *eid, const uint8_t *name, size_t room);
+static void ask_texts_of_eid(const struct tcpclkit_eid *eid, const uint8_t *name,
+                             size_t name_length, size_t room);
 static void ask_texts_of_fault(uint64_t code, uint64_t number, size_t room);
 
 static void ask_bundle(const uint8_t *bytes, size_t length, size_t cut, size_t room) {
@@ -196,14 +195,15 @@ static void ask_bundle(const uint8_t *bytes, size_t length, size_t cut, size_t r
   SAME(again.bundle.verdict, verdict);
   ask_prefix(bytes, length, cut, status, &verdict);
   count(1, status, verdict.fault.code, verdict.fault.offset);
+  SAME(it.bundle, again.bundle);
   if (status != TCPCLKIT_OK) {
     ask_texts_of_fault(verdict.fault.code, verdict.fault.number, room);
+    ask_texts_of_eid(&it.bundle.source, it.bytes[1], 0, room);
     return;
   }
-  SAME(it.bundle, again.bundle);
   ask_cut_names(bytes, length, &it, room);
-  ask_texts_of_eid(&it.bundle.destination, it.bytes[0], room);
-  ask_texts_of_eid(&it.bundle.source, it.bytes[1], room);
+  ask_texts_of_eid(&it.bundle.destination, it.bytes[0], it.bundle.destination.name_length, room);
+  ask_texts_of_eid(&it.bundle.source, it.bytes[1], it.bundle.source.name_length, room);
   count(2, it.bundle.source.kind, it.bundle.is_fragment, it.bundle.blocks);
   count(3, it.bundle.destination.kind, it.bundle.flags & 255, it.bundle.payload_length);
 }
@@ -216,9 +216,9 @@ static void compare_scan(uint64_t *scan, const uint8_t *bytes, size_t length, ui
   struct tcpclkit_verdict verdict;
   uint8_t *destination = lend(FIRST, it.rooms[0], 0x11), *source = lend(SECOND, it.rooms[1], 0x11);
   memset(&it.bundle, 0x11, sizeof it.bundle);
-  CHECK(tcpclkit_raw_scan_verdict(scan, &verdict) == status);
-  CHECK(tcpclkit_raw_scan_info(scan, destination, it.rooms[0], source, it.rooms[1], &it.bundle) ==
-        status);
+  CHECK(tcpclkit_raw_judge_scan(scan, &verdict) == status);
+  CHECK(tcpclkit_raw_describe_scan(scan, destination, it.rooms[0], source, it.rooms[1],
+                                   &it.bundle) == status);
   give_back(FIRST, it.rooms[0]);
   give_back(SECOND, it.rooms[1]);
   memcpy(it.bytes[0], destination, it.rooms[0]);
@@ -229,16 +229,36 @@ static void compare_scan(uint64_t *scan, const uint8_t *bytes, size_t length, ui
   SAME(it.bytes, same.bytes);
 }
 
-/* A scan that is fed pieces of this size takes the bytes that belong to the bundle. */
+/* Any bytes as a scan: without the mark they are refused, and stay as they are. */
+static void ask_no_scan(const uint8_t *bytes, size_t length) {
+  static uint64_t other[TCPCLKIT_SCAN_WORDS], before[TCPCLKIT_SCAN_WORDS];
+  struct tcpclkit_verdict verdict;
+  struct tcpclkit_bundle info;
+  uint64_t taken;
+  memcpy(other, bytes, least(length, sizeof other));
+  memcpy(before, other, sizeof other);
+  CHECK(tcpclkit_raw_feed_scan(other, bytes, length, &taken) == TCPCLKIT_RANGE && taken == 0);
+  CHECK(tcpclkit_raw_judge_scan(other, &verdict) == TCPCLKIT_RANGE);
+  CHECK(tcpclkit_raw_describe_scan(other, ends[FIRST], 0, ends[SECOND], 0, &info) ==
+        TCPCLKIT_RANGE);
+  SAME(other, before);
+}
+
+/* A scan that is fed pieces of this size takes the bytes that belong to the bundle. It is copied
+ * before each piece to other memory. */
 static void ask_scan(const uint8_t *bytes, size_t length, size_t size, int fill) {
+  static uint64_t copy[TCPCLKIT_SCAN_WORDS];
   size_t room = tcpclkit_raw_scan_size(), at = 0, piece;
   uint64_t *scan = (uint64_t *)(void *)lend(MEMORY, room, fill), taken;
   struct tcpclkit_verdict whole;
   uint32_t status;
-  CHECK(tcpclkit_raw_scan_new(scan) == TCPCLKIT_OK);
+  CHECK(tcpclkit_raw_start_scan(scan) == TCPCLKIT_OK);
   do {
     piece = least(length - at, size);
-    status = tcpclkit_raw_scan_feed(scan, bytes + at, piece, &taken);
+    memcpy(copy, scan, room);
+    memset(scan, fill, room);
+    memcpy(scan, copy, room);
+    status = tcpclkit_raw_feed_scan(scan, bytes + at, piece, &taken);
     CHECK(status == TCPCLKIT_TRUNCATED ? taken == piece : taken <= piece);
     at += taken;
   } while (status == TCPCLKIT_TRUNCATED && at < length);
@@ -246,7 +266,7 @@ static void ask_scan(const uint8_t *bytes, size_t length, size_t size, int fill)
   if (at < length) {
     CHECK(ask_verdict(bytes, length, &whole) == TCPCLKIT_FAULT);
     CHECK(status == TCPCLKIT_FAULT || whole.fault.code == TCPCLKIT_BUNDLE_TRAILING);
-    CHECK(tcpclkit_raw_scan_feed(scan, bytes + at, length - at, &taken) == status && taken == 0);
+    CHECK(tcpclkit_raw_feed_scan(scan, bytes + at, length - at, &taken) == status && taken == 0);
     compare_scan(scan, bytes, at, status);
   }
   give_back(MEMORY, room);
@@ -265,8 +285,8 @@ static void compare_texts(const uint8_t *text, uint64_t written, uint32_t status
 static void ask_texts_of_fault(uint64_t code, uint64_t number, size_t room) {
   uint64_t written = 0, cut = 0;
   uint8_t *text = lend(FIRST, 64, 0x11), *other = lend(SECOND, room %= 66, 0xee);
-  uint32_t status = tcpclkit_fault_text(code, number, text, 64, &written);
-  uint32_t again = tcpclkit_fault_text(code, number, other, room, &cut);
+  uint32_t status = tcpclkit_write_fault_text(code, number, text, 64, &written);
+  uint32_t again = tcpclkit_write_fault_text(code, number, other, room, &cut);
   give_back(FIRST, 64);
   give_back(SECOND, room);
   keeps_rest(text, 64, written, 0x11);
@@ -277,11 +297,12 @@ static void ask_texts_of_fault(uint64_t code, uint64_t number, size_t room) {
     compare_texts(text, written, again, other, cut, room);
 }
 
-static void ask_texts_of_eid(const struct tcpclkit_eid *eid, const uint8_t *name, size_t room) {
+static void ask_texts_of_eid(const struct tcpclkit_eid *eid, const uint8_t *name,
+                             size_t name_length, size_t room) {
   uint64_t written = 0, cut = 0;
   uint8_t *text = lend(FIRST, 4100, 0x11), *other = lend(SECOND, room %= 4200, 0xee);
-  uint32_t status = tcpclkit_eid_text(eid, name, text, 4100, &written);
-  uint32_t again = tcpclkit_eid_text(eid, name, other, room, &cut);
+  uint32_t status = tcpclkit_write_eid_text(eid, name, name_length, text, 4100, &written);
+  uint32_t again = tcpclkit_write_eid_text(eid, name, name_length, other, room, &cut);
   give_back(FIRST, 4100);
   give_back(SECOND, room);
   keeps_rest(text, 4100, written, 0x11);
@@ -294,31 +315,22 @@ static void ask_texts_of_eid(const struct tcpclkit_eid *eid, const uint8_t *name
 
 /* -- recordings */
 
-/* Two contact headers with one status are the same. */
-static void same_contact(uint32_t status, const struct tcpclkit_contact *one,
-                         const struct tcpclkit_contact *other) {
-  if (status == TCPCLKIT_OK)
-    CHECK(one->flags == other->flags);
-  else
-    SAME(one->fault, other->fault);
-}
-
 static void ask_contact(const uint8_t *bytes, size_t length, size_t cut) {
   struct tcpclkit_contact it, again;
   uint32_t status, before;
   memset(&it, 0x11, sizeof it);
   memset(&again, 0xee, sizeof again);
-  status = tcpclkit_contact(bytes, length, &it);
-  CHECK(tcpclkit_contact(bytes, length, &again) == status);
-  same_contact(status, &it, &again);
+  status = tcpclkit_read_contact(bytes, length, &it);
+  CHECK(tcpclkit_read_contact(bytes, length, &again) == status);
+  SAME(it, again);
   if (status == TCPCLKIT_OK)
     count(6, status, 0, it.flags);
   else
     count(6, status, it.fault.code, it.fault.number);
-  before = tcpclkit_contact(bytes, cut, &again);
+  before = tcpclkit_read_contact(bytes, cut, &again);
   CHECK(before == (cut < TCPCLKIT_CONTACT_LENGTH ? TCPCLKIT_TRUNCATED : status));
   if (before == status)
-    same_contact(status, &it, &again);
+    SAME(it, again);
 }
 
 static uint32_t ask_message(const uint8_t *bytes, size_t length, uint64_t offset,
@@ -327,16 +339,20 @@ static uint32_t ask_message(const uint8_t *bytes, size_t length, uint64_t offset
   uint32_t status;
   memset(it, 0x11, sizeof *it);
   memset(&again, 0xee, sizeof again);
-  status = tcpclkit_message(bytes, length, offset, it);
-  CHECK(tcpclkit_message(bytes, length, offset, &again) == status);
+  status = tcpclkit_read_message(bytes, length, offset, it);
+  CHECK(tcpclkit_read_message(bytes, length, offset, &again) == status);
   CHECK((status == TCPCLKIT_RANGE) == (offset > length));
   CHECK((status == TCPCLKIT_END) == (offset == length));
   if (status == TCPCLKIT_OK || status == TCPCLKIT_DATA_TRUNCATED)
     CHECK(it->data_offset <= length && it->data_offset > offset);
   if (status == TCPCLKIT_OK)
-    CHECK(it->next <= length && it->next - it->data_offset == it->data_length);
+    CHECK(it->next <= length && it->next - it->data_offset == it->data_length &&
+          it->data_seen == it->data_length && it->fault.code == TCPCLKIT_NO_FAULT);
   if (status == TCPCLKIT_DATA_TRUNCATED)
-    CHECK(it->fault.code == TCPCLKIT_WIRE_TRUNCATED && it->fault.offset == offset);
+    CHECK(it->fault.code == TCPCLKIT_WIRE_TRUNCATED && it->fault.offset == offset &&
+          it->data_seen == length - it->data_offset && it->next == 0);
+  if (status == TCPCLKIT_TRUNCATED || status == TCPCLKIT_FAULT)
+    CHECK(it->kind == 0 && it->data_offset == 0 && it->next == 0);
   SAME_ANSWER(status, *it, again);
   return status;
 }
@@ -379,14 +395,14 @@ static void ask_items(const uint8_t *bytes, size_t length, uint64_t offset, uint
   for (;;) {
     memset(&it, 0x11, sizeof it);
     memset(&again, 0xee, sizeof again);
-    status = tcpclkit_item(bytes, length, offset, end, &it);
-    CHECK(tcpclkit_item(bytes, length, offset, end, &again) == status);
+    status = tcpclkit_read_item(bytes, length, offset, end, &it);
+    CHECK(tcpclkit_read_item(bytes, length, offset, end, &again) == status);
     CHECK((status == TCPCLKIT_RANGE) ==
           (offset > end || end > length || end - offset > LIST_MOST));
     SAME_ANSWER(status, it, again);
     if (status != TCPCLKIT_OK)
       break;
-    count(7, it.type & 15, it.has_total, it.value_length);
+    count(7, it.item_type & 15, it.has_total, it.value_length);
     CHECK(it.next <= end && it.next - it.value_length == it.value_offset);
     CHECK(it.value_offset == offset + 5);
     offset = it.next;
@@ -397,14 +413,38 @@ static void ask_items(const uint8_t *bytes, size_t length, uint64_t offset, uint
 
 /* -- the order of messages */
 
+/* A message that is taken has the fault that the order judges, and without one the same turn. */
+static void ask_take(struct tcpclkit_order order, const struct tcpclkit_message *message,
+                     uint32_t judged, const struct tcpclkit_turn *turn,
+                     const struct tcpclkit_order *after) {
+  struct tcpclkit_order before = order;
+  struct tcpclkit_turn it;
+  memset(&it, 0x33, sizeof it);
+  CHECK(tcpclkit_take_message(&order, message->kind, message->flags, message->id, &it) == judged);
+  if (judged == TCPCLKIT_RANGE) {
+    SAME(order, before);
+    return;
+  }
+  CHECK(it.fault == turn->fault);
+  if (judged == TCPCLKIT_OK) {
+    SAME(it, *turn);
+    SAME(order, *after);
+  }
+  if (!before.is_open)
+    before.transfer = 0; /* No transfer has a meaning then, and the call leaves 0. */
+  if (it.turn == TCPCLKIT_TURN_STRAY)
+    SAME(order, before);
+  count(15, it.turn, it.fault, it.abandons * 2 + it.last);
+}
+
 static void ask_order(struct tcpclkit_order *order, const struct tcpclkit_message *message) {
   struct tcpclkit_order before = *order, again = *order;
   struct tcpclkit_turn it, other;
   uint32_t status;
   memset(&it, 0x11, sizeof it);
   memset(&other, 0xee, sizeof other);
-  status = tcpclkit_order(order, message->kind, message->flags, message->id, &it);
-  CHECK(tcpclkit_order(&again, message->kind, message->flags, message->id, &other) == status);
+  status = tcpclkit_judge_order(order, message->kind, message->flags, message->id, &it);
+  CHECK(tcpclkit_judge_order(&again, message->kind, message->flags, message->id, &other) == status);
   SAME(*order, again);
   SAME_ANSWER(status, it, other);
   if (status == TCPCLKIT_OK)
@@ -413,6 +453,7 @@ static void ask_order(struct tcpclkit_order *order, const struct tcpclkit_messag
     SAME(*order, before);
   if (status == TCPCLKIT_FAULT)
     count(8, status, it.fault, 0);
+  ask_take(before, message, status, &it, order);
 }
 
 /* Reads messages from an offset on, and judges their order from some state on. */
@@ -457,11 +498,11 @@ struct texts {
 
 static uint32_t call_tool(const uint8_t *bytes, size_t length, const uint64_t *numbers,
                           struct texts *it) {
-  struct tcpclkit_unpack_options unpack = {numbers[1] % 3, numbers[2] % 5, numbers[3] % 3,
-                                           numbers[4] % 3};
+  struct tcpclkit_unpack_options unpack = {sizeof unpack - numbers[5] % 6 * 8, numbers[1] % 3,
+                                           numbers[2] % 5, numbers[3] % 3, numbers[4] % 3};
   struct tcpclkit_pack_options pack = {
-      numbers[1] % 65537, numbers[2],           numbers[3],    numbers[4] % 4096,
-      numbers[5],         numbers[1] % 1048577, numbers[2] % 3};
+      sizeof pack - numbers[5] % 9 * 8, numbers[1] % 65537, numbers[2],           numbers[3],
+      numbers[4] % 4096,                numbers[5],         numbers[1] % 1048577, numbers[2] % 3};
   size_t node = least(numbers[3] % 1026, length);
   if (numbers[0] % 3 == 0)
     return tcpclkit_list(bytes, length, it->bytes[0], it->rooms[0], it->bytes[1], it->rooms[1],
@@ -489,34 +530,27 @@ static uint32_t run_tool(const uint8_t *bytes, size_t length, const uint64_t *nu
   }
   keeps_rest(it->bytes[0], it->rooms[0], it->run.output_length, fill);
   keeps_rest(it->bytes[1], it->rooms[1], it->run.report_length, fill);
-  CHECK(status == TCPCLKIT_OK || status == TCPCLKIT_TOO_SMALL);
-  CHECK(it->run.output_length <= it->rooms[0] && it->run.report_length <= it->rooms[1]);
-  if (status == TCPCLKIT_TOO_SMALL)
-    CHECK(it->run.output_length == it->rooms[0] || it->run.report_length == it->rooms[1]);
+  CHECK(status == (it->run.output_length > it->rooms[0] || it->run.report_length > it->rooms[1]
+                       ? TCPCLKIT_TOO_SMALL
+                       : TCPCLKIT_OK));
   return status;
 }
 
-/* With less room the texts are prefixes. */
+/* With less room the texts are cut, and nothing else changes. */
 static void ask_tool(const uint8_t *bytes, size_t length, const uint64_t *numbers, size_t room) {
   struct texts it = {.rooms = {ROOM, ROOM}};
   struct texts cut = {.rooms = {room % 2048, room / 16 % 512}};
-  uint32_t status = run_tool(bytes, length, numbers, 0x11, &it), again;
+  uint32_t status = run_tool(bytes, length, numbers, 0x11, &it);
   if (status == TCPCLKIT_RANGE) {
     CHECK(run_tool(bytes, length, numbers, 0xee, &cut) == status);
     return;
   }
-  memcpy(kept[0], it.bytes[0], it.run.output_length);
-  memcpy(kept[1], it.bytes[1], it.run.report_length);
-  again = run_tool(bytes, length, numbers, 0xee, &cut);
-  CHECK(cut.run.output_length <= it.run.output_length);
-  CHECK(cut.run.report_length <= it.run.report_length);
-  CHECK(memcmp(kept[0], cut.bytes[0], cut.run.output_length) == 0);
-  CHECK(memcmp(kept[1], cut.bytes[1], cut.run.report_length) == 0);
-  if (again == TCPCLKIT_OK)
-    SAME(it.run, cut.run);
-  else
-    CHECK(status == TCPCLKIT_TOO_SMALL || it.run.output_length > cut.rooms[0] ||
-          it.run.report_length > cut.rooms[1]);
+  memcpy(kept[0], it.bytes[0], least(it.run.output_length, it.rooms[0]));
+  memcpy(kept[1], it.bytes[1], least(it.run.report_length, it.rooms[1]));
+  run_tool(bytes, length, numbers, 0xee, &cut);
+  SAME(it.run, cut.run);
+  CHECK(memcmp(kept[0], cut.bytes[0], least(it.run.output_length, cut.rooms[0])) == 0);
+  CHECK(memcmp(kept[1], cut.bytes[1], least(it.run.report_length, cut.rooms[1])) == 0);
   if (status == TCPCLKIT_OK)
     count(12 + numbers[0] % 3, it.run.exit_status, it.run.report_length, it.run.output_length);
 }
@@ -525,12 +559,13 @@ static void ask_tool(const uint8_t *bytes, size_t length, const uint64_t *number
 
 /* Asks about numbers that no bytes lead to. */
 static void ask_numbers(const uint8_t *bytes, size_t length, const uint64_t *numbers) {
+  size_t name = least(numbers[4] % 1200, length);
   struct tcpclkit_eid eid = {numbers[0] % 6, numbers[1], numbers[2], numbers[3],
-                             least(numbers[4] % 1200, length)};
+                             name + (numbers[5] % 7 == 0)};
   struct tcpclkit_order order = {numbers[0] % 3, numbers[1] % 3, numbers[2] % 3, numbers[3]};
   struct tcpclkit_message message = {.kind = numbers[4] % 10, .flags = numbers[5] % 300,
                                      .id = numbers[3]};
-  ask_texts_of_eid(&eid, bytes, numbers[5] & 8191);
+  ask_texts_of_eid(&eid, bytes, name, numbers[5] & 8191);
   ask_texts_of_fault(numbers[0] % 130, numbers[1] >> numbers[2] % 64, numbers[5] & 127);
   ask_order(&order, &message);
   ask_items(bytes, length, numbers[2] % (length + 3), numbers[3] % (length + 3), 0);
@@ -555,6 +590,7 @@ int LLVMFuzzerTestOneInput(const uint8_t *data, size_t size) {
   cut = (numbers[0] >> 5) % (length + 1);
   ask_bundle(bytes, length, cut, numbers[1] & 8191);
   ask_scan(bytes, length, length + 1, 0x11);
+  ask_no_scan(bytes, length);
   ask_scan(bytes, length, 1 + numbers[1] % 64, 0xee);
   ask_contact(bytes, length, cut);
   ask_recording(bytes, length, TCPCLKIT_CONTACT_LENGTH, cut, none);

@@ -3,7 +3,7 @@
  * without TLS), read by functions that are proved to do what their definitions say.
  *
  *     struct tcpclkit_verdict verdict;
- *     uint32_t status = tcpclkit_bundle_verdict(bytes, length, &verdict);
+ *     uint32_t status = tcpclkit_judge_bundle(bytes, length, &verdict);
  *     if (status == TCPCLKIT_OK)
  *       use(bytes + verdict.payload_offset, verdict.payload_seen);
  *     else if (status == TCPCLKIT_TRUNCATED)
@@ -11,35 +11,37 @@
  *     else
  *       refuse(verdict.fault.code, verdict.fault.offset);
  *
- * What is proved. The comment of each function has a paragraph "Proved". It says what the
- * function's contract says. The words in `backticks` there are definitions of the folders `specs/`
- * of the source, which docs/DEFINITIONS.md explains. Each function returns, whatever the bytes and
- * the numbers are, and reads and writes only what it was lent.
+ * What is proved. Each function `tcpclkit_NAME` is inline: it tests its pointers and lengths, and
+ * calls `tcpclkit_raw_NAME` of the library. The paragraph "Proved" in a comment says what the
+ * contract of the raw function says. The words in `backticks` there are definitions of the folders
+ * `specs/` of the source, which docs/DEFINITIONS.md explains. Each raw function returns, whatever
+ * the bytes and the numbers are, and reads and writes only what it was lent. The inline functions
+ * are tested, and not proved.
  *
  * What the caller owes. Each pointer is valid for the length that follows it, and each pointer to a
- * struct is valid and aligned. What a function writes overlaps nothing else that it is lent. A scan
- * was made by tcpclkit_scan_new, and since then only the library has written into it. The library
- * cannot see whether this holds. A null pointer with a length of 0 is fine. A null pointer
- * with another length, or in place of a struct, is answered by TCPCLKIT_NULL, and a length above
- * PTRDIFF_MAX by TCPCLKIT_RANGE. These two answers are those of the inline functions below, which
- * are tested and not proved. A caller that cannot use them, from another language, calls the
- * function `tcpclkit_raw_..` of the same name, and never with a null pointer or with such a length.
+ * struct is valid and aligned. Nobody changes what is lent while the call runs, not even from
+ * another thread or from a signal handler. What a function writes overlaps nothing else that it is
+ * lent. The library cannot see whether this holds, but an inline function answers TCPCLKIT_RANGE
+ * where two slices overlap of which it writes one. A null pointer with a length of 0 is fine. For a
+ * null pointer with another length, or in place of a struct, the answer is TCPCLKIT_NULL, and for a
+ * length above PTRDIFF_MAX it is TCPCLKIT_RANGE. A caller from another language calls the raw
+ * functions. For these no pointer may be null, also where a length is 0, no length may be above
+ * PTRDIFF_MAX, and no two slices may overlap of which one is written.
  *
  * Threads. The library keeps no state. Every function may be called from any thread at any time,
- * as long as nothing that one call writes is used by another call at that time. A scan counts as
- * written by each call that is lent it. A signal handler, and the forked child of a process with
- * threads, may call all but the whole tools.
+ * as long as nothing that one call writes is used by another call at that time. A signal handler,
+ * and the forked child of a process with threads, may call all functions but tcpclkit_pack.
  *
- * Memory. The whole tools (tcpclkit_list, tcpclkit_unpack and tcpclkit_pack) call malloc, realloc
- * and free of the C library, which have to be of one allocator. They keep their texts until the run
- * has ended, and then copy them into the slices. No other function takes memory. On x86-64, 128 KiB
- * of stack are enough for a whole tool, and 32 KiB for any other function.
+ * Memory. Only tcpclkit_pack takes memory: it calls malloc and free of the C library for one block.
+ * On the stack, a whole tool takes up to 120 KiB and any other function up to 20 KiB. An alternate
+ * stack for signal handlers often has 8 KiB (SIGSTKSZ), which is too little. The code is for
+ * x86-64-v2: it uses SSE 4.2, and no AVX.
  *
  * Slices. What a function writes into a slice begins at its first byte. The bytes after it stay as
  * they were.
  *
  * Fields. Each field of each struct is a uint64_t, so there is no padding. A field that the
- * comments do not name for a status, or for a kind of message, has no meaning then.
+ * comments do not name for a kind of message, and after a fault each field but the fault's, is 0.
  */
 #ifndef TCPCLKIT_H
 #define TCPCLKIT_H
@@ -51,22 +53,20 @@
 extern "C" {
 #endif
 
-/*
- * The version of this interface. It is another number as soon as a name, a number, a field or a
- * parameter of this header changes its meaning.
- */
-#define TCPCLKIT_ABI 2u
+/* The version of this interface. It is another number as soon as a name, a number, a field or a
+ * parameter of this header changes its meaning. */
+#define TCPCLKIT_ABI 3u
 
 /* The TCPCLKIT_ABI of the header that the library was built with. */
 uint32_t tcpclkit_abi(void);
 
 /* -- statuses ---------------------------------------------------------------------------------- */
 
-/* What every function returns. */
+/* What every other function returns. */
 enum {
   /* The answer is whole. */
   TCPCLKIT_OK = 0,
-  /* Nothing is left: the bytes, or the list of items, end at the offset. */
+  /* Nothing is left: the bytes, or the list of items, end at the offset. Nothing was written. */
   TCPCLKIT_END = 1,
   /* The bytes end inside the bundle, the contact header or the head of the message. More bytes may
    * complete it, so a caller that gets more asks again. */
@@ -78,11 +78,12 @@ enum {
   TCPCLKIT_FAULT = 4,
   /* A slice that was lent is too small. What was written into it is a prefix of the answer. */
   TCPCLKIT_TOO_SMALL = 5,
-  /* A number is out of its range, such as an offset past the end. Nothing was written. */
+  /* A number is out of its range, such as an offset past the end, or slices overlap, or the memory
+   * has no scan. Nothing was written, but tcpclkit_feed_scan sets `*taken` to 0. */
   TCPCLKIT_RANGE = 6,
   /* A pointer is null that may not be. Nothing was written. */
   TCPCLKIT_NULL = 7,
-  /* The C library refused the memory that a whole tool asked for. */
+  /* The C library refused the memory that tcpclkit_pack asked for. */
   TCPCLKIT_MEMORY = 8
 };
 
@@ -94,7 +95,6 @@ enum {
  */
 enum {
   TCPCLKIT_NO_FAULT = 0,
-
   /* of a recording */
   TCPCLKIT_WIRE_TRUNCATED = 1,
   TCPCLKIT_WIRE_BAD_MAGIC = 2,
@@ -104,14 +104,12 @@ enum {
   TCPCLKIT_WIRE_LIST_TOO_LONG = 6,    /* number: the length, below 4,294,967,296 */
   TCPCLKIT_WIRE_TOO_MANY_ITEMS = 7,
   TCPCLKIT_WIRE_ITEMS_OVERRUN = 8,
-
   /* of the order of messages */
   TCPCLKIT_ORDER_SECOND_SESS_INIT = 51,
   TCPCLKIT_ORDER_SEGMENT_BEFORE_SESS_INIT = 52,
   TCPCLKIT_ORDER_NO_SUCH_OPEN_TRANSFER = 53,
   TCPCLKIT_ORDER_START_REPEATS_OPEN_ID = 54,
   TCPCLKIT_ORDER_START_AFTER_SESS_TERM = 55,
-
   /* of a bundle: 100, and the number of the fault in docs/FORMATS.md */
   TCPCLKIT_BUNDLE_CUT = 101,
   TCPCLKIT_BUNDLE_TRAILING = 102,
@@ -133,7 +131,7 @@ enum {
 };
 
 /*
- * Why bytes are refused. It has a meaning after TCPCLKIT_TRUNCATED, TCPCLKIT_DATA_TRUNCATED and
+ * Why bytes are refused: all 0 but after TCPCLKIT_TRUNCATED, TCPCLKIT_DATA_TRUNCATED and
  * TCPCLKIT_FAULT.
  */
 struct tcpclkit_fault {
@@ -141,6 +139,54 @@ struct tcpclkit_fault {
   uint64_t number; /* the number that the code is about, or 0 */
   uint64_t offset; /* of a bundle: where the fault is; of a recording: where its message begins */
 };
+
+/* -- pointers and lengths ---------------------------------------------------------------------- */
+
+/* TCPCLKIT_OK if a slice at this pointer may have this length. */
+static inline uint32_t tcpclkit_slice_status(const void *start, size_t length) {
+  if (length > PTRDIFF_MAX) return TCPCLKIT_RANGE;
+  if (start == NULL && length > 0) return TCPCLKIT_NULL;
+  return TCPCLKIT_OK;
+}
+
+/* The pointer, or one that is not null for an empty slice. */
+static inline uint8_t *tcpclkit_start(const uint8_t *start) {
+  static uint8_t nothing;
+  return start != NULL ? (uint8_t *)(uintptr_t)start : &nothing;
+}
+
+/* The first of two statuses that is not TCPCLKIT_OK. */
+static inline uint32_t tcpclkit_first_status(uint32_t first, uint32_t second) {
+  return first != TCPCLKIT_OK ? first : second;
+}
+
+/* The status, or TCPCLKIT_NULL if it is TCPCLKIT_OK and one of two structs is missing. */
+static inline uint32_t tcpclkit_struct_status(uint32_t status, const void *one, const void *other) {
+  return tcpclkit_first_status(status, one == NULL || other == NULL ? TCPCLKIT_NULL : TCPCLKIT_OK);
+}
+
+/* TCPCLKIT_RANGE if two slices have a byte in common. */
+static inline uint32_t tcpclkit_apart_status(const void *one, size_t one_length,
+                                             const void *other, size_t other_length) {
+  uintptr_t a = (uintptr_t)one, b = (uintptr_t)other;
+  if (one_length == 0 || other_length == 0) return TCPCLKIT_OK;
+  return (a < b ? b - a < one_length : a - b < other_length) ? TCPCLKIT_RANGE : TCPCLKIT_OK;
+}
+
+/* TCPCLKIT_OK if bytes that are read and two slices that are written are valid and apart. */
+static inline uint32_t tcpclkit_slices_status(const void *bytes, size_t length,
+                                              const void *first, size_t first_room,
+                                              const void *second, size_t second_room) {
+  uint32_t status = tcpclkit_first_status(
+      tcpclkit_slice_status(bytes, length),
+      tcpclkit_first_status(tcpclkit_slice_status(first, first_room),
+                            tcpclkit_slice_status(second, second_room)));
+  if (status != TCPCLKIT_OK) return status;
+  return tcpclkit_first_status(
+      tcpclkit_apart_status(first, first_room, second, second_room),
+      tcpclkit_first_status(tcpclkit_apart_status(bytes, length, first, first_room),
+                            tcpclkit_apart_status(bytes, length, second, second_room)));
+}
 
 /* -- bundles ----------------------------------------------------------------------------------- */
 
@@ -152,12 +198,12 @@ struct tcpclkit_verdict {
   uint64_t payload_seen;   /* how many of the payload's bytes are there */
 };
 
-/* The kinds of endpoint IDs (RFC 9171 section 4.2.5.1). */
+/* The kinds of endpoint IDs (RFC 9171 section 4.2.5.1). 0 is no endpoint ID. */
 enum {
-  TCPCLKIT_EID_DTN_NONE = 0, /* dtn:none */
-  TCPCLKIT_EID_DTN = 1,      /* dtn: and a name of `name_length` bytes */
-  TCPCLKIT_EID_IPN = 2,      /* ipn: with `node` and `service` */
-  TCPCLKIT_EID_IPN3 = 3      /* ipn: with `allocator`, `node` and `service` */
+  TCPCLKIT_EID_DTN_NONE = 1, /* dtn:none */
+  TCPCLKIT_EID_DTN = 2,      /* dtn: and a name of `name_length` bytes */
+  TCPCLKIT_EID_IPN = 3,      /* ipn: with `node` and `service` */
+  TCPCLKIT_EID_IPN3 = 4      /* ipn: with `allocator`, `node` and `service` */
 };
 
 /* The greatest length of the name of a dtn endpoint ID: room for that much holds every name. */
@@ -194,32 +240,52 @@ struct tcpclkit_bundle {
  * they are none, and `fault` is the first fault, also where a byte follows the bundle. The
  * payload's fields have a meaning for each of the three.
  *
- * Proved: the status and `fault` are those of `verdict` of the bytes, and the payload's fields are
- * `payload_seen` of them.
+ * Proved of tcpclkit_raw_judge_bundle: the status and `fault` are those of `verdict` of the bytes,
+ * and the payload's fields are `payload_seen` of them.
  */
-static inline uint32_t tcpclkit_bundle_verdict(const uint8_t *bytes, size_t length,
-                                               struct tcpclkit_verdict *verdict);
+uint32_t tcpclkit_raw_judge_bundle(const uint8_t *bytes, size_t length,
+                                   struct tcpclkit_verdict *verdict);
+static inline uint32_t tcpclkit_judge_bundle(const uint8_t *bytes, size_t length,
+                                             struct tcpclkit_verdict *verdict) {
+  uint32_t status = tcpclkit_struct_status(tcpclkit_slice_status(bytes, length), verdict, verdict);
+  if (status != TCPCLKIT_OK) return status;
+  return tcpclkit_raw_judge_bundle(tcpclkit_start(bytes), length, verdict);
+}
 
 /*
- * Judges the bytes as tcpclkit_bundle_verdict does, and gives the fields of a good bundle.
+ * Judges the bytes as tcpclkit_judge_bundle does, and gives the fields of a good bundle.
  *
  * The name of a dtn endpoint ID is copied into the slice that is lent for it. TCPCLKIT_TOO_SMALL:
  * the bundle is good and every field is given, but a name is longer than its slice, which has the
- * name's first bytes. If the bundle is not good, nothing is written into the slices.
+ * name's first bytes. If the bundle is not good, nothing is written into the slices, and each field
+ * but `verdict` is 0. TCPCLKIT_RANGE: the slices overlap, or one of them overlaps the bytes.
  *
- * Proved: `verdict` is as above. After TCPCLKIT_OK the fields and the names are the bundle that
- * `verdict` gives. After TCPCLKIT_TOO_SMALL they are too, with each name cut to its room. The other
- * bytes of the slices are as they were.
+ * Proved of tcpclkit_raw_describe_bundle: `verdict` is as above. After TCPCLKIT_OK the fields and
+ * the names are the bundle that `verdict` gives. After TCPCLKIT_TOO_SMALL they are too, with each
+ * name cut to its room. The other bytes of the slices are as they were.
  */
-static inline uint32_t tcpclkit_bundle_info(const uint8_t *bytes, size_t length,
-                                            uint8_t *destination_name, size_t destination_room,
-                                            uint8_t *source_name, size_t source_room,
-                                            struct tcpclkit_bundle *bundle);
+uint32_t tcpclkit_raw_describe_bundle(const uint8_t *bytes, size_t length,
+                                      uint8_t *destination_name, size_t destination_room,
+                                      uint8_t *source_name, size_t source_room,
+                                      struct tcpclkit_bundle *bundle);
+static inline uint32_t tcpclkit_describe_bundle(const uint8_t *bytes, size_t length,
+                                                uint8_t *destination_name, size_t destination_room,
+                                                uint8_t *source_name, size_t source_room,
+                                                struct tcpclkit_bundle *bundle) {
+  uint32_t status = tcpclkit_slices_status(bytes, length, destination_name, destination_room,
+                                           source_name, source_room);
+  status = tcpclkit_struct_status(status, bundle, bundle);
+  if (status != TCPCLKIT_OK) return status;
+  return tcpclkit_raw_describe_bundle(
+      tcpclkit_start(bytes), length,
+      tcpclkit_start(destination_name), destination_room,
+      tcpclkit_start(source_name), source_room, bundle);
+}
 
 /* -- a bundle in pieces ------------------------------------------------------------------------ */
 
 /* How many numbers of 64 bits a scan has. */
-#define TCPCLKIT_SCAN_WORDS 512u
+#define TCPCLKIT_SCAN_WORDS 1024u
 
 /*
  * A scan of one bundle that comes in pieces of any size:
@@ -227,19 +293,27 @@ static inline uint32_t tcpclkit_bundle_info(const uint8_t *bytes, size_t length,
  *     struct tcpclkit_scan scan;
  *     uint64_t taken;
  *     uint32_t status;
- *     tcpclkit_scan_new(&scan);
+ *     tcpclkit_start_scan(&scan);
  *     do {
  *       length = receive(piece);
- *       status = tcpclkit_scan_feed(&scan, piece, length, &taken);
+ *       status = tcpclkit_feed_scan(&scan, piece, length, &taken);
  *     } while (length > 0 && status == TCPCLKIT_TRUNCATED);
  *
  * It keeps what the heads of the bundle say, and no byte of the payload. The memory is the caller's
- * and needs no release. What is in it is the library's. It stays where it is: a copy of its bytes
- * is no scan.
+ * and needs no release. What is in it is the library's, and begins with a mark. Without the mark
+ * the answer is TCPCLKIT_RANGE, so memory that was never started is refused. It may be copied at
+ * any time, by assignment or memcpy: the copy is a scan that has seen the same bytes.
  */
 struct tcpclkit_scan {
   uint64_t memory[TCPCLKIT_SCAN_WORDS];
 };
+
+/*
+ * How many bytes the library uses of a scan, and what their address is a multiple of. Proved: at
+ * most 8,192, which are TCPCLKIT_SCAN_WORDS numbers, and at most 8; and no less than a scan has.
+ */
+size_t tcpclkit_raw_scan_size(void);
+size_t tcpclkit_raw_scan_alignment(void);
 
 /*
  * Makes a scan that has seen no byte, whatever the memory has had in it. So one struct serves many
@@ -247,9 +321,13 @@ struct tcpclkit_scan {
  *
  * TCPCLKIT_OK or TCPCLKIT_NULL.
  *
- * Proved: the scan has seen no byte, which `HoldsScan` says.
+ * Proved of tcpclkit_raw_start_scan: the scan has its mark and has seen no byte (`HoldsScan`).
  */
-static inline uint32_t tcpclkit_scan_new(struct tcpclkit_scan *scan);
+uint32_t tcpclkit_raw_start_scan(uint64_t *memory);
+static inline uint32_t tcpclkit_start_scan(struct tcpclkit_scan *scan) {
+  if (scan == NULL) return TCPCLKIT_NULL;
+  return tcpclkit_raw_start_scan(scan->memory);
+}
 
 /*
  * Takes the bytes of the next piece that belong to the bundle, and gives their number.
@@ -258,45 +336,69 @@ static inline uint32_t tcpclkit_scan_new(struct tcpclkit_scan *scan);
  * that were taken of this piece and of those before it are a good bundle. TCPCLKIT_FAULT: they are
  * no bundle, whatever follows, and the last of them shows the first fault. After these two no byte
  * is taken: a further call takes 0 bytes and returns the same. What was not taken does not belong
- * to the bundle, so it may be the next bundle. TCPCLKIT_RANGE: the pieces have 2^63 bytes or more,
- * and nothing of this one was taken.
+ * to the bundle, so it may be the next bundle. TCPCLKIT_RANGE: the memory has no scan, or the
+ * pieces have 2^63 bytes or more, and nothing of this one was taken.
  *
- * Proved: if the scan has seen some bytes, it then has seen these and, after them, `fed` of them
- * and of the piece, which are as many as `*taken` says. The status is `fed_status`. So the pieces
- * into which the bytes are cut make no difference.
+ * Proved of tcpclkit_raw_feed_scan: if the scan has seen some bytes, it then has seen these and,
+ * after them, `fed` of them and of the piece, which are as many as `*taken` says. The status is
+ * `fed_status`. So the pieces into which the bytes are cut make no difference.
  */
-static inline uint32_t tcpclkit_scan_feed(struct tcpclkit_scan *scan, const uint8_t *piece,
-                                          size_t length, uint64_t *taken);
+uint32_t tcpclkit_raw_feed_scan(uint64_t *memory, const uint8_t *piece, size_t length,
+                                uint64_t *taken);
+static inline uint32_t tcpclkit_feed_scan(struct tcpclkit_scan *scan, const uint8_t *piece,
+                                          size_t length, uint64_t *taken) {
+  uint32_t status = tcpclkit_struct_status(tcpclkit_slice_status(piece, length), scan, taken);
+  if (status != TCPCLKIT_OK) return status;
+  return tcpclkit_raw_feed_scan(scan->memory, tcpclkit_start(piece), length, taken);
+}
 
 /*
  * Gives the verdict on the bytes that were taken. Offsets are counted from the bundle's first byte.
  *
- * The statuses are those of tcpclkit_bundle_verdict. A byte that follows the bundle is no fault,
- * since it is not taken.
+ * The statuses are those of tcpclkit_judge_bundle; TCPCLKIT_RANGE if the memory has no scan. A byte
+ * that follows the bundle is no fault, since it is not taken.
  *
- * Proved: the answer is that of tcpclkit_bundle_verdict of the bytes that the scan has seen, and
- * the scan has seen the same bytes afterwards.
+ * Proved of tcpclkit_raw_judge_scan: the answer is that of tcpclkit_judge_bundle of the bytes that
+ * the scan has seen, and the scan has seen the same bytes afterwards.
  */
-static inline uint32_t tcpclkit_scan_verdict(struct tcpclkit_scan *scan,
-                                             struct tcpclkit_verdict *verdict);
+uint32_t tcpclkit_raw_judge_scan(const uint64_t *memory, struct tcpclkit_verdict *verdict);
+static inline uint32_t tcpclkit_judge_scan(const struct tcpclkit_scan *scan,
+                                           struct tcpclkit_verdict *verdict) {
+  if (scan == NULL || verdict == NULL) return TCPCLKIT_NULL;
+  return tcpclkit_raw_judge_scan(scan->memory, verdict);
+}
 
 /*
  * Gives the verdict on the bytes that were taken, and the fields of a good bundle.
  *
- * The statuses are those of tcpclkit_bundle_info.
+ * The statuses are those of tcpclkit_describe_bundle; TCPCLKIT_RANGE if the memory has no scan.
  *
- * Proved: the answer is that of tcpclkit_bundle_info of the bytes that the scan has seen, and the
- * scan has seen the same bytes afterwards.
+ * Proved of tcpclkit_raw_describe_scan: the answer is that of tcpclkit_describe_bundle of the bytes
+ * that the scan has seen, and the scan has seen the same bytes afterwards.
  */
-static inline uint32_t tcpclkit_scan_info(struct tcpclkit_scan *scan,
-                                          uint8_t *destination_name, size_t destination_room,
-                                          uint8_t *source_name, size_t source_room,
-                                          struct tcpclkit_bundle *bundle);
+uint32_t tcpclkit_raw_describe_scan(const uint64_t *memory, uint8_t *destination_name,
+                                    size_t destination_room, uint8_t *source_name,
+                                    size_t source_room, struct tcpclkit_bundle *bundle);
+static inline uint32_t tcpclkit_describe_scan(const struct tcpclkit_scan *scan,
+                                              uint8_t *destination_name, size_t destination_room,
+                                              uint8_t *source_name, size_t source_room,
+                                              struct tcpclkit_bundle *bundle) {
+  uint32_t status =
+      tcpclkit_slices_status(NULL, 0, destination_name, destination_room, source_name, source_room);
+  status = tcpclkit_struct_status(status, scan, bundle);
+  if (status != TCPCLKIT_OK) return status;
+  return tcpclkit_raw_describe_scan(
+      scan->memory, tcpclkit_start(destination_name), destination_room,
+      tcpclkit_start(source_name), source_room, bundle);
+}
 
 /* -- recordings -------------------------------------------------------------------------------- */
 
 /* The length of a contact header: the first message begins there. */
 #define TCPCLKIT_CONTACT_LENGTH 6u
+
+/* The greatest length of a message without its data. A buffer of that size holds every head. */
+#define TCPCLKIT_HEAD_LIMIT 66585u
 
 /* A contact header of version 4 (RFC 9174 section 4.2). */
 struct tcpclkit_contact {
@@ -319,7 +421,7 @@ enum {
 #define TCPCLKIT_SEGMENT_END 1u
 #define TCPCLKIT_SEGMENT_START 2u
 
-/* A message. Each field names the kinds that have it. */
+/* A message. Each field names the kinds that have it; for the others it is 0. */
 struct tcpclkit_message {
   struct tcpclkit_fault fault;
   uint64_t kind;
@@ -336,15 +438,16 @@ struct tcpclkit_message {
   uint64_t items_offset;  /* SESS_INIT, XFER_SEGMENT: where the extension items are */
   uint64_t items_length;  /* SESS_INIT, XFER_SEGMENT: in bytes; 0 without START */
   uint64_t data_offset;   /* all: where the head ends, and the data of a segment begins */
-  uint64_t data_length;   /* all: by the head; 0 if it is no segment */
-  uint64_t next;          /* all, but not after TCPCLKIT_DATA_TRUNCATED: where the message ends */
+  uint64_t data_length;   /* XFER_SEGMENT: by the head */
+  uint64_t data_seen;     /* XFER_SEGMENT: how many bytes of the data are there */
+  uint64_t next;          /* all: where the message ends; 0 after TCPCLKIT_DATA_TRUNCATED */
 };
 
 /* An extension item (RFC 9174 sections 4.8 and 5.2.5). */
 struct tcpclkit_item {
   struct tcpclkit_fault fault;
   uint64_t flags;
-  uint64_t type;
+  uint64_t item_type;
   uint64_t value_offset;
   uint64_t value_length;
   uint64_t has_total; /* 1 if it is of type 1 with a value of 8 bytes: of a segment, the length */
@@ -357,29 +460,41 @@ struct tcpclkit_item {
  *
  * TCPCLKIT_OK, TCPCLKIT_TRUNCATED or TCPCLKIT_FAULT.
  *
- * Proved: the answer is `contact_at` of the bytes.
+ * Proved of tcpclkit_raw_read_contact: the answer is `contact_at` of the bytes.
  */
-static inline uint32_t tcpclkit_contact(const uint8_t *bytes, size_t length,
-                                        struct tcpclkit_contact *contact);
+uint32_t tcpclkit_raw_read_contact(const uint8_t *bytes, size_t length,
+                                   struct tcpclkit_contact *contact);
+static inline uint32_t tcpclkit_read_contact(const uint8_t *bytes, size_t length,
+                                             struct tcpclkit_contact *contact) {
+  uint32_t status = tcpclkit_struct_status(tcpclkit_slice_status(bytes, length), contact, contact);
+  if (status != TCPCLKIT_OK) return status;
+  return tcpclkit_raw_read_contact(tcpclkit_start(bytes), length, contact);
+}
 
 /*
  * Reads the message that begins at an offset.
  *
  * TCPCLKIT_OK: the message and its data are there, and the next one begins at `next`.
- * TCPCLKIT_DATA_TRUNCATED: as TCPCLKIT_OK, but the bytes end inside the data; `next` has no
- * meaning, and `fault` is that of a recording that ends there. TCPCLKIT_END: no byte is at the
- * offset, which is the length. TCPCLKIT_TRUNCATED: the bytes end inside the head. TCPCLKIT_FAULT.
- * TCPCLKIT_RANGE: the offset is past the end.
+ * TCPCLKIT_DATA_TRUNCATED: as TCPCLKIT_OK, but the bytes end inside the data, of which `data_seen`
+ * bytes are there; `next` is 0, and `fault` is that of a recording that ends there. TCPCLKIT_END:
+ * no byte is at the offset, which is the length. TCPCLKIT_TRUNCATED: the bytes end inside the head.
+ * TCPCLKIT_FAULT. TCPCLKIT_RANGE: the offset is past the end.
  *
  * The messages of a recording begin at TCPCLKIT_CONTACT_LENGTH. The bytes may also be a part of a
  * recording that begins with a message: then offsets are counted from there.
  *
- * Proved: the answer is `message_at` of the bytes from the offset on. The node ID is the bytes at
- * its place, the items are those of the list at its place, and the data is `bytes` from
- * `data_offset` on.
+ * Proved of tcpclkit_raw_read_message: the answer is `message_at` of the bytes from the offset on.
+ * The node ID is the bytes at its place, the items are those of the list at its place, and the data
+ * is `bytes` from `data_offset` on.
  */
-static inline uint32_t tcpclkit_message(const uint8_t *bytes, size_t length, uint64_t offset,
-                                        struct tcpclkit_message *message);
+uint32_t tcpclkit_raw_read_message(const uint8_t *bytes, size_t length, uint64_t offset,
+                                   struct tcpclkit_message *message);
+static inline uint32_t tcpclkit_read_message(const uint8_t *bytes, size_t length, uint64_t offset,
+                                             struct tcpclkit_message *message) {
+  uint32_t status = tcpclkit_struct_status(tcpclkit_slice_status(bytes, length), message, message);
+  if (status != TCPCLKIT_OK) return status;
+  return tcpclkit_raw_read_message(tcpclkit_start(bytes), length, offset, message);
+}
 
 /*
  * Reads the extension item at an offset of a list that ends at the offset `end`.
@@ -390,10 +505,17 @@ static inline uint32_t tcpclkit_message(const uint8_t *bytes, size_t length, uin
  * TCPCLKIT_TRUNCATED if it does not end within the bytes, and TCPCLKIT_RANGE if not `offset` <=
  * `end` <= `length`, or if the list has more than 65,536 bytes left.
  *
- * Proved: the answer is `item_head_at` and `total_at` of the bytes from the offset on.
+ * Proved of tcpclkit_raw_read_item: the answer is `item_head_at` and `total_at` of the bytes from
+ * the offset on.
  */
-static inline uint32_t tcpclkit_item(const uint8_t *bytes, size_t length, uint64_t offset,
-                                     uint64_t end, struct tcpclkit_item *item);
+uint32_t tcpclkit_raw_read_item(const uint8_t *bytes, size_t length, uint64_t offset, uint64_t end,
+                                struct tcpclkit_item *item);
+static inline uint32_t tcpclkit_read_item(const uint8_t *bytes, size_t length, uint64_t offset,
+                                          uint64_t end, struct tcpclkit_item *item) {
+  uint32_t status = tcpclkit_struct_status(tcpclkit_slice_status(bytes, length), item, item);
+  if (status != TCPCLKIT_OK) return status;
+  return tcpclkit_raw_read_item(tcpclkit_start(bytes), length, offset, end, item);
+}
 
 /* -- the order of messages --------------------------------------------------------------------- */
 
@@ -408,11 +530,12 @@ struct tcpclkit_order {
   uint64_t transfer;   /* the open transfer */
 };
 
-/* What an accepted message does to the transfers of its session. */
+/* What a message does to the transfers of its session. */
 enum {
-  TCPCLKIT_TURN_OTHER = 0,   /* no segment: nothing */
-  TCPCLKIT_TURN_BEGIN = 1,   /* the first segment of a transfer */
-  TCPCLKIT_TURN_CONTINUE = 2 /* a further segment of the open transfer */
+  TCPCLKIT_TURN_OTHER = 0,    /* nothing: it is no segment, or it was refused */
+  TCPCLKIT_TURN_BEGIN = 1,    /* it is the first segment of a transfer */
+  TCPCLKIT_TURN_CONTINUE = 2, /* it is a further segment of the open transfer */
+  TCPCLKIT_TURN_STRAY = 3     /* nothing: it is a further segment of no open transfer */
 };
 
 struct tcpclkit_turn {
@@ -430,11 +553,39 @@ struct tcpclkit_turn {
  * TCPCLKIT_FAULT: it may not, and `order` stays as it was. TCPCLKIT_RANGE: `kind` is none of a
  * message, `flags` are above 255, or `order` has a field above 1 that is 0 or 1.
  *
- * Proved: if `order` is that of some messages, the answer is `judged_message` of this message after
- * them; and if it was accepted, `order` is then that of these messages and this one.
+ * Proved of tcpclkit_raw_judge_order: if `order` is that of some messages, the answer is
+ * `judged_message` of this message after them; and if it was accepted, `order` is then that of
+ * these messages and this one.
  */
-static inline uint32_t tcpclkit_order(struct tcpclkit_order *order, uint64_t kind, uint64_t flags,
-                                      uint64_t id, struct tcpclkit_turn *turn);
+uint32_t tcpclkit_raw_judge_order(struct tcpclkit_order *order, uint64_t kind, uint64_t flags,
+                                  uint64_t id, struct tcpclkit_turn *turn);
+static inline uint32_t tcpclkit_judge_order(struct tcpclkit_order *order, uint64_t kind,
+                                            uint64_t flags, uint64_t id,
+                                            struct tcpclkit_turn *turn) {
+  if (order == NULL || turn == NULL) return TCPCLKIT_NULL;
+  return tcpclkit_raw_judge_order(order, kind, flags, id, turn);
+}
+
+/*
+ * Takes a message whether or not it may come now, as `tcpclkit unpack --keep-going` does.
+ *
+ * TCPCLKIT_OK: it may come, and the answer is that of tcpclkit_judge_order. TCPCLKIT_FAULT: it may
+ * not. Then `fault` is the reason, and the other fields are what it does all the same: a segment
+ * with START begins its transfer, and a further segment of no open transfer is TCPCLKIT_TURN_STRAY,
+ * whose data belongs nowhere. TCPCLKIT_RANGE: as for tcpclkit_judge_order.
+ *
+ * Proved of tcpclkit_raw_take_message: if `order` is that of some messages, `fault` is `refusal` of
+ * this message after them, and the other fields are its `effect_of`. `order` is then that of
+ * `with_taken`: these messages and this one, if it is not stray.
+ */
+uint32_t tcpclkit_raw_take_message(struct tcpclkit_order *order, uint64_t kind, uint64_t flags,
+                                   uint64_t id, struct tcpclkit_turn *turn);
+static inline uint32_t tcpclkit_take_message(struct tcpclkit_order *order, uint64_t kind,
+                                             uint64_t flags, uint64_t id,
+                                             struct tcpclkit_turn *turn) {
+  if (order == NULL || turn == NULL) return TCPCLKIT_NULL;
+  return tcpclkit_raw_take_message(order, kind, flags, id, turn);
+}
 
 /* -- texts ------------------------------------------------------------------------------------- */
 
@@ -446,44 +597,67 @@ static inline uint32_t tcpclkit_order(struct tcpclkit_order *order, uint64_t kin
  * is longer, and its first bytes were written. TCPCLKIT_RANGE: no fault has this code, or the code
  * has no such number. 64 bytes are enough for every text.
  *
- * Proved: the text is `wire_text`, `order_text`, or `code_text` and `bundle_fault_text`, and the
- * bytes after it are as they were.
+ * Proved of tcpclkit_raw_write_fault_text: the text is `wire_text`, `order_text`, or `code_text`
+ * and `bundle_fault_text`, and the bytes after it are as they were.
  */
-static inline uint32_t tcpclkit_fault_text(uint64_t code, uint64_t number, uint8_t *text,
-                                           size_t room, uint64_t *written);
+uint32_t tcpclkit_raw_write_fault_text(uint64_t code, uint64_t number, uint8_t *text, size_t room,
+                                       uint64_t *written);
+static inline uint32_t tcpclkit_write_fault_text(uint64_t code, uint64_t number, uint8_t *text,
+                                                 size_t room, uint64_t *written) {
+  uint32_t status = tcpclkit_struct_status(tcpclkit_slice_status(text, room), written, written);
+  if (status != TCPCLKIT_OK) return status;
+  return tcpclkit_raw_write_fault_text(code, number, tcpclkit_start(text), room, written);
+}
 
 /*
  * Writes an endpoint ID as the program's lines show it: `ipn:2.1`, or `dtn://node/` with each byte
  * that is no visible ASCII character, and each `\`, as `\x` and two digits.
  *
- * `name` is the name of a TCPCLKIT_EID_DTN, with `name_length` of `eid` as its length; for the
- * other kinds it may be null. `*written` is as above. TCPCLKIT_RANGE: the kind is none, or the name
- * is longer than TCPCLKIT_EID_LIMIT. 4,100 bytes are enough for every text.
+ * `name` is the slice with the name of a TCPCLKIT_EID_DTN; the other kinds have no name, and it is
+ * not read. `*written` is as above. TCPCLKIT_RANGE: the kind is none, or the kind has a name and
+ * `name_length` is not that of `eid` or is above TCPCLKIT_EID_LIMIT. So a name that was cut to its
+ * slice is refused. 4,100 bytes are enough for every text.
  *
- * Proved: the text is `eid_text`, and the bytes after it are as they were.
+ * Proved of tcpclkit_raw_write_eid_text: the text is `eid_text`, and the bytes after it are as they
+ * were.
  */
-static inline uint32_t tcpclkit_eid_text(const struct tcpclkit_eid *eid, const uint8_t *name,
-                                         uint8_t *text, size_t room, uint64_t *written);
+uint32_t tcpclkit_raw_write_eid_text(const struct tcpclkit_eid *eid, const uint8_t *name,
+                                     size_t name_length, uint8_t *text, size_t room,
+                                     uint64_t *written);
+static inline uint32_t tcpclkit_write_eid_text(const struct tcpclkit_eid *eid, const uint8_t *name,
+                                               size_t name_length, uint8_t *text, size_t room,
+                                               uint64_t *written) {
+  uint32_t status = tcpclkit_slices_status(name, name_length, text, room, NULL, 0);
+  status = tcpclkit_struct_status(status, eid, written);
+  if (status != TCPCLKIT_OK) return status;
+  return tcpclkit_raw_write_eid_text(eid, tcpclkit_start(name), name_length,
+                                     tcpclkit_start(text), room, written);
+}
 
 /* -- whole tools ------------------------------------------------------------------------------- */
 
-/* What a run of a tool did. */
+/*
+ * What a run of a tool did. The lengths are those of the whole texts, also where they did not fit,
+ * so a caller that was told TCPCLKIT_TOO_SMALL knows how much room is enough.
+ */
 struct tcpclkit_run {
   uint64_t exit_status;    /* 0, 1 or 3, as the program ends (docs/MANUAL.md) */
-  uint64_t output_length;  /* how many bytes were written of what goes to standard output */
-  uint64_t report_length;  /* how many bytes were written of what goes to standard error */
+  uint64_t output_length;  /* how long is what goes to standard output */
+  uint64_t report_length;  /* how long is what goes to standard error */
 };
 
-/* Which data `unpack` writes, and where it ends. All 0 is the default of the program. */
+/* Which data `unpack` writes, and where it ends. tcpclkit_unpack_defaults fills in the defaults. */
 struct tcpclkit_unpack_options {
+  uint64_t size;       /* sizeof (struct tcpclkit_unpack_options), for later versions */
   uint64_t only_one;   /* 1: the transfers with the ID `transfer` alone */
   uint64_t transfer;
   uint64_t payload;    /* 1: of each transfer only the payload of its bundle */
   uint64_t keep_going; /* 1: a fault of the order has its line, and does not end the run */
 };
 
-/* What the stream of `pack` says. docs/MANUAL.md has each option and its default. */
+/* What the stream of `pack` says (docs/MANUAL.md). tcpclkit_pack_defaults fills in the defaults. */
 struct tcpclkit_pack_options {
+  uint64_t size;          /* sizeof (struct tcpclkit_pack_options), for later versions */
   uint64_t keepalive;     /* seconds, at most 65,535 */
   uint64_t segment_mru;
   uint64_t transfer_mru;
@@ -493,331 +667,129 @@ struct tcpclkit_pack_options {
   uint64_t send_term;     /* 1 or 0 */
 };
 
+static inline uint32_t tcpclkit_unpack_defaults(struct tcpclkit_unpack_options *options) {
+  const struct tcpclkit_unpack_options defaults = {sizeof defaults, 0, 0, 0, 0};
+  if (options == NULL) return TCPCLKIT_NULL;
+  *options = defaults;
+  return TCPCLKIT_OK;
+}
+
+static inline uint32_t tcpclkit_pack_defaults(struct tcpclkit_pack_options *options) {
+  const struct tcpclkit_pack_options defaults = {
+      sizeof defaults, 60, 65536, 1048576, 65536, UINT64_MAX, 0, 0};
+  if (options == NULL) return TCPCLKIT_NULL;
+  *options = defaults;
+  return TCPCLKIT_OK;
+}
+
+/* The status, or if it is TCPCLKIT_OK that of options: their first field is the size of a struct of
+ * this header or of one before it. */
+static inline uint32_t tcpclkit_options_status(uint32_t status, const uint64_t *size,
+                                               size_t known) {
+  if (status != TCPCLKIT_OK || size == NULL)
+    return tcpclkit_first_status(status, TCPCLKIT_NULL);
+  return *size >= 8 && *size <= known && *size % 8 == 0 ? TCPCLKIT_OK : TCPCLKIT_RANGE;
+}
+
 /* The greatest length of a node ID, in bytes. */
 #define TCPCLKIT_NODE_ID_LIMIT 1024u
 
 /*
  * `tcpclkit list`: a line for the contact header and for each message of a recording.
  *
- * TCPCLKIT_OK: the run ended as `exit_status` says, and the slices have the whole texts, as long as
- * `run` says. TCPCLKIT_TOO_SMALL: a slice is too small. TCPCLKIT_MEMORY: memory was refused. In
- * both cases the slices have prefixes of the texts, as long as `run` says, and `exit_status` has no
- * meaning. The line of a fault goes to the report.
+ * The run goes on to its end, whatever room there is. TCPCLKIT_OK: the slices have the whole texts.
+ * TCPCLKIT_TOO_SMALL: a slice is too small, and has the first bytes of its text. `run` has the
+ * lengths of the whole texts and the exit status in both cases. A text whose pointer is null and
+ * whose room is 0 is not wanted, and needs no room. The line of a fault goes to the report.
+ * TCPCLKIT_RANGE: the slices overlap each other or the bytes.
  *
- * Proved: after TCPCLKIT_OK the texts and the exit status are those of `list_tool` of the bytes.
- * After each other status the slices have prefixes of these texts, and after TCPCLKIT_TOO_SMALL one
- * of the slices is shorter than its text. The bytes of the slices after the texts stay as they were.
- * When memory is refused is tested, and not proved.
+ * Proved of tcpclkit_raw_list: the lengths and the exit status are those of `list_tool` of the
+ * bytes. Each slice begins with its text, or has its first bytes, and the bytes after the text are
+ * as they were. The status is TCPCLKIT_OK if each text that is wanted fits, and else
+ * TCPCLKIT_TOO_SMALL. A text is wanted if its number, `wants_output` or `wants_report`, is not 0.
  */
+uint32_t tcpclkit_raw_list(const uint8_t *bytes, size_t length,
+                           uint64_t wants_output, uint8_t *output, size_t output_room,
+                           uint64_t wants_report, uint8_t *report, size_t report_room,
+                           struct tcpclkit_run *run);
 static inline uint32_t tcpclkit_list(const uint8_t *bytes, size_t length,
                                      uint8_t *output, size_t output_room,
                                      uint8_t *report, size_t report_room,
-                                     struct tcpclkit_run *run);
+                                     struct tcpclkit_run *run) {
+  uint32_t status = tcpclkit_slices_status(bytes, length, output, output_room, report, report_room);
+  status = tcpclkit_struct_status(status, run, run);
+  if (status != TCPCLKIT_OK) return status;
+  return tcpclkit_raw_list(tcpclkit_start(bytes), length,
+                           output != NULL, tcpclkit_start(output), output_room,
+                           report != NULL, tcpclkit_start(report), report_room, run);
+}
 
 /*
  * `tcpclkit unpack`: the data of a recording's transfers, and a line for each of them as the
  * report.
  *
- * The statuses are those of tcpclkit_list; TCPCLKIT_RANGE if `only_one`, `payload` or
- * `keep_going` is above 1. An output as long as the recording is always large enough.
+ * The statuses are those of tcpclkit_list; also TCPCLKIT_RANGE if `only_one`, `payload` or
+ * `keep_going` is above 1, or `size` is not that of the struct. An output as long as the recording
+ * is always large enough.
  *
- * Proved: as for tcpclkit_list, of `unpack_tool` of the options and the bytes.
+ * Proved of tcpclkit_raw_unpack: as for tcpclkit_raw_list, of `unpack_tool` of the options and the
+ * bytes. The options are `option_count` numbers, which follow `size` in the struct. Those that are
+ * missing have their defaults, and those after the ones that the library knows have to be 0.
  */
-static inline uint32_t tcpclkit_unpack(const uint8_t *bytes, size_t length,
-                                       const struct tcpclkit_unpack_options *options,
-                                       uint8_t *output, size_t output_room,
-                                       uint8_t *report, size_t report_room,
-                                       struct tcpclkit_run *run);
-
-/*
- * `tcpclkit pack`: bundles, one after another, as the stream of a sender, and a line for each of
- * them as the report.
- *
- * `node` is the sender's node ID. The statuses are those of tcpclkit_list; TCPCLKIT_RANGE if an
- * option or the length of `node` is not in its range.
- *
- * Proved: as for tcpclkit_list, of `pack_tool` of the options and the bytes.
- */
-static inline uint32_t tcpclkit_pack(const uint8_t *bytes, size_t length,
-                                     const struct tcpclkit_pack_options *options,
-                                     const uint8_t *node, size_t node_length,
-                                     uint8_t *output, size_t output_room,
-                                     uint8_t *report, size_t report_room,
-                                     struct tcpclkit_run *run);
-
-/* -- the functions of the library, which the inline functions below call ----------------------- */
-
-/*
- * Each is the function above of the same name without `raw_`. No pointer may be null, also where a
- * length is 0, and no length may be above PTRDIFF_MAX. So none returns TCPCLKIT_NULL.
- */
-uint32_t tcpclkit_raw_bundle_verdict(const uint8_t *bytes, size_t length,
-                                     struct tcpclkit_verdict *verdict);
-uint32_t tcpclkit_raw_bundle_info(const uint8_t *bytes, size_t length,
-                                  uint8_t *destination_name, size_t destination_room,
-                                  uint8_t *source_name, size_t source_room,
-                                  struct tcpclkit_bundle *bundle);
-uint32_t tcpclkit_raw_scan_new(uint64_t *memory);
-uint32_t tcpclkit_raw_scan_feed(uint64_t *memory, const uint8_t *piece, size_t length,
-                                uint64_t *taken);
-uint32_t tcpclkit_raw_scan_verdict(uint64_t *memory, struct tcpclkit_verdict *verdict);
-uint32_t tcpclkit_raw_scan_info(uint64_t *memory, uint8_t *destination_name,
-                                size_t destination_room, uint8_t *source_name,
-                                size_t source_room, struct tcpclkit_bundle *bundle);
-uint32_t tcpclkit_raw_contact(const uint8_t *bytes, size_t length,
-                              struct tcpclkit_contact *contact);
-uint32_t tcpclkit_raw_message(const uint8_t *bytes, size_t length, uint64_t offset,
-                              struct tcpclkit_message *message);
-uint32_t tcpclkit_raw_item(const uint8_t *bytes, size_t length, uint64_t offset, uint64_t end,
-                           struct tcpclkit_item *item);
-uint32_t tcpclkit_raw_order(struct tcpclkit_order *order, uint64_t kind, uint64_t flags,
-                            uint64_t id, struct tcpclkit_turn *turn);
-uint32_t tcpclkit_raw_fault_text(uint64_t code, uint64_t number, uint8_t *text, size_t room,
-                                 uint64_t *written);
-uint32_t tcpclkit_raw_eid_text(const struct tcpclkit_eid *eid, const uint8_t *name,
-                               size_t name_length, uint8_t *text, size_t room,
-                               uint64_t *written);
-uint32_t tcpclkit_raw_list(const uint8_t *bytes, size_t length,
-                           uint8_t *output, size_t output_room,
-                           uint8_t *report, size_t report_room, struct tcpclkit_run *run);
 uint32_t tcpclkit_raw_unpack(const uint8_t *bytes, size_t length,
-                             const struct tcpclkit_unpack_options *options,
-                             uint8_t *output, size_t output_room,
-                             uint8_t *report, size_t report_room, struct tcpclkit_run *run);
-uint32_t tcpclkit_raw_pack(const uint8_t *bytes, size_t length,
-                           const struct tcpclkit_pack_options *options,
-                           const uint8_t *node, size_t node_length,
-                           uint8_t *output, size_t output_room,
-                           uint8_t *report, size_t report_room, struct tcpclkit_run *run);
-
-/*
- * How many bytes the library uses of a scan, and what their address is a multiple of. Proved: at
- * most 4,096, which are TCPCLKIT_SCAN_WORDS numbers, and at most 8.
- */
-size_t tcpclkit_raw_scan_size(void);
-size_t tcpclkit_raw_scan_alignment(void);
-
-/* -- the inline functions ---------------------------------------------------------------------- */
-
-/* TCPCLKIT_OK if a slice at this pointer may have this length. */
-static inline uint32_t tcpclkit_slice_status(const void *start, size_t length) {
-  if (length > PTRDIFF_MAX)
-    return TCPCLKIT_RANGE;
-  if (start == NULL && length > 0)
-    return TCPCLKIT_NULL;
-  return TCPCLKIT_OK;
-}
-
-/* The first of two statuses that is not TCPCLKIT_OK. */
-static inline uint32_t tcpclkit_first_status(uint32_t first, uint32_t second) {
-  return first != TCPCLKIT_OK ? first : second;
-}
-
-static inline uint32_t tcpclkit_bundle_verdict(const uint8_t *bytes, size_t length,
-                                               struct tcpclkit_verdict *verdict) {
-  uint8_t nothing = 0;
-  uint32_t status = tcpclkit_slice_status(bytes, length);
-  if (status != TCPCLKIT_OK)
-    return status;
-  if (verdict == NULL)
-    return TCPCLKIT_NULL;
-  return tcpclkit_raw_bundle_verdict(bytes != NULL ? bytes : &nothing, length, verdict);
-}
-
-static inline uint32_t tcpclkit_bundle_info(const uint8_t *bytes, size_t length,
-                                            uint8_t *destination_name, size_t destination_room,
-                                            uint8_t *source_name, size_t source_room,
-                                            struct tcpclkit_bundle *bundle) {
-  uint8_t nothing[3] = {0, 0, 0};
-  uint32_t status = tcpclkit_first_status(
-      tcpclkit_slice_status(bytes, length),
-      tcpclkit_first_status(tcpclkit_slice_status(destination_name, destination_room),
-                            tcpclkit_slice_status(source_name, source_room)));
-  if (status != TCPCLKIT_OK)
-    return status;
-  if (bundle == NULL)
-    return TCPCLKIT_NULL;
-  return tcpclkit_raw_bundle_info(
-      bytes != NULL ? bytes : &nothing[0], length,
-      destination_name != NULL ? destination_name : &nothing[1], destination_room,
-      source_name != NULL ? source_name : &nothing[2], source_room, bundle);
-}
-
-static inline uint32_t tcpclkit_scan_new(struct tcpclkit_scan *scan) {
-  if (scan == NULL)
-    return TCPCLKIT_NULL;
-  return tcpclkit_raw_scan_new(scan->memory);
-}
-
-static inline uint32_t tcpclkit_scan_feed(struct tcpclkit_scan *scan, const uint8_t *piece,
-                                          size_t length, uint64_t *taken) {
-  uint8_t nothing = 0;
-  uint32_t status = tcpclkit_slice_status(piece, length);
-  if (status != TCPCLKIT_OK)
-    return status;
-  if (scan == NULL || taken == NULL)
-    return TCPCLKIT_NULL;
-  return tcpclkit_raw_scan_feed(scan->memory, piece != NULL ? piece : &nothing, length, taken);
-}
-
-static inline uint32_t tcpclkit_scan_verdict(struct tcpclkit_scan *scan,
-                                             struct tcpclkit_verdict *verdict) {
-  if (scan == NULL || verdict == NULL)
-    return TCPCLKIT_NULL;
-  return tcpclkit_raw_scan_verdict(scan->memory, verdict);
-}
-
-static inline uint32_t tcpclkit_scan_info(struct tcpclkit_scan *scan,
-                                          uint8_t *destination_name, size_t destination_room,
-                                          uint8_t *source_name, size_t source_room,
-                                          struct tcpclkit_bundle *bundle) {
-  uint8_t nothing[2] = {0, 0};
-  uint32_t status =
-      tcpclkit_first_status(tcpclkit_slice_status(destination_name, destination_room),
-                            tcpclkit_slice_status(source_name, source_room));
-  if (status != TCPCLKIT_OK)
-    return status;
-  if (scan == NULL || bundle == NULL)
-    return TCPCLKIT_NULL;
-  return tcpclkit_raw_scan_info(
-      scan->memory, destination_name != NULL ? destination_name : &nothing[0], destination_room,
-      source_name != NULL ? source_name : &nothing[1], source_room, bundle);
-}
-
-static inline uint32_t tcpclkit_contact(const uint8_t *bytes, size_t length,
-                                        struct tcpclkit_contact *contact) {
-  uint8_t nothing = 0;
-  uint32_t status = tcpclkit_slice_status(bytes, length);
-  if (status != TCPCLKIT_OK)
-    return status;
-  if (contact == NULL)
-    return TCPCLKIT_NULL;
-  return tcpclkit_raw_contact(bytes != NULL ? bytes : &nothing, length, contact);
-}
-
-static inline uint32_t tcpclkit_message(const uint8_t *bytes, size_t length, uint64_t offset,
-                                        struct tcpclkit_message *message) {
-  uint8_t nothing = 0;
-  uint32_t status = tcpclkit_slice_status(bytes, length);
-  if (status != TCPCLKIT_OK)
-    return status;
-  if (message == NULL)
-    return TCPCLKIT_NULL;
-  return tcpclkit_raw_message(bytes != NULL ? bytes : &nothing, length, offset, message);
-}
-
-static inline uint32_t tcpclkit_item(const uint8_t *bytes, size_t length, uint64_t offset,
-                                     uint64_t end, struct tcpclkit_item *item) {
-  uint8_t nothing = 0;
-  uint32_t status = tcpclkit_slice_status(bytes, length);
-  if (status != TCPCLKIT_OK)
-    return status;
-  if (item == NULL)
-    return TCPCLKIT_NULL;
-  return tcpclkit_raw_item(bytes != NULL ? bytes : &nothing, length, offset, end, item);
-}
-
-static inline uint32_t tcpclkit_order(struct tcpclkit_order *order, uint64_t kind, uint64_t flags,
-                                      uint64_t id, struct tcpclkit_turn *turn) {
-  if (order == NULL || turn == NULL)
-    return TCPCLKIT_NULL;
-  return tcpclkit_raw_order(order, kind, flags, id, turn);
-}
-
-static inline uint32_t tcpclkit_fault_text(uint64_t code, uint64_t number, uint8_t *text,
-                                           size_t room, uint64_t *written) {
-  uint8_t nothing = 0;
-  uint32_t status = tcpclkit_slice_status(text, room);
-  if (status != TCPCLKIT_OK)
-    return status;
-  if (written == NULL)
-    return TCPCLKIT_NULL;
-  return tcpclkit_raw_fault_text(code, number, text != NULL ? text : &nothing, room, written);
-}
-
-static inline uint32_t tcpclkit_eid_text(const struct tcpclkit_eid *eid, const uint8_t *name,
-                                         uint8_t *text, size_t room, uint64_t *written) {
-  uint8_t nothing[2] = {0, 0};
-  size_t name_length = 0;
-  uint32_t status = tcpclkit_slice_status(text, room);
-  if (status != TCPCLKIT_OK)
-    return status;
-  if (eid == NULL || written == NULL)
-    return TCPCLKIT_NULL;
-  if (eid->kind == TCPCLKIT_EID_DTN) {
-    if (eid->name_length > TCPCLKIT_EID_LIMIT)
-      return TCPCLKIT_RANGE;
-    name_length = (size_t)eid->name_length;
-  }
-  if (name == NULL && name_length > 0)
-    return TCPCLKIT_NULL;
-  return tcpclkit_raw_eid_text(eid, name != NULL ? name : &nothing[0], name_length,
-                               text != NULL ? text : &nothing[1], room, written);
-}
-
-/* TCPCLKIT_OK if these are the slices of a tool. */
-static inline uint32_t tcpclkit_tool_status(const uint8_t *bytes, size_t length,
-                                            const uint8_t *output, size_t output_room,
-                                            const uint8_t *report, size_t report_room,
-                                            const struct tcpclkit_run *run) {
-  uint32_t status = tcpclkit_first_status(
-      tcpclkit_slice_status(bytes, length),
-      tcpclkit_first_status(tcpclkit_slice_status(output, output_room),
-                            tcpclkit_slice_status(report, report_room)));
-  if (status == TCPCLKIT_OK && run == NULL)
-    return TCPCLKIT_NULL;
-  return status;
-}
-
-static inline uint32_t tcpclkit_list(const uint8_t *bytes, size_t length,
-                                     uint8_t *output, size_t output_room,
-                                     uint8_t *report, size_t report_room,
-                                     struct tcpclkit_run *run) {
-  uint8_t nothing[3] = {0, 0, 0};
-  uint32_t status =
-      tcpclkit_tool_status(bytes, length, output, output_room, report, report_room, run);
-  if (status != TCPCLKIT_OK)
-    return status;
-  return tcpclkit_raw_list(bytes != NULL ? bytes : &nothing[0], length,
-                           output != NULL ? output : &nothing[1], output_room,
-                           report != NULL ? report : &nothing[2], report_room, run);
-}
-
+                             const uint64_t *options, size_t option_count,
+                             uint64_t wants_output, uint8_t *output, size_t output_room,
+                             uint64_t wants_report, uint8_t *report, size_t report_room,
+                             struct tcpclkit_run *run);
 static inline uint32_t tcpclkit_unpack(const uint8_t *bytes, size_t length,
                                        const struct tcpclkit_unpack_options *options,
                                        uint8_t *output, size_t output_room,
                                        uint8_t *report, size_t report_room,
                                        struct tcpclkit_run *run) {
-  uint8_t nothing[3] = {0, 0, 0};
-  uint32_t status =
-      tcpclkit_tool_status(bytes, length, output, output_room, report, report_room, run);
-  if (status != TCPCLKIT_OK)
-    return status;
-  if (options == NULL)
-    return TCPCLKIT_NULL;
-  return tcpclkit_raw_unpack(bytes != NULL ? bytes : &nothing[0], length, options,
-                             output != NULL ? output : &nothing[1], output_room,
-                             report != NULL ? report : &nothing[2], report_room, run);
+  uint32_t status = tcpclkit_slices_status(bytes, length, output, output_room, report, report_room);
+  status = tcpclkit_struct_status(status, run, run);
+  status = tcpclkit_options_status(status, (const uint64_t *)options, sizeof *options);
+  if (status != TCPCLKIT_OK) return status;
+  return tcpclkit_raw_unpack(tcpclkit_start(bytes), length,
+                             &options->size + 1, (size_t)options->size / 8 - 1,
+                             output != NULL, tcpclkit_start(output), output_room,
+                             report != NULL, tcpclkit_start(report), report_room, run);
 }
 
+/*
+ * `tcpclkit pack`: bundles, one after another, as the stream of a sender, and a line for each of
+ * them as the report.
+ *
+ * `node` is the sender's node ID. The statuses are those of tcpclkit_list; also TCPCLKIT_RANGE if
+ * an option or the length of `node` is not in its range, and TCPCLKIT_MEMORY if malloc refused the
+ * block that pack asks for before it reads: then nothing was written, and each field of `run` is 0.
+ *
+ * Proved of tcpclkit_raw_pack: as for tcpclkit_raw_unpack, of `pack_tool` of the options and the
+ * bytes, unless the memory is refused.
+ */
+uint32_t tcpclkit_raw_pack(const uint8_t *bytes, size_t length,
+                           const uint64_t *options, size_t option_count,
+                           const uint8_t *node, size_t node_length,
+                           uint64_t wants_output, uint8_t *output, size_t output_room,
+                           uint64_t wants_report, uint8_t *report, size_t report_room,
+                           struct tcpclkit_run *run);
 static inline uint32_t tcpclkit_pack(const uint8_t *bytes, size_t length,
                                      const struct tcpclkit_pack_options *options,
                                      const uint8_t *node, size_t node_length,
                                      uint8_t *output, size_t output_room,
                                      uint8_t *report, size_t report_room,
                                      struct tcpclkit_run *run) {
-  uint8_t nothing[4] = {0, 0, 0, 0};
   uint32_t status = tcpclkit_first_status(
-      tcpclkit_tool_status(bytes, length, output, output_room, report, report_room, run),
-      tcpclkit_slice_status(node, node_length));
-  if (status != TCPCLKIT_OK)
-    return status;
-  if (options == NULL)
-    return TCPCLKIT_NULL;
-  return tcpclkit_raw_pack(bytes != NULL ? bytes : &nothing[0], length, options,
-                           node != NULL ? node : &nothing[1], node_length,
-                           output != NULL ? output : &nothing[2], output_room,
-                           report != NULL ? report : &nothing[3], report_room, run);
+      tcpclkit_slices_status(bytes, length, output, output_room, report, report_room),
+      tcpclkit_slices_status(node, node_length, output, output_room, report, report_room));
+  status = tcpclkit_struct_status(status, run, run);
+  status = tcpclkit_options_status(status, (const uint64_t *)options, sizeof *options);
+  if (status != TCPCLKIT_OK) return status;
+  return tcpclkit_raw_pack(tcpclkit_start(bytes), length,
+                           &options->size + 1, (size_t)options->size / 8 - 1,
+                           tcpclkit_start(node), node_length,
+                           output != NULL, tcpclkit_start(output), output_room,
+                           report != NULL, tcpclkit_start(report), report_room, run);
 }
 
 #ifdef __cplusplus

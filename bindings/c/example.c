@@ -16,14 +16,17 @@
 static void show_fault(const struct tcpclkit_fault *fault) {
   uint8_t text[64];
   uint64_t length;
-  if (tcpclkit_fault_text(fault->code, fault->number, text, sizeof text, &length) == TCPCLKIT_OK)
+  if (tcpclkit_write_fault_text(fault->code, fault->number, text, sizeof text, &length) ==
+      TCPCLKIT_OK)
     fprintf(stderr, "byte %" PRIu64 ": %.*s\n", fault->offset, (int)length, text);
 }
 
+/* Writes an endpoint ID; its whole name is in the slice. */
 static void show_eid(const struct tcpclkit_eid *eid, const uint8_t *name) {
   uint8_t text[4100];
   uint64_t length;
-  if (tcpclkit_eid_text(eid, name, text, sizeof text, &length) == TCPCLKIT_OK)
+  if (tcpclkit_write_eid_text(eid, name, (size_t)eid->name_length, text, sizeof text, &length) ==
+      TCPCLKIT_OK)
     printf("%.*s", (int)length, text);
 }
 
@@ -31,8 +34,8 @@ static void show_eid(const struct tcpclkit_eid *eid, const uint8_t *name) {
 static int show_bundle(const uint8_t *bytes, size_t length) {
   uint8_t destination[TCPCLKIT_EID_LIMIT], source[TCPCLKIT_EID_LIMIT];
   struct tcpclkit_bundle bundle;
-  if (tcpclkit_bundle_info(bytes, length, destination, sizeof destination, source, sizeof source,
-                           &bundle) != TCPCLKIT_OK) {
+  if (tcpclkit_describe_bundle(bytes, length, destination, sizeof destination, source,
+                               sizeof source, &bundle) != TCPCLKIT_OK) {
     show_fault(&bundle.verdict.fault);
     return 0;
   }
@@ -51,11 +54,11 @@ static int copy_payload(FILE *input, FILE *output) {
   uint64_t taken, start, end, before = 0;
   size_t length;
   uint32_t status;
-  tcpclkit_scan_new(&scan);
+  tcpclkit_start_scan(&scan);
   do {
     length = fread(piece, 1, sizeof piece, input);
-    status = tcpclkit_scan_feed(&scan, piece, length, &taken);
-    tcpclkit_scan_verdict(&scan, &verdict);
+    status = tcpclkit_feed_scan(&scan, piece, length, &taken);
+    tcpclkit_judge_scan(&scan, &verdict);
     start = verdict.payload_offset > before ? verdict.payload_offset : before;
     end = verdict.payload_offset + verdict.payload_seen;
     if (verdict.has_payload && start < end)
@@ -73,16 +76,16 @@ static int copy_data(const uint8_t *bytes, size_t length, FILE *output) {
   struct tcpclkit_message message;
   uint64_t offset = TCPCLKIT_CONTACT_LENGTH;
   uint32_t status;
-  if (tcpclkit_contact(bytes, length, &contact) != TCPCLKIT_OK) {
+  if (tcpclkit_read_contact(bytes, length, &contact) != TCPCLKIT_OK) {
     show_fault(&contact.fault);
     return 0;
   }
-  while ((status = tcpclkit_message(bytes, length, offset, &message)) == TCPCLKIT_OK) {
+  while ((status = tcpclkit_read_message(bytes, length, offset, &message)) == TCPCLKIT_OK) {
     fwrite(bytes + message.data_offset, 1, message.data_length, output);
     offset = message.next;
   }
   if (status == TCPCLKIT_DATA_TRUNCATED)
-    fwrite(bytes + message.data_offset, 1, length - message.data_offset, output);
+    fwrite(bytes + message.data_offset, 1, message.data_seen, output);
   if (status != TCPCLKIT_END)
     show_fault(&message.fault);
   return status == TCPCLKIT_END;
@@ -92,8 +95,10 @@ static int copy_data(const uint8_t *bytes, size_t length, FILE *output) {
 static int pack_bundles(const uint8_t *bytes, size_t length, FILE *output) {
   static const uint8_t node[7] = "ipn:1.0";
   static uint8_t stream[1 << 24], report[1 << 20];
-  struct tcpclkit_pack_options options = {60, 65536, 1048576, 20, UINT64_MAX, 0, 0};
+  struct tcpclkit_pack_options options;
   struct tcpclkit_run run;
+  tcpclkit_pack_defaults(&options);
+  options.peer_segment = 20;
   if (tcpclkit_pack(bytes, length, &options, node, sizeof node, stream, sizeof stream, report,
                     sizeof report, &run) != TCPCLKIT_OK)
     return 0;

@@ -11,10 +11,11 @@ Each function calls functions of the C library `libtcpclkit`, which are proved t
 definitions say; `tcpclkit.h` says what is proved of each of them. This module itself is tested and
 not proved. It needs python 3.8 or later and nothing but its standard library.
 
-The shared object `libtcpclkit.so.2` is the one that the environment variable TCPCLKIT_LIBRARY names
+The shared object `libtcpclkit.so.3` is the one that the environment variable TCPCLKIT_LIBRARY names
 if it is set, or else the one of the folder in which this module was installed, or else the one that
 the system's loader finds. Bytes that are read may be any object with a contiguous buffer, such as
-bytes, a bytearray, or a memoryview of a mapped file.
+bytes, a bytearray, or a memoryview of a mapped file. What is not of type bytes is copied first, so
+that nobody can change it while the library reads; so pass bytes where the copy would cost too much.
 """
 
 import ctypes
@@ -24,13 +25,15 @@ from ctypes import POINTER, byref, c_size_t, c_uint32, c_uint64, c_void_p
 from enum import IntEnum
 from typing import NamedTuple, Optional, Tuple, Union
 
-ABI = 2
+ABI = 3
 OK, END, TRUNCATED, DATA_TRUNCATED, FAULT, TOO_SMALL, RANGE, NULL, MEMORY = range(9)
+STRAY = 3  # the turn of a segment of no open transfer
 
 CONTACT_LENGTH = 6
 SEGMENT_END, SEGMENT_START = 1, 2
 EID_LIMIT = 1024
-SCAN_WORDS = 512
+SCAN_WORDS = 1024
+HEAD_LIMIT = 66585
 FAULT_ROOM, EID_ROOM = 64, 4100
 
 
@@ -101,38 +104,35 @@ _Contact = _struct("_Contact", "fault:_Fault flags")
 _Message = _struct(
     "_Message",
     "fault:_Fault kind flags reason header id acknowledged keepalive segment_mru transfer_mru "
-    "node_offset node_length items_offset items_length data_offset data_length next",
+    "node_offset node_length items_offset items_length data_offset data_length data_seen next",
 )
 _Item = _struct(
-    "_Item", "fault:_Fault flags type value_offset value_length has_total total next"
+    "_Item", "fault:_Fault flags item_type value_offset value_length has_total total next"
 )
 _Order = _struct("_Order", "initiated terminated is_open transfer")
 _Turn = _struct("_Turn", "fault turn last abandons abandoned")
 _Run = _struct("_Run", "exit_status output_length report_length")
-_UnpackOptions = _struct("_UnpackOptions", "only_one transfer payload keep_going")
-_PackOptions = _struct(
-    "_PackOptions",
-    "keepalive segment_mru transfer_mru peer_segment peer_transfer announce send_term",
-)
 
 _SLICE = [c_void_p, c_size_t]
+_TEXT = [c_uint64, *_SLICE]  # whether it is wanted, and the slice for it
 _SCAN = c_uint64 * SCAN_WORDS
 _PARAMETERS = {
-    "bundle_verdict": [*_SLICE, POINTER(_Verdict)],
-    "bundle_info": [*_SLICE, *_SLICE, *_SLICE, POINTER(_Bundle)],
-    "scan_new": [_SCAN],
-    "scan_feed": [_SCAN, *_SLICE, POINTER(c_uint64)],
-    "scan_verdict": [_SCAN, POINTER(_Verdict)],
-    "scan_info": [_SCAN, *_SLICE, *_SLICE, POINTER(_Bundle)],
-    "contact": [*_SLICE, POINTER(_Contact)],
-    "message": [*_SLICE, c_uint64, POINTER(_Message)],
-    "item": [*_SLICE, c_uint64, c_uint64, POINTER(_Item)],
-    "order": [POINTER(_Order), c_uint64, c_uint64, c_uint64, POINTER(_Turn)],
-    "fault_text": [c_uint64, c_uint64, *_SLICE, POINTER(c_uint64)],
-    "eid_text": [POINTER(_Eid), *_SLICE, *_SLICE, POINTER(c_uint64)],
-    "list": [*_SLICE, *_SLICE, *_SLICE, POINTER(_Run)],
-    "unpack": [*_SLICE, POINTER(_UnpackOptions), *_SLICE, *_SLICE, POINTER(_Run)],
-    "pack": [*_SLICE, POINTER(_PackOptions), *_SLICE, *_SLICE, *_SLICE, POINTER(_Run)],
+    "judge_bundle": [*_SLICE, POINTER(_Verdict)],
+    "describe_bundle": [*_SLICE, *_SLICE, *_SLICE, POINTER(_Bundle)],
+    "start_scan": [_SCAN],
+    "feed_scan": [_SCAN, *_SLICE, POINTER(c_uint64)],
+    "judge_scan": [_SCAN, POINTER(_Verdict)],
+    "describe_scan": [_SCAN, *_SLICE, *_SLICE, POINTER(_Bundle)],
+    "read_contact": [*_SLICE, POINTER(_Contact)],
+    "read_message": [*_SLICE, c_uint64, POINTER(_Message)],
+    "read_item": [*_SLICE, c_uint64, c_uint64, POINTER(_Item)],
+    "judge_order": [POINTER(_Order), c_uint64, c_uint64, c_uint64, POINTER(_Turn)],
+    "take_message": [POINTER(_Order), c_uint64, c_uint64, c_uint64, POINTER(_Turn)],
+    "write_fault_text": [c_uint64, c_uint64, *_SLICE, POINTER(c_uint64)],
+    "write_eid_text": [POINTER(_Eid), *_SLICE, *_SLICE, POINTER(c_uint64)],
+    "list": [*_SLICE, *_TEXT, *_TEXT, POINTER(_Run)],
+    "unpack": [*_SLICE, *_SLICE, *_TEXT, *_TEXT, POINTER(_Run)],
+    "pack": [*_SLICE, *_SLICE, *_SLICE, *_TEXT, *_TEXT, POINTER(_Run)],
 }
 
 
@@ -172,26 +172,16 @@ def _call(name, *arguments):
 class _Lent:
     """Bytes that are lent to the library: a pointer that is never null, and a length.
 
-    An object whose buffer can be written is lent as it is, and any other is copied unless it is of
-    type bytes.
+    An object of type bytes is lent as it is. Any other is copied, since another thread may change it
+    while the library reads. So what is returned is of the bytes that were judged.
     """
 
     def __init__(self, content):
-        view = memoryview(content).cast("B")
-        self.length = view.nbytes
-        if self.length == 0:
-            self.kept = ctypes.create_string_buffer(1)
-        elif isinstance(content, bytes):
-            self.kept = content
-        elif view.readonly:
-            self.kept = view.tobytes()
-        else:
-            self.kept = (ctypes.c_char * self.length).from_buffer(view)
-        self.view = view
-        self.slice = self.kept, self.length
+        self.kept = content if isinstance(content, bytes) else bytes(memoryview(content).cast("B"))
+        self.slice = self.kept, len(self.kept)
 
     def __getitem__(self, place):
-        return bytes(self.view[place])
+        return self.kept[place]
 
 
 def _number(value):
@@ -234,7 +224,7 @@ class Fault(Exception):
     def __str__(self):
         text, written = _room(FAULT_ROOM), c_uint64()
         number = _number(self.number)
-        status = _call("fault_text", self.code, number, text, FAULT_ROOM, byref(written))
+        status = _call("write_fault_text", self.code, number, text, FAULT_ROOM, byref(written))
         if status != OK:
             return repr(self)
         return text.raw[:written.value].decode()
@@ -254,8 +244,8 @@ class Dtn(NamedTuple):
 
     def __str__(self):
         if self.name is None:
-            return _eid_text(_Eid(kind=0), b"")
-        return _eid_text(_Eid(kind=1, name_length=len(self.name)), self.name)
+            return _eid_text(_Eid(kind=1), b"")
+        return _eid_text(_Eid(kind=2, name_length=len(self.name)), self.name)
 
 
 class Ipn(NamedTuple):
@@ -265,7 +255,7 @@ class Ipn(NamedTuple):
     service: int
 
     def __str__(self):
-        kind = 2 if self.allocator is None else 3
+        kind = 3 if self.allocator is None else 4
         numbers = map(_number, (self.allocator or 0, self.node, self.service))
         return _eid_text(_Eid(kind, *numbers, 0), b"")
 
@@ -276,7 +266,7 @@ EndpointId = Union[Dtn, Ipn]
 def _eid_text(eid, name):
     """Returns an endpoint ID as the program shows it."""
     text, written, lent = _room(EID_ROOM), c_uint64(), _Lent(name)
-    status = _call("eid_text", byref(eid), *lent.slice, text, EID_ROOM, byref(written))
+    status = _call("write_eid_text", byref(eid), *lent.slice, text, EID_ROOM, byref(written))
     if status != OK:
         raise ValueError(f"the name of an endpoint ID has more than {EID_LIMIT} bytes")
     return text.raw[:written.value].decode()
@@ -284,9 +274,9 @@ def _eid_text(eid, name):
 
 def _eid(it, name):
     """Returns the endpoint ID that the library wrote. Its name is at the beginning of `name`."""
-    if it.kind < 2:
-        return Dtn(name.raw[:it.name_length] if it.kind == 1 else None)
-    return Ipn(it.allocator if it.kind == 3 else None, it.node, it.service)
+    if it.kind < 3:
+        return Dtn(name.raw[:it.name_length] if it.kind == 2 else None)
+    return Ipn(it.allocator if it.kind == 4 else None, it.node, it.service)
 
 
 class Verdict(NamedTuple):
@@ -326,7 +316,7 @@ def _verdict(status, it):
 def verdict(content):
     """Judges the bytes as one bundle."""
     lent, it = _Lent(content), _Verdict()
-    return _verdict(_call("bundle_verdict", *lent.slice, byref(it)), it)
+    return _verdict(_call("judge_bundle", *lent.slice, byref(it)), it)
 
 
 def bundle(content):
@@ -334,7 +324,7 @@ def bundle(content):
     lent, it = _Lent(content), _Bundle()
     names = _room(EID_LIMIT), _room(EID_LIMIT)
     status = _call(
-        "bundle_info", *lent.slice, names[0], EID_LIMIT, names[1], EID_LIMIT, byref(it)
+        "describe_bundle", *lent.slice, names[0], EID_LIMIT, names[1], EID_LIMIT, byref(it)
     )
     place = _bundle(status, it, *names)
     return place._replace(payload=lent[place.payload])
@@ -375,7 +365,7 @@ class Scan:
 
     def restart(self):
         """Makes the scan new, whatever it has seen."""
-        self._call("scan_new")
+        self._call("start_scan")
 
     def feed(self, piece):
         """Takes the bytes of the next piece that belong to the bundle, and returns their number.
@@ -383,24 +373,24 @@ class Scan:
         After the end of the bundle and after its first fault, that is 0.
         """
         lent, taken = _Lent(piece), c_uint64()
-        if self._call("scan_feed", *lent.slice, byref(taken)) == RANGE:
+        if self._call("feed_scan", *lent.slice, byref(taken)) == RANGE:
             raise ValueError("a bundle has 2^63 bytes")
         return taken.value
 
     @property
     def is_going(self):
         """Whether the bundle goes on after the bytes that were taken."""
-        return self._call("scan_verdict", byref(_Verdict())) == TRUNCATED
+        return self._call("judge_scan", byref(_Verdict())) == TRUNCATED
 
     def verdict(self):
         """Returns the verdict on the bytes that were taken."""
         it = _Verdict()
-        return _verdict(self._call("scan_verdict", byref(it)), it)
+        return _verdict(self._call("judge_scan", byref(it)), it)
 
     def bundle(self):
         """Returns the good bundle that was taken, or raises the Fault of any other bytes."""
         it, names = _Bundle(), (_room(EID_LIMIT), _room(EID_LIMIT))
-        status = self._call("scan_info", names[0], EID_LIMIT, names[1], EID_LIMIT, byref(it))
+        status = self._call("describe_scan", names[0], EID_LIMIT, names[1], EID_LIMIT, byref(it))
         return _bundle(status, it, *names)
 
 
@@ -410,7 +400,7 @@ class Scan:
 class Item(NamedTuple):
     """An extension item. `total` is its value as a number, if it is of type 1 and has 8 bytes."""
     flags: int
-    type: int
+    item_type: int
     value: bytes
     total: Optional[int]
 
@@ -457,7 +447,7 @@ _FIELDS = {
 def contact(content):
     """Returns the flags of the contact header that a recording begins with, or raises a Fault."""
     lent, it = _Lent(content), _Contact()
-    if _call("contact", *lent.slice, byref(it)) != OK:
+    if _call("read_contact", *lent.slice, byref(it)) != OK:
         raise _fault(it.fault)
     return it.flags
 
@@ -471,7 +461,7 @@ def messages(content, offset=CONTACT_LENGTH):
     """
     lent, it = _Lent(content), _Message()
     while True:
-        status = _call("message", *lent.slice, _number(offset), byref(it))
+        status = _call("read_message", *lent.slice, _number(offset), byref(it))
         if status in (END, RANGE):
             return
         if status in (OK, DATA_TRUNCATED):
@@ -489,7 +479,7 @@ def _message(lent, offset, it):
         fields["length"] = it.acknowledged
     if kind == Kind.XFER_SEGMENT:
         fields["length"] = it.data_length
-        fields["data"] = lent[it.data_offset:it.data_offset + it.data_length]
+        fields["data"] = lent[it.data_offset:it.data_offset + it.data_seen]
     if kind == Kind.SESS_INIT:
         fields["node"] = lent[it.node_offset:it.node_offset + it.node_length]
     if kind == Kind.SESS_INIT or kind == Kind.XFER_SEGMENT and it.flags & SEGMENT_START:
@@ -500,9 +490,9 @@ def _message(lent, offset, it):
 def _items(lent, offset, length):
     """Yields the items of a list that was judged with its message."""
     end, it = offset + length, _Item()
-    while _call("item", *lent.slice, offset, end, byref(it)) == OK:
+    while _call("read_item", *lent.slice, offset, end, byref(it)) == OK:
         value = lent[it.value_offset:it.value_offset + it.value_length]
-        yield Item(it.flags, it.type, value, it.total if it.has_total else None)
+        yield Item(it.flags, it.item_type, value, it.total if it.has_total else None)
         offset = it.next
 
 
@@ -532,16 +522,33 @@ class Order:
 
         Raises a Fault if the message may not come now. The order is then as it was.
         """
+        turn, fault = self._call("judge_order", message)
+        if fault is not None:
+            raise fault
+        return turn
+
+    def take(self, message):
+        """Takes a message whether or not it may come now, as `unpack --keep-going` does.
+
+        Returns its Turn, and the Fault or None. The Turn is None for a stray segment, whose data
+        belongs nowhere.
+        """
+        return self._call("take_message", message)
+
+    def _call(self, name, message):
         it = _Turn()
         numbers = map(_number, (message.kind, message.flags or 0, message.id or 0))
-        status = _call("order", byref(self._order), *numbers, byref(it))
+        status = _call(name, byref(self._order), *numbers, byref(it))
         if status == RANGE:
             raise ValueError("the flags of a message are at most 255")
-        if status != OK:
-            raise Fault(it.fault, 0, message.offset)
-        begins = {0: None, 1: True, 2: False}[it.turn]
-        is_last = begins is not None and it.last == 1
-        return Turn(begins, is_last, it.abandoned if begins and it.abandons else None)
+        fault = None if status == OK else Fault(it.fault, 0, message.offset)
+        return None if it.turn == STRAY else _turn(it), fault
+
+
+def _turn(it):
+    """Returns the turn that the library wrote."""
+    begins = {0: None, 1: True, 2: False}[it.turn]
+    return Turn(begins, it.last == 1, it.abandoned if it.abandons else None)
 
 
 # ---- whole tools
@@ -555,20 +562,26 @@ class Run(NamedTuple):
 
 
 def _run(name, content, *arguments):
-    """Calls a tool with more and more room until both texts fit."""
+    """Calls a tool, and if a text does not fit once more with the room that it needs."""
     lent, it = _Lent(content), _Run()
-    room = 2 * lent.length + 4096
-    while True:
-        output, report = _room(room), _room(room)
-        status = _call(name, *lent.slice, *arguments, output, room, report, room, byref(it))
-        if status == RANGE:
-            raise ValueError("an option is out of its range")
-        if status == MEMORY:
-            raise MemoryError
-        if status == OK:
-            written = output.raw[:it.output_length], report.raw[:it.report_length]
-            return Run(*written, it.exit_status)
-        room *= 2
+    rooms = [len(lent.kept) + 4096] * 2
+    status = TOO_SMALL
+    while status == TOO_SMALL:
+        texts = [_room(room) for room in rooms]
+        lengths = [[1, text, room] for text, room in zip(texts, rooms)]
+        status = _call(name, *lent.slice, *arguments, *lengths[0], *lengths[1], byref(it))
+        rooms = [it.output_length, it.report_length]
+    if status == RANGE:
+        raise ValueError("an option is out of its range")
+    if status == MEMORY:
+        raise MemoryError
+    output, report = (ctypes.string_at(text, room) for text, room in zip(texts, rooms))
+    return Run(output, report, it.exit_status)
+
+
+def _options(*numbers):
+    """Returns the options of a tool as the library takes them: numbers, and how many they are."""
+    return (c_uint64 * len(numbers))(*numbers), len(numbers)
 
 
 def list_messages(content):
@@ -583,8 +596,8 @@ def unpack(content, transfer=None, payload=False, keep_going=False):
     of their bundles are. With `keep_going`, a fault of the order does not end the run.
     """
     only_one, number = transfer is not None, _number(transfer or 0)
-    options = _UnpackOptions(only_one, number, bool(payload), bool(keep_going))
-    return _run("unpack", content, byref(options))
+    options = _options(only_one, number, bool(payload), bool(keep_going))
+    return _run("unpack", content, *options)
 
 
 def pack(content, node, keepalive=60, segment_mru=65536, transfer_mru=1048576, peer_segment=65536,
@@ -595,5 +608,5 @@ def pack(content, node, keepalive=60, segment_mru=65536, transfer_mru=1048576, p
     ID is out of its range.
     """
     numbers = keepalive, segment_mru, transfer_mru, peer_segment, peer_transfer, announce
-    lent, options = _Lent(node), _PackOptions(*map(_number, numbers), bool(end))
-    return _run("pack", content, byref(options), *lent.slice)
+    lent, options = _Lent(node), _options(*map(_number, numbers), bool(end))
+    return _run("pack", content, *options, *lent.slice)

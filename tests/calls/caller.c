@@ -84,7 +84,8 @@ static void put_escaped(struct text *text, const uint8_t *bytes, uint64_t length
 static void put_eid(struct text *text, const struct tcpclkit_eid *eid, const uint8_t *name) {
   uint64_t written;
   make_room(text, 4100);
-  if (tcpclkit_eid_text(eid, name, text->bytes + text->length, 4100, &written) != TCPCLKIT_OK)
+  if (tcpclkit_write_eid_text(eid, name, (size_t)eid->name_length, text->bytes + text->length, 4100,
+                              &written) != TCPCLKIT_OK)
     die("no text of an endpoint ID");
   text->length += written;
 }
@@ -93,7 +94,8 @@ static void put_eid(struct text *text, const struct tcpclkit_eid *eid, const uin
 static void put_fault(struct text *text, const struct tcpclkit_fault *fault) {
   uint8_t words[64];
   uint64_t written;
-  if (tcpclkit_fault_text(fault->code, fault->number, words, sizeof words, &written) != TCPCLKIT_OK)
+  if (tcpclkit_write_fault_text(fault->code, fault->number, words, sizeof words, &written) !=
+      TCPCLKIT_OK)
     die("no text of a fault");
   if (fault->code > 100)
     put(text, "bad=%.*s byte=%" PRIu64, (int)strcspn((char *)words, " "), words, fault->offset);
@@ -118,7 +120,7 @@ static void put_identity(struct text *text, const struct tcpclkit_bundle *it,
 static int put_judgement(struct text *text, const uint8_t *bytes, size_t length,
                          struct tcpclkit_bundle *it) {
   uint8_t destination[TCPCLKIT_EID_LIMIT], source[TCPCLKIT_EID_LIMIT];
-  uint32_t status = tcpclkit_bundle_info(bytes, length, destination, sizeof destination, source,
+  uint32_t status = tcpclkit_describe_bundle(bytes, length, destination, sizeof destination, source,
                                          sizeof source, it);
   if (status == TCPCLKIT_OK)
     put_identity(text, it, destination, source);
@@ -139,15 +141,15 @@ static void compare_scan(const struct job *job) {
   uint32_t status;
   memset(&it, 0, sizeof it);
   memset(&same, 0, sizeof same);
-  tcpclkit_scan_new(&scan);
+  tcpclkit_start_scan(&scan);
   do {
     size_t piece = job->length - at < size ? job->length - at : size;
-    status = tcpclkit_scan_feed(&scan, job->bytes + at, piece, &taken);
+    status = tcpclkit_feed_scan(&scan, job->bytes + at, piece, &taken);
     at += (size_t)taken;
   } while (status == TCPCLKIT_TRUNCATED && at < job->length);
-  if (tcpclkit_scan_info(&scan, names[0], sizeof names[0], names[1], sizeof names[1], &it) !=
+  if (tcpclkit_describe_scan(&scan, names[0], sizeof names[0], names[1], sizeof names[1], &it) !=
           status ||
-      tcpclkit_bundle_info(job->bytes, at, names[2], sizeof names[2], names[3], sizeof names[3],
+      tcpclkit_describe_bundle(job->bytes, at, names[2], sizeof names[2], names[3], sizeof names[3],
                            &same) != status ||
       memcmp(&it, &same, sizeof it) != 0 || memcmp(names[0], names[2], 2 * sizeof names[0]) != 0)
     die("the bytes in pieces are another bundle");
@@ -157,9 +159,9 @@ static int judge(const struct job *job) {
   struct tcpclkit_bundle it;
   struct tcpclkit_verdict same;
   int is_good = put_judgement(&output, job->bytes, job->length, &it);
-  if ((tcpclkit_bundle_verdict(job->bytes, job->length, &same) == TCPCLKIT_OK) != is_good ||
+  if ((tcpclkit_judge_bundle(job->bytes, job->length, &same) == TCPCLKIT_OK) != is_good ||
       memcmp(&same, &it.verdict, sizeof same) != 0)
-    die("the verdict differs from that of tcpclkit_bundle_info");
+    die("the verdict differs from that of tcpclkit_describe_bundle");
   compare_scan(job);
   put(&output, "\n");
   if (same.has_payload)
@@ -179,8 +181,8 @@ static void put_items(struct text *text, const struct job *job,
   struct tcpclkit_item item;
   uint64_t end = message->items_offset + message->items_length, count = 0;
   item.next = message->items_offset;
-  while (tcpclkit_item(job->bytes, job->length, item.next, end, &item) == TCPCLKIT_OK) {
-    put(&listed, " item=%02x:%04x:%" PRIu64, (unsigned)item.flags, (unsigned)item.type,
+  while (tcpclkit_read_item(job->bytes, job->length, item.next, end, &item) == TCPCLKIT_OK) {
+    put(&listed, " item=%02x:%04x:%" PRIu64, (unsigned)item.flags, (unsigned)item.item_type,
         item.value_length);
     count++;
   }
@@ -229,7 +231,7 @@ static void put_message(const struct job *job, uint64_t offset, const struct tcp
 /* Reads the contact header. Returns its flags, or -1 after it has appended a fault. */
 static int read_contact(const struct job *job) {
   struct tcpclkit_contact it;
-  if (tcpclkit_contact(job->bytes, job->length, &it) == TCPCLKIT_OK)
+  if (tcpclkit_read_contact(job->bytes, job->length, &it) == TCPCLKIT_OK)
     return (int)it.flags;
   put_fault(&report, &it.fault);
   return -1;
@@ -243,7 +245,7 @@ static int read_messages(const struct job *job) {
   if (flags < 0)
     return 3;
   put(&output, "0 contact version=4 flags=%02x\n", (unsigned)flags);
-  while ((status = tcpclkit_message(job->bytes, job->length, offset, &it)) == TCPCLKIT_OK) {
+  while ((status = tcpclkit_read_message(job->bytes, job->length, offset, &it)) == TCPCLKIT_OK) {
     put_message(job, offset, &it);
     offset = it.next;
   }
@@ -271,9 +273,9 @@ static void begin(struct transfer *transfer, const struct job *job,
   transfer->id = message->id;
   transfer->start = output.length;
   item.next = message->items_offset;
-  while (tcpclkit_item(job->bytes, job->length, item.next, end, &item) == TCPCLKIT_OK) {
-    transfer->length_items += item.type == 1;
-    transfer->bad_items += item.type == 1 && !item.has_total;
+  while (tcpclkit_read_item(job->bytes, job->length, item.next, end, &item) == TCPCLKIT_OK) {
+    transfer->length_items += item.item_type == 1;
+    transfer->bad_items += item.item_type == 1 && !item.has_total;
     if (item.has_total)
       transfer->announced = item.total;
   }
@@ -299,34 +301,39 @@ static int put_transfer(const struct transfer *it) {
   return is_good;
 }
 
-/* Takes a message. Returns the exit status that it leads to: 1, or 3 at a fault. */
+/* Takes a message. Returns the exit status that it leads to: 1, or 3 at a fault. If the walk goes on
+ * after faults of the order, they lead to 1. */
 static int take(struct transfer *transfer, struct tcpclkit_order *order, const struct job *job,
-                uint64_t offset, const struct tcpclkit_message *it, int is_cut) {
+                uint64_t offset, const struct tcpclkit_message *it, int is_cut, int goes_on) {
   struct tcpclkit_turn turn;
   struct tcpclkit_fault fault = {0, 0, 0};
-  uint64_t there = is_cut ? job->length - it->data_offset : it->data_length;
   int status = 0;
-  if (tcpclkit_order(order, it->kind, it->flags, it->id, &turn) != TCPCLKIT_OK) {
+  uint32_t judged = goes_on
+                        ? tcpclkit_take_message(order, it->kind, it->flags, it->id, &turn)
+                        : tcpclkit_judge_order(order, it->kind, it->flags, it->id, &turn);
+  if (judged != TCPCLKIT_OK) {
     fault.code = turn.fault;
     fault.offset = offset;
     put_fault(&report, &fault);
-    return 3;
+    if (!goes_on)
+      return 3;
+    status = 1;
   }
-  if (turn.turn == TCPCLKIT_TURN_OTHER)
-    return 0;
+  if (turn.turn == TCPCLKIT_TURN_OTHER || turn.turn == TCPCLKIT_TURN_STRAY)
+    return status;
   if (turn.turn == TCPCLKIT_TURN_BEGIN) {
-    if (turn.abandons)
-      status = !put_transfer(transfer);
+    if (turn.abandons && !put_transfer(transfer))
+      status = 1;
     begin(transfer, job, it);
   }
-  put_bytes(&output, job->bytes + it->data_offset, there);
+  put_bytes(&output, job->bytes + it->data_offset, it->data_seen);
   transfer->is_open = !turn.last;
   if (!is_cut && turn.last && !put_transfer(transfer))
     status = 1;
   return status;
 }
 
-static int walk(const struct job *job) {
+static int walk(const struct job *job, int goes_on) {
   struct tcpclkit_order order = {0, 0, 0, 0};
   struct transfer transfer = {0, 0, 0, 0, 0, 0};
   struct tcpclkit_message it;
@@ -336,12 +343,12 @@ static int walk(const struct job *job) {
   if (ended == 3)
     return 3;
   for (;;) {
-    status = tcpclkit_message(job->bytes, job->length, offset, &it);
+    status = tcpclkit_read_message(job->bytes, job->length, offset, &it);
     if (status == TCPCLKIT_END)
       return transfer.is_open && !put_transfer(&transfer) ? 1 : ended;
     if (status != TCPCLKIT_OK && status != TCPCLKIT_DATA_TRUNCATED)
       break;
-    taken = take(&transfer, &order, job, offset, &it, status != TCPCLKIT_OK);
+    taken = take(&transfer, &order, job, offset, &it, status != TCPCLKIT_OK, goes_on);
     if (taken == 3)
       return 3;
     if (status != TCPCLKIT_OK)
@@ -358,10 +365,10 @@ static int walk(const struct job *job) {
 /* Calls a tool once, with the room that the texts have. */
 static uint32_t call_tool(const struct job *job, struct tcpclkit_run *run) {
   const uint64_t *numbers = job->numbers;
-  struct tcpclkit_unpack_options unpack = {numbers[0], numbers[1], numbers[2],
+  struct tcpclkit_unpack_options unpack = {sizeof unpack, numbers[0], numbers[1], numbers[2],
                                            numbers[3]};
-  struct tcpclkit_pack_options pack = {numbers[0], numbers[1], numbers[2], numbers[3],
-                                       numbers[4], numbers[5], numbers[6]};
+  struct tcpclkit_pack_options pack = {sizeof pack, numbers[0], numbers[1], numbers[2],
+                                       numbers[3],  numbers[4], numbers[5], numbers[6]};
   size_t node = (size_t)numbers[7];
   if (strcmp(job->name, "list") == 0)
     return tcpclkit_list(job->bytes, job->length, output.bytes, output.room, report.bytes,
@@ -375,10 +382,11 @@ static uint32_t call_tool(const struct job *job, struct tcpclkit_run *run) {
 
 static int run_tool(const struct job *job) {
   struct tcpclkit_run run;
-  uint32_t status;
-  while ((status = call_tool(job, &run)) == TCPCLKIT_TOO_SMALL) {
-    make_room(&output, 2 * output.room + 64);
-    make_room(&report, 2 * report.room + 64);
+  uint32_t status = call_tool(job, &run);
+  if (status == TCPCLKIT_TOO_SMALL) {
+    make_room(&output, (size_t)run.output_length);
+    make_room(&report, (size_t)run.report_length);
+    status = call_tool(job, &run);
   }
   if (status != TCPCLKIT_OK)
     die("a tool has another status");
@@ -414,7 +422,9 @@ static int answer(const struct job *job) {
   if (strcmp(job->name, "read") == 0)
     return read_messages(job);
   if (strcmp(job->name, "walk") == 0)
-    return walk(job);
+    return walk(job, 0);
+  if (strcmp(job->name, "go-on") == 0)
+    return walk(job, 1);
   return run_tool(job);
 }
 

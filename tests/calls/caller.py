@@ -69,7 +69,9 @@ def judge(content):
 
 def items(it):
     """Returns the number of extension items of a message and each of them."""
-    each = "".join(f" item={one.flags:02x}:{one.type:04x}:{len(one.value)}" for one in it.items)
+    each = "".join(
+        f" item={one.flags:02x}:{one.item_type:04x}:{len(one.value)}" for one in it.items
+    )
     return f" items={len(it.items)}{each}"
 
 
@@ -120,7 +122,7 @@ class Walk:
     def end(self):
         """Adds the line of the transfer that is over."""
         data = bytes(self.output[self.start:])
-        totals = [it.total for it in self.first.items if it.type == 1]
+        totals = [it.total for it in self.first.items if it.item_type == 1]
         if self.is_open:
             words = "abandoned"
         elif len(totals) > 1 or None in totals:
@@ -135,8 +137,8 @@ class Walk:
             self.status = 1
 
     def take(self, it, turn):
-        """Takes a message that may come, and its turn."""
-        if turn.begins is None:
+        """Takes a message and its turn, which is None for a stray segment."""
+        if turn is None or turn.begins is None:
             return
         if turn.begins:
             if turn.abandoned is not None:
@@ -148,19 +150,31 @@ class Walk:
             self.end()
 
 
-def walk(content):
-    """What `unpack` writes, made of messages and bundles."""
+def walk(content, goes_on=False):
+    """What `unpack` writes, made of messages and bundles; or what `unpack --keep-going` does."""
     it, order = Walk(), tcpclkit.Order()
     try:
         tcpclkit.contact(content)
         for message in tcpclkit.messages(content):
-            it.take(message, order.judge(message))
+            if goes_on:
+                turn, fault = order.take(message)
+                if fault is not None:
+                    it.report.append(fault_line(fault))
+                    it.status = 1
+            else:
+                turn = order.judge(message)
+            it.take(message, turn)
         if it.is_open:
             it.end()
     except tcpclkit.Fault as fault:
         it.report.append(fault_line(fault))
         it.status = 3
     return it.status, bytes(it.output), "".join(it.report).encode()
+
+
+def go_on(content):
+    """What `unpack --keep-going` writes, made of the same."""
+    return walk(content, goes_on=True)
 
 
 # ---- jobs
@@ -186,7 +200,7 @@ def main():
     for words in iter(jobs.readline, b""):
         name, *numbers, length = words.decode().split()
         content = jobs.read(int(length))
-        by_hand = {"judge": judge, "read": read, "walk": walk}.get(name)
+        by_hand = {"judge": judge, "read": read, "walk": walk, "go-on": go_on}.get(name)
         answer = by_hand(content) if by_hand else tool(name, [*map(int, numbers)], content)
         status, output, report = answer
         answers.write(b"%d %d %d\n" % (status, len(output), len(report)) + output + report)

@@ -210,7 +210,7 @@ impl Walk {
         let _ = writeln!(self.report, "transfer {id} {place} {words}");
     }
 
-    /// Takes a message that may come, and its turn.
+    /// Takes a message that is not stray, and its turn.
     fn take(&mut self, message: &Message<'_>, turn: Turn) {
         let Fields::Segment {
             id,
@@ -243,13 +243,24 @@ impl Walk {
     }
 
     /// Takes all messages of a recording.
-    fn take_all(&mut self, bytes: &[u8]) -> Result<(), Fault> {
+    fn take_all(&mut self, bytes: &[u8], goes_on: bool) -> Result<(), Fault> {
         let mut order = Order::new();
         contact(bytes)?;
         for message in messages(bytes, CONTACT_LENGTH) {
             let message = message?;
-            let turn = order.judge(&message)?;
-            self.take(&message, turn);
+            if !goes_on {
+                let turn = order.judge(&message)?;
+                self.take(&message, turn);
+                continue;
+            }
+            let taken = order.take(&message);
+            if let Some(fault) = taken.fault {
+                self.report += &fault_line(&fault);
+                self.is_bad = true;
+            }
+            if let Some(turn) = taken.turn {
+                self.take(&message, turn);
+            }
         }
         if self.is_open {
             self.end();
@@ -258,11 +269,11 @@ impl Walk {
     }
 }
 
-/// What `unpack` writes, made of messages and bundles.
-fn walk(bytes: &[u8]) -> Answer {
+/// What `unpack` writes, made of messages and bundles; or what `unpack --keep-going` does.
+fn walk(bytes: &[u8], goes_on: bool) -> Answer {
     let mut it = Walk::default();
     let mut status = 3;
-    match it.take_all(bytes) {
+    match it.take_all(bytes, goes_on) {
         Ok(()) => status = it.is_bad.into(),
         Err(fault) => it.report += &fault_line(&fault),
     }
@@ -304,7 +315,8 @@ fn answer(name: &str, numbers: &[u64], bytes: &[u8]) -> Answer {
     match name {
         "judge" => judge(bytes),
         "read" => read(bytes),
-        "walk" => walk(bytes),
+        "walk" => walk(bytes, false),
+        "go-on" => walk(bytes, true),
         _ => {
             let run = tool(numbers, bytes).expect("the options are in range");
             (run.exit_status, run.output, run.report)

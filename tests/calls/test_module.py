@@ -21,6 +21,11 @@ def example(name):
         return it.read()
 
 
+def taken_of(message):
+    """Returns the message of some bytes."""
+    return next(tcpclkit.messages(message, 0))
+
+
 HELLO = example("two.bundles")[:34]
 FRAGMENT = bytes.fromhex(
     "9f8b07010282028202018201632f2f78820100820009001a000111701a000222e04469890dbe"
@@ -67,6 +72,10 @@ class Bundles(unittest.TestCase):
             same = [bytearray(HELLO), memoryview(HELLO), array.array("B", HELLO), mapped]
             for content in same + [memoryview(b"--" + HELLO + b"--")[2:-2]]:
                 self.assertEqual(tcpclkit.bundle(content), tcpclkit.bundle(HELLO))
+        changed = bytearray(HELLO)
+        found = tcpclkit.bundle(changed)
+        changed[28:33] = b"other"
+        self.assertEqual(found.payload, b"hello")
         for content in (b"", bytearray(), memoryview(b"")):
             self.assertEqual(tcpclkit.verdict(content).fault, Fault(Code.BUNDLE_CUT))
         for content in (None, "text", memoryview(HELLO)[::2]):
@@ -160,6 +169,16 @@ class Recordings(unittest.TestCase):
         self.assertRaises(Fault, order.judge, init)
         self.assertRaises(ValueError, order.judge, start._replace(flags=256))
 
+    def test_going_on(self):
+        order = tcpclkit.Order()
+        taken = [order.take(it) for it in tcpclkit.messages(example("order-faults.tcpcl"))]
+        codes = {fault.code for _, fault in taken if fault is not None}
+        self.assertEqual(codes, {code for code in Code if code.name.startswith("ORDER_")})
+        strays = {fault.code for turn, fault in taken if turn is None}
+        before = {Code.ORDER_NO_SUCH_OPEN_TRANSFER, Code.ORDER_SEGMENT_BEFORE_SESS_INIT}
+        self.assertTrue(strays and strays <= before)
+        self.assertRaises(ValueError, order.take, taken_of(b"\4")._replace(flags=256))
+
 
 class Texts(unittest.TestCase):
     """Texts of faults and endpoint IDs."""
@@ -195,6 +214,20 @@ class Tools(unittest.TestCase):
     def test_long_texts(self):
         lines = tcpclkit.list_messages(b"dtn!\4\0" + 20000 * b"\4").output.split(b"\n")
         self.assertEqual((len(lines), lines[-2]), (20002, b"20005 keepalive"))
+
+    def test_a_tool_runs_twice_at_most(self):
+        call, rooms = tcpclkit._CALLS["list"], []
+
+        def counted(*arguments):
+            rooms.append((arguments[4], arguments[7]))
+            return call(*arguments)
+
+        tcpclkit._CALLS["list"] = counted
+        try:
+            run = tcpclkit.list_messages(b"dtn!\4\0" + 300000 * b"\4")
+        finally:
+            tcpclkit._CALLS["list"] = call
+        self.assertEqual((len(rooms), rooms[-1]), (2, (len(run.output), len(run.report))))
 
     def test_pack_and_unpack(self):
         bundles = example("two.bundles")

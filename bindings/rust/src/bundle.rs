@@ -80,7 +80,7 @@ pub struct Bundle<P> {
 pub fn verdict(bytes: &[u8]) -> Verdict<&[u8]> {
     let (status, verdict) = raw::answer(|verdict| {
         // SAFETY: the slice and the struct are valid, and do not overlap.
-        unsafe { raw::tcpclkit_raw_bundle_verdict(bytes.as_ptr(), bytes.len(), verdict) }
+        unsafe { raw::tcpclkit_raw_judge_bundle(bytes.as_ptr(), bytes.len(), verdict) }
     });
     Verdict::of(status, &verdict, |place| part(bytes, place))
 }
@@ -96,7 +96,7 @@ pub fn bundle(bytes: &[u8]) -> Result<Bundle<&[u8]>, Fault> {
     let (status, it) = raw::answer(|bundle| {
         // SAFETY: the slices and the struct are valid, and do not overlap.
         unsafe {
-            raw::tcpclkit_raw_bundle_info(
+            raw::tcpclkit_raw_describe_bundle(
                 bytes.as_ptr(),
                 bytes.len(),
                 destination.as_mut_ptr(),

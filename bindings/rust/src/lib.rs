@@ -28,9 +28,9 @@ mod tools;
 
 pub use bundle::{bundle, verdict, Bundle, EndpointId, Fragment, Verdict};
 pub use fault::{Code, Fault};
-pub use order::{Order, Turn};
+pub use order::{Order, Taken, Turn};
 pub use recording::{
-    contact, messages, Contact, Fields, Item, Items, Message, Messages, CONTACT_LENGTH,
+    contact, messages, Contact, Fields, Item, Items, Message, Messages, CONTACT_LENGTH, HEAD_LIMIT,
     SEGMENT_END, SEGMENT_START,
 };
 pub use scan::Scan;

@@ -27,6 +27,19 @@ pub enum Turn {
     },
 }
 
+/// A message that was taken, whether or not it may come.
+#[derive(Clone, Copy, Debug, PartialEq, Eq, Hash)]
+pub struct Taken {
+    /// Why it may not come, or `None` if it may.
+    pub fault: Option<Fault>,
+    /// What it does all the same, or `None` for a stray segment: a further segment of no open
+    /// transfer, whose data belongs nowhere.
+    pub turn: Option<Turn>,
+}
+
+/// A function of the library that judges or takes a message.
+type Judge = unsafe extern "C" fn(*mut raw::Order, u64, u64, u64, *mut raw::Turn) -> u32;
+
 impl Order {
     /// The order of a session before its first message.
     pub fn new() -> Order {
@@ -39,6 +52,20 @@ impl Order {
     ///
     /// The fault, if it may not. The order is then as it was.
     pub fn judge(&mut self, message: &Message<'_>) -> Result<Turn, Fault> {
+        let taken = self.call(raw::tcpclkit_raw_judge_order, message);
+        match taken.fault {
+            Some(fault) => Err(fault),
+            None => Ok(taken.turn.expect("a message that may come is not stray")),
+        }
+    }
+
+    /// Takes a message whether or not it may come now, as `unpack --keep-going` does.
+    pub fn take(&mut self, message: &Message<'_>) -> Taken {
+        self.call(raw::tcpclkit_raw_take_message, message)
+    }
+
+    /// Hands a message to a function of the library.
+    fn call(&mut self, function: Judge, message: &Message<'_>) -> Taken {
         let (kind, flags, id) = match message.fields {
             Fields::Segment { flags, id, .. } => (raw::XFER_SEGMENT, flags, id),
             Fields::Ack { flags, id, .. } => (raw::XFER_ACK, flags, id),
@@ -50,21 +77,29 @@ impl Order {
         };
         let (status, it) = raw::answer(|turn: &mut raw::Turn| {
             // SAFETY: the structs are valid, and do not overlap.
-            unsafe { raw::tcpclkit_raw_order(&mut self.0, kind, flags.into(), id, turn) }
+            unsafe { function(&mut self.0, kind, flags.into(), id, turn) }
         });
-        let last = it.last == 1;
-        match it.turn {
-            _ if status != raw::OK => Err(Fault {
+        Taken {
+            fault: (status != raw::OK).then(|| Fault {
                 code: Code::of(it.fault),
                 number: 0,
                 offset: message.offset as u64,
             }),
-            raw::TURN_BEGIN => Ok(Turn::Begin {
-                last,
-                abandoned: (it.abandons == 1).then_some(it.abandoned),
-            }),
-            raw::TURN_CONTINUE => Ok(Turn::Continue { last }),
-            _ => Ok(Turn::Other),
+            turn: turn(&it),
         }
+    }
+}
+
+/// What the library wrote that a message does, or `None` for a stray segment.
+fn turn(it: &raw::Turn) -> Option<Turn> {
+    let last = it.last == 1;
+    match it.turn {
+        raw::TURN_BEGIN => Some(Turn::Begin {
+            last,
+            abandoned: (it.abandons == 1).then_some(it.abandoned),
+        }),
+        raw::TURN_CONTINUE => Some(Turn::Continue { last }),
+        raw::TURN_STRAY => None,
+        _ => Some(Turn::Other),
     }
 }

@@ -6,7 +6,7 @@
 #![allow(dead_code)] // The header is here whole.
 
 /// The version of the interface that these declarations are of.
-pub const ABI: u32 = 2;
+pub const ABI: u32 = 3;
 
 pub const OK: u32 = 0;
 pub const END: u32 = 1;
@@ -17,13 +17,13 @@ pub const TOO_SMALL: u32 = 5;
 pub const RANGE: u32 = 6;
 pub const MEMORY: u32 = 8;
 
-pub const EID_DTN_NONE: u64 = 0;
-pub const EID_DTN: u64 = 1;
-pub const EID_IPN: u64 = 2;
-pub const EID_IPN3: u64 = 3;
+pub const EID_DTN_NONE: u64 = 1;
+pub const EID_DTN: u64 = 2;
+pub const EID_IPN: u64 = 3;
+pub const EID_IPN3: u64 = 4;
 pub const EID_LIMIT: usize = 1024;
 
-pub const SCAN_WORDS: usize = 512;
+pub const SCAN_WORDS: usize = 1024;
 
 pub const XFER_SEGMENT: u64 = 1;
 pub const XFER_ACK: u64 = 2;
@@ -36,6 +36,7 @@ pub const SESS_INIT: u64 = 7;
 pub const TURN_OTHER: u64 = 0;
 pub const TURN_BEGIN: u64 = 1;
 pub const TURN_CONTINUE: u64 = 2;
+pub const TURN_STRAY: u64 = 3;
 
 /// Declares structs of the header. Each of their fields is a `u64` or such a struct.
 macro_rules! structs {
@@ -59,30 +60,23 @@ structs! {
     Message {
         fault: Fault, kind: u64, flags: u64, reason: u64, header: u64, id: u64, acknowledged: u64,
         keepalive: u64, segment_mru: u64, transfer_mru: u64, node_offset: u64, node_length: u64,
-        items_offset: u64, items_length: u64, data_offset: u64, data_length: u64, next: u64,
+        items_offset: u64, items_length: u64, data_offset: u64, data_length: u64, data_seen: u64,
+        next: u64,
     }
     Item {
-        fault: Fault, flags: u64, kind: u64, value_offset: u64, value_length: u64, has_total: u64,
-        total: u64, next: u64,
+        fault: Fault, flags: u64, item_type: u64, value_offset: u64, value_length: u64,
+        has_total: u64, total: u64, next: u64,
     }
     Order { initiated: u64, terminated: u64, is_open: u64, transfer: u64 }
     Turn { fault: u64, turn: u64, last: u64, abandons: u64, abandoned: u64 }
     Run { exit_status: u64, output_length: u64, report_length: u64 }
-    UnpackOptions { only_one: u64, transfer: u64, payload: u64, keep_going: u64 }
-    PackOptions {
-        keepalive: u64, segment_mru: u64, transfer_mru: u64, peer_segment: u64, peer_transfer: u64,
-        announce: u64, send_term: u64,
-    }
 }
 
 extern "C" {
     pub fn tcpclkit_abi() -> u32;
-    pub fn tcpclkit_raw_bundle_verdict(
-        bytes: *const u8,
-        length: usize,
-        verdict: *mut Verdict,
-    ) -> u32;
-    pub fn tcpclkit_raw_bundle_info(
+    pub fn tcpclkit_raw_judge_bundle(bytes: *const u8, length: usize, verdict: *mut Verdict)
+        -> u32;
+    pub fn tcpclkit_raw_describe_bundle(
         bytes: *const u8,
         length: usize,
         destination_name: *mut u8,
@@ -91,16 +85,16 @@ extern "C" {
         source_room: usize,
         bundle: *mut Bundle,
     ) -> u32;
-    pub fn tcpclkit_raw_scan_new(memory: *mut u64) -> u32;
-    pub fn tcpclkit_raw_scan_feed(
+    pub fn tcpclkit_raw_start_scan(memory: *mut u64) -> u32;
+    pub fn tcpclkit_raw_feed_scan(
         memory: *mut u64,
         piece: *const u8,
         length: usize,
         taken: *mut u64,
     ) -> u32;
-    pub fn tcpclkit_raw_scan_verdict(memory: *mut u64, verdict: *mut Verdict) -> u32;
-    pub fn tcpclkit_raw_scan_info(
-        memory: *mut u64,
+    pub fn tcpclkit_raw_judge_scan(memory: *const u64, verdict: *mut Verdict) -> u32;
+    pub fn tcpclkit_raw_describe_scan(
+        memory: *const u64,
         destination_name: *mut u8,
         destination_room: usize,
         source_name: *mut u8,
@@ -109,35 +103,43 @@ extern "C" {
     ) -> u32;
     pub fn tcpclkit_raw_scan_size() -> usize;
     pub fn tcpclkit_raw_scan_alignment() -> usize;
-    pub fn tcpclkit_raw_contact(bytes: *const u8, length: usize, contact: *mut Contact) -> u32;
-    pub fn tcpclkit_raw_message(
+    pub fn tcpclkit_raw_read_contact(bytes: *const u8, length: usize, contact: *mut Contact)
+        -> u32;
+    pub fn tcpclkit_raw_read_message(
         bytes: *const u8,
         length: usize,
         offset: u64,
         message: *mut Message,
     ) -> u32;
-    pub fn tcpclkit_raw_item(
+    pub fn tcpclkit_raw_read_item(
         bytes: *const u8,
         length: usize,
         offset: u64,
         end: u64,
         item: *mut Item,
     ) -> u32;
-    pub fn tcpclkit_raw_order(
+    pub fn tcpclkit_raw_judge_order(
         order: *mut Order,
         kind: u64,
         flags: u64,
         id: u64,
         turn: *mut Turn,
     ) -> u32;
-    pub fn tcpclkit_raw_fault_text(
+    pub fn tcpclkit_raw_take_message(
+        order: *mut Order,
+        kind: u64,
+        flags: u64,
+        id: u64,
+        turn: *mut Turn,
+    ) -> u32;
+    pub fn tcpclkit_raw_write_fault_text(
         code: u64,
         number: u64,
         text: *mut u8,
         room: usize,
         written: *mut u64,
     ) -> u32;
-    pub fn tcpclkit_raw_eid_text(
+    pub fn tcpclkit_raw_write_eid_text(
         eid: *const Eid,
         name: *const u8,
         name_length: usize,
@@ -148,8 +150,10 @@ extern "C" {
     pub fn tcpclkit_raw_list(
         bytes: *const u8,
         length: usize,
+        wants_output: u64,
         output: *mut u8,
         output_room: usize,
+        wants_report: u64,
         report: *mut u8,
         report_room: usize,
         run: *mut Run,
@@ -157,9 +161,12 @@ extern "C" {
     pub fn tcpclkit_raw_unpack(
         bytes: *const u8,
         length: usize,
-        options: *const UnpackOptions,
+        options: *const u64,
+        option_count: usize,
+        wants_output: u64,
         output: *mut u8,
         output_room: usize,
+        wants_report: u64,
         report: *mut u8,
         report_room: usize,
         run: *mut Run,
@@ -167,11 +174,14 @@ extern "C" {
     pub fn tcpclkit_raw_pack(
         bytes: *const u8,
         length: usize,
-        options: *const PackOptions,
+        options: *const u64,
+        option_count: usize,
         node: *const u8,
         node_length: usize,
+        wants_output: u64,
         output: *mut u8,
         output_room: usize,
+        wants_report: u64,
         report: *mut u8,
         report_room: usize,
         run: *mut Run,

@@ -6,6 +6,9 @@ use crate::raw;
 /// The length of a contact header. The first message begins there.
 pub const CONTACT_LENGTH: usize = 6;
 
+/// The greatest length of a message without its data. A buffer of that size holds every head.
+pub const HEAD_LIMIT: usize = 66585;
+
 /// The flag of the last segment of a transfer.
 pub const SEGMENT_END: u8 = 1;
 
@@ -142,7 +145,7 @@ pub struct Items<'a> {
 pub fn contact(bytes: &[u8]) -> Result<Contact, Fault> {
     let (status, contact) = raw::answer(|contact: &mut raw::Contact| {
         // SAFETY: the slice and the struct are valid, and do not overlap.
-        unsafe { raw::tcpclkit_raw_contact(bytes.as_ptr(), bytes.len(), contact) }
+        unsafe { raw::tcpclkit_raw_read_contact(bytes.as_ptr(), bytes.len(), contact) }
     });
     match status {
         raw::OK => Ok(Contact {
@@ -181,7 +184,7 @@ impl<'a> Messages<'a> {
         let (status, it) = raw::answer(|it: &mut raw::Message| {
             let (start, length) = (self.bytes.as_ptr(), self.bytes.len());
             // SAFETY: the slice and the struct are valid, and do not overlap.
-            unsafe { raw::tcpclkit_raw_message(start, length, offset as u64, it) }
+            unsafe { raw::tcpclkit_raw_read_message(start, length, offset as u64, it) }
         });
         match status {
             raw::OK => self.state = State::At(it.next as usize),
@@ -207,7 +210,6 @@ fn items<'a>(bytes: &'a [u8], it: &raw::Message) -> Items<'a> {
 /// The fields of a segment.
 fn segment<'a>(bytes: &'a [u8], it: &raw::Message) -> Fields<'a> {
     let flags = it.flags as u8;
-    let there = it.data_length.min(bytes.len() as u64 - it.data_offset);
     let has_items = flags & SEGMENT_START != 0;
     Fields::Segment {
         flags,
@@ -218,7 +220,7 @@ fn segment<'a>(bytes: &'a [u8], it: &raw::Message) -> Fields<'a> {
             Items::none()
         },
         length: it.data_length,
-        data: part(bytes, it.data_offset, there),
+        data: part(bytes, it.data_offset, it.data_seen),
     }
 }
 
@@ -282,7 +284,7 @@ impl<'a> Iterator for Items<'a> {
         let (start, length, offset) = (self.bytes.as_ptr(), self.bytes.len(), self.offset as u64);
         let (status, it) = raw::answer(|it: &mut raw::Item| {
             // SAFETY: the slice and the struct are valid, and do not overlap.
-            unsafe { raw::tcpclkit_raw_item(start, length, offset, length as u64, it) }
+            unsafe { raw::tcpclkit_raw_read_item(start, length, offset, length as u64, it) }
         });
         if status != raw::OK {
             return None; // the end: the list was judged with its message
@@ -291,7 +293,7 @@ impl<'a> Iterator for Items<'a> {
         let value = it.value_offset as usize..(it.value_offset + it.value_length) as usize;
         Some(Item {
             flags: it.flags as u8,
-            kind: it.kind as u16,
+            kind: it.item_type as u16,
             value: &self.bytes[value],
             total: (it.has_total == 1).then_some(it.total),
         })

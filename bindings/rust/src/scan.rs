@@ -24,8 +24,9 @@ use std::ops::Range;
 /// let bundle = scan.bundle().unwrap();
 /// assert_eq!((taken, bundle.payload), (34, 28..33));
 /// ```
+#[derive(Clone)]
 pub struct Scan {
-    /// The library's, which finds it where it was made.
+    /// The library's. A copy of it is a scan that has seen the same bytes.
     memory: Box<[u64; raw::SCAN_WORDS]>,
 }
 
@@ -43,7 +44,7 @@ impl Scan {
     pub fn restart(&mut self) {
         raw::answer(|()| {
             // SAFETY: the memory is as large and as aligned as a scan.
-            unsafe { raw::tcpclkit_raw_scan_new(self.memory.as_mut_ptr()) }
+            unsafe { raw::tcpclkit_raw_start_scan(self.memory.as_mut_ptr()) }
         });
     }
 
@@ -59,7 +60,7 @@ impl Scan {
         let (status, taken) = raw::answer(|taken: &mut u64| {
             // SAFETY: the memory has a scan, the slice is valid, and nothing overlaps.
             unsafe {
-                raw::tcpclkit_raw_scan_feed(
+                raw::tcpclkit_raw_feed_scan(
                     self.memory.as_mut_ptr(),
                     piece.as_ptr(),
                     piece.len(),
@@ -72,10 +73,10 @@ impl Scan {
     }
 
     /// The verdict on the bytes that were taken.
-    pub fn verdict(&mut self) -> Verdict<Range<u64>> {
+    pub fn verdict(&self) -> Verdict<Range<u64>> {
         let (status, it) = raw::answer(|verdict| {
             // SAFETY: the memory has a scan, the struct is valid, and they do not overlap.
-            unsafe { raw::tcpclkit_raw_scan_verdict(self.memory.as_mut_ptr(), verdict) }
+            unsafe { raw::tcpclkit_raw_judge_scan(self.memory.as_ptr(), verdict) }
         });
         Verdict::of(status, &it, |place| place)
     }
@@ -85,14 +86,14 @@ impl Scan {
     /// # Errors
     ///
     /// The first fault. It [is truncated](Fault::is_truncated) while the bundle goes on.
-    pub fn bundle(&mut self) -> Result<Bundle<Range<u64>>, Fault> {
+    pub fn bundle(&self) -> Result<Bundle<Range<u64>>, Fault> {
         let (mut destination, mut source) = ([0; raw::EID_LIMIT], [0; raw::EID_LIMIT]);
         let (status, it) = raw::answer(|bundle| {
             // SAFETY: the memory has a scan, the slices and the struct are valid, and nothing
             // overlaps.
             unsafe {
-                raw::tcpclkit_raw_scan_info(
-                    self.memory.as_mut_ptr(),
+                raw::tcpclkit_raw_describe_scan(
+                    self.memory.as_ptr(),
                     destination.as_mut_ptr(),
                     destination.len(),
                     source.as_mut_ptr(),

@@ -18,7 +18,7 @@ impl fmt::Display for Fault {
         let (status, written) = raw::answer(|written| {
             // SAFETY: the text has that room, and nothing else is lent.
             unsafe {
-                raw::tcpclkit_raw_fault_text(
+                raw::tcpclkit_raw_write_fault_text(
                     self.code as u64,
                     self.number,
                     text.as_mut_ptr(),
@@ -75,7 +75,7 @@ impl fmt::Display for EndpointId {
         let (status, written) = raw::answer(|written| {
             // SAFETY: the slices and the structs are valid, and do not overlap.
             unsafe {
-                raw::tcpclkit_raw_eid_text(
+                raw::tcpclkit_raw_write_eid_text(
                     &eid,
                     name.as_ptr(),
                     name.len(),

@@ -79,44 +79,48 @@ impl fmt::Display for ToolError {
 
 impl std::error::Error for ToolError {}
 
-/// Room for a text.
-struct Room {
+/// A text of a run: whether it is wanted, and the slice for it.
+struct Text {
+    wants: u64,
     start: *mut u8,
-    length: usize,
+    room: usize,
 }
 
-/// Calls a tool with more and more room until both texts fit.
-fn run(
-    first_room: usize,
-    call: impl Fn(Room, Room, &mut raw::Run) -> u32,
-) -> Result<Run, ToolError> {
-    let mut room = first_room;
-    loop {
-        let (mut output, mut report) = (vec![0; room], vec![0; room]);
-        let (status, it) = raw::answer(|run| call(lent(&mut output), lent(&mut report), run));
-        match status {
-            raw::TOO_SMALL => room *= 2,
-            raw::RANGE => return Err(ToolError::Range),
-            raw::MEMORY => return Err(ToolError::Memory),
-            _ => {
-                output.truncate(it.output_length as usize);
-                report.truncate(it.report_length as usize);
-                let exit_status = it.exit_status as u8;
-                return Ok(Run {
-                    output,
-                    report,
-                    exit_status,
-                });
-            }
+impl Text {
+    /// Lends a slice for a text that is wanted.
+    fn lent(text: &mut [u8]) -> Text {
+        Text {
+            wants: 1,
+            start: text.as_mut_ptr(),
+            room: text.len(),
         }
     }
 }
 
-/// The room of a text.
-fn lent(text: &mut [u8]) -> Room {
-    Room {
-        start: text.as_mut_ptr(),
-        length: text.len(),
+/// Calls a tool, and if a text does not fit once more with the room that it needs.
+fn run(
+    first_room: usize,
+    call: impl Fn(Text, Text, &mut raw::Run) -> u32,
+) -> Result<Run, ToolError> {
+    let (mut output, mut report) = (vec![0; first_room], vec![0; first_room]);
+    loop {
+        let (status, it) =
+            raw::answer(|run| call(Text::lent(&mut output), Text::lent(&mut report), run));
+        if status == raw::RANGE {
+            return Err(ToolError::Range);
+        }
+        if status == raw::MEMORY {
+            return Err(ToolError::Memory);
+        }
+        output.resize(it.output_length as usize, 0);
+        report.resize(it.report_length as usize, 0);
+        if status == raw::OK {
+            return Ok(Run {
+                output,
+                report,
+                exit_status: it.exit_status as u8,
+            });
+        }
     }
 }
 
@@ -124,18 +128,20 @@ fn lent(text: &mut [u8]) -> Room {
 ///
 /// # Errors
 ///
-/// Memory was refused.
+/// None: this tool asks for no memory, and has no option that may be out of its range.
 pub fn list(bytes: &[u8]) -> Result<Run, ToolError> {
-    run(bytes.len() * 2 + 4096, |output, report, run| {
+    run(bytes.len() + 4096, |output, report, run| {
         // SAFETY: the slices and the struct are valid, and do not overlap.
         unsafe {
             raw::tcpclkit_raw_list(
                 bytes.as_ptr(),
                 bytes.len(),
+                output.wants,
                 output.start,
-                output.length,
+                output.room,
+                report.wants,
                 report.start,
-                report.length,
+                report.room,
                 run,
             )
         }
@@ -146,25 +152,28 @@ pub fn list(bytes: &[u8]) -> Result<Run, ToolError> {
 ///
 /// # Errors
 ///
-/// Memory was refused.
+/// None: this tool asks for no memory, and each of these options is in its range.
 pub fn unpack(bytes: &[u8], options: &UnpackOptions) -> Result<Run, ToolError> {
-    let lent = raw::UnpackOptions {
-        only_one: options.transfer.is_some().into(),
-        transfer: options.transfer.unwrap_or_default(),
-        payload: options.payload.into(),
-        keep_going: options.keep_going.into(),
-    };
+    let lent: [u64; 4] = [
+        options.transfer.is_some().into(),
+        options.transfer.unwrap_or_default(),
+        options.payload.into(),
+        options.keep_going.into(),
+    ];
     run(bytes.len() + 4096, |output, report, run| {
         // SAFETY: the slices and the structs are valid, and do not overlap.
         unsafe {
             raw::tcpclkit_raw_unpack(
                 bytes.as_ptr(),
                 bytes.len(),
-                &lent,
+                lent.as_ptr(),
+                lent.len(),
+                output.wants,
                 output.start,
-                output.length,
+                output.room,
+                report.wants,
                 report.start,
-                report.length,
+                report.room,
                 run,
             )
         }
@@ -178,28 +187,31 @@ pub fn unpack(bytes: &[u8], options: &UnpackOptions) -> Result<Run, ToolError> {
 ///
 /// An option or the length of the node ID is out of its range, or memory was refused.
 pub fn pack(bytes: &[u8], node: &[u8], options: &PackOptions) -> Result<Run, ToolError> {
-    let lent = raw::PackOptions {
-        keepalive: options.keepalive.into(),
-        segment_mru: options.segment_mru,
-        transfer_mru: options.transfer_mru,
-        peer_segment: options.peer_segment,
-        peer_transfer: options.peer_transfer,
-        announce: options.announce,
-        send_term: options.send_term.into(),
-    };
-    run(bytes.len() * 2 + 4096, |output, report, run| {
+    let lent: [u64; 7] = [
+        options.keepalive.into(),
+        options.segment_mru,
+        options.transfer_mru,
+        options.peer_segment,
+        options.peer_transfer,
+        options.announce,
+        options.send_term.into(),
+    ];
+    run(bytes.len() + 4096, |output, report, run| {
         // SAFETY: the slices and the structs are valid, and do not overlap.
         unsafe {
             raw::tcpclkit_raw_pack(
                 bytes.as_ptr(),
                 bytes.len(),
-                &lent,
+                lent.as_ptr(),
+                lent.len(),
                 node.as_ptr(),
                 node.len(),
+                output.wants,
                 output.start,
-                output.length,
+                output.room,
+                report.wants,
                 report.start,
-                report.length,
+                report.room,
                 run,
             )
         }

@@ -183,3 +183,35 @@ fn the_order_of_messages_is_judged() {
     };
     assert_eq!(turns.iter().filter(abandons).count(), 1);
 }
+
+#[test]
+fn messages_out_of_order_are_taken() {
+    let bytes = example("order-faults.tcpcl");
+    let mut order = Order::new();
+    let taken: Vec<_> = messages(&bytes, CONTACT_LENGTH)
+        .map(|message| order.take(&message.unwrap()))
+        .collect();
+    let codes: Vec<_> = taken
+        .iter()
+        .filter_map(|it| it.fault)
+        .map(|it| it.code)
+        .collect();
+    for code in [
+        Code::OrderSecondSessInit,
+        Code::OrderSegmentBeforeSessInit,
+        Code::OrderNoSuchOpenTransfer,
+        Code::OrderStartRepeatsOpenId,
+        Code::OrderStartAfterSessTerm,
+    ] {
+        assert!(codes.contains(&code), "{code:?}");
+    }
+    // A stray segment, and no other message, does nothing that `judge` has a word for.
+    for it in taken.iter().filter(|it| it.turn.is_none()) {
+        let fault = it.fault.unwrap().code;
+        assert!(matches!(
+            fault,
+            Code::OrderNoSuchOpenTransfer | Code::OrderSegmentBeforeSessInit
+        ));
+    }
+    assert!(taken.iter().any(|it| it.turn.is_none()));
+}

@@ -82,3 +82,16 @@ fn a_fault_stays() {
         }
     );
 }
+
+#[test]
+fn a_copy_goes_on_by_itself() {
+    let all = bundles();
+    let bytes = &all[..34];
+    let mut scan = Scan::new();
+    scan.feed(&bytes[..20]);
+    let mut copy = scan.clone();
+    assert_eq!(copy.verdict(), scan.verdict());
+    assert_eq!(copy.feed(&bytes[20..]), 14);
+    assert!(copy.verdict().is_good());
+    assert!(scan.verdict().is_truncated());
+}

@@ -5,13 +5,12 @@ use base.Fml.{Lft}
 use base.Logic.{ent, sep}
 use types.Kit.{Item, mean}
 use types.Logic.{Logic}
-use Rattle.link_bundle.specs.Scan.{HasScanned}
-use Rattle.link_bundle.specs.declared.scan.BundleScan.{BundleScan}
-use Rattle.link_bundle.specs.contracts.scan.BundleScan.{the_row as R}
-use Rattle.link_bundle.proofs.scan.BundleScan.TheLaws.{the_row_laws, the_within}
-use Rattle.tcpclkit_c.specs.Scan.{HoldsScan}
+use Rattle.tcpclkit_c.specs.declared.scan.MarkedScan.{MarkedScan}
+use Rattle.tcpclkit_c.specs.contracts.scan.MarkedScan.{the_row as R}
+use Rattle.tcpclkit_c.proofs.scan.MarkedScan.TheLaws.{the_row_laws, the_within}
+use Rattle.tcpclkit_c.specs.Scan.{IsScan, HoldsScan}
 
-module _ {M : Type 1} {𝓤 : Ura M} (𝓛 : Logic 𝓤) (scan : BundleScan) (b o : ℕ) where
+module _ {M : Type 1} {𝓤 : Ura M} (𝓛 : Logic 𝓤) (scan : MarkedScan) (b o : ℕ) where
   -- a reference to the scan for the lifetime κ, the lender's part, and the token of κ
   abbrev pub lent_scan : Lft → Item 𝓤
   lent_scan κ =
@@ -26,11 +25,11 @@ module _ {M : Type 1} {𝓤 : Ura M} (𝓛 : Logic 𝓤) (scan : BundleScan) (b 
       ((κ, full_share) ∷ []) (the_within κ) (Incl-refl κ)
 
   -- the memory holds a scan that has seen these bytes
-  pub held_scan : (seen : List ℕ) → HasScanned scan seen
+  pub held_scan : (seen : List ℕ) → IsScan scan seen
       → ent 𝓤 (mean 𝓛 (‵ (part_at R full_share scan b o)))
       (mean 𝓛 (‵ (HoldsScan (block_ptr b o) seen)))
   held_scan seen has =
       qed 𝓛 (‵ (part_at R full_share scan b o) ∷ []) ∵
-      nothing ! $ fpack ! (HasScanned scan seen) (λ _. ftrue) has $ move ! (1 ∷ 0 ∷ []) $ fjoin ! $
-      fpack ! BundleScan (λ x. fsep (lies_at R full_share (block_ptr b o) x)
-      (fex (HasScanned x seen) (λ _. ftrue))) scan $ done !
+      nothing ! $ fpack ! (IsScan scan seen) (λ _. ftrue) has $ move ! (1 ∷ 0 ∷ []) $ fjoin ! $
+      fpack ! MarkedScan (λ x. fsep (lies_at R full_share (block_ptr b o) x)
+      (fex (IsScan x seen) (λ _. ftrue))) scan $ done !

@@ -1,4 +1,6 @@
+mod Overlays
 pub mod Runs
 mod Scanning
 mod Walks
+mod Orders
 mod Lending

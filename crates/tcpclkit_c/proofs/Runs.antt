@@ -1,208 +1,78 @@
--- A run over devices in memory: what it has written, and how it ended.
-use Rattle.std.proofs.Common.{◌≡◌, ◌<◌, ◌≤◌, ◌⊎◌, ℕ, ◌+◌, min, List, [], ◌++◌, length, take, drop, Option, Some, None, Result, Ok, Err, refl, sym, ap, ◌∙◌, subst, inl, inr, ⊎_elim, append-nil, append_assoc, arith}
-use Rattle.std.proofs.Math.Nat.{min-le_right}
-use Rattle.std.proofs.lemmas.List.{take-append-drop, take_min, take_all, drop_min, length-append}
-use Rattle.link_laws.specs.Prefix.{IsFrontOf, IsPrefixed}
+-- A run over slices: it never fails, and what it has written is in its slices.
+use Rattle.std.proofs.Common.{◌≡◌, ◌≤◌, ◌⊎◌, ℕ, ◌+◌, ◌-◌, ◌^◌, min, nat_le, Bool, true, false, List, [], ◌++◌, length, Some, None, Result, Ok, Err, refl, sym, ap, ◌∙◌, subst, inl, inr, ⊎_elim, append-nil, append_assoc, arith}
+use Rattle.std.specs.Prelude.{if◌then◌else◌}
+use Rattle.std.specs.declared.alloc.AllocError.{AllocError}
+use Rattle.std.proofs.lemmas.List.{length-append}
 use Rattle.link_list.specs.Listing.{list_tool}
 use Rattle.link_pack.specs.Packing.{pack_tool}
 use Rattle.link_pack.specs.PackRun.{LacksMemory}
 use Rattle.link_pack.specs.declared.options.PackOptions.{PackOptions}
-use Rattle.link_run.specs.Run.{Tool, Texts, Outcome, Looks, Devices, HandedBack, FinishedRun, LostReader, PassedLimit, LostWriter, EndedRun, AfterRun}
+use Rattle.link_run.specs.Run.{Tool, Outcome, Texts, Looks, Devices, HandedBack, FinishedRun, EndedRun, AfterRun}
 use Rattle.link_run.specs.declared.run.Status.{Status}
-use Rattle.link_tools.specs.Options.{options_of, AfterJob}
+use Rattle.link_tools.specs.Options.{AfterJob}
 use Rattle.link_tools.specs.declared.options.Job.{Job}
 use Rattle.link_tools.specs.declared.options.Job.TheVariants as job
+use Rattle.link_transfer.specs.declared.cutter.Cutter.{Cutter}
 use Rattle.link_unpack.specs.Unpacking.{unpack_tool}
 use Rattle.link_unpack.specs.declared.wanted.Wanted.{Wanted}
+use Rattle.link_wire.specs.Limits.{longest_input}
 use Rattle.link_wire.specs.declared.IoFault.{IoFault}
 use Rattle.link_wire.specs.declared.IoFault.TheVariants.{Read, InputTooLong, Write, Memory}
-use Rattle.tcpclkit_c.specs.Slice.{HoldsFront, KeepsRest}
-use Rattle.tcpclkit_c.specs.declared.tool.Run.{Run}
-use Rattle.tcpclkit_c.specs.Tool.{tool_for, HasRun, TextsReturned}
-
--- ---- prefixes
-
-front_take : (n : ℕ) (text whole : List ℕ) → IsFrontOf text whole → IsFrontOf (take n text) whole
-front_take n text whole front = (
-  drop n text ++ front.0,
-  front.1 ∙ ap (λ all. all ++ front.0) (sym (take-append-drop n text))
-      ∙ append_assoc (take n text) (drop n text) front.0,
-)
-
-front_all : (text whole : List ℕ) → text ≡ whole → IsFrontOf text whole
-front_all text whole same = ([], sym same ∙ sym (append-nil text))
-
--- what a slice has after a text was copied into it
-pub copied : (slice text : List ℕ) → HoldsFront slice text
-    → take (min (length text) (length slice)) slice ≡ take (length slice) text
-copied slice text front = take_min (length text) slice ∙ front
-
-pub copied_front : (slice text whole : List ℕ) → HoldsFront slice text → IsFrontOf text whole
-    → IsFrontOf (take (min (length text) (length slice)) slice) whole
-copied_front slice text whole held front =
-    subst (λ (xs : List ℕ). IsFrontOf xs whole) (sym (copied slice text held))
-    (front_take (length slice) text whole front)
-
-pub copied_whole : (slice text whole : List ℕ) → HoldsFront slice text
-    → length text ≤ length slice → text ≡ whole
-    → take (min (length text) (length slice)) slice ≡ whole
-copied_whole slice text whole held fits same =
-    copied slice text held ∙ take_all (length slice) text fits ∙ same
-
-pub within : (slice text : List ℕ) → min (length text) (length slice) ≤ length slice
-within slice text = min-le_right (length text) (length slice)
-
--- what was after the text, and is
-copied_rest : (old new text : List ℕ) → length old ≡ length new → KeepsRest old new text
-    → drop (min (length text) (length new)) new ≡ drop (min (length text) (length new)) old
-copied_rest old new text same kept =
-    drop_min (length text) new ∙ kept ∙ sym (drop_min (length text) old)
-    ∙ ap (λ (n : ℕ). drop (min (length text) n) old) same
-
--- a text that is longer than its slice is a prefix of a text that is
-longer : (slice text whole : List ℕ) → IsFrontOf text whole → length slice < length text
-    → length slice < length whole
-longer slice text whole front long =
-    let size : length whole ≡ length text + length front.0 =
-    ap length front.1 ∙ length-append text front.0 in
-    omega (arith, size)
-
--- ---- what is given of a run
-
-min-eq_right : (a b : ℕ) → b < a → min a b ≡ b
-min-eq_right a b below = omega arith
-
--- the run has ended with this status, and the slices have room for its texts
-pub record IsWhole (answer : Result Status IoFault) (output_text report_text output report : List ℕ)
-    (exit : ℕ) : Type 0 where
-  pub status : Status
-  pub is : answer ≡ Ok status
-  pub exit_is : exit ≡ status.0
-  pub output_fits : length output_text ≤ length output
-  pub report_fits : length report_text ≤ length report
-
-pub gives : (tool : Tool) (bytes output_text report_text old_output old_report output report : List ℕ)
-    (answer : Result Status IoFault) (run : Run) (status : ℕ)
-    → HasRun tool bytes output_text report_text answer
-    → HoldsFront output output_text → HoldsFront report report_text
-    → length old_output ≡ length output → length old_report ≡ length report
-    → KeepsRest old_output output output_text → KeepsRest old_report report report_text
-    → run.output_length ≡ min (length output_text) (length output)
-    → run.report_length ≡ min (length report_text) (length report)
-    → (status ≡ 0 → IsWhole answer output_text report_text output report run.exit_status)
-    → (status ≡ 5 → (length output < length output_text) ⊎ (length report < length report_text))
-    → (status ≡ 0) ⊎ ((status ≡ 5) ⊎ (status ≡ 8))
-    → TextsReturned (tool.whole bytes) old_output old_report output report run status
-gives tool bytes output_text report_text old_output old_report output report answer run status has held_output held_report output_size report_size output_kept report_kept output_is report_is whole full known =
-    record {
-      output_front = rw output_is (copied_front output output_text _ held_output has.output);
-      report_front = rw report_is (copied_front report report_text _ held_report has.report);
-      output_within = rw output_is (within output output_text);
-      report_within = rw report_is (within report report_text);
-      output_rest = rw output_is (copied_rest old_output output output_text output_size output_kept);
-      report_rest = rw report_is (copied_rest old_report report report_text report_size report_kept);
-      output_whole = λ zero.
-          let w = whole zero in
-          rw output_is (copied_whole output output_text _ held_output w.output_fits (has.ended w.status w.is).0);
-      report_whole = λ zero.
-          let w = whole zero in
-          rw report_is (copied_whole report report_text _ held_report w.report_fits (has.ended w.status w.is).1);
-      exit = λ zero. let w = whole zero in w.exit_is ∙ (has.ended w.status w.is).2;
-      full = λ five. ⊎_elim
-          (λ (long : length output < length output_text). inl (output_is ∙ min-eq_right (length output_text) (length output) long))
-          (λ (long : length report < length report_text). inr (report_is ∙ min-eq_right (length report_text) (length report) long))
-          (full five);
-      too_small = λ five. ⊎_elim
-          (λ (long : length output < length output_text). inl (longer output output_text _ has.output long))
-          (λ (long : length report < length report_text). inr (longer report report_text _ has.report long))
-          (full five);
-      known = known;
-    }
+use Rattle.tcpclkit_c.specs.Slice.{HoldsFront, KeepsRest, overlaid}
+use Rattle.tcpclkit_c.specs.Tool.{Slices, texts_status, ReturnsTexts, ReturnsNothing}
+use Rattle.tcpclkit_c.specs.Run.{WroteAll, WroteNothing, WroteWhole, HasWritten, Leaves, ReturnsJob}
+use Rattle.tcpclkit_c.specs.declared.running.Run.{Run}
+use Rattle.tcpclkit_c.specs.declared.running.Wants.{Wants}
+use Rattle.tcpclkit_c.specs.declared.running.Written.{Written}
+use Rattle.tcpclkit_c.proofs.Overlays.{holds_front, keeps_rest, overlaid_nothing}
 
 -- ---- runs
 
+-- what was written since: texts, and how the run of the job over these bytes went
+pub record Ran (ready : Job) (bytes output_start output_end report_start report_end : List ℕ)
+    (answer : Result Status IoFault) : Type 0 where
+  pub output : List ℕ
+  pub report : List ℕ
+  pub output_is : output_end ≡ output_start ++ output
+  pub report_is : report_end ≡ report_start ++ report
+  pub wrote : HasWritten ready bytes output report answer
+
 module _ {R W E : Type 0} (look : Looks R W E)
-    (start now : Devices R W E) (bytes left output_text report_text : List ℕ)
+    (start now : Devices R W E)
+    (bytes left output_start output_end report_start report_end : List ℕ)
     (full : (look.input start.reader).left ≡ Some bytes)
     (rest : (look.input now.reader).left ≡ Some left)
-    (no_output : (look.output start.output).written ≡ Some [])
-    (has_output : (look.output now.output).written ≡ Some output_text)
-    (no_report : (look.report start.report).written ≡ Some [])
-    (has_report : (look.report now.report).written ≡ Some report_text) where
-  module _ (tool : Tool) (prefixed : (front more : List ℕ) → IsPrefixed tool front more) where
-    module _ (given : List ℕ) (texts : Texts)
-        (back : HandedBack look start now given texts) where
-      bytes_are : bytes ≡ given ++ left
-      bytes_are = rw (full, rest) at back.takes
+    (had_output : (look.output start.output).written ≡ Some output_start)
+    (has_output : (look.output now.output).written ≡ Some output_end)
+    (had_report : (look.report start.report).written ≡ Some report_start)
+    (has_report : (look.report now.report).written ≡ Some report_end)
+    (sound_reader : (look.input now.reader).failed ≡ false)
+    (sound_output : (look.output now.output).failed ≡ false)
+    (sound_report : (look.report now.report).failed ≡ false)
+    (short : length bytes ≤ longest_input) where
+  -- the run has ended, and these texts were written since
+  record Wrote (whole : Outcome) (status : Status) : Type 0 where
+    pub output_is : output_end ≡ output_start ++ whole.texts.output
+    pub report_is : report_end ≡ report_start ++ whole.texts.report
+    pub ends : status.0 ≡ whole.status
 
-      output_is : output_text ≡ texts.output
-      output_is = rw (no_output, has_output) at back.writes
+  abbrev Went : Outcome → Result Status IoFault → Type 0
+  Went whole (Ok status) = Wrote whole status
+  Went whole (Err fault) = ⊥
 
-      report_is : report_text ≡ texts.report
-      report_is = rw (no_report, has_report) at back.reports
+  not_both : (b : Bool) → b ≡ false → b ≡ true → ⊥
+  not_both b is_false is_true = let never : false ≡ true = sym is_false ∙ is_true in cc
 
-    -- the texts that a prefix of the bytes determines
-    module _ (given more : List ℕ) (parts : bytes ≡ given ++ more) where
-      sofar_output : IsFrontOf (tool.so_far given).output (tool.whole bytes).texts.output
-      sofar_output =
-          let front = (prefixed given more).output in
-          (front.0, ap (λ (all : List ℕ). (tool.whole all).texts.output) parts ∙ front.1)
+  module _ (tool : Tool) where
+    bytes_are : (given : List ℕ) (texts : Texts) → HandedBack look start now given texts
+        → bytes ≡ given ++ left
+    bytes_are given texts back = rw (full, rest) at back.takes
 
-      sofar_report : IsFrontOf (tool.so_far given).report (tool.whole bytes).texts.report
-      sofar_report =
-          let front = (prefixed given more).report in
-          (front.0, ap (λ (all : List ℕ). (tool.whole all).texts.report) parts ∙ front.1)
-
-      -- texts that are due, cut short
-      due_output : (n : ℕ) (due : Texts)
-          → (due ≡ tool.so_far given) ⊎ ((more ≡ []) × (due ≡ (tool.whole given).texts))
-          → IsFrontOf (take n due.output) (tool.whole bytes).texts.output
-      due_output n due are = ⊎_elim
-          (λ (so : due ≡ tool.so_far given). subst (λ (texts : Texts).
-          IsFrontOf (take n texts.output) (tool.whole bytes).texts.output) (sym so)
-          (front_take n _ _ sofar_output))
-          (λ (all : (more ≡ []) × (due ≡ (tool.whole given).texts)). front_take n _ _
-          (front_all _ _ (ap (λ (texts : Texts). texts.output) all.1
-          ∙ ap (λ (xs : List ℕ). (tool.whole xs).texts.output)
-          (sym (append-nil given) ∙ ap (λ (xs : List ℕ). given ++ xs) (sym all.0) ∙ sym parts))))
-          are
-
-      due_report : (n : ℕ) (due : Texts)
-          → (due ≡ tool.so_far given) ⊎ ((more ≡ []) × (due ≡ (tool.whole given).texts))
-          → IsFrontOf (take n due.report) (tool.whole bytes).texts.report
-      due_report n due are = ⊎_elim
-          (λ (so : due ≡ tool.so_far given). subst (λ (texts : Texts).
-          IsFrontOf (take n texts.report) (tool.whole bytes).texts.report) (sym so)
-          (front_take n _ _ sofar_report))
-          (λ (all : (more ≡ []) × (due ≡ (tool.whole given).texts)). front_take n _ _
-          (front_all _ _ (ap (λ (texts : Texts). texts.report) all.1
-          ∙ ap (λ (xs : List ℕ). (tool.whole xs).texts.report)
-          (sym (append-nil given) ∙ ap (λ (xs : List ℕ). given ++ xs) (sym all.0) ∙ sym parts))))
-          are
-
-    -- the run has stopped in the bytes given, with the texts that these determine
-    stopped : (given past : List ℕ) (fault : IoFault)
-        → HandedBack look start now (given ++ past) (tool.so_far given)
-        → HasRun tool bytes output_text report_text (Err fault)
-    stopped given past fault back =
-        let parts : bytes ≡ given ++ (past ++ left) =
-        bytes_are (given ++ past) (tool.so_far given) back ∙ append_assoc given past left in
-        record {
-          output = subst (λ (text : List ℕ). IsFrontOf text (tool.whole bytes).texts.output)
-              (sym (output_is (given ++ past) (tool.so_far given) back))
-              (sofar_output given (past ++ left) parts);
-          report = subst (λ (text : List ℕ). IsFrontOf text (tool.whole bytes).texts.report)
-              (sym (report_is (given ++ past) (tool.so_far given) back))
-              (sofar_report given (past ++ left) parts);
-          ended = λ status is. cc;
-        }
-
-    finished : (given : List ℕ) (status : Status)
-        → FinishedRun look tool start now given status
-        → HasRun tool bytes output_text report_text (Ok status)
+    finished : (given : List ℕ) (status : Status) → FinishedRun look tool start now given status
+        → Wrote (tool.whole bytes) status
     finished given status run =
         let parts = bytes_are (given ++ run.unread) (tool.whole given).texts run.written in
-        let same : tool.whole bytes ≡ tool.whole given = ⊎_elim
+        let same : tool.whole given ≡ tool.whole bytes = sym (⊎_elim
         (λ all.
         let none : left ≡ [] = rw rest at all.1 in
         ap tool.whole (parts
@@ -210,94 +80,213 @@ module _ {R W E : Type 0} (look : Looks R W E)
         ∙ ap (λ (xs : List ℕ). given ++ xs) all.0 ∙ append-nil given))
         (λ (stays : (more : List ℕ) → tool.whole (given ++ more) ≡ tool.whole given).
         ap tool.whole (parts ∙ append_assoc given run.unread left) ∙ stays (run.unread ++ left))
-        run.settled in
-        let output : output_text ≡ (tool.whole bytes).texts.output =
-        output_is _ _ run.written ∙ ap (λ (outcome : Outcome). outcome.texts.output) (sym same) in
-        let report : report_text ≡ (tool.whole bytes).texts.report =
-        report_is _ _ run.written ∙ ap (λ (outcome : Outcome). outcome.texts.report) (sym same) in
+        run.settled) in
+        let output : output_end ≡ output_start ++ (tool.whole given).texts.output =
+        rw (had_output, has_output) at run.written.writes in
+        let report : report_end ≡ report_start ++ (tool.whole given).texts.report =
+        rw (had_report, has_report) at run.written.reports in
         record {
-          output = front_all _ _ output;
-          report = front_all _ _ report;
-          ended = λ other is. (
-            output,
-            report,
-            ap (λ (s : Status). s.0) (let one : other ≡ status = cc in one) ∙ run.ends
-                ∙ ap (λ (outcome : Outcome). outcome.status) (sym same),
-          );
+          output_is = output ∙ ap (λ (outcome : Outcome). output_start ++ outcome.texts.output) same;
+          report_is = report ∙ ap (λ (outcome : Outcome). report_start ++ outcome.texts.report) same;
+          ends = run.ends ∙ ap (λ (outcome : Outcome). outcome.status) same;
         }
 
-    lost : (given : List ℕ) (fault : IoFault)
-        → LostWriter look tool start now given
-        → HasRun tool bytes output_text report_text (Err fault)
-    lost given fault run =
-        let texts : Texts =
-        record { output = take run.output_count run.due.output; report = take run.report_count run.due.report } in
-        let parts : bytes ≡ given ++ (run.unread ++ left) =
-        bytes_are (given ++ run.unread) texts run.written ∙ append_assoc given run.unread left in
-        let are : (run.due ≡ tool.so_far given)
-        ⊎ ((run.unread ++ left ≡ []) × (run.due ≡ (tool.whole given).texts)) = ⊎_elim
-        (λ so. inl so)
-        (λ all.
-        let none : left ≡ [] = rw rest at all.0.1 in
-        inr (ap (λ (xs : List ℕ). xs ++ left) all.0.0 ∙ none, all.1))
-        run.are_due in
-        record {
-          output = subst (λ (text : List ℕ). IsFrontOf text (tool.whole bytes).texts.output)
-              (sym (output_is (given ++ run.unread) texts run.written))
-              (due_output given (run.unread ++ left) parts run.output_count run.due are);
-          report = subst (λ (text : List ℕ). IsFrontOf text (tool.whole bytes).texts.report)
-              (sym (report_is (given ++ run.unread) texts run.written))
-              (due_report given (run.unread ++ left) parts run.report_count run.due are);
-          ended = λ status is. cc;
-        }
-
-    ran_by : (answer : Result Status IoFault) (given : List ℕ)
+    ended : (answer : Result Status IoFault) (given : List ℕ)
         → EndedRun look tool start now given answer
-        → HasRun tool bytes output_text report_text answer
-    ran_by (Ok status) given run = finished given status run
-    ran_by (Err Read) given run = stopped given [] Read
-        (subst (λ (all : List ℕ).
-        HandedBack look start now all (tool.so_far given))
-        (sym (append-nil given)) run.written)
-    ran_by (Err InputTooLong) given run = stopped given run.past InputTooLong run.written
-    ran_by (Err Write) given run = lost given Write run
-    ran_by (Err Memory) given run = absurd run
+        → Went (tool.whole bytes) answer
+    ended (Ok status) given run = finished given status run
+    ended (Err Read) given run = not_both (look.input now.reader).failed sound_reader run.failed
+    ended (Err InputTooLong) given run =
+        let parts : bytes ≡ (given ++ run.past) ++ left =
+        bytes_are (given ++ run.past) (tool.so_far given) run.written in
+        let size : length bytes ≡ length (given ++ run.past) + length left =
+        ap length parts ∙ length-append (given ++ run.past) left in
+        let taken : length (given ++ run.past) ≡ length given + length run.past =
+        length-append given run.past in
+        absurd (omega (arith, size, taken, short, run.limit))
+    ended (Err Write) given run = ⊎_elim
+        (λ lost. not_both (look.output now.output).failed sound_output lost.0)
+        (λ lost. not_both (look.report now.report).failed sound_report lost.0)
+        run.failed
+    ended (Err Memory) given run = absurd run
 
-    ran : (answer : Result Status IoFault)
-        → AfterRun look tool start now answer
-        → HasRun tool bytes output_text report_text answer
-    ran answer run = ran_by answer run.given run.gave
+  whole_ran : (tool : Tool) (ready : Job) (answer : Result Status IoFault)
+      → ((output report : List ℕ) → WroteWhole (tool.whole bytes) output report answer
+      → HasWritten ready bytes output report answer)
+      → AfterRun look tool start now answer
+      → Ran ready bytes output_start output_end report_start report_end answer
+  whole_ran tool ready (Ok status) is run =
+      let wrote = ended tool (Ok status) run.given run.gave in
+      record {
+        output = (tool.whole bytes).texts.output;
+        report = (tool.whole bytes).texts.report;
+        output_is = wrote.output_is;
+        report_is = wrote.report_is;
+        wrote = is _ _ (record { output_is = refl; report_is = refl; ends = wrote.ends });
+      }
+  whole_ran tool ready (Err fault) is run =
+      absurd (ended tool (Err fault) run.given run.gave)
 
-    lacking : (answer : Result Status IoFault) → LacksMemory start now answer
-        → HasRun tool bytes output_text report_text answer
-    lacking answer run =
-        let output : output_text ≡ [] =
-        let same : Some output_text ≡ Some [] =
-        sym has_output ∙ ap (λ (devices : Devices R W E). (look.output devices.output).written) run.unchanged
-        ∙ no_output in cc in
-        let report : report_text ≡ [] =
-        let same : Some report_text ≡ Some [] =
-        sym has_report
-        ∙ ap (λ (devices : Devices R W E). (look.report devices.report).written) run.unchanged
-        ∙ no_report in cc in
-        record {
-          output = ((tool.whole bytes).texts.output, ap (λ (xs : List ℕ). xs ++ (tool.whole bytes).texts.output) (sym output));
-          report = ((tool.whole bytes).texts.report, ap (λ (xs : List ℕ). xs ++ (tool.whole bytes).texts.report) (sym report));
-          ended = λ status is. let not : Err Memory ≡ Ok status = sym run.is ∙ is in cc;
-        }
+  lacking : (ready : Job) (answer : Result Status IoFault) (fault : IoFault) → answer ≡ Err fault
+      → (WroteNothing [] [] fault → HasWritten ready bytes [] [] answer)
+      → LacksMemory start now answer
+      → Ran ready bytes output_start output_end report_start report_end answer
+  lacking ready answer fault is wrote run =
+      let output : output_end ≡ output_start =
+      let same : Some output_end ≡ Some output_start =
+      sym has_output
+      ∙ ap (λ (devices : Devices R W E). (look.output devices.output).written) run.unchanged
+      ∙ had_output in cc in
+      let report : report_end ≡ report_start =
+      let same : Some report_end ≡ Some report_start =
+      sym has_report
+      ∙ ap (λ (devices : Devices R W E). (look.report devices.report).written) run.unchanged
+      ∙ had_report in cc in
+      let memory : fault ≡ Memory = let both : Err fault ≡ Err Memory = sym is ∙ run.is in cc in
+      record {
+        output = [];
+        report = [];
+        output_is = output ∙ sym (append-nil output_start);
+        report_is = report ∙ sym (append-nil report_start);
+        wrote = wrote (record { no_output = refl; no_report = refl; lacks = memory });
+      }
 
   -- a run of the tool that is ready
-  pub job_ran : ((front more : List ℕ) → IsPrefixed list_tool front more)
-      → ((wanted : Wanted) (front more : List ℕ) → IsPrefixed (unpack_tool wanted) front more)
-      → ((options : PackOptions) (front more : List ℕ)
-      → IsPrefixed (pack_tool options) front more)
-      → (ready : Job) (answer : Result Status IoFault)
+  pub job_ran : (ready : Job) (answer : Result Status IoFault)
       → AfterJob look ready start now answer
-      → HasRun (tool_for (options_of ready)) bytes output_text report_text answer
-  job_ran list unpack pack job.List answer run = ran list_tool list answer run
-  job_ran list unpack pack (job.Unpack wanted) answer run =
-      ran (unpack_tool wanted) (unpack wanted) answer run
-  job_ran list unpack pack (job.Pack options (Ok cutter)) answer run =
-      ran (pack_tool options) (pack options) answer run
-  job_ran list unpack pack (job.Pack options (Err refused)) answer run =
-      lacking (pack_tool options) (pack options) answer run
+      → Ran ready bytes output_start output_end report_start report_end answer
+  job_ran job.List answer run = whole_ran list_tool job.List answer (λ output report wrote. wrote) run
+  job_ran (job.Unpack wanted) answer run =
+      whole_ran (unpack_tool wanted) (job.Unpack wanted) answer (λ output report wrote. wrote) run
+  job_ran (job.Pack options (Ok cutter)) answer run =
+      whole_ran (pack_tool options) (job.Pack options (Ok cutter)) answer (λ output report wrote. wrote) run
+  job_ran (job.Pack options (Err refused)) (Ok status) run =
+      let never : Ok status ≡ Err Memory = run.is in cc
+  job_ran (job.Pack options (Err refused)) (Err fault) run =
+      lacking (job.Pack options (Err refused)) (Err fault) fault refl (λ wrote. wrote) run
+
+-- ---- what is returned of a run
+
+-- a text is left in the slice of its writer
+pub left_in : {text before old slice last : List ℕ} {written : Written} → before ≡ old → last ≡ slice
+    → Leaves text before slice written → Leaves text old last written
+left_in {text} {before} {old} {slice} {last} {written} same_before same_slice left =
+    subst (λ (xs : List ℕ). Leaves text old xs written) (sym same_slice)
+    (subst (λ (xs : List ℕ). Leaves text xs slice written) same_before left)
+
+module _ (wants : Wants) (old new : Slices) (output_text report_text : List ℕ)
+    (output report : Written) (run : Run) (code : ℕ)
+    (left_output : Leaves output_text old.output new.output output)
+    (left_report : Leaves report_text old.report new.report report) where
+  module _ (status : Status)
+      (numbers : run ≡ record {
+        exit_status = status.0;
+        output_length = output.count;
+        report_length = report.count;
+      })
+      (gives : code ≡ texts_status wants output.fits report.fits) where
+    texts_returned : (whole : Outcome) → WroteAll whole output_text report_text status
+        → ReturnsTexts whole wants old new run code
+    texts_returned whole wrote =
+        let output_is = wrote.output_is in
+        let report_is = wrote.report_is in
+        let output_fits : output.fits ≡ nat_le (length whole.texts.output) (length new.output) =
+        left_output.fits
+        ∙ ap (λ (text : List ℕ). nat_le (length text) (length new.output)) output_is in
+        let report_fits : report.fits ≡ nat_le (length whole.texts.report) (length new.report) =
+        left_report.fits
+        ∙ ap (λ (text : List ℕ). nat_le (length text) (length new.report)) report_is in
+        record {
+          output_front = subst (λ (text : List ℕ). HoldsFront new.output text) output_is
+              (subst (λ (slice : List ℕ). HoldsFront slice output_text) (sym left_output.slice_is)
+              (holds_front old.output output_text));
+          output_rest = subst (λ (text : List ℕ). KeepsRest old.output new.output text) output_is
+              (subst (λ (slice : List ℕ). KeepsRest old.output slice output_text)
+              (sym left_output.slice_is) (keeps_rest old.output output_text));
+          report_front = subst (λ (text : List ℕ). HoldsFront new.report text) report_is
+              (subst (λ (slice : List ℕ). HoldsFront slice report_text) (sym left_report.slice_is)
+              (holds_front old.report report_text));
+          report_rest = subst (λ (text : List ℕ). KeepsRest old.report new.report text) report_is
+              (subst (λ (slice : List ℕ). KeepsRest old.report slice report_text)
+              (sym left_report.slice_is) (keeps_rest old.report report_text));
+          output_length = ap (λ (r : Run). r.output_length) numbers ∙ left_output.count
+              ∙ ap (λ (text : List ℕ). min (length text) (2 ^ 64 - 1)) output_is;
+          report_length = ap (λ (r : Run). r.report_length) numbers ∙ left_report.count
+              ∙ ap (λ (text : List ℕ). min (length text) (2 ^ 64 - 1)) report_is;
+          exit = ap (λ (r : Run). r.exit_status) numbers ∙ wrote.ends;
+          gives = gives ∙ ap (λ (fits : Bool). texts_status wants fits report.fits) output_fits
+              ∙ ap (λ (fits : Bool). texts_status wants
+              (nat_le (length whole.texts.output) (length new.output)) fits) report_fits;
+        }
+
+    pub ok_returned : (ready : Job) (bytes : List ℕ)
+        → HasWritten ready bytes output_text report_text (Ok status)
+        → ReturnsJob ready bytes wants old new run code
+    ok_returned job.List bytes wrote = texts_returned (list_tool.whole bytes) wrote
+    ok_returned (job.Unpack wanted) bytes wrote =
+        texts_returned ((unpack_tool wanted).whole bytes) wrote
+    ok_returned (job.Pack options (Ok cutter)) bytes wrote =
+        texts_returned ((pack_tool options).whole bytes) wrote
+    ok_returned (job.Pack options (Err refused)) bytes wrote = absurd wrote
+
+  module _ (fault : IoFault)
+      (numbers : run ≡ record { exit_status = 0; output_length = 0; report_length = 0 })
+      (gives : code ≡ 8) where
+    nothing_returned : WroteNothing output_text report_text fault → ReturnsNothing old new run code
+    nothing_returned wrote = record {
+      no_output = left_output.slice_is
+          ∙ ap (λ (text : List ℕ). overlaid old.output text) wrote.no_output
+          ∙ overlaid_nothing old.output;
+      no_report = left_report.slice_is
+          ∙ ap (λ (text : List ℕ). overlaid old.report text) wrote.no_report
+          ∙ overlaid_nothing old.report;
+      numbers = numbers;
+      gives = gives;
+    }
+
+    pub err_returned : (ready : Job) (bytes : List ℕ)
+        → HasWritten ready bytes output_text report_text (Err fault)
+        → ReturnsJob ready bytes wants old new run code
+    err_returned job.List bytes wrote = absurd wrote
+    err_returned (job.Unpack wanted) bytes wrote = absurd wrote
+    err_returned (job.Pack options (Ok cutter)) bytes wrote = absurd wrote
+    err_returned (job.Pack options (Err refused)) bytes wrote = nothing_returned wrote
+
+-- ---- what the exports say of it
+
+-- pack has its texts, or it was refused its memory
+pub packed : (options : PackOptions) (memory : Result Cutter AllocError) (bytes : List ℕ)
+    (wants : Wants) (old new : Slices) (run : Run) (status : ℕ)
+    → ReturnsJob (job.Pack options memory) bytes wants old new run status
+    → ReturnsTexts ((pack_tool options).whole bytes) wants old new run status
+    ⊎ ReturnsNothing old new run status
+packed options (Ok cutter) bytes wants old new run status gave = inl gave
+packed options (Err refused) bytes wants old new run status gave = inr gave
+
+not_range : (fits : Bool) (status : ℕ) → status ≡ (if fits then 0 else 5) → status ≡ 6 → ⊥
+not_range true status is six = absurd (omega (arith, is, six))
+not_range false status is six = absurd (omega (arith, is, six))
+
+pub texts_not_range : (whole : Outcome) (wants : Wants) (old new : Slices) (run : Run) (status : ℕ)
+    → ReturnsTexts whole wants old new run status → status ≡ 6 → ⊥
+texts_not_range whole wants old new run status gave six = not_range _ status gave.gives six
+
+pub packed_not_range : (whole : Outcome) (wants : Wants) (old new : Slices) (run : Run)
+    (status : ℕ)
+    → ReturnsTexts whole wants old new run status ⊎ ReturnsNothing old new run status
+    → status ≡ 6 → ⊥
+packed_not_range whole wants old new run status (inl gave) six =
+    texts_not_range whole wants old new run status gave six
+packed_not_range whole wants old new run status (inr gave) six =
+    let eight : status ≡ 8 = gave.gives in absurd (omega (arith, eight, six))
+
+-- the options that were in their ranges, and those that were not
+pub wanted_some : (fits : Bool) (wanted found : Wanted)
+    → (if fits then Some wanted else None) ≡ Some found → (fits ≡ true) × (wanted ≡ found)
+wanted_some true wanted found is = (refl, cc)
+wanted_some false wanted found is = cc
+
+pub wanted_none : (fits : Bool) (wanted : Wanted) → (if fits then Some wanted else None) ≡ None
+    → fits ≡ false
+wanted_none true wanted is = cc
+wanted_none false wanted is = refl

@@ -1,4 +1,4 @@
--- What the walks of the scan's exports share, and the names that they cite.
+-- What the walks share, and the names that they cite.
 pub use Rattle.std.proofs.Common.{◌≡◌, ℕ, List, [], ◌∷◌, ◌++◌, length, refl, lit<, w32, MutBor, Bor}
 pub use Rattle.std.proofs.raw_atomic.Walks.{proved}
 pub use base.Fraction.{full_share}
@@ -15,25 +15,30 @@ pub use types.Part.{whole, sub, agg}
 pub use types.Kit.{‵, raw, ◌⊛◌, some, later, prop, ◌$◌, ◌∵◌, !, qed, done, move, keep, drop, use0, use1, use2, use3, split, join, fsplit, fjoin, fpick, fpack, pick, await, regoal, suffices, group}
 pub use types.Run.{enter, of_opd, lit, addr, from, fld, hop, stop, init, no_more, and_then, assigns, returns}
 pub use types.ByLocal.{alloc_all, pass_all, free_all, look_at, look_in_at, get, get_in, through, sets, lands_as}
-pub use denote.Builtin.{u8, u32, u64}
+pub use denote.Builtin.{u8, u32, u64, RefOf}
 pub use denote.Exit.{yes}
 pub use denote.Laws.{shows, Is}
 pub use denote.Lend.{lends_ref, ref_back, lends_shr}
 pub use denote.Memory.{part_at, mem}
 pub use denote.Plain.{uint_Makes, uint_Lawful}
 pub use denote.RawPtr.{Ptr, RawPtr, block_ptr, lies_at, room_at, in_a_block, rawptr_vals, rawptr_Tells}
-pub use denote.Ref.{MutRef, ShrRef, mut_vals, mut_Tells}
+pub use denote.Ref.{MutRef, ShrRef, mut_vals, mut_Tells, shr_vals, shr_Tells}
 pub use denote.Slice.{ShrSlice, MutSlice, slice_val, shr_slice_vals, shr_slice_Tells, mut_slice_vals, mut_slice_Tells}
 pub use denote.Signature.{plain, shr_slice_of, mut_ref_to, mut_slice_of}
 pub use denote.Steps.{nothing, owned, heard, peeks}
 pub use denote.Triple.Call.{calls_at}
 pub use denote.Triple.Clauses.{Lasts, lasts}
 pub use denote.Triple.Spec.{triple_of}
-pub use denote.Triple.Walked.{Stays, walk_of, stay_dropped, Goes-dropped, ends_at}
+pub use denote.Triple.Walked.{says, Stays, walk_of, stay_dropped, Goes-dropped, ends_at}
 pub use denote.Triple.Table.{framed}
-use Rattle.std.proofs.Common.{List}
+use Rattle.std.proofs.Common.{List, [], ◌∷◌, refl}
 use seplogic.Ra.Ura.{Ura}
+use mir.Val.{Val, vstruct, vnil}
+use types.Kit.{Goal, Step, step, Item, ‵, ◌$◌, fjoin, fpack, feq_i}
 use types.Logic.{Logic}
+use denote.RattleType.{RattleType, Valss}
+use denote.Steps.{nothing}
+use denote.Struct.Struct.{Struct, within}
 use denote.Exit.{Kept, left}
 use denote.Signature.{Slot}
 use denote.Triple.Walked.{Stay, Goes}
@@ -44,3 +49,16 @@ stay_passed s k = record { fit = λ κs x w. Unit {0}; has = λ κs x w vs. left
 
 pub Goes-passed : {M : Type 1} {𝓤 : Ura M} (𝓛 : Logic 𝓤) (n : ℕ) (s : Slot n) (k : Kept) → Goes 𝓛 n s k (stay_passed s k)
 Goes-passed 𝓛 n s k κs x w vs fits = 𝓛.laws.⇛_intro _
+
+-- a struct that has only ghost fields is made
+abbrev pub none : Val
+none = vstruct vnil
+
+abbrev pub fieldless : RattleType
+fieldless = Struct (record { name = []; args = []; types = []; fields = [] })
+
+pub none_made : {M : Type 1} {𝓤 : Ura M} {𝓛 : Logic 𝓤} {K : Type 0} {Γ : List (Item 𝓤)}
+    {G : Goal 𝓤 𝓛.H} → K → Step K 𝓛 (‵ (fieldless.own_val tt (none ∷ [])) ∷ Γ) G Γ G
+none_made t = step (λ s.
+    nothing t $ feq_i t (List Val) (none ∷ []) (none ∷ []) refl $ fjoin t $
+    fpack t (Valss []) (within (record { name = []; args = []; types = []; fields = [] }) tt (none ∷ [])) tt $ s)

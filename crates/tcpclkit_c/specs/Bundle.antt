@@ -39,16 +39,20 @@ pub record ReturnsVerdict (bytes : List ℕ) (answer : Verdict) (status : ℕ) :
   pub numbers : answer ≡ verdict_shown (verdict bytes) (payload_seen bytes)
   pub answers : status ≡ state_status (state_of (verdict bytes))
 
+-- the numbers of no endpoint ID
+abbrev pub no_eid : EidNumbers
+no_eid = record { kind = 0; allocator = 0; node = 0; service = 0; name_length = 0 }
+
 -- an endpoint ID as its kind and numbers
 abbrev pub eid_shown : Eid → EidNumbers
 eid_shown DtnNone =
-    record { kind = 0; allocator = 0; node = 0; service = 0; name_length = 0 }
+    record { kind = 1; allocator = 0; node = 0; service = 0; name_length = 0 }
 eid_shown (Dtn name) =
-    record { kind = 1; allocator = 0; node = 0; service = 0; name_length = length name.items }
+    record { kind = 2; allocator = 0; node = 0; service = 0; name_length = length name.items }
 eid_shown (Ipn node service) =
-    record { kind = 2; allocator = 0; node = node; service = service; name_length = 0 }
+    record { kind = 3; allocator = 0; node = node; service = service; name_length = 0 }
 eid_shown (Ipn3 allocator node service) =
-    record { kind = 3; allocator = allocator; node = node; service = service; name_length = 0 }
+    record { kind = 4; allocator = allocator; node = node; service = service; name_length = 0 }
 
 -- the name of a dtn endpoint ID, which the others do not have
 abbrev pub name_of : Eid → List ℕ
@@ -80,6 +84,24 @@ bundle_shown verdict info =
       payload_length = info.payload;
     }
 
+-- the verdict on bytes that are no good bundle; each field of the bundle is 0
+abbrev pub no_bundle : Verdict → Bundle
+no_bundle verdict =
+    record {
+      verdict = verdict;
+      flags = 0;
+      destination = no_eid;
+      source = no_eid;
+      time = 0;
+      sequence = 0;
+      lifetime = 0;
+      is_fragment = 0;
+      fragment_offset = 0;
+      fragment_total = 0;
+      blocks = 0;
+      payload_length = 0;
+    }
+
 -- the slices for the two names, before or after a call
 pub record Names : Type 0 where
   pub destination : List ℕ
@@ -101,10 +123,11 @@ pub record ReturnsBundle (info : BundleInfo) (verdict : Verdict) (old new : Name
   pub source_rest : KeepsRest old.source new.source (name_of info.source)
   pub fits : status ≡ names_status info new
 
--- the bytes are no good bundle: of the answer only the verdict is given, and no name
+-- the bytes are no good bundle: only the verdict is given, each other field is 0, and no name is
+-- written
 pub record ReturnsStop (verdict : Verdict) (state : State) (old new : Names) (bundle : Bundle)
     (status : ℕ) : Type 0 where
-  pub verdict_is : bundle.verdict ≡ verdict
+  pub numbers : bundle ≡ no_bundle verdict
   pub no_names : new ≡ old
   pub stops : status ≡ state_status state
 

@@ -5,4 +5,6 @@ pub mod Scan
 pub mod Recording
 pub mod Order
 pub mod Text
+pub mod Options
 pub mod Tool
+pub mod Run

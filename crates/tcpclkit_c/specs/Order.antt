@@ -1,5 +1,5 @@
 -- The order of messages as numbers.
-use Rattle.std.specs.Prelude.{◌≡◌, ℕ, ◌≤◌, Bool, true, false, ◌==◌, List, Option, Some, None, Result, Ok, Err, if◌then◌else◌}
+use Rattle.std.specs.Prelude.{◌≡◌, ℕ, ◌≤◌, nat_le, Bool, true, false, ◌==◌, ◌&&◌, List, Option, Some, None, Result, Ok, Err, if◌then◌else◌}
 use Rattle.link_wire.specs.declared.message.Message.{Message}
 use Rattle.link_wire.specs.declared.message.Message.TheVariants as message
 use Rattle.link_transfer.specs.Order.{has_sess_init, has_sess_term, open_of}
@@ -59,9 +59,13 @@ begin_shown None last =
 begin_shown (Some transfer) last =
     record { fault = 0; turn = 1; last = bit last; abandons = 1; abandoned = transfer }
 
+-- a message that does nothing
+abbrev pub no_turn : Turn
+no_turn = record { fault = 0; turn = 0; last = 0; abandons = 0; abandoned = 0 }
+
 -- what an accepted message does, as numbers
 abbrev pub turn_shown : effect.Turn → Turn
-turn_shown Other = record { fault = 0; turn = 0; last = 0; abandons = 0; abandoned = 0 }
+turn_shown Other = no_turn
 turn_shown (Begin transfer last) = begin_shown transfer last
 turn_shown (Continue last) =
     record { fault = 0; turn = 2; last = bit last; abandons = 0; abandoned = 0 }
@@ -77,7 +81,30 @@ pub record IsOrderAt (order : Order) (before : List Message) : Type 0 where
   pub transfer : transfer_by order.is_open order.transfer ≡ open_of before
   pub is_bit : order.is_open ≤ 1
 
--- the answer, by the judgement of the message
+-- the kind and the flags are those of a message, and the fields that are 0 or 1 are that
+abbrev pub is_in_range : Order → (kind flags : ℕ) → Bool
+is_in_range order kind flags =
+    nat_le 1 kind && (nat_le kind 7 && (nat_le flags 255
+    && (nat_le order.initiated 1 && (nat_le order.terminated 1 && nat_le order.is_open 1))))
+
+-- the answer, by the judgement of the message; a refused message does nothing
 abbrev pub ReturnsTurn : Result effect.Turn OrderFault → Turn → ℕ → Type 0
 ReturnsTurn (Ok turn) answer status = (status ≡ 0) × (answer ≡ turn_shown turn)
-ReturnsTurn (Err fault) answer status = (status ≡ 4) × (answer.fault ≡ order_code fault)
+ReturnsTurn (Err fault) answer status =
+    (status ≡ 4) × (answer ≡ record no_turn { fault = order_code fault })
+
+-- what a message does that was taken, as numbers; a stray segment does nothing
+abbrev pub effect_shown : Option effect.Turn → Turn
+effect_shown (Some turn) = turn_shown turn
+effect_shown None = record no_turn { turn = 3 }
+
+-- the code of the fault of a message that was taken, or 0, and the status
+abbrev pub fault_shown : Option OrderFault → ℕ × ℕ
+fault_shown None = (0, 0)
+fault_shown (Some fault) = (order_code fault, 4)
+
+-- the answer, by why a message that was taken may not come, and by what it does
+pub record ReturnsTaken (fault : Option OrderFault) (effect : Option effect.Turn) (answer : Turn)
+    (status : ℕ) : Type 0 where
+  pub numbers : answer ≡ record (effect_shown effect) { fault = (fault_shown fault).0 }
+  pub gives : status ≡ (fault_shown fault).1

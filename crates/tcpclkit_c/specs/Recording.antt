@@ -1,5 +1,5 @@
 -- A contact header, a message and an extension item as numbers.
-use Rattle.std.specs.Prelude.{◌≡◌, ℕ, ◌+◌, ◌-◌, nat_le, List, length, drop, Option, Some, None, Ok, Err, if◌then◌else◌}
+use Rattle.std.specs.Prelude.{◌≡◌, ℕ, ◌+◌, ◌-◌, nat_le, min, List, length, Option, Some, None, Ok, Err, if◌then◌else◌}
 use Rattle.link_wire.specs.InSlice.{LiesAt, ItemLies}
 use Rattle.link_wire.specs.Message.{item_head_at, total_at}
 use Rattle.link_wire.specs.Part.{Part, ◌>>=◌}
@@ -18,16 +18,21 @@ use Rattle.tcpclkit_c.specs.declared.recording.Contact.{Contact}
 use Rattle.tcpclkit_c.specs.declared.recording.Item.{Item}
 use Rattle.tcpclkit_c.specs.declared.recording.Message.{Message}
 
--- the status and the numbers of a fault at this offset
-pub record ReturnsFault (fault : WireFault) (offset : ℕ) (shown : Fault) (status : ℕ) : Type 0 where
-  pub gives : status ≡ wire_status fault
-  pub numbers : shown ≡ wire_fault fault offset
+-- Each field that a status, or a kind of message, does not have is 0.
+
+-- the contact header, or its fault
+abbrev pub contact_shown : (flags : ℕ) → Contact
+contact_shown flags = record { fault = no_fault; flags = flags }
+
+abbrev pub no_contact : Fault → Contact
+no_contact fault = record { fault = fault; flags = 0 }
 
 -- the answer, by the reading of the contact header
 pub record ReturnsContact (part : Part wire.Contact) (answer : Contact) (status : ℕ) : Type 0 where
   pub whole : (contact : wire.Contact) (rest : List ℕ) → part ≡ Ok (contact, rest)
-      → (status ≡ 0) × (answer.flags ≡ contact.flags)
-  pub fault : (fault : WireFault) → part ≡ Err fault → ReturnsFault fault 0 answer.fault status
+      → (status ≡ 0) × (answer ≡ contact_shown contact.flags)
+  pub fault : (fault : WireFault) → part ≡ Err fault
+      → (status ≡ wire_status fault) × (answer ≡ no_contact (wire_fault fault 0))
 
 -- a message of no kind
 abbrev pub nothing : Message
@@ -49,10 +54,15 @@ nothing =
       items_length = 0;
       data_offset = 0;
       data_length = 0;
+      data_seen = 0;
       next = 0;
     }
 
--- the kind and the numbers of a message, without its places
+-- a fault in place of a message
+abbrev pub no_message : Fault → Message
+no_message fault = record nothing { fault = fault }
+
+-- the kind and the numbers of a message, without its places; no byte of its data is counted
 abbrev pub fields_shown : Fields → Message
 fields_shown (SessInit interval segment_mru transfer_mru) =
     record nothing {
@@ -91,6 +101,7 @@ message_shown size offset found =
       items_offset = found.items.offset;
       items_length = found.items.length;
       data_offset = found.end;
+      data_seen = min (size_of found) (size - found.end);
       next = if nat_le (size_of found) (size - found.end) then found.end + size_of found else 0;
     }
 
@@ -111,12 +122,27 @@ pub record ReturnsMessage (bytes : List ℕ) (offset : ℕ) (part : Part read.Me
     (answer : Message) (status : ℕ) : Type 0 where
   pub whole : (message : read.Message) (rest : List ℕ) → part ≡ Ok (message, rest)
       → ShowsMessage bytes offset part answer status
-  pub fault : (fault : WireFault) → part ≡ Err fault → ReturnsFault fault offset answer.fault status
+  pub fault : (fault : WireFault) → part ≡ Err fault
+      → (status ≡ wire_status fault) × (answer ≡ no_message (wire_fault fault offset))
 
 -- whether there is a total, and which
 abbrev pub total_shown : Option ℕ → ℕ × ℕ
 total_shown None = (0, 0)
 total_shown (Some total) = (1, total)
+
+-- a fault in place of an item
+abbrev pub no_item : Fault → Item
+no_item fault =
+    record {
+      fault = fault;
+      flags = 0;
+      item_type = 0;
+      value_offset = 0;
+      value_length = 0;
+      has_total = 0;
+      total = 0;
+      next = 0;
+    }
 
 -- an item with its places
 abbrev pub item_shown : ItemAt → Item
@@ -124,7 +150,7 @@ item_shown found =
     record {
       fault = no_fault;
       flags = found.item.flags;
-      kind = found.item.kind;
+      item_type = found.item.kind;
       value_offset = found.value;
       value_length = found.item.length;
       has_total = (total_shown found.item.total).0;
@@ -149,4 +175,5 @@ pub record ReturnsItem (bytes : List ℕ) (offset left : ℕ) (part : Part (Opti
     (status : ℕ) : Type 0 where
   pub whole : (total : Option ℕ) (rest : List ℕ) → part ≡ Ok (total, rest)
       → ShowsItem bytes offset left answer status
-  pub fault : (fault : WireFault) → part ≡ Err fault → ReturnsFault fault offset answer.fault status
+  pub fault : (fault : WireFault) → part ≡ Err fault
+      → (status ≡ wire_status fault) × (answer ≡ no_item (wire_fault fault offset))

@@ -4,16 +4,27 @@ use base.Fml.{Fml, fex, fsep, ftrue}
 use base.Fraction.{full_share}
 use denote.RawPtr.{Ptr, lies_at}
 use Rattle.link_cbor.specs.Pieces.{taken}
-use Rattle.link_bundle.specs.Bundle.{verdict, state_of, bundle_goes}
+use Rattle.link_bundle.specs.Bundle.{verdict, payload_seen, state_of, bundle_goes}
 use Rattle.link_bundle.specs.Scan.{HasScanned}
-use Rattle.link_bundle.specs.contracts.scan.BundleScan.{the_row}
-use Rattle.link_bundle.specs.declared.scan.BundleScan.{BundleScan}
-use Rattle.tcpclkit_c.specs.Bundle.{state_status}
+use Rattle.tcpclkit_c.specs.Bundle.{state_status, Names, ReturnsVerdict, ReturnsInfo}
+use Rattle.tcpclkit_c.specs.contracts.scan.MarkedScan.{the_row}
+use Rattle.tcpclkit_c.specs.declared.bundle.Bundle.{Bundle}
+use Rattle.tcpclkit_c.specs.declared.bundle.Verdict.{Verdict}
+use Rattle.tcpclkit_c.specs.declared.scan.MarkedScan.{MarkedScan}
+
+-- the first word of each scan
+abbrev pub mark : ℕ
+mark = 11674977472243525447
+
+-- the scan has its mark, and has seen exactly these bytes
+pub record IsScan (held : MarkedScan) (seen : List ℕ) : Type 0 where
+  pub marked : held.mark ≡ mark
+  pub scanned : HasScanned held.scan seen
 
 -- a scan that has seen exactly these bytes lies at the pointer
 abbrev pub HoldsScan : Ptr → List ℕ → Fml
 HoldsScan at seen =
-    fex BundleScan (λ scan. fsep (lies_at the_row full_share at scan) (fex (HasScanned scan seen) (λ _. ftrue)))
+    fex MarkedScan (λ held. fsep (lies_at the_row full_share at held) (fex (IsScan held seen) (λ _. ftrue)))
 
 -- whether a scan that has seen some bytes may see the next piece too
 abbrev pub has_room : (seen piece : List ℕ) → Bool
@@ -29,7 +40,25 @@ fed_status seen piece =
     if has_room seen piece then state_status (state_of (verdict (seen ++ fed seen piece))) else 6
 
 -- a scan that had seen some bytes has taken its bytes of the next piece
-pub record Feeds (seen piece : List ℕ) (scan : BundleScan) (taken status : ℕ) : Type 0 where
-  pub scanned : HasScanned scan (seen ++ fed seen piece)
+pub record Feeds (seen piece : List ℕ) (scan : MarkedScan) (taken status : ℕ) : Type 0 where
+  pub scanned : IsScan scan (seen ++ fed seen piece)
   pub counts : taken ≡ length (fed seen piece)
   pub answers : status ≡ fed_status seen piece
+
+-- ---- memory that may have no scan
+
+-- Memory that has a scan is handled as that scan. Without the mark the answer is TCPCLKIT_RANGE.
+pub record FeedsMarked (old : MarkedScan) (piece : List ℕ) (new : MarkedScan)
+    (taken status : ℕ) : Type 0 where
+  pub scan : (seen : List ℕ) → IsScan old seen → Feeds seen piece new taken status
+  pub other : (old.mark ≡ mark → ⊥) → (status ≡ 6) × (taken ≡ 0) × (new ≡ old)
+
+pub record JudgesMarked (held : MarkedScan) (old new : Verdict) (status : ℕ) : Type 0 where
+  pub scan : (seen : List ℕ) → IsScan held seen → ReturnsVerdict seen new status
+  pub other : (held.mark ≡ mark → ⊥) → (status ≡ 6) × (new ≡ old)
+
+pub record DescribesMarked (held : MarkedScan) (old_names names : Names) (old new : Bundle)
+    (status : ℕ) : Type 0 where
+  pub scan : (seen : List ℕ) → IsScan held seen
+      → ReturnsInfo (verdict seen) (payload_seen seen) old_names names new status
+  pub other : (held.mark ≡ mark → ⊥) → (status ≡ 6) × (new ≡ old) × (names ≡ old_names)

@@ -1,5 +1,5 @@
 -- Texts in slices that may be too small.
-use Rattle.std.specs.Prelude.{◌≡◌, ℕ, List, length, take, drop}
+use Rattle.std.specs.Prelude.{◌≡◌, ℕ, List, ◌∷◌, ◌++◌, length, take, drop}
 
 -- the slice begins with the text, or has the text's first bytes if it is too small
 abbrev pub HoldsFront : List ℕ → List ℕ → Type 0
@@ -8,3 +8,12 @@ HoldsFront slice text = take (length text) slice ≡ take (length slice) text
 -- the bytes of the slice after the text are as they were
 abbrev pub KeepsRest : (old new text : List ℕ) → Type 0
 KeepsRest old new text = drop (length text) new ≡ drop (length text) old
+
+-- a slice that had these bytes, after as much of a text as fits was written to its start
+abbrev pub overlaid : (before text : List ℕ) → List ℕ
+overlaid before text = take (length before) text ++ drop (length text) before
+
+-- a text that is written to a slice, after a label of this slice: the name of the reference to it,
+-- its length, and the bytes that it had before
+abbrev pub labelled : (name : ℕ) → (before text : List ℕ) → List ℕ
+labelled name before text = name ∷ length before ∷ (before ++ text)

@@ -92,13 +92,14 @@ abbrev pub option_text : Option Named → Option (List ℕ)
 option_text None = None
 option_text (Some fault) = Some (named_text fault)
 
--- the endpoint ID that has these numbers and this name
+-- the endpoint ID that has these numbers and this name; only one of dtn has a name
 abbrev pub eid_by : EidNumbers → List ℕ → Option Eid
 eid_by eid name =
-    if eid.kind == 0 then Some DtnNone
-    else if eid.kind == 1 && nat_le (length name) 1024 then Some (Dtn (record { items = name }))
-    else if eid.kind == 2 then Some (Ipn eid.node eid.service)
-    else if eid.kind == 3 then Some (Ipn3 eid.allocator eid.node eid.service)
+    if eid.kind == 1 then Some DtnNone
+    else if eid.kind == 2 && (nat_le (length name) 1024 && (length name == eid.name_length))
+    then Some (Dtn (record { items = name }))
+    else if eid.kind == 3 then Some (Ipn eid.node eid.service)
+    else if eid.kind == 4 then Some (Ipn3 eid.allocator eid.node eid.service)
     else None
 
 abbrev pub viewed_option : Option EidView → Option Eid

@@ -5,7 +5,7 @@ ghost use Rattle.link_bundle_types.specs.BundleView.{viewed_info, viewed_verdict
 ghost use Rattle.link_bundle_types.specs.EidView.{viewed_eid};
 ghost use Rattle.link_bundle.specs.Bundle.{verdict, payload_seen, state_of};
 ghost use Rattle.link_bundle.specs.Scan.{HasJudged};
-ghost use Rattle.tcpclkit_c.specs.Bundle.{state_status, fault_of, with_span, verdict_shown, eid_shown, name_of, bundle_shown, ReturnsVerdict, ReturnsBundle, ReturnsInfo};
+ghost use Rattle.tcpclkit_c.specs.Bundle.{state_status, fault_of, with_span, verdict_shown, no_eid, eid_shown, name_of, bundle_shown, no_bundle, ReturnsVerdict, ReturnsBundle, ReturnsInfo};
 
 use crate::fault::Fault;
 use crate::slice::copy_front;
@@ -30,7 +30,8 @@ pub struct Verdict {
 #[repr(C)]
 #[derive(Clone, Copy, Debug, PartialEq, Eq)]
 pub struct EidNumbers {
-    /// 0 for `dtn:none`, 1 for a name of dtn, 2 and 3 for ipn with two and three numbers.
+    /// 1 for `dtn:none`, 2 for a name of dtn, 3 and 4 for ipn with two and three numbers, and 0 for
+    /// no endpoint ID.
     pub kind: u64,
     /// The allocator identifier of an ipn endpoint ID of three numbers.
     pub allocator: u64,
@@ -140,7 +141,7 @@ pub(crate) fn give_verdict(scan: &BundleScan, answer: &mut Verdict) -> u32
 
 /// Judges the bytes as one bundle.
 #[unsafe(no_mangle)]
-pub extern "C" fn tcpclkit_raw_bundle_verdict(bytes: &[u8], answer: &mut Verdict) -> u32
+pub extern "C" fn tcpclkit_raw_judge_bundle(bytes: &[u8], answer: &mut Verdict) -> u32
     ensures status { result ≡ state_status (state_of (verdict bytes.now)) }
     ensures answer { answer.new ≡ verdict_shown (verdict bytes.now) (payload_seen bytes.now) }
 {
@@ -148,32 +149,39 @@ pub extern "C" fn tcpclkit_raw_bundle_verdict(bytes: &[u8], answer: &mut Verdict
     give_verdict(&scan, answer)
 }
 
-/// The kind and the numbers of an endpoint ID.
-fn eid_shown(eid: &EidView<'_>) -> EidNumbers
-    ensures { result ≡ eid_shown (viewed_eid eid.now) }
+/// The numbers of no endpoint ID.
+fn no_eid() -> EidNumbers
+    ensures { result ≡ no_eid }
 {
-    let none = EidNumbers {
+    EidNumbers {
         kind: 0,
         allocator: 0,
         node: 0,
         service: 0,
         name_length: 0,
-    };
+    }
+}
+
+/// The kind and the numbers of an endpoint ID.
+fn eid_shown(eid: &EidView<'_>) -> EidNumbers
+    ensures { result ≡ eid_shown (viewed_eid eid.now) }
+{
+    let none = no_eid();
     match *eid {
-        EidView::DtnNone => none,
+        EidView::DtnNone => EidNumbers { kind: 1, ..none },
         EidView::Dtn(name) => EidNumbers {
-            kind: 1,
+            kind: 2,
             name_length: name.len() as u64,
             ..none
         },
         EidView::Ipn(node, service) => EidNumbers {
-            kind: 2,
+            kind: 3,
             node,
             service,
             ..none
         },
         EidView::Ipn3(allocator, node, service) => EidNumbers {
-            kind: 3,
+            kind: 4,
             allocator,
             node,
             service,
@@ -213,6 +221,26 @@ fn bundle_shown(verdict: Verdict, info: &BundleView<'_>) -> Bundle
         fragment_total,
         blocks: info.blocks,
         payload_length: info.payload,
+    }
+}
+
+/// A verdict on bytes that are no good bundle; each field of the bundle is 0.
+fn no_bundle(verdict: Verdict) -> Bundle
+    ensures { result ≡ no_bundle verdict }
+{
+    Bundle {
+        verdict,
+        flags: 0,
+        destination: no_eid(),
+        source: no_eid(),
+        time: 0,
+        sequence: 0,
+        lifetime: 0,
+        is_fragment: 0,
+        fragment_offset: 0,
+        fragment_total: 0,
+        blocks: 0,
+        payload_length: 0,
     }
 }
 
@@ -256,7 +284,7 @@ pub(crate) fn give_info(
     match scan.view() {
         Ok(info) => give(&info, verdict, destination_name, source_name, answer),
         Err(_) => {
-            answer.verdict = verdict;
+            *answer = no_bundle(verdict);
             state_status(scan.state())
         }
     }
@@ -264,7 +292,7 @@ pub(crate) fn give_info(
 
 /// Judges the bytes as one bundle, and gives the fields of a good one.
 #[unsafe(no_mangle)]
-pub extern "C" fn tcpclkit_raw_bundle_info(
+pub extern "C" fn tcpclkit_raw_describe_bundle(
     bytes: &[u8],
     destination_name: &mut [u8],
     source_name: &mut [u8],

@@ -1,9 +1,11 @@
-//! Devices of a run over slices: bytes that are read, and a text that is kept in memory.
+//! Devices of a run over slices: bytes that are read, and a slice that a text is written to.
 
-ghost use Rattle.std.specs.Prelude.{◌≡◌, Some, false, []};
+ghost use Rattle.std.specs.Prelude.{◌≡◌, ◌-◌, ◌^◌, Some, false, [], ◌++◌, length, min, nat_le};
+ghost use Rattle.tcpclkit_c.specs.Slice.{overlaid, labelled};
 
+use crate::history::History;
+use crate::slice::copy_after;
 use link_wire::{DeviceFault, InDevice, OutDevice};
-use std::alloc::Global;
 
 /// A reader of the bytes of a slice, which never fails.
 #[derive(Drop)]
@@ -45,70 +47,66 @@ impl InDevice for SliceReader<'_> {
     }
 }
 
-/// A writer that keeps at most `room` bytes of a text in memory.
+/// A writer into a slice, which never fails.
+///
+/// It writes as much of its text as fits, and counts all of it. So a run into a slice that is too
+/// small goes on to its end, and the count is the length that would have been enough.
 #[derive(Drop)]
-pub struct KeptText {
-    text: Vec<u8>,
-    room: usize,
-    refused: bool,
-    failed: bool,
+pub struct SliceWriter<'a> {
+    room: &'a mut [u8],
+    count: u64,
+    history: History,
+    ghost counted: { count ≡ min (length history.text) (2 ^ 64 - 1) },
+    ghost holds: { room.now ≡ overlaid history.before history.text },
 }
 
-impl KeptText {
+impl<'a> SliceWriter<'a> {
     /// A writer that has no text yet.
-    pub fn new(alloc: Global, room: usize) -> KeptText
-        ensures { ⟦<KeptText as OutDevice>⟧.state result
-            ≡ record { written = Some []; failed = false } }
+    pub fn new(room: &'a mut [u8]) -> SliceWriter<'a>
+        ensures same_reference { result.room.ghost_name ≡ room.entry.ghost_name }
+        ensures history { result.history ≡ record { before = room.old; text = [] } }
     {
-        KeptText {
-            text: Vec::new(alloc),
+        let history = History::new(room);
+        SliceWriter {
             room,
-            refused: false,
-            failed: false,
+            count: 0,
+            history,
         }
     }
 
-    /// The text so far.
-    pub fn text(&self) -> &[u8]
-        ensures { ⟦<KeptText as OutDevice>⟧.state self.now
-            ≡ record {
-              written = Some result.now;
-              failed = (⟦<KeptText as OutDevice>⟧.state self.now).failed;
-            } }
+    /// The number of the text's bytes, which stops at `u64::MAX`.
+    pub fn count(&self) -> u64
+        ensures { result ≡ min (length self.now.history.text) (2 ^ 64 - 1) }
     {
-        self.text.as_slice()
+        self.count
     }
 
-    /// Whether a request for memory was refused.
-    pub fn refused(&self) -> bool {
-        self.refused
+    /// Whether the slice has room for the text.
+    pub fn fits(&self) -> bool
+        ensures { result ≡ nat_le (length self.now.history.text) (length self.now.room.now) }
+    {
+        self.count <= self.room.len() as u64
     }
 }
 
-impl OutDevice for KeptText {
-    ghost state = { λ w. record { written = Some w.text.items; failed = w.failed } };
+impl OutDevice for SliceWriter<'_> {
+    /// What is written begins with a label of the slice. No contract of a run says that a device
+    /// which it returns still has the slice of the one which it was given. The label shows it.
+    ghost state = { λ w. record {
+      written = Some (labelled w.room.ghost_name w.history.before w.history.text);
+      failed = false;
+      handed = Some (labelled w.room.ghost_name w.history.before w.history.text);
+    } };
 
-    ghost handed = { λ w. Some w.text.items };
-
-    /// The device fails where the room is used up, and where a request for memory is refused.
     fn write(&mut self, bytes: &[u8]) -> Result<usize, DeviceFault> {
-        let count = self.room.saturating_sub(self.text.len()).min(bytes.len());
-        if count == 0 && !bytes.is_empty() {
-            self.failed = true;
-            return Err(DeviceFault);
-        }
-        match self.text.extend_from_slice(&bytes[..count]) {
-            Ok(()) => Ok(count),
-            Err(_) => {
-                self.refused = true;
-                self.failed = true;
-                Err(DeviceFault)
-            }
-        }
+        copy_after(self.room, self.count, bytes);
+        self.count = self.count.saturating_add(bytes.len() as u64);
+        self.history = self.history.and(bytes);
+        Ok(bytes.len())
     }
 
     fn failed(&self) -> bool {
-        self.failed
+        false
     }
 
     fn settle(&mut self) -> Result<(), DeviceFault> {

@@ -14,8 +14,11 @@ ghost use Rattle.std.specs.Prelude.{◌≡◌};
 mod bundle;
 mod device;
 mod fault;
+mod history;
+mod options;
 mod order;
 mod recording;
+mod running;
 mod scan;
 mod slice;
 mod status;
@@ -23,12 +26,12 @@ mod text;
 mod tool;
 
 /// The version of the interface, `TCPCLKIT_ABI`.
-const ABI: u32 = 2;
+const ABI: u32 = 3;
 
 /// The version of the interface of the header that this library belongs to.
 #[unsafe(no_mangle)]
 pub extern "C" fn tcpclkit_abi() -> u32
-    ensures { result ≡ 2 }
+    ensures { result ≡ 3 }
 {
     ABI
 }

@@ -1,11 +1,11 @@
-//! The export that judges the order of messages.
+//! The exports that judge the order of messages.
 
-ghost use Rattle.std.specs.Prelude.{◌≡◌, ◌<◌, ◌≤◌, List, ◌++◌, ◌∷◌, []};
+ghost use Rattle.std.specs.Prelude.{◌≡◌, ◌<◌, ◌≤◌, false, List, ◌++◌, ◌∷◌, []};
 ghost use Rattle.link_wire.specs.declared.message.Message.{Message};
 ghost use Rattle.link_transfer.specs.Event.{event_of};
-ghost use Rattle.link_transfer.specs.Order.{judged_message};
+ghost use Rattle.link_transfer.specs.Order.{judged_message, refusal, effect_of, with_taken};
 ghost use Rattle.link_transfer.specs.Joiner.{IsJoinerAt};
-ghost use Rattle.tcpclkit_c.specs.Order.{order_code, event_by, turn_shown, HasNumbers, IsOrderAt, ReturnsTurn};
+ghost use Rattle.tcpclkit_c.specs.Order.{order_code, event_by, no_turn, turn_shown, effect_shown, fault_shown, HasNumbers, IsOrderAt, is_in_range, ReturnsTurn, ReturnsTaken};
 
 use crate::status::{FAULT, OK, RANGE};
 use link_transfer::{Event, Joiner, OrderFault, Turn as Effect};
@@ -30,7 +30,7 @@ pub struct Order {
 pub struct Turn {
     /// The code of the fault, or 0.
     pub fault: u64,
-    /// 0, or 1 for the first segment of a transfer, or 2 for a further one.
+    /// 0, or 1 for the first segment of a transfer, 2 for a further one, or 3 for a stray one.
     pub turn: u64,
     /// 1 for the last segment of a transfer, and else 0.
     pub last: u64,
@@ -65,17 +65,24 @@ fn order_code(fault: OrderFault) -> u64
     }
 }
 
-/// What an accepted message does, as numbers.
-fn turn_shown(turn: Effect) -> Turn
-    ensures { result ≡ turn_shown turn }
+/// The numbers of a message that does nothing.
+fn no_turn() -> Turn
+    ensures { result ≡ no_turn }
 {
-    let none = Turn {
+    Turn {
         fault: 0,
         turn: 0,
         last: 0,
         abandons: 0,
         abandoned: 0,
-    };
+    }
+}
+
+/// What an accepted message does, as numbers.
+fn turn_shown(turn: Effect) -> Turn
+    ensures { result ≡ turn_shown turn }
+{
+    let none = no_turn();
     match turn {
         Effect::Other => none,
         Effect::Begin {
@@ -149,15 +156,71 @@ fn judge(order: &mut Order, event: Event, answer: &mut Turn) -> u32
             OK
         }
         Err(fault) => {
-            answer.fault = order_code(fault);
+            *answer = Turn {
+                fault: order_code(fault),
+                ..no_turn()
+            };
             FAULT
         }
     }
 }
 
+/// What a message does that was taken, as numbers; a stray segment does nothing.
+fn effect_shown(effect: Option<Effect>) -> Turn
+    ensures { result ≡ effect_shown effect }
+{
+    match effect {
+        Some(turn) => turn_shown(turn),
+        None => Turn {
+            turn: 3,
+            ..no_turn()
+        },
+    }
+}
+
+/// The code of a fault of the order, or 0, and the status.
+fn fault_shown(fault: Option<OrderFault>) -> (u64, u32)
+    ensures { result ≡ fault_shown fault }
+{
+    match fault {
+        None => (0, OK),
+        Some(fault) => (order_code(fault), FAULT),
+    }
+}
+
+/// Takes a message of this event, whether or not it may come.
+fn take(order: &mut Order, event: Event, answer: &mut Turn) -> u32
+    ensures taken { (before : List Message) → IsOrderAt order.old before
+        → ReturnsTaken (refusal before event) (effect_of before event) answer.new result }
+    ensures after { (before : List Message) (message : Message) → event_of message ≡ event
+        → IsOrderAt order.old before → IsOrderAt order.new (with_taken before message) }
+{
+    let mut joiner = joiner_of(order);
+    let taken = joiner.take(event);
+    let (fault, status) = fault_shown(taken.fault);
+    *order = order_of(&joiner);
+    *answer = Turn {
+        fault,
+        ..effect_shown(taken.turn)
+    };
+    status
+}
+
+/// Whether these are the kind and the flags of a message, and the bits of a session.
+fn is_in_range(order: &Order, kind: u64, flags: u64) -> bool
+    ensures { result ≡ is_in_range order.now kind flags }
+{
+    kind >= 1
+        && kind <= 7
+        && flags <= 255
+        && order.initiated <= 1
+        && order.terminated <= 1
+        && order.is_open <= 1
+}
+
 /// Judges whether a message may come now, and if so counts it among those that came.
 #[unsafe(no_mangle)]
-pub extern "C" fn tcpclkit_raw_order(
+pub extern "C" fn tcpclkit_raw_judge_order(
     order: &mut Order,
     kind: u64,
     flags: u64,
@@ -171,18 +234,36 @@ pub extern "C" fn tcpclkit_raw_order(
         → HasNumbers message kind flags id → IsOrderAt order.old before → result ≡ 0
         → IsOrderAt order.new (before ++ message ∷ []) }
     ensures refused { 0 < result → order.new ≡ order.old }
-    ensures kind { 7 < kind → (result ≡ 6) × (answer.new ≡ answer.old) }
-    ensures no_kind { kind ≡ 0 → (result ≡ 6) × (answer.new ≡ answer.old) }
-    ensures flags { 255 < flags → (result ≡ 6) × (answer.new ≡ answer.old) }
-    ensures initiated { 1 < order.old.initiated → (result ≡ 6) × (answer.new ≡ answer.old) }
-    ensures terminated { 1 < order.old.terminated → (result ≡ 6) × (answer.new ≡ answer.old) }
-    ensures is_open { 1 < order.old.is_open → (result ≡ 6) × (answer.new ≡ answer.old) }
+    ensures range { is_in_range order.old kind flags ≡ false
+        → (result ≡ 6) × (answer.new ≡ answer.old) }
 {
-    if kind == 0 || kind > 7 || flags > 255 {
-        return RANGE;
-    }
-    if order.initiated > 1 || order.terminated > 1 || order.is_open > 1 {
+    if !is_in_range(order, kind, flags) {
         return RANGE;
     }
     judge(order, event_by(kind, flags as u8, id), answer)
+}
+
+/// Takes a message as `unpack --keep-going` does, whether or not it may come now.
+#[unsafe(no_mangle)]
+pub extern "C" fn tcpclkit_raw_take_message(
+    order: &mut Order,
+    kind: u64,
+    flags: u64,
+    id: u64,
+    answer: &mut Turn,
+) -> u32
+    ensures taken { (before : List Message) (message : Message) → HasNumbers message kind flags id
+        → IsOrderAt order.old before
+        → ReturnsTaken (refusal before (event_of message)) (effect_of before (event_of message))
+        answer.new result }
+    ensures after { (before : List Message) (message : Message)
+        → HasNumbers message kind flags id → IsOrderAt order.old before
+        → IsOrderAt order.new (with_taken before message) }
+    ensures range { is_in_range order.old kind flags ≡ false
+        → (result ≡ 6) × (answer.new ≡ answer.old) × (order.new ≡ order.old) }
+{
+    if !is_in_range(order, kind, flags) {
+        return RANGE;
+    }
+    take(order, event_by(kind, flags as u8, id), answer)
 }

@@ -2,7 +2,7 @@
 
 ghost use Rattle.std.specs.Prelude.{◌≡◌, ◌-◌, ◌^◌, ◌<◌, ◌≤◌, length, drop};
 ghost use Rattle.link_wire.specs.Message.{contact_at, message_at};
-ghost use Rattle.tcpclkit_c.specs.Recording.{nothing, ReturnsContact, fields_shown, message_shown, data_status, ReturnsMessage, item_shown, item_part, ReturnsItem};
+ghost use Rattle.tcpclkit_c.specs.Recording.{nothing, ReturnsContact, fields_shown, message_shown, data_status, ReturnsMessage, no_item, item_shown, item_part, ReturnsItem};
 
 use crate::fault::{Fault, wire_status};
 use crate::status::{DATA_TRUNCATED, END, OK, RANGE};
@@ -56,6 +56,8 @@ pub struct Message {
     pub data_offset: u64,
     /// The length of a segment's data, by its head.
     pub data_length: u64,
+    /// The number of the data's bytes that are there.
+    pub data_seen: u64,
     /// The offset after the message.
     pub next: u64,
 }
@@ -69,7 +71,7 @@ pub struct Item {
     /// The flags.
     pub flags: u64,
     /// The type.
-    pub kind: u64,
+    pub item_type: u64,
     /// The offset of the value.
     pub value_offset: u64,
     /// The length of the value.
@@ -84,16 +86,22 @@ pub struct Item {
 
 /// Reads the contact header that the bytes begin with.
 #[unsafe(no_mangle)]
-pub extern "C" fn tcpclkit_raw_contact(bytes: &[u8], answer: &mut Contact) -> u32
+pub extern "C" fn tcpclkit_raw_read_contact(bytes: &[u8], answer: &mut Contact) -> u32
     ensures { ReturnsContact (contact_at bytes.now) answer.new result }
 {
     match contact_in(bytes) {
         Ok((contact, _)) => {
-            answer.flags = u64::from(contact.flags);
+            *answer = Contact {
+                fault: Fault::none(),
+                flags: u64::from(contact.flags),
+            };
             OK
         }
         Err(fault) => {
-            answer.fault = Fault::of_wire(fault, 0);
+            *answer = Contact {
+                fault: Fault::of_wire(fault, 0),
+                flags: 0,
+            };
             wire_status(fault)
         }
     }
@@ -120,6 +128,7 @@ fn nothing() -> Message
         items_length: 0,
         data_offset: 0,
         data_length: 0,
+        data_seen: 0,
         next: 0,
     }
 }
@@ -147,7 +156,7 @@ fn of_reason(kind: u64, reason: u8) -> Message
     }
 }
 
-/// The kind and the numbers of a message, without its places.
+/// The kind and the numbers of a message, without its places; no byte of its data is counted.
 fn fields_shown(fields: Fields) -> Message
     ensures { result ≡ fields_shown fields }
 {
@@ -199,15 +208,17 @@ fn shown(found: &MessageAt, size: usize, offset: u64) -> (Message, u32)
     ensures status { result.1 ≡ data_status size found.now }
 {
     let fields = fields_shown(found.fields);
+    let there = (size - found.end) as u64;
     let placed = Message {
         node_offset: found.node.offset as u64,
         node_length: found.node.length as u64,
         items_offset: found.items.offset as u64,
         items_length: found.items.length as u64,
         data_offset: found.end as u64,
+        data_seen: fields.data_length.min(there),
         ..fields
     };
-    if fields.data_length <= (size - found.end) as u64 {
+    if fields.data_length <= there {
         let next = found.end as u64 + fields.data_length;
         (Message { next, ..placed }, OK)
     } else {
@@ -218,7 +229,7 @@ fn shown(found: &MessageAt, size: usize, offset: u64) -> (Message, u32)
 
 /// Reads the message that begins at an offset.
 #[unsafe(no_mangle)]
-pub extern "C" fn tcpclkit_raw_message(bytes: &[u8], offset: u64, answer: &mut Message) -> u32
+pub extern "C" fn tcpclkit_raw_read_message(bytes: &[u8], offset: u64, answer: &mut Message) -> u32
     ensures range { length bytes.now < offset → (result ≡ 6) × (answer.new ≡ answer.old) }
     ensures ended { offset ≡ length bytes.now → (result ≡ 1) × (answer.new ≡ answer.old) }
     ensures message { offset < length bytes.now
@@ -238,9 +249,28 @@ pub extern "C" fn tcpclkit_raw_message(bytes: &[u8], offset: u64, answer: &mut M
             status
         }
         Err(fault) => {
-            answer.fault = Fault::of_wire(fault, offset);
+            *answer = Message {
+                fault: Fault::of_wire(fault, offset),
+                ..nothing()
+            };
             wire_status(fault)
         }
+    }
+}
+
+/// A fault in place of an item; each field of the item is 0.
+fn no_item(fault: Fault) -> Item
+    ensures { result ≡ no_item fault }
+{
+    Item {
+        fault,
+        flags: 0,
+        item_type: 0,
+        value_offset: 0,
+        value_length: 0,
+        has_total: 0,
+        total: 0,
+        next: 0,
     }
 }
 
@@ -257,7 +287,7 @@ fn item_shown(found: &ItemAt) -> Item
     Item {
         fault: Fault::none(),
         flags: u64::from(item.flags),
-        kind: u64::from(item.kind),
+        item_type: u64::from(item.kind),
         value_offset: found.value as u64,
         value_length: u64::from(item.length),
         has_total,
@@ -268,7 +298,12 @@ fn item_shown(found: &ItemAt) -> Item
 
 /// Reads the extension item at an offset of a list that ends before the offset `end`.
 #[unsafe(no_mangle)]
-pub extern "C" fn tcpclkit_raw_item(bytes: &[u8], offset: u64, end: u64, answer: &mut Item) -> u32
+pub extern "C" fn tcpclkit_raw_read_item(
+    bytes: &[u8],
+    offset: u64,
+    end: u64,
+    answer: &mut Item,
+) -> u32
     ensures past { length bytes.now < end → (result ≡ 6) × (answer.new ≡ answer.old) }
     ensures turned { end < offset → (result ≡ 6) × (answer.new ≡ answer.old) }
     ensures long { 65536 < end - offset → (result ≡ 6) × (answer.new ≡ answer.old) }
@@ -297,7 +332,7 @@ pub extern "C" fn tcpclkit_raw_item(bytes: &[u8], offset: u64, end: u64, answer:
             OK
         }
         Err(fault) => {
-            answer.fault = Fault::of_wire(fault, offset);
+            *answer = no_item(Fault::of_wire(fault, offset));
             wire_status(fault)
         }
     }

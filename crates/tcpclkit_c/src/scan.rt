@@ -2,12 +2,13 @@
 
 ghost use Rattle.std.specs.Prelude.{◌≡◌, ℕ, ◌≤◌, List, [], ◌++◌, length};
 ghost use Rattle.std.specs.Borrow.{sem};
+ghost use prog.Memory.{size, align};
+ghost use denote.Memory.{lone};
 ghost use denote.RawPtr.{room_at};
 ghost use Rattle.link_bundle.specs.Bundle.{verdict, payload_seen, state_of};
-ghost use Rattle.link_bundle.specs.Scan.{HasScanned};
-ghost use Rattle.link_bundle.specs.contracts.scan.BundleScan.{the_row};
 ghost use Rattle.tcpclkit_c.specs.Bundle.{verdict_shown, state_status, ReturnsInfo};
-ghost use Rattle.tcpclkit_c.specs.Scan.{HoldsScan, Feeds, fed, fed_status};
+ghost use Rattle.tcpclkit_c.specs.Scan.{IsScan, HoldsScan, fed, fed_status, FeedsMarked, JudgesMarked, DescribesMarked};
+ghost use Rattle.tcpclkit_c.specs.contracts.scan.MarkedScan.{the_row};
 
 use crate::bundle::{Bundle, Verdict, give_info, give_verdict, state_status};
 use crate::status::{OK, RANGE};
@@ -15,49 +16,73 @@ use link_bundle::BundleScan;
 use link_cbor::Piecewise;
 use link_wire::INPUT_LIMIT;
 
+/// The first word of each scan. It was drawn at random, so other memory hardly begins with it.
+const MARK: u64 = 0xa205_da27_81c3_6747;
+
+/// A scan after its mark. Memory without the mark has no scan, and nothing else of it is read.
+#[derive(Drop)]
+pub struct MarkedScan {
+    mark: u64,
+    scan: BundleScan,
+}
+
 /// The size of a scan in bytes.
 #[unsafe(no_mangle)]
 pub extern "C" fn tcpclkit_raw_scan_size() -> usize
-    ensures { result ≤ 4096 }
+    ensures within { result ≤ 8192 }
+    ensures used { size (lone the_row.mir) ≤ result }
 {
-    size_of::<BundleScan>()
+    size_of::<MarkedScan>()
 }
 
 /// The alignment of a scan in bytes.
 #[unsafe(no_mangle)]
 pub extern "C" fn tcpclkit_raw_scan_alignment() -> usize
-    ensures { result ≤ 8 }
+    ensures within { result ≤ 8 }
+    ensures used { align (lone the_row.mir) ≤ result }
 {
-    align_of::<BundleScan>()
+    align_of::<MarkedScan>()
+}
+
+/// A scan that has seen no byte.
+fn new_scan() -> MarkedScan
+    ensures { IsScan result [] }
+{
+    MarkedScan {
+        mark: MARK,
+        scan: BundleScan::new(),
+    }
 }
 
 /// Makes a scan that has seen no byte.
 #[unsafe(no_mangle)]
-pub unsafe extern "C" fn tcpclkit_raw_scan_new(memory: *mut u64) -> u32
+pub unsafe extern "C" fn tcpclkit_raw_start_scan(memory: *mut u64) -> u32
     requires* { sem 𝓛 (room_at the_row memory) }
     ensures* scan { sem 𝓛 (HoldsScan memory []) }
     ensures status { result ≡ 0 }
 {
-    std::ptr::write(memory as *mut BundleScan, BundleScan::new());
+    std::ptr::write(memory as *mut MarkedScan, new_scan());
     OK
 }
 
 /// Takes bytes of the piece while more are needed.
-fn feed(scan: &mut BundleScan, piece: &[u8], taken: &mut u64) -> u32
-    ensures { (seen : List ℕ) → HasScanned scan.old seen
-        → Feeds seen piece.now scan.new taken.new result }
+fn feed(scan: &mut MarkedScan, piece: &[u8], taken: &mut u64) -> u32
+    ensures { FeedsMarked scan.old piece.now scan.new taken.new result }
 {
-    if scan.count().saturating_add(piece.len() as u64) > INPUT_LIMIT {
-        *taken = 0;
+    *taken = 0;
+    if scan.mark != MARK {
         return RANGE;
     }
-    *taken = scan.feed(piece) as u64;
-    state_status(scan.state())
+    if scan.scan.count().saturating_add(piece.len() as u64) > INPUT_LIMIT {
+        return RANGE;
+    }
+    *taken = scan.scan.feed(piece) as u64;
+    state_status(scan.scan.state())
 }
 
 /// Takes the bytes of the piece that belong to the bundle.
 #[unsafe(no_mangle)]
-pub unsafe extern "C" fn tcpclkit_raw_scan_feed(
+pub unsafe extern "C" fn tcpclkit_raw_feed_scan(
     memory: *mut u64,
     piece: &[u8],
     taken: &mut u64,
@@ -68,25 +93,53 @@ pub unsafe extern "C" fn tcpclkit_raw_scan_feed(
     ensures taken { taken.new ≡ length (fed seen piece.now) }
     ensures status { result ≡ fed_status seen piece.now }
 {
-    feed(&mut *(memory as *mut BundleScan), piece, taken)
+    feed(&mut *(memory as *mut MarkedScan), piece, taken)
+}
+
+/// Gives the verdict on the bytes seen.
+fn judge(scan: &MarkedScan, answer: &mut Verdict) -> u32
+    ensures { JudgesMarked scan.now answer.old answer.new result }
+{
+    if scan.mark != MARK {
+        return RANGE;
+    }
+    give_verdict(&scan.scan, answer)
 }
 
 /// The verdict on the bytes seen.
 #[unsafe(no_mangle)]
-pub unsafe extern "C" fn tcpclkit_raw_scan_verdict(memory: *mut u64, answer: &mut Verdict) -> u32
+pub unsafe extern "C" fn tcpclkit_raw_judge_scan(memory: *const u64, answer: &mut Verdict) -> u32
     ghost seen: { List ℕ }
     requires* { sem 𝓛 (HoldsScan memory seen) }
     ensures* scan { sem 𝓛 (HoldsScan memory seen) }
     ensures status { result ≡ state_status (state_of (verdict seen)) }
     ensures answer { answer.new ≡ verdict_shown (verdict seen) (payload_seen seen) }
 {
-    give_verdict(&*(memory as *mut BundleScan), answer)
+    judge(&*(memory as *const MarkedScan), answer)
+}
+
+/// Gives the verdict on the bytes seen, and the fields of a good bundle.
+fn describe(
+    scan: &MarkedScan,
+    destination_name: &mut [u8],
+    source_name: &mut [u8],
+    answer: &mut Bundle,
+) -> u32
+    ensures { DescribesMarked scan.now
+        (record { destination = destination_name.old; source = source_name.old })
+        (record { destination = destination_name.new; source = source_name.new })
+        answer.old answer.new result }
+{
+    if scan.mark != MARK {
+        return RANGE;
+    }
+    give_info(&scan.scan, destination_name, source_name, answer)
 }
 
 /// The verdict on the bytes seen, and the fields of a good bundle.
 #[unsafe(no_mangle)]
-pub unsafe extern "C" fn tcpclkit_raw_scan_info(
-    memory: *mut u64,
+pub unsafe extern "C" fn tcpclkit_raw_describe_scan(
+    memory: *const u64,
     destination_name: &mut [u8],
     source_name: &mut [u8],
     answer: &mut Bundle,
@@ -99,8 +152,8 @@ pub unsafe extern "C" fn tcpclkit_raw_scan_info(
         (record { destination = destination_name.new; source = source_name.new })
         answer.new result }
 {
-    give_info(
-        &*(memory as *mut BundleScan),
+    describe(
+        &*(memory as *const MarkedScan),
         destination_name,
         source_name,
         answer,

@@ -124,7 +124,7 @@ fn give(text: &[u8], slice: &mut [u8], written: &mut u64) -> u32
 
 /// Writes the words of a fault.
 #[unsafe(no_mangle)]
-pub extern "C" fn tcpclkit_raw_fault_text(
+pub extern "C" fn tcpclkit_raw_write_fault_text(
     code: u64,
     number: u64,
     text: &mut [u8],
@@ -144,23 +144,25 @@ pub extern "C" fn tcpclkit_raw_fault_text(
     }
 }
 
-/// The endpoint ID that has these numbers and this name.
+/// The endpoint ID that has these numbers and this name; only one of dtn has a name.
 fn eid_by<'a>(eid: &EidNumbers, name: &'a [u8]) -> Option<EidView<'a>>
     ensures view { viewed_option result ≡ eid_by eid.now name.now }
     ensures short { IfSome result (λ view. IsShort (viewed_eid view)) }
 {
     match eid.kind {
-        0 => Some(EidView::DtnNone),
-        1 if name.len() <= EID_LIMIT => Some(EidView::Dtn(name)),
-        2 => Some(EidView::Ipn(eid.node, eid.service)),
-        3 => Some(EidView::Ipn3(eid.allocator, eid.node, eid.service)),
+        1 => Some(EidView::DtnNone),
+        2 if name.len() <= EID_LIMIT && name.len() as u64 == eid.name_length => {
+            Some(EidView::Dtn(name))
+        }
+        3 => Some(EidView::Ipn(eid.node, eid.service)),
+        4 => Some(EidView::Ipn3(eid.allocator, eid.node, eid.service)),
         _ => None,
     }
 }
 
 /// Writes an endpoint ID.
 #[unsafe(no_mangle)]
-pub extern "C" fn tcpclkit_raw_eid_text(
+pub extern "C" fn tcpclkit_raw_write_eid_text(
     eid: &EidNumbers,
     name: &[u8],
     text: &mut [u8],

@@ -3,7 +3,7 @@ use Rattle.link_bundle_types.specs.BundleView.{viewed_info, viewed_verdict}
 use Rattle.link_bundle_types.specs.declared.fault.BundleFault.{BundleFault}
 use Rattle.link_bundle_types.specs.declared.info.BundleInfo.{BundleInfo}
 use Rattle.link_bundle.specs.Bundle.{verdict, payload_seen, state_of}
-use Rattle.tcpclkit_c.specs.Bundle.{Names, state_status, verdict_shown, ReturnsBundle, ReturnsInfo}
+use Rattle.tcpclkit_c.specs.Bundle.{Names, state_status, verdict_shown, no_bundle, ReturnsBundle, ReturnsInfo}
 use Rattle.tcpclkit_c.specs.declared.bundle.Bundle.{Bundle}
 use Rattle.tcpclkit_c.specs.declared.bundle.Verdict.{Verdict}
 use Rattle.link_bundle.proofs.Pieces.{verdict_judged}
@@ -28,18 +28,18 @@ returns-in-Ok c = λ bytes judged.
 
 refused : (outcome : Result BundleInfo (BundleFault × ℕ)) (stop : BundleFault × ℕ)
     (span : Option (ℕ × ℕ)) (names : Names) (bundle : Bundle) (status : ℕ)
-    → Err stop ≡ outcome → bundle.verdict ≡ verdict_shown outcome span
+    → Err stop ≡ outcome → bundle ≡ no_bundle (verdict_shown outcome span)
     → status ≡ state_status (state_of outcome)
     → ReturnsInfo outcome span names names bundle status
 refused (Ok info) stop span names bundle status is shown same = cc
 refused (Err other) stop span names bundle status is shown same =
-    record { verdict_is = shown; no_names = refl; stops = same }
+    record { numbers = shown; no_names = refl; stops = same }
 
 pub returns-in-Err : goal.returns-in-Err
 returns-in-Err c = λ bytes judged.
     let seen = verdict_judged _ _ judged in
     refused (verdict bytes) c.in-Err.field-0 (payload_seen bytes) _ _ _
     (ap viewed_verdict (sym c.in-Err.is) ∙ c.view.ensures.seen judged.seen judged.scanned ∙ seen)
-    (c.found-verdict.ensures bytes judged)
+    (c.no_bundle.ensures ∙ ap no_bundle (c.found-verdict.ensures bytes judged))
     (c.state_status.ensures ∙ ap state_status (c.state.ensures.seen judged.seen judged.scanned)
     ∙ ap (λ outcome. state_status (state_of outcome)) seen)

@@ -7,9 +7,13 @@ use Rattle.tcpclkit_c.proofs.Scanning.{feeds}
 use Rattle.tcpclkit_c.proofs.scan.feed.Goals as goal
 
 pub returns : goal.returns
-returns c = λ seen has.
-    let room : has_room seen c.args.piece.now ≡ true =
-    le-leb _ _ (omega (arith, c.count.ensures.seen seen has, c.saturating_add.ensures, c.if-saturating_add-gt-INPUT_LIMIT.false)) in
-    let come = c.feed.ensures.seen seen has in
-    feeds seen c.args.piece.now room _ _ _ _ come (c.feed.ensures.count seen has)
-    (c.state.ensures.seen (seen ++ taken bundle_goes seen c.args.piece.now) come) c.state_status.ensures
+returns c = record {
+  scan = λ seen has.
+      let room : has_room seen c.args.piece.now ≡ true =
+      le-leb _ _ (omega (arith, c.count.ensures.seen seen has.scanned, c.saturating_add.ensures, c.if-saturating_add-gt-INPUT_LIMIT.false)) in
+      let come = c.feed.ensures.seen seen has.scanned in
+      feeds seen c.args.piece.now room _ _ _ _ (record { marked = has.marked; scanned = come })
+      (c.feed.ensures.count seen has.scanned)
+      (c.state.ensures.seen (seen ++ taken bundle_goes seen c.args.piece.now) come) c.state_status.ensures;
+  other = λ not. absurd (not c.if-scan.false);
+}

@@ -1,0 +1,82 @@
+-- The options of the whole tools, as words of a caller. A word that is missing has the default of
+-- the program. A word that this version does not know has to be 0.
+use Rattle.std.specs.Prelude.{◌≡◌, ℕ, ◌^◌, ◌-◌, Bool, not, ◌&&◌, ◌==◌, nat_lt, nat_le, List, drop, get_or, Option, Some, None, if◌then◌else◌}
+use Rattle.std.specs.List.{list_any}
+use Rattle.link_pack.specs.declared.options.PackOptions.{PackOptions}
+use Rattle.link_unpack.specs.declared.wanted.Wanted.{Wanted}
+use Rattle.tcpclkit_c.specs.declared.options.PackNumbers.{PackNumbers}
+use Rattle.tcpclkit_c.specs.declared.options.UnpackNumbers.{UnpackNumbers}
+
+abbrev pub has_nonzero : List ℕ → Bool
+has_nonzero words = list_any (λ word. nat_lt 0 word) words
+
+-- ---- unpack
+
+-- the options that the words are
+abbrev pub unpack_numbers : List ℕ → UnpackNumbers
+unpack_numbers words =
+    record {
+      only_one = get_or words 0 0;
+      transfer = get_or words 1 0;
+      payload = get_or words 2 0;
+      keep_going = get_or words 3 0;
+    }
+
+abbrev pub unpack_numbers_fit : UnpackNumbers → Bool
+unpack_numbers_fit numbers =
+    nat_le numbers.only_one 1 && (nat_le numbers.payload 1 && nat_le numbers.keep_going 1)
+
+-- what is wanted of the recording
+abbrev pub wanted_of : UnpackNumbers → Wanted
+wanted_of numbers =
+    record {
+      only = if numbers.only_one == 1 then Some numbers.transfer else None;
+      payload = numbers.payload == 1;
+      keep_going = numbers.keep_going == 1;
+    }
+
+-- the words are in their ranges
+abbrev pub unpack_in_range : List ℕ → Bool
+unpack_in_range words =
+    unpack_numbers_fit (unpack_numbers words) && not (has_nonzero (drop 4 words))
+
+abbrev pub wanted_in : List ℕ → Option Wanted
+wanted_in words = if unpack_in_range words then Some (wanted_of (unpack_numbers words)) else None
+
+-- ---- pack
+
+-- the options that the words are
+abbrev pub pack_numbers : List ℕ → PackNumbers
+pack_numbers words =
+    record {
+      keepalive = get_or words 0 60;
+      segment_mru = get_or words 1 65536;
+      transfer_mru = get_or words 2 1048576;
+      peer_segment = get_or words 3 65536;
+      peer_transfer = get_or words 4 (2 ^ 64 - 1);
+      announce = get_or words 5 0;
+      send_term = get_or words 6 0;
+    }
+
+-- the options and the length of the node ID are in their ranges
+abbrev pub pack_numbers_fit : PackNumbers → ℕ → Bool
+pack_numbers_fit numbers size =
+    nat_le numbers.keepalive 65535 && (nat_le 1 numbers.peer_segment
+    && (nat_le numbers.announce 1048576 && (nat_le numbers.send_term 1 && nat_le size 1024)))
+
+-- the words and the length of the node ID are in their ranges
+abbrev pub pack_in_range : List ℕ → ℕ → Bool
+pack_in_range words size =
+    pack_numbers_fit (pack_numbers words) size && not (has_nonzero (drop 7 words))
+
+-- the options have these numbers and this node ID
+pub record HasOptions (options : PackOptions) (numbers : PackNumbers)
+    (node : List ℕ) : Type 0 where
+  pub node_id : options.node.items ≡ node
+  pub keepalive : options.keepalive ≡ numbers.keepalive
+  pub segment_mru : options.segment_mru ≡ numbers.segment_mru
+  pub transfer_mru : options.transfer_mru ≡ numbers.transfer_mru
+  pub peer_segment : options.peer_segment ≡ numbers.peer_segment
+  pub peer_transfer : options.peer_transfer ≡ numbers.peer_transfer
+  pub announce : options.announce ≡ numbers.announce
+  pub send_term : options.send_term ≡ (numbers.send_term == 1)

@@ -1,0 +1,83 @@
+-- A run of a whole tool over a slice, into two slices: what it has written, and what is returned.
+use Rattle.std.specs.Prelude.{◌≡◌, ℕ, ◌^◌, ◌-◌, nat_le, min, List, [], length, Result, Ok, Err}
+use Rattle.link_list.specs.Listing.{list_tool}
+use Rattle.link_pack.specs.Packing.{pack_tool}
+use Rattle.link_run.specs.Run.{Outcome}
+use Rattle.link_run.specs.declared.run.Status.{Status}
+use Rattle.link_tools.specs.declared.options.Job.{Job}
+use Rattle.link_tools.specs.declared.options.Job.TheVariants as job
+use Rattle.link_unpack.specs.Unpacking.{unpack_tool}
+use Rattle.link_wire.specs.declared.IoFault.{IoFault}
+use Rattle.link_wire.specs.declared.IoFault.TheVariants as io
+use Rattle.tcpclkit_c.specs.Slice.{overlaid}
+use Rattle.tcpclkit_c.specs.Tool.{Slices, ReturnsTexts, ReturnsNothing}
+use Rattle.tcpclkit_c.specs.declared.running.Ended.{Ended}
+use Rattle.tcpclkit_c.specs.declared.running.Run.{Run}
+use Rattle.tcpclkit_c.specs.declared.running.Wants.{Wants}
+use Rattle.tcpclkit_c.specs.declared.running.Written.{Written}
+
+-- ---- how the run has gone
+
+-- the texts are those of this outcome, and the run ended with its status
+pub record WroteAll (whole : Outcome) (output report : List ℕ) (status : Status) : Type 0 where
+  pub output_is : output ≡ whole.texts.output
+  pub report_is : report ≡ whole.texts.report
+  pub ends : status.0 ≡ whole.status
+
+-- no text was written, since the request for memory was refused
+pub record WroteNothing (output report : List ℕ) (fault : IoFault) : Type 0 where
+  pub no_output : output ≡ []
+  pub no_report : report ≡ []
+  pub lacks : fault ≡ io.Memory
+
+-- no device failed, so a run has an exit status
+abbrev pub WroteWhole : Outcome → (output report : List ℕ) → Result Status IoFault → Type 0
+WroteWhole whole output report (Ok status) = WroteAll whole output report status
+WroteWhole whole output report (Err fault) = ⊥
+
+abbrev pub WroteNone : (output report : List ℕ) → Result Status IoFault → Type 0
+WroteNone output report (Ok status) = ⊥
+WroteNone output report (Err fault) = WroteNothing output report fault
+
+-- the texts that a run of the tool over these bytes has written, by whether it had its memory
+abbrev pub HasWritten : Job → (bytes output report : List ℕ) → Result Status IoFault → Type 0
+HasWritten job.List bytes output report answer =
+    WroteWhole (list_tool.whole bytes) output report answer
+HasWritten (job.Unpack wanted) bytes output report answer =
+    WroteWhole ((unpack_tool wanted).whole bytes) output report answer
+HasWritten (job.Pack options (Ok cutter)) bytes output report answer =
+    WroteWhole ((pack_tool options).whole bytes) output report answer
+HasWritten (job.Pack options (Err refused)) bytes output report answer =
+    WroteNone output report answer
+
+-- the same as a record
+pub record HasRun (tool : Job) (bytes output report : List ℕ)
+    (answer : Result Status IoFault) : Type 0 where
+  pub wrote : HasWritten tool bytes output report answer
+
+-- the text was written to the slice as far as it fits, and this is its length
+pub record Leaves (text before slice : List ℕ) (written : Written) : Type 0 where
+  pub slice_is : slice ≡ overlaid before text
+  pub count : written.count ≡ min (length text) (2 ^ 64 - 1)
+  pub fits : written.fits ≡ nat_le (length text) (length slice)
+
+-- the slices have the texts that a run of the tool has written
+pub record RanWhole (tool : Job) (bytes : List ℕ) (old new : Slices) (ended : Ended) : Type 0 where
+  pub output_text : List ℕ
+  pub report_text : List ℕ
+  pub wrote : HasWritten tool bytes output_text report_text ended.answer
+  pub output : Leaves output_text old.output new.output ended.output
+  pub report : Leaves report_text old.report new.report ended.report
+
+-- ---- what a call returns
+
+-- what a run of the tool has returned, by whether it had its memory
+abbrev pub ReturnsJob : Job → List ℕ → Wants → (old new : Slices) → Run → ℕ → Type 0
+ReturnsJob job.List bytes wants old new run status =
+    ReturnsTexts (list_tool.whole bytes) wants old new run status
+ReturnsJob (job.Unpack wanted) bytes wants old new run status =
+    ReturnsTexts ((unpack_tool wanted).whole bytes) wants old new run status
+ReturnsJob (job.Pack options (Ok cutter)) bytes wants old new run status =
+    ReturnsTexts ((pack_tool options).whole bytes) wants old new run status
+ReturnsJob (job.Pack options (Err refused)) bytes wants old new run status =
+    ReturnsNothing old new run status

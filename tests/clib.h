@@ -1,0 +1,78 @@
+/* What the parts of the test of the C library share: checks, and worked bytes. */
+#ifndef TCPCLKIT_CLIB_H
+#define TCPCLKIT_CLIB_H
+
+#include "tcpclkit.h"
+
+#include <string.h>
+
+#define CHECK(holds) count((holds) != 0, __FILE__, __LINE__, #holds)
+
+/* Counts a check, and prints one that does not hold. */
+void count(int holds, const char *file, int line, const char *what);
+
+/* What the other files test. The first measures stacks if it is told to. */
+void test_tools(int measures_stacks);
+void test_mistakes(void);
+
+/* Whether the slice begins with these bytes. */
+static inline int begins(const uint8_t *slice, const char *text) {
+  return memcmp(slice, text, strlen(text)) == 0;
+}
+
+/* What bytes and structs are full of before a call that has to leave some of them. */
+#define MARK 0xa5
+
+/* Whether all of these bytes are marks. */
+static inline int is_marked(const void *bytes, size_t length) {
+  const uint8_t *start = (const uint8_t *)bytes;
+  size_t at;
+  for (at = 0; at < length; at++)
+    if (start[at] != MARK)
+      return 0;
+  return 1;
+}
+
+#define IS_MARKED(it) is_marked(&(it), sizeof(it))
+
+/* A bundle from ipn:1.1 to ipn:2.1 with the payload `hello`. */
+#define BUNDLE_BYTES                                                                              \
+  0x9f, 0x88, 0x07, 0x00, 0x00, 0x82, 0x02, 0x82, 0x02, 0x01, 0x82, 0x02, 0x82, 0x01, 0x01, 0x82, \
+      0x01, 0x00, 0x82, 0x00, 0x00, 0x00, 0x85, 0x01, 0x01, 0x00, 0x00, 0x45, 'h', 'e', 'l', 'l', \
+      'o', 0xff
+
+static const uint8_t bundle[] = {BUNDLE_BYTES, 0x00};
+#define BUNDLE_LENGTH (sizeof bundle - 1)
+
+/* A bundle from dtn://a to dtn://bc without payload bytes. */
+static const uint8_t named[] = {
+    0x9f, 0x88, 0x07, 0x00, 0x00, 0x82, 0x01, 0x64, '/',  '/',  'b',  'c',  0x82, 0x01, 0x63,
+    '/',  '/',  'a',  0x82, 0x01, 0x00, 0x82, 0x05, 0x06, 0x07, 0x85, 0x01, 0x01, 0x00, 0x00,
+    0x40, 0xff};
+
+/* The first 3 of 9 payload bytes of a bundle from dtn:none to ipn:2.1, as a fragment. */
+static const uint8_t fragment[] = {
+    0x9f, 0x8a, 0x07, 0x01, 0x00, 0x82, 0x02, 0x82, 0x02, 0x01, 0x82, 0x01, 0x00, 0x82, 0x01,
+    0x00, 0x82, 0x05, 0x06, 0x07, 0x02, 0x09, 0x85, 0x01, 0x01, 0x00, 0x00, 0x43, 'h',  'e',
+    'l',  0xff};
+
+/* A contact header, a SESS_INIT, and the bundle in one segment. */
+static const uint8_t recording[] = {
+    0x64, 0x74, 0x6e, 0x21, 0x04, 0x00, 0x07, 0x00, 0x3c, 0x00, 0x00, 0x00, 0x00, 0x00, 0x01,
+    0x00, 0x00, 0x00, 0x00, 0x00, 0x00, 0x00, 0x10, 0x00, 0x00, 0x00, 0x07, 'i',  'p',  'n',
+    ':',  '1',  '.',  '0',  0x00, 0x00, 0x00, 0x00, 0x01, 0x03, 0x00, 0x00, 0x00, 0x00, 0x00,
+    0x00, 0x00, 0x00, 0x00, 0x00, 0x00, 0x00, 0x00, 0x00, 0x00, 0x00, 0x00, 0x00, 0x00, 0x22,
+    BUNDLE_BYTES};
+
+/* The head of a segment with a Transfer Length item, and no data. */
+static const uint8_t announcing[] = {0x01, 0x02, 0, 0, 0, 0, 0, 0, 0, 5, 0, 0, 0, 0x0d,
+                                     0x01, 0, 1, 0, 8, 0, 0, 0, 0, 0, 0, 1, 0,
+                                     0, 0, 0, 0, 0, 0, 0, 3};
+
+#define LEAVES(call, status, it) \
+  do {                           \
+    CHECK((call) == (status));   \
+    CHECK(IS_MARKED(it));        \
+  } while (0)
+
+#endif

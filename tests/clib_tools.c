@@ -1,0 +1,385 @@
+/* Calls the whole tools of the C library. */
+#define _POSIX_C_SOURCE 200809L /* for pthread_attr_setstack */
+
+#include "clib.h"
+
+#include <pthread.h>
+#include <stdio.h>
+
+#ifdef REFUSES_MEMORY
+/* Built with --wrap=malloc and --wrap=realloc: the library's request of this number is refused. */
+static unsigned requests, refused_request;
+
+void *__real_malloc(size_t size);
+void *__real_realloc(void *block, size_t size);
+void *__wrap_malloc(size_t size);
+void *__wrap_realloc(void *block, size_t size);
+
+void *__wrap_malloc(size_t size) {
+  return ++requests != refused_request ? __real_malloc(size) : NULL;
+}
+
+void *__wrap_realloc(void *block, size_t size) {
+  return ++requests != refused_request ? __real_realloc(block, size) : NULL;
+}
+#endif
+
+#define CONTACT_LINE "0 contact version=4 flags=00\n"
+#define LINES                                                                                     \
+  CONTACT_LINE                                                                                    \
+  "6 sess-init keepalive=60 segment-mru=65536 transfer-mru=1048576 node=ipn:1.0 items=0\n"
+#define SEGMENT_LINE "38 xfer-segment flags=03 id=0 items=0 length=34\n"
+#define TRANSFER_LINE                                                                             \
+  "transfer 0 start=0 written=34 length=34 good source=ipn:1.1 time=0 sequence=0 "                \
+  "destination=ipn:2.1 payload=5\n"
+
+static void lists(void) {
+  struct tcpclkit_run run;
+  uint8_t output[300], report[100];
+  CHECK(tcpclkit_list(recording, sizeof recording, output, sizeof output, report, sizeof report,
+                      &run) == TCPCLKIT_OK);
+  CHECK(run.exit_status == 0 && run.report_length == 0);
+  CHECK(run.output_length == strlen(LINES SEGMENT_LINE) && begins(output, LINES SEGMENT_LINE));
+  CHECK(tcpclkit_list(recording, 70, output, sizeof output, report, sizeof report, &run) ==
+        TCPCLKIT_OK);
+  CHECK(run.exit_status == 3 && run.output_length == strlen(LINES) && begins(output, LINES));
+  CHECK(run.report_length == 29 && begins(report, "tcpclkit: byte 38: truncated\n"));
+  /* The lengths are those that would have been enough. */
+  CHECK(tcpclkit_list(recording, 70, output, 9, report, sizeof report, &run) ==
+        TCPCLKIT_TOO_SMALL);
+  CHECK(run.output_length == strlen(LINES) && begins(output, "0 contact"));
+  CHECK(run.report_length == 29 && run.exit_status == 3);
+  CHECK(tcpclkit_list(recording, 70, output, sizeof output, report, 28, &run) ==
+        TCPCLKIT_TOO_SMALL);
+  CHECK(run.report_length == 29 && begins(report, "tcpclkit: byte 38: truncated"));
+  CHECK(tcpclkit_list(recording, 70, output, sizeof output, report, 29, &run) == TCPCLKIT_OK);
+  /* A text without a pointer is not wanted. */
+  CHECK(tcpclkit_list(recording, 70, NULL, 0, NULL, 0, &run) == TCPCLKIT_OK);
+  CHECK(run.output_length == strlen(LINES) && run.report_length == 29 && run.exit_status == 3);
+  CHECK(tcpclkit_list(recording, 70, output, 0, NULL, 0, &run) == TCPCLKIT_TOO_SMALL);
+  CHECK(tcpclkit_list(recording, 70, NULL, 0, report, 28, &run) == TCPCLKIT_TOO_SMALL);
+  CHECK(tcpclkit_list(recording, 70, NULL, 0, report, 29, &run) == TCPCLKIT_OK);
+  CHECK(tcpclkit_list(recording, 6, output, strlen(CONTACT_LINE), NULL, 0, &run) == TCPCLKIT_OK);
+  CHECK(run.output_length == strlen(CONTACT_LINE) && begins(output, CONTACT_LINE));
+  CHECK(tcpclkit_list(recording, 6, output, strlen(CONTACT_LINE) - 1, NULL, 0, &run) ==
+        TCPCLKIT_TOO_SMALL);
+  CHECK(tcpclkit_list(NULL, 0, output, sizeof output, report, sizeof report, &run) ==
+        TCPCLKIT_OK);
+  CHECK(run.exit_status == 3 && begins(report, "tcpclkit: byte 0: truncated\n"));
+  CHECK(tcpclkit_list(recording, 6, NULL, 1, NULL, 0, &run) == TCPCLKIT_NULL);
+  CHECK(tcpclkit_list(recording, 6, output, 1, report, 1, NULL) == TCPCLKIT_NULL);
+}
+
+static void unpacks(void) {
+  struct tcpclkit_unpack_options options;
+  struct tcpclkit_run run;
+  uint8_t output[sizeof recording], report[200];
+  CHECK(tcpclkit_unpack_defaults(&options) == TCPCLKIT_OK);
+  CHECK(tcpclkit_unpack(recording, sizeof recording, &options, output, sizeof output, report,
+                        sizeof report, &run) == TCPCLKIT_OK);
+  CHECK(run.exit_status == 0 && run.output_length == BUNDLE_LENGTH);
+  CHECK(memcmp(output, bundle, BUNDLE_LENGTH) == 0);
+  CHECK(run.report_length == strlen(TRANSFER_LINE) && begins(report, TRANSFER_LINE));
+  options.payload = 1;
+  CHECK(tcpclkit_unpack(recording, sizeof recording, &options, output, sizeof output, report,
+                        sizeof report, &run) == TCPCLKIT_OK);
+  CHECK(run.output_length == 5 && begins(output, "hello"));
+  options.only_one = 1;
+  options.transfer = 1;
+  CHECK(tcpclkit_unpack(recording, sizeof recording, &options, output, sizeof output, report,
+                        sizeof report, &run) == TCPCLKIT_OK);
+  CHECK(run.output_length == 0);
+  options.only_one = 2;
+  CHECK(tcpclkit_unpack(recording, sizeof recording, &options, output, sizeof output, report,
+                        sizeof report, &run) == TCPCLKIT_RANGE);
+}
+
+#define EARLY_LINE "tcpclkit: byte 6: segment before session initiation\n"
+
+/* A segment without a SESS_INIT before it. */
+static void goes_on(void) {
+  struct tcpclkit_unpack_options options;
+  struct tcpclkit_run run;
+  uint8_t early[6 + 56], output[sizeof early], report[200];
+  CHECK(tcpclkit_unpack_defaults(&options) == TCPCLKIT_OK);
+  memcpy(early, recording, 6);
+  memcpy(early + 6, recording + 38, 56);
+  CHECK(tcpclkit_unpack(early, sizeof early, &options, output, sizeof output, report,
+                        sizeof report, &run) == TCPCLKIT_OK);
+  CHECK(run.exit_status == 3 && run.output_length == 0);
+  CHECK(run.report_length == strlen(EARLY_LINE) && begins(report, EARLY_LINE));
+  options.keep_going = 1;
+  CHECK(tcpclkit_unpack(early, sizeof early, &options, output, sizeof output, report,
+                        sizeof report, &run) == TCPCLKIT_OK);
+  CHECK(run.exit_status == 1 && run.output_length == BUNDLE_LENGTH);
+  CHECK(memcmp(output, bundle, BUNDLE_LENGTH) == 0);
+  CHECK(run.report_length == strlen(EARLY_LINE TRANSFER_LINE));
+  CHECK(begins(report, EARLY_LINE TRANSFER_LINE));
+}
+
+static uint32_t pack(const struct tcpclkit_pack_options *options, size_t node_length,
+                     uint8_t *output, size_t room, struct tcpclkit_run *run) {
+  static const uint8_t node[TCPCLKIT_NODE_ID_LIMIT + 1] = "ipn:1.0";
+  static uint8_t report[200];
+  return tcpclkit_pack(bundle, BUNDLE_LENGTH, options, node, node_length, output, room, report,
+                       sizeof report, run);
+}
+
+static void packs(void) {
+  struct tcpclkit_pack_options usual, options;
+  struct tcpclkit_run run;
+  uint8_t output[sizeof recording + 3];
+  CHECK(tcpclkit_pack_defaults(&usual) == TCPCLKIT_OK);
+  options = usual;
+  CHECK(pack(&options, 7, output, sizeof output, &run) == TCPCLKIT_OK);
+  CHECK(run.exit_status == 0 && run.output_length == sizeof recording);
+  CHECK(memcmp(output, recording, sizeof recording) == 0);
+  CHECK(pack(&options, 7, output, 50, &run) == TCPCLKIT_TOO_SMALL);
+  CHECK(run.output_length == sizeof recording && memcmp(output, recording, 50) == 0);
+  CHECK(pack(&options, 7, output, sizeof recording, &run) == TCPCLKIT_OK);
+  CHECK(pack(&options, 7, output, sizeof recording - 1, &run) == TCPCLKIT_TOO_SMALL);
+  options.send_term = 1;
+  CHECK(pack(&options, 7, output, sizeof output, &run) == TCPCLKIT_OK);
+  CHECK(run.output_length == sizeof recording + 3);
+  options.send_term = 2;
+  CHECK(pack(&options, 7, output, sizeof output, &run) == TCPCLKIT_RANGE);
+  options = usual;
+  options.peer_segment = 0;
+  CHECK(pack(&options, 7, output, sizeof output, &run) == TCPCLKIT_RANGE);
+  options = usual;
+  options.keepalive = 65536;
+  CHECK(pack(&options, 7, output, sizeof output, &run) == TCPCLKIT_RANGE);
+  options = usual;
+  options.announce = 1048577;
+  CHECK(pack(&options, 7, output, sizeof output, &run) == TCPCLKIT_RANGE);
+  CHECK(pack(&usual, TCPCLKIT_NODE_ID_LIMIT, NULL, 0, &run) == TCPCLKIT_OK);
+  CHECK(run.output_length == sizeof recording - 7 + TCPCLKIT_NODE_ID_LIMIT);
+  CHECK(pack(&usual, TCPCLKIT_NODE_ID_LIMIT + 1, NULL, 0, &run) == TCPCLKIT_RANGE);
+  CHECK(pack(NULL, 7, output, sizeof output, &run) == TCPCLKIT_NULL);
+}
+
+/* What a run of a tool is lent. */
+struct lent {
+  uint8_t output[300];
+  uint8_t report[200];
+  struct tcpclkit_run run;
+};
+
+/* Runs a tool: 0 is list, 1 is unpack, 2 is pack. The input of pack is the bundle. */
+static uint32_t run_tool(int tool, struct lent *it, size_t output_room, size_t report_room) {
+  struct tcpclkit_pack_options usual;
+  struct tcpclkit_unpack_options all;
+  tcpclkit_pack_defaults(&usual);
+  tcpclkit_unpack_defaults(&all);
+  memset(it, MARK, sizeof *it);
+  if (tool == 0)
+    return tcpclkit_list(recording, sizeof recording, it->output, output_room, it->report,
+                         report_room, &it->run);
+  if (tool == 1)
+    return tcpclkit_unpack(recording, sizeof recording, &all, it->output, output_room, it->report,
+                           report_room, &it->run);
+  return tcpclkit_pack(bundle, BUNDLE_LENGTH, &usual, (const uint8_t *)"ipn:1.0", 7, it->output,
+                       output_room, it->report, report_room, &it->run);
+}
+
+/* A tool with these rooms: it succeeds exactly if its texts fit, and says how long they are. */
+static void room(int tool, const struct lent *whole, size_t output, size_t report) {
+  size_t output_written = (size_t)whole->run.output_length;
+  size_t report_written = (size_t)whole->run.report_length;
+  int fits = output >= output_written && report >= report_written;
+  struct lent it;
+  CHECK(run_tool(tool, &it, output, report) == (fits ? TCPCLKIT_OK : TCPCLKIT_TOO_SMALL));
+  CHECK(memcmp(&it.run, &whole->run, sizeof it.run) == 0);
+  if (output_written > output)
+    output_written = output;
+  if (report_written > report)
+    report_written = report;
+  CHECK(memcmp(it.output, whole->output, output_written) == 0);
+  CHECK(memcmp(it.report, whole->report, report_written) == 0);
+  CHECK(is_marked(it.output + output_written, sizeof it.output - output_written));
+  CHECK(is_marked(it.report + report_written, sizeof it.report - report_written));
+}
+
+static void rooms(int tool) {
+  struct lent whole;
+  size_t output, report, at;
+  CHECK(run_tool(tool, &whole, sizeof whole.output, sizeof whole.report) == TCPCLKIT_OK);
+  output = (size_t)whole.run.output_length;
+  report = (size_t)whole.run.report_length;
+  for (at = 0; at <= output + 1; at++)
+    room(tool, &whole, at, report);
+  for (at = 0; at <= report + 1; at++)
+    room(tool, &whole, output, at);
+  room(tool, &whole, 0, 0);
+  room(tool, &whole, output - 1, report > 0 ? report - 1 : 0);
+}
+
+static void unwritten_runs(void) {
+  struct tcpclkit_unpack_options all, one, payload, going_on, unmade, longer;
+  struct tcpclkit_pack_options pack;
+  const uint8_t *node = (const uint8_t *)"ipn:1.0";
+  const size_t size = sizeof recording;
+  struct lent it;
+  uint8_t *to = it.output, *report = it.report;
+  tcpclkit_pack_defaults(&pack);
+  tcpclkit_unpack_defaults(&all);
+  one = payload = going_on = unmade = longer = all;
+  pack.peer_segment = 0;
+  one.only_one = 2;
+  payload.payload = 2;
+  going_on.keep_going = 2;
+  unmade.size = 0;
+  longer.size = sizeof longer + 8;
+  memset(&it, MARK, sizeof it);
+  CHECK(tcpclkit_unpack_defaults(NULL) == TCPCLKIT_NULL);
+  CHECK(tcpclkit_pack_defaults(NULL) == TCPCLKIT_NULL);
+  LEAVES(tcpclkit_unpack(recording, size, &unmade, to, 9, report, 9, &it.run), TCPCLKIT_RANGE, it);
+  LEAVES(tcpclkit_unpack(recording, size, &longer, to, 9, report, 9, &it.run), TCPCLKIT_RANGE, it);
+  LEAVES(tcpclkit_unpack(recording, size, &one, to, 9, report, 9, &it.run), TCPCLKIT_RANGE, it);
+  LEAVES(tcpclkit_unpack(recording, size, &payload, to, 9, report, 9, &it.run), TCPCLKIT_RANGE,
+         it);
+  LEAVES(tcpclkit_unpack(recording, size, &going_on, to, 9, report, 9, &it.run), TCPCLKIT_RANGE,
+         it);
+  LEAVES(tcpclkit_unpack(recording, size, NULL, to, 9, report, 9, &it.run), TCPCLKIT_NULL, it);
+  LEAVES(tcpclkit_unpack(NULL, 1, &all, to, 9, report, 9, &it.run), TCPCLKIT_NULL, it);
+  LEAVES(tcpclkit_pack(bundle, 9, &pack, node, 7, to, 9, report, 9, &it.run), TCPCLKIT_RANGE, it);
+  LEAVES(tcpclkit_pack(bundle, 9, &pack, NULL, 7, to, 9, report, 9, &it.run), TCPCLKIT_NULL, it);
+  LEAVES(tcpclkit_pack(bundle, 9, NULL, node, 7, to, 9, report, 9, &it.run), TCPCLKIT_NULL, it);
+  LEAVES(tcpclkit_list(NULL, 1, to, 9, report, 9, &it.run), TCPCLKIT_NULL, it);
+  LEAVES(tcpclkit_list(recording, size, NULL, 9, report, 9, &it.run), TCPCLKIT_NULL, it);
+  LEAVES(tcpclkit_list(recording, size, to, 9, NULL, 9, &it.run), TCPCLKIT_NULL, it);
+  LEAVES(tcpclkit_list(recording, size, to, 9, report, 9, NULL), TCPCLKIT_NULL, it);
+  LEAVES(tcpclkit_list(recording, SIZE_MAX, to, 9, report, 9, &it.run), TCPCLKIT_RANGE, it);
+}
+
+/* What is called on a stack of its own. Its variables are static, so that they are not on it. */
+static void no_call(void) {}
+
+static void small_calls(void) {
+  static struct tcpclkit_bundle info;
+  static struct tcpclkit_contact contact;
+  static struct tcpclkit_message message;
+  static struct tcpclkit_item item;
+  static struct tcpclkit_order order;
+  static struct tcpclkit_turn turn;
+  static struct tcpclkit_scan scan;
+  static const struct tcpclkit_eid eid = {TCPCLKIT_EID_DTN, 0, 0, 0, TCPCLKIT_EID_LIMIT};
+  static uint8_t name[TCPCLKIT_EID_LIMIT], text[4100];
+  static uint64_t written;
+  tcpclkit_judge_bundle(bundle, sizeof bundle, &info.verdict);
+  tcpclkit_describe_bundle(named, sizeof named, text, sizeof text, name, sizeof name, &info);
+  tcpclkit_read_contact(recording, sizeof recording, &contact);
+  tcpclkit_read_message(recording, sizeof recording, 6, &message);
+  tcpclkit_read_message(announcing, sizeof announcing, 0, &message);
+  tcpclkit_read_item(announcing, sizeof announcing, 14, 27, &item);
+  tcpclkit_judge_order(&order, TCPCLKIT_SESS_INIT, 0, 0, &turn);
+  tcpclkit_take_message(&order, TCPCLKIT_XFER_SEGMENT, 0, 7, &turn);
+  tcpclkit_start_scan(&scan);
+  tcpclkit_feed_scan(&scan, named, sizeof named, &written);
+  tcpclkit_judge_scan(&scan, &info.verdict);
+  tcpclkit_describe_scan(&scan, text, sizeof text, name, sizeof name, &info);
+  tcpclkit_write_fault_text(TCPCLKIT_BUNDLE_CUT, 0, text, sizeof text, &written);
+  tcpclkit_write_eid_text(&eid, name, sizeof name, text, sizeof text, &written);
+}
+
+static void tool_calls(void) {
+  static struct lent it;
+  int tool;
+  for (tool = 0; tool < 3; tool++)
+    run_tool(tool, &it, sizeof it.output, sizeof it.report);
+}
+
+static void *called(void *calls) {
+  (*(void (*const *)(void))calls)();
+  return NULL;
+}
+
+/* How much of a stack the calls take, with what a thread takes. */
+static size_t stack_of(void (*calls)(void)) {
+  static uint8_t stack[1 << 20];
+  size_t unused = 0;
+  pthread_attr_t attributes;
+  pthread_t thread;
+  memset(stack, MARK, sizeof stack);
+  CHECK(pthread_attr_init(&attributes) == 0);
+  CHECK(pthread_attr_setstack(&attributes, stack, sizeof stack) == 0);
+  CHECK(pthread_create(&thread, &attributes, called, &calls) == 0);
+  CHECK(pthread_join(thread, NULL) == 0);
+  CHECK(pthread_attr_destroy(&attributes) == 0);
+  while (unused < sizeof stack && stack[unused] == MARK)
+    unused++;
+  return sizeof stack - unused;
+}
+
+/* The room that the header says is enough, on x86-64. */
+static void stacks(void) {
+  size_t thread = stack_of(no_call), small = stack_of(small_calls), tool = stack_of(tool_calls);
+  printf("stack: %zu bytes, and %zu bytes for a tool\n", small - thread, tool - thread);
+  CHECK(small - thread <= 20480);
+  CHECK(tool - thread <= 122880);
+}
+
+#ifdef REFUSES_MEMORY
+/* Pack asks for one block, and the other tools for none. */
+static void refusals(void) {
+  static const struct tcpclkit_run zeros = {0, 0, 0};
+  struct lent it;
+  int tool;
+  for (tool = 0; tool < 3; tool++) {
+    requests = 0;
+    CHECK(run_tool(tool, &it, sizeof it.output, sizeof it.report) == TCPCLKIT_OK);
+    CHECK(requests == (tool == 2 ? 1 : 0));
+  }
+  requests = 0;
+  refused_request = 1;
+  CHECK(run_tool(2, &it, sizeof it.output, sizeof it.report) == TCPCLKIT_MEMORY);
+  CHECK(memcmp(&it.run, &zeros, sizeof zeros) == 0);
+  CHECK(IS_MARKED(it.output) && IS_MARKED(it.report));
+  refused_request = 0;
+}
+#endif
+
+/* Options as a caller of the raw functions has them: fewer numbers than the library knows, or more. */
+static void numbers_of_options(void) {
+  static const uint64_t more[] = {0, 0, 0, 0, 0, 0}, unknown[] = {0, 0, 0, 0, 1};
+  static const uint64_t pack[] = {60, 65536, 1048576, 65536, UINT64_MAX, 0, 0, 0, 7};
+  const uint8_t *node = (const uint8_t *)"ipn:1.0";
+  struct lent whole, it;
+  size_t words;
+  CHECK(run_tool(1, &whole, sizeof whole.output, sizeof whole.report) == TCPCLKIT_OK);
+  for (words = 0; words <= 6; words++) {
+    memset(&it, MARK, sizeof it);
+    CHECK(tcpclkit_raw_unpack(recording, sizeof recording, more, words, 1, it.output,
+                              sizeof it.output, 1, it.report, sizeof it.report, &it.run) ==
+          TCPCLKIT_OK);
+    CHECK(memcmp(&it, &whole, sizeof it) == 0);
+  }
+  CHECK(tcpclkit_raw_unpack(recording, sizeof recording, unknown, 5, 1, it.output,
+                            sizeof it.output, 1, it.report, sizeof it.report, &it.run) ==
+        TCPCLKIT_RANGE);
+  CHECK(run_tool(2, &whole, sizeof whole.output, sizeof whole.report) == TCPCLKIT_OK);
+  for (words = 0; words <= 9; words++) {
+    memset(&it, MARK, sizeof it);
+    CHECK(tcpclkit_raw_pack(bundle, BUNDLE_LENGTH, pack, words, node, 7, 1, it.output,
+                            sizeof it.output, 1, it.report, sizeof it.report, &it.run) ==
+          (words < 9 ? TCPCLKIT_OK : TCPCLKIT_RANGE));
+    CHECK(words == 9 || memcmp(&it, &whole, sizeof it) == 0);
+  }
+}
+
+void test_tools(int measures_stacks) {
+  lists();
+  unpacks();
+  goes_on();
+  packs();
+  rooms(0);
+  rooms(1);
+  rooms(2);
+  unwritten_runs();
+  numbers_of_options();
+  if (measures_stacks)
+    stacks();
+#ifdef REFUSES_MEMORY
+  refusals();
+#endif
+}
