@@ -16,7 +16,8 @@ abbrev text_of : SliceWriter → List ℕ
 text_of writer = labelled writer.room.ghost_name writer.history.before writer.history.text
 
 abbrev writer_look : SliceWriter → Output
-writer_look writer = record { written = Some (text_of writer); failed = false }
+writer_look writer =
+    record { written = Some (text_of writer); failed = false; handed = Some (text_of writer) }
 
 abbrev after : (c : goal.After-run_tool) → Type 0
 after c = Ran c.args.job c.args.bytes.now
