@@ -1,5 +1,5 @@
 -- Pieces of a line's text.
-use Rattle.std.specs.Prelude.{ℕ, ◌+◌, ◌/◌, ◌%◌, ◌==◌, ◌&&◌, nat_le, not, Bool, if◌then◌else◌, List, [], ◌∷◌, ◌++◌, slice_index, codes, decimal}
+use Rattle.std.specs.Prelude.{ℕ, ◌/◌, ◌%◌, ◌==◌, ◌&&◌, nat_le, not, Bool, if◌then◌else◌, List, [], ◌∷◌, ◌++◌, slice_index, codes, decimal}
 use Rattle.std.specs.List.{flat_map}
 
 -- the lower-case hexadecimal digit of a number below 16
