@@ -751,7 +751,7 @@ static inline uint32_t tcpclkit_unpack(const uint8_t *bytes, size_t length,
   status = tcpclkit_options_status(status, (const uint64_t *)options, sizeof *options);
   if (status != TCPCLKIT_OK) return status;
   return tcpclkit_raw_unpack(tcpclkit_start(bytes), length,
-                             &options->size + 1, (size_t)options->size / 8 - 1,
+                             (const uint64_t *)options + 1, (size_t)options->size / 8 - 1,
                              output != NULL, tcpclkit_start(output), output_room,
                              report != NULL, tcpclkit_start(report), report_room, run);
 }
@@ -786,7 +786,7 @@ static inline uint32_t tcpclkit_pack(const uint8_t *bytes, size_t length,
   status = tcpclkit_options_status(status, (const uint64_t *)options, sizeof *options);
   if (status != TCPCLKIT_OK) return status;
   return tcpclkit_raw_pack(tcpclkit_start(bytes), length,
-                           &options->size + 1, (size_t)options->size / 8 - 1,
+                           (const uint64_t *)options + 1, (size_t)options->size / 8 - 1,
                            tcpclkit_start(node), node_length,
                            output != NULL, tcpclkit_start(output), output_room,
                            report != NULL, tcpclkit_start(report), report_room, run);
