@@ -1,15 +1,15 @@
 -- Heads of known major types, by the numbers that their bytes spell.
 
-use Rattle.std.proofs.Common.{◌≡◌, ℕ, zero, suc, ◌+◌, ◌-◌, ◌*◌, ◌/◌, ◌%◌, ◌^◌, ◌<◌, ◌≤◌, true, false, List, [], ◌∷◌, length, take, drop, slice_index, get_or, None, Some, Ok, refl, sym, ap, ◌∙◌, arith}
+use Rattle.std.proofs.Common.{◌≡◌, ℕ, zero, suc, ◌+◌, ◌-◌, ◌*◌, ◌/◌, ◌%◌, ◌^◌, ◌<◌, ◌≤◌, true, false, List, ◌∷◌, length, take, drop, slice_index, get_or, None, Some, Ok, refl, sym, ap, ◌∙◌, arith}
 use Rattle.std.specs.Prelude.{◌==◌}
 use Rattle.std.proofs.lemmas.Bool.{ne_eqb}
-use Rattle.std.proofs.lemmas.List.{drop_more, get_or-drop, length-drop, length-take}
+use Rattle.std.proofs.lemmas.List.{drop_more, get_or-drop, length-drop}
 use Rattle.std.proofs.lemmas.Nat.{div-mul-add, pow-add}
 use Rattle.byteorder.specs.Endian.{big_from}
-use Rattle.byteorder.specs.Numbers.{big_from-cons, big_from-lt}
+use Rattle.byteorder.specs.Numbers.{big_from-lt}
 use Rattle.link_cbor.specs.declared.head.Head.{Head}
 use Rattle.link_cbor.specs.Head.{Whole, big_endian, with_argument, no_argument, head_front}
-use Rattle.link_cbor.proofs.HeadLaws.{argument_front-there, front_by-small, front_by-argument, front_by-none}
+use Rattle.link_cbor.proofs.HeadLaws.{big_endian-big_from, argument_front-there, front_by-small, front_by-argument, front_by-none}
 use Rattle.link_bundle_types.specs.declared.eid.Eid.TheVariants.{DtnNone, Ipn as IpnNumbers}
 use Rattle.link_bundle_heads.specs.declared.endpoint.Scheme.TheVariants.{Dtn, Ipn}
 use Rattle.link_bundle_heads.specs.Rows.{unsigned, array, pair, scheme, dtn_part, ipn_part, is_break, closing}
@@ -58,16 +58,6 @@ shifted (suc zero) bytes below are = top 2 6 bytes refl are
 shifted (suc (suc zero)) bytes below are = top 4 4 bytes refl are
 shifted (suc (suc (suc zero))) bytes below are = top 8 0 bytes refl are
 shifted (suc (suc (suc (suc step)))) bytes below are = absurd (omega arith)
-
-spelled : (size : ℕ) (bytes : List ℕ) → size ≤ length bytes
-    → big_endian (take size bytes) ≡ big_from 0 size bytes
-unfolding big_endian
-spelled zero bytes within = refl
-spelled (suc size) [] within = absurd (omega arith)
-spelled (suc size) (first ∷ bytes) within =
-    let less : size ≤ length bytes = omega arith in
-    let size_is : length (take size bytes) ≡ size = omega (arith, length-take size bytes) in
-    rw (size_is, spelled size bytes less, big_from-cons 0 size first bytes) refl
 
 -- ---- heads
 
@@ -121,7 +111,7 @@ front-argument major information size first rest below is least most size_is wit
     ∙ whole major (2 ^ (information - 24)) (big_endian (take (2 ^ (information - 24)) rest)) below
     ∙ ap (λ (argument : ℕ). Whole (record { major = major; value = Some argument })
     (1 + 2 ^ (information - 24)))
-    (spelled (2 ^ (information - 24)) rest there
+    (big_endian-big_from (2 ^ (information - 24)) rest there
     ∙ sym (shifted (information - 24) rest (omega arith) are)))
   where
     most_of : (step : ℕ) → step < 4 → 2 ^ step ≤ 8

@@ -122,17 +122,16 @@ fn fragment_at(
     Ok((Some((fragment_offset, total)), offset))
 }
 
-/// The number that the content of a check field spells.
+/// The number that the content of a check field of this kind spells.
 #[inline(always)]
-fn number_of(stored: &[u8]) -> u32
-    requires { length stored.now ≤ 4 }
+fn number_of(kind: CheckKind, stored: &[u8]) -> u32
+    requires { length stored.now ≡ check_width kind }
     ensures { result ≡ number_from 0 stored.now }
 {
-    let mut number = 0;
-    for &byte in stored {
-        number = number * 256 + u32::from(byte);
+    match kind {
+        CheckKind::Crc16 => u32::from(BigEndian::read_u16(stored)),
+        CheckKind::Crc32 => BigEndian::read_u32(stored),
     }
-    number
 }
 
 /// The check value of a block, from its bytes before the content of its check field.
@@ -186,7 +185,7 @@ fn stored_at(
     let (head, content) = small_at(row::BYTE_STRING, bytes, offset)?;
     row::check_field(kind, head)?;
     let (stored, next) = bytes_at(row::check_width(kind), bytes, content)?;
-    if start > content || number_of(stored) != check_of(kind, &bytes[start..content]) {
+    if start > content || number_of(kind, stored) != check_of(kind, &bytes[start..content]) {
         return Err(BundleFault::CheckDiffers);
     }
     Ok(next)

@@ -1,13 +1,12 @@
 -- The head that some bytes begin with, read at once.
 
-use Rattle.std.proofs.Common.{◌≡◌, ℕ, suc, ◌+◌, ◌-◌, ◌*◌, ◌/◌, ◌^◌, ◌<◌, ◌≤◌, true, false, List, [], ◌∷◌, ◌++◌, length, take, drop, get_or, sym, refl, ap, ◌∙◌, arith}
+use Rattle.std.proofs.Common.{◌≡◌, ℕ, ◌-◌, ◌/◌, ◌^◌, ◌<◌, ◌≤◌, true, false, List, [], ◌∷◌, length, take, drop, get_or, sym, refl, ap, ◌∙◌, arith}
 use Rattle.std.specs.Prelude.{◌==◌, bit_and}
 use Rattle.std.proofs.lemmas.Bool.{eqb-true}
-use Rattle.std.proofs.lemmas.List.{length-append, length-drop}
+use Rattle.std.proofs.lemmas.List.{length-drop}
 use Rattle.std.proofs.lemmas.Nat.{and_mask}
-use Rattle.std.proofs.Math.Nat.{pow-suc}
 use Rattle.std.proofs.Math.Seq.{take-length}
-use Rattle.link_cbor.specs.Head.{Cut, big_endian, argument_front, front_by, head_front}
+use Rattle.link_cbor.specs.Head.{Cut, argument_front, front_by, head_front}
 use Rattle.link_cbor.proofs.HeadLaws.{front_by-argument}
 
 pub empty : (bytes : List ℕ) → (length bytes == 0) ≡ true → head_front bytes ≡ Cut
@@ -44,18 +43,3 @@ by_argument bytes information some is least below =
     ∙ front_by-argument (get_or bytes 0 0 / 32) information (drop 1 bytes) least below
     ∙ ap (λ (rest : List ℕ). argument_front (get_or bytes 0 0 / 32) (2 ^ (information - 24)) rest)
     (sym (others bytes))
-
-shifted : (first rest place byte : ℕ)
-    → first * (place * 256) + (rest * 256 + byte) ≡ (first * place + rest) * 256 + byte
-shifted first rest place byte = omega arith
-
--- a number with one more byte
-pub big_endian-push : (bytes : List ℕ) (byte : ℕ)
-    → big_endian (bytes ++ byte ∷ []) ≡ big_endian bytes * 256 + byte
-unfolding big_endian
-big_endian-push [] byte = omega arith
-big_endian-push (first ∷ rest) byte =
-    let longer : length (rest ++ byte ∷ []) ≡ suc (length rest) =
-    omega (arith, length-append rest (byte ∷ [])) in
-    rw (longer, pow-suc 256 (length rest), big_endian-push rest byte)
-    (shifted first (big_endian rest) (256 ^ length rest) byte)

@@ -1,13 +1,28 @@
 -- Consequences of the definition of a head, for scans of more than one head.
 
-use Rattle.std.proofs.Common.{◌≡◌, ℕ, suc, ◌+◌, ◌-◌, ◌/◌, ◌%◌, ◌^◌, ◌<◌, ◌≤◌, false, ◌&&◌, ◌||◌, nat_lt, List, [], ◌∷◌, ◌++◌, length, take, drop, Some, refl, sym, ap, ◌∙◌, ⊎_elim, arith}
+use Rattle.std.proofs.Common.{◌≡◌, ℕ, zero, suc, ◌+◌, ◌-◌, ◌/◌, ◌%◌, ◌^◌, ◌<◌, ◌≤◌, false, ◌&&◌, ◌||◌, nat_lt, List, [], ◌∷◌, ◌++◌, length, take, drop, Some, refl, sym, ap, ◌∙◌, ⊎_elim, arith}
 use Rattle.std.specs.Prelude.{◌==◌}
-use Rattle.std.proofs.lemmas.List.{length-append, length-take-le, take-append-drop, take-append-le}
+use Rattle.std.proofs.lemmas.List.{length-append, length-take, length-take-le, take-append-drop, take-append-le}
 use Rattle.std.proofs.lemmas.Bool.{cases_Bool, cases_lt, lt-ltb, le-ltb, false≢true}
+use Rattle.byteorder.specs.Endian.{big_from}
+use Rattle.byteorder.specs.Numbers.{big_from-cons}
 use Rattle.link_cbor.specs.declared.head.Head.{Head}
 use Rattle.link_cbor.specs.Head.{HeadFront, Cut, IllFormed, Whole, big_endian, with_argument, argument_front, no_argument, front_by, head_front, whole_of, is_cut}
 
 -- ---- the parts of a head, one by one
+
+-- the number that the first bytes encode
+pub big_endian-big_from : (size : ℕ) (bytes : List ℕ) → size ≤ length bytes
+    → big_endian (take size bytes) ≡ big_from 0 size bytes
+unfolding big_endian
+big_endian-big_from zero bytes within = refl
+big_endian-big_from (suc size) [] within = absurd (omega arith)
+big_endian-big_from (suc size) (first ∷ bytes) within =
+    let less : size ≤ length bytes = omega arith in
+    let size_is : length (take size bytes) ≡ size = omega (arith, length-take size bytes) in
+    rw (size_is, big_endian-big_from size bytes less, big_from-cons 0 size first bytes) refl
+
+pub ruleset argument = (big_endian-big_from)
 
 pub argument_front-cut : (major size : ℕ) (rest : List ℕ) → length rest < size
     → argument_front major size rest ≡ Cut

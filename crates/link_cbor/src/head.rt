@@ -1,6 +1,7 @@
 //! The head of a CBOR data item, and what a scan reports about it.
 ghost use Rattle.std.specs.Prelude.{◌≡◌, ◌+◌, ◌<◌, ◌≤◌, length, get_or, IfSome, bit_and};
-ghost use Rattle.link_cbor.specs.Head.{big_endian};
+
+use byteorder::{BigEndian, ByteOrder};
 
 /// The head of a CBOR data item (RFC 8949 section 3).
 #[derive(Clone, Copy, PartialEq, Eq, Debug)]
@@ -60,14 +61,18 @@ impl Head {
     }
 
     /// Reads a head whose argument is the first `size` bytes of `rest`.
-    #[tactic(auto, unfolding(crate::specs::Head::argument_front, crate::specs::Head::with_argument))]
+    #[tactic(auto, using(crate::proofs::HeadLaws::argument), unfolding(crate::specs::Head::argument_front, crate::specs::Head::with_argument))]
     fn with_argument(major: u8, size: usize, rest: &[u8]) -> Option<(Head, usize)>
-        requires { size ≤ 8 }
+        requires low { 1 ≤ size }
+        requires high { size ≤ 8 }
         ensures front { result ≡ whole_of (argument_front major size rest.now) }
         ensures some { IfSome result (λ front. 0 < front.1) }
         ensures within { IfSome result (λ front. front.1 ≤ 1 + length rest.now) }
     {
-        let value = big_endian(rest.get(..size)?);
+        if rest.len() < size {
+            return None;
+        }
+        let value = BigEndian::read_uint(rest, size);
         if major == 7 && size == 1 && value < 32 {
             return None;
         }
@@ -88,18 +93,6 @@ impl Head {
         }
         Some((Head { major, value: None }, 1))
     }
-}
-
-/// The number that the bytes encode, most significant byte first.
-fn big_endian(bytes: &[u8]) -> u64
-    requires { length bytes.now ≤ 8 }
-    ensures { result ≡ big_endian bytes.now }
-{
-    let mut number = 0;
-    for &byte in bytes {
-        number = number * 256 + u64::from(byte);
-    }
-    number
 }
 
 /// The state of a head after the bytes seen so far.
