@@ -385,7 +385,7 @@ const HELP_TEXTS: [(&[&str], &[&str]); 5] = [
             "Example:",
         ],
     ),
-    (&["--version"], &["tcpclkit 0.3.0\n"]),
+    (&["--version"], &["tcpclkit 0.4.0\n"]),
 ];
 
 /// Checks that a text is there for a line, and that it has these parts.

@@ -116,7 +116,7 @@ fn program<'a>(alloc: Global) -> Command<'a>
     ensures { app_of result ≡ record { top = program; subs = [] } }
 {
     Command::new(alloc, "tcpclkit")
-        .version("0.3.0")
+        .version("0.4.0")
         .about(ABOUT)
         .after_help(HELP)
         .subcommand_required(true)
