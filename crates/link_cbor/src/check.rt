@@ -94,6 +94,3 @@ impl Check {
         self.register ^ self.kind.all_ones()
     }
 }
-
-#[cfg(test)]
-mod tests;

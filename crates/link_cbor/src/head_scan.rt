@@ -183,6 +183,3 @@ impl Piecewise for HeadScan {
         self.count += 1;
     }
 }
-
-#[cfg(test)]
-mod tests;

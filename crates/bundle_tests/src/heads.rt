@@ -1,6 +1,6 @@
 //! Heads of RFC 8949 appendix A, byte by byte.
 
-use super::*;
+use link_cbor::{Head, HeadScan, HeadStep, Piecewise};
 use std::process::Abort;
 
 const MORE: HeadStep = HeadStep::More;
