@@ -1,5 +1,5 @@
 -- What holds after a step of `pack`, by what its bytes show of the bundle.
-use Rattle.std.proofs.Common.{◌≡◌, ℕ, ◌+◌, ◌-◌, ◌^◌, ◌<◌, ◌≤◌, inl, inr, true, false, List, [], ◌∷◌, ◌++◌, length, take, drop, OnOk, Option, Some, None, Result, Ok, Err, refl, ap, sym, ◌∙◌, subst, append-nil, append_assoc, length-append, length-take, arith}
+use Rattle.std.proofs.Common.{◌≡◌, ℕ, ◌+◌, ◌^◌, ◌<◌, ◌≤◌, inl, inr, true, false, List, [], ◌∷◌, ◌++◌, length, take, OnOk, Option, Some, None, Result, Ok, Err, refl, ap, sym, ◌∙◌, subst, append-nil, append_assoc, length-append, length-take, arith}
 use Rattle.std.proofs.lemmas.List.{take-take}
 use Rattle.link_wire.specs.Device.{Input}
 use Rattle.link_wire.specs.Source.{front_of as at_hand, IsLive, IsOver, Takes, Readies}

@@ -2,7 +2,7 @@
 use Rattle.std.proofs.Common.{◌≡◌, ℕ, ◌<◌, ◌≤◌, true, false, List, [], ◌∷◌, ◌++◌, length, Option, Some, None, refl, ap, sym, ◌∙◌, append-nil, arith}
 use Rattle.link_bundle.specs.Bundle.{bundle_goes}
 use Rattle.link_run.specs.Made.{Made, with_fault, whole_by, shows_fault}
-use Rattle.link_run.specs.Run.{Texts, Outcome, ◌then◌}
+use Rattle.link_run.specs.Run.{Outcome, ◌then◌}
 use Rattle.link_run.specs.Stages.{MayBegin}
 use Rattle.link_run.specs.Writers.{on_output}
 use Rattle.link_run.proofs.Runs.{texts_as}
