@@ -11,12 +11,12 @@
  *     else
  *       refuse(verdict.fault.code, verdict.fault.offset);
  *
- * What is proved. Each function `tcpclkit_NAME` is inline: it tests its pointers and lengths, and
- * calls `tcpclkit_raw_NAME` of the library. The paragraph "Proved" in a comment says what the
- * contract of the raw function says. The words in `backticks` there are definitions of the folders
- * `specs/` of the source, which docs/DEFINITIONS.md explains. Each raw function returns, whatever
- * the bytes and the numbers are, and reads and writes only what it was lent. The inline functions
- * are tested, and not proved.
+ * What is proved. Each function `tcpclkit_NAME` but tcpclkit_abi is inline: it tests pointers and
+ * lengths, and calls `tcpclkit_raw_NAME` of the library. The paragraph "Proved" in a comment says
+ * what the contract of the raw function says. The words in `backticks` there are definitions of the
+ * folders `specs/` of the source, which docs/DEFINITIONS.md explains. Each raw function returns,
+ * whatever the bytes and the numbers are, and reads and writes only what it was lent. Those that
+ * take a scan require memory with a scan in it. The inline functions are tested, and not proved.
  *
  * What the caller owes. Each pointer is valid for the length that follows it, and each pointer to a
  * struct is valid and aligned. Nobody changes what is lent while the call runs, not even from
@@ -33,15 +33,16 @@
  * and the forked child of a process with threads, may call all functions but tcpclkit_pack.
  *
  * Memory. Only tcpclkit_pack takes memory: it calls malloc and free of the C library for one block.
- * On the stack, a whole tool takes up to 120 KiB and any other function up to 20 KiB. An alternate
- * stack for signal handlers often has 8 KiB (SIGSTKSZ), which is too little. The code is for
- * x86-64-v2: it uses SSE 4.2, and no AVX.
+ * In tests, 120 KiB of stack were enough for a whole tool, and 20 KiB for any other function. An
+ * alternate stack for signal handlers often has 8 KiB (SIGSTKSZ), which is too little. The code is
+ * for x86-64-v2: it uses SSE 4.2, and no AVX.
  *
  * Slices. What a function writes into a slice begins at its first byte. The bytes after it stay as
  * they were.
  *
  * Fields. Each field of each struct is a uint64_t, so there is no padding. A field that the
- * comments do not name for a kind of message, and after a fault each field but the fault's, is 0.
+ * comments do not name for a kind of message is 0. After TCPCLKIT_TRUNCATED and TCPCLKIT_FAULT, so
+ * is each field of a contact header, a message or an item but `fault`.
  */
 #ifndef TCPCLKIT_H
 #define TCPCLKIT_H
@@ -79,7 +80,7 @@ enum {
   /* A slice that was lent is too small. What was written into it is a prefix of the answer. */
   TCPCLKIT_TOO_SMALL = 5,
   /* A number is out of its range, such as an offset past the end, or slices overlap, or the memory
-   * has no scan. Nothing was written, but tcpclkit_feed_scan sets `*taken` to 0. */
+   * has no scan. Nothing was written, but tcpclkit_feed_scan may set `*taken` to 0. */
   TCPCLKIT_RANGE = 6,
   /* A pointer is null that may not be. Nothing was written. */
   TCPCLKIT_NULL = 7,
@@ -130,10 +131,8 @@ enum {
   TCPCLKIT_BUNDLE_NO_PAYLOAD_LAST = 117
 };
 
-/*
- * Why bytes are refused: all 0 but after TCPCLKIT_TRUNCATED, TCPCLKIT_DATA_TRUNCATED and
- * TCPCLKIT_FAULT.
- */
+/* Why bytes are refused: all 0 but after TCPCLKIT_TRUNCATED, TCPCLKIT_DATA_TRUNCATED and
+ * TCPCLKIT_FAULT. */
 struct tcpclkit_fault {
   uint64_t code;   /* one of those above */
   uint64_t number; /* the number that the code is about, or 0 */
@@ -262,7 +261,7 @@ static inline uint32_t tcpclkit_judge_bundle(const uint8_t *bytes, size_t length
  *
  * Proved of tcpclkit_raw_describe_bundle: `verdict` is as above. After TCPCLKIT_OK the fields and
  * the names are the bundle that `verdict` gives. After TCPCLKIT_TOO_SMALL they are too, with each
- * name cut to its room. The other bytes of the slices are as they were.
+ * name cut to its room. Otherwise each other field is 0. The other bytes of the slices stay.
  */
 uint32_t tcpclkit_raw_describe_bundle(const uint8_t *bytes, size_t length,
                                       uint8_t *destination_name, size_t destination_room,
@@ -301,8 +300,8 @@ static inline uint32_t tcpclkit_describe_bundle(const uint8_t *bytes, size_t len
  *
  * It keeps what the heads of the bundle say, and no byte of the payload. The memory is the caller's
  * and needs no release. What is in it is the library's, and begins with a mark. Without the mark
- * the answer is TCPCLKIT_RANGE, so memory that was never started is refused. It may be copied at
- * any time, by assignment or memcpy: the copy is a scan that has seen the same bytes.
+ * the answer is TCPCLKIT_RANGE. Other memory that happens to have the mark is not refused. A scan
+ * may be copied at any time, by assignment or memcpy: the copy has seen the same bytes.
  */
 struct tcpclkit_scan {
   uint64_t memory[TCPCLKIT_SCAN_WORDS];
@@ -336,8 +335,8 @@ static inline uint32_t tcpclkit_start_scan(struct tcpclkit_scan *scan) {
  * that were taken of this piece and of those before it are a good bundle. TCPCLKIT_FAULT: they are
  * no bundle, whatever follows, and the last of them shows the first fault. After these two no byte
  * is taken: a further call takes 0 bytes and returns the same. What was not taken does not belong
- * to the bundle, so it may be the next bundle. TCPCLKIT_RANGE: the memory has no scan, or the
- * pieces have 2^63 bytes or more, and nothing of this one was taken.
+ * to the bundle, so it may be the next bundle. TCPCLKIT_RANGE: the memory has no scan, or the bytes
+ * taken and this piece are 2^63 bytes or more, and nothing of this piece was taken.
  *
  * Proved of tcpclkit_raw_feed_scan: if the scan has seen some bytes, it then has seen these and,
  * after them, `fed` of them and of the piece, which are as many as `*taken` says. The status is
@@ -501,9 +500,8 @@ static inline uint32_t tcpclkit_read_message(const uint8_t *bytes, size_t length
  *
  * A list that a message has is read from `items_offset`, with `end` = `items_offset` +
  * `items_length`, and then from `next` on: each call returns TCPCLKIT_OK, and the last one
- * TCPCLKIT_END. For other places: TCPCLKIT_FAULT if the item does not end within the list,
- * TCPCLKIT_TRUNCATED if it does not end within the bytes, and TCPCLKIT_RANGE if not `offset` <=
- * `end` <= `length`, or if the list has more than 65,536 bytes left.
+ * TCPCLKIT_END. For other places: TCPCLKIT_FAULT if the item does not end within the list, and
+ * TCPCLKIT_RANGE if not `offset` <= `end` <= `length`, or if more than 65,536 bytes are left.
  *
  * Proved of tcpclkit_raw_read_item: the answer is `item_head_at` and `total_at` of the bytes from
  * the offset on.
@@ -638,7 +636,7 @@ static inline uint32_t tcpclkit_write_eid_text(const struct tcpclkit_eid *eid, c
 
 /*
  * What a run of a tool did. The lengths are those of the whole texts, also where they did not fit,
- * so a caller that was told TCPCLKIT_TOO_SMALL knows how much room is enough.
+ * so after TCPCLKIT_TOO_SMALL a caller knows how much room is enough. They stop at UINT64_MAX.
  */
 struct tcpclkit_run {
   uint64_t exit_status;    /* 0, 1 or 3, as the program ends (docs/MANUAL.md) */
@@ -729,12 +727,13 @@ static inline uint32_t tcpclkit_list(const uint8_t *bytes, size_t length,
  * report.
  *
  * The statuses are those of tcpclkit_list; also TCPCLKIT_RANGE if `only_one`, `payload` or
- * `keep_going` is above 1, or `size` is not that of the struct. An output as long as the recording
+ * `keep_going` is above 1, or `size` is that of no such struct. An output as long as the recording
  * is always large enough.
  *
  * Proved of tcpclkit_raw_unpack: as for tcpclkit_raw_list, of `unpack_tool` of the options and the
  * bytes. The options are `option_count` numbers, which follow `size` in the struct. Those that are
- * missing have their defaults, and those after the ones that the library knows have to be 0.
+ * missing have their defaults, and those after the ones that the library knows have to be 0. If an
+ * option is out of its range, the status is TCPCLKIT_RANGE, and nothing is written.
  */
 uint32_t tcpclkit_raw_unpack(const uint8_t *bytes, size_t length,
                              const uint64_t *options, size_t option_count,
@@ -765,7 +764,7 @@ static inline uint32_t tcpclkit_unpack(const uint8_t *bytes, size_t length,
  * block that pack asks for before it reads: then nothing was written, and each field of `run` is 0.
  *
  * Proved of tcpclkit_raw_pack: as for tcpclkit_raw_unpack, of `pack_tool` of the options and the
- * bytes, unless the memory is refused.
+ * bytes; or the status is TCPCLKIT_MEMORY, nothing is written, and each field of `run` is 0.
  */
 uint32_t tcpclkit_raw_pack(const uint8_t *bytes, size_t length,
                            const uint64_t *options, size_t option_count,
