@@ -1,0 +1,6 @@
+pub mod Starts
+pub mod Names
+pub mod Heads
+pub mod Stops
+pub mod Steps
+pub mod Results

@@ -1,0 +1,7 @@
+pub mod DataRows
+pub mod BlockData
+pub mod DataView
+pub mod Turns
+pub mod Fits
+pub mod Left
+pub mod Scan

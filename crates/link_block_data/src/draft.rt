@@ -1,0 +1,273 @@
+//! The values of the heads so far, and how each head changes them.
+ghost use Rattle.std.specs.Prelude.{◌≡◌, ◌≤◌, IfOk, IfSome, IsTrue, length};
+
+use crate::due::{Due, Found, Number, Owner, Pair, Stage, Status};
+use crate::row;
+use crate::values::{Assertion, DataView, Integer, Report, SecurityBlock};
+use link_bundle_heads::row as bundle_row;
+use link_bundle_types::{BundleFault, EidForm, KeptEid};
+use link_cbor::Head;
+
+/// The values of the heads so far.
+///
+/// A value is set before it is read, so it does not matter what it was before.
+#[derive(Drop)]
+pub(crate) struct Draft {
+    /// The endpoint ID of the data.
+    pub eid: KeptEid,
+    pub security: SecurityBlock,
+    pub report: Report,
+    /// The number of status assertions after the first four.
+    pub others: u64,
+    /// Whether the status report is about a fragment.
+    pub is_fragment: bool,
+}
+
+impl Draft {
+    ghost use Rattle.link_block_data.specs.Left.{data_from};
+    ghost use Rattle.link_block_data.specs.DataView.{viewed_data, HasShortName};
+
+    /// The values before the first head.
+    pub fn new() -> Draft {
+        Draft {
+            eid: KeptEid::new(),
+            security: SecurityBlock {
+                targets: 0,
+                targets_primary: false,
+                context: Integer {
+                    negative: false,
+                    argument: 0,
+                },
+            },
+            report: Report {
+                received: Assertion::No,
+                forwarded: Assertion::No,
+                delivered: Assertion::No,
+                deleted: Assertion::No,
+                reason: 0,
+                time: 0,
+                sequence: 0,
+                fragment: None,
+            },
+            others: 0,
+            is_fragment: false,
+        }
+    }
+
+    /// What data says whose item was read.
+    pub fn view(&self, found: Found) -> DataView<'_>
+        ensures view { viewed_data result ≡ data_from found self.now }
+        ensures short { HasShortName (viewed_data result) }
+    {
+        match found {
+            Found::PreviousNode => DataView::PreviousNode(self.eid.view()),
+            Found::BundleAge(age) => DataView::BundleAge(age),
+            Found::HopCount(limit, count) => DataView::HopCount(limit, count),
+            Found::Security => DataView::Security(self.security, self.eid.view()),
+            Found::StatusReport => DataView::StatusReport(self.report, self.eid.view()),
+            Found::OtherRecord(code) => DataView::OtherRecord(code),
+        }
+    }
+}
+
+impl Draft {
+    ghost use Rattle.link_block_data.specs.Turns as turns;
+    ghost use Rattle.link_block_data.specs.Turns.{turned};
+    ghost use Rattle.link_block_data.specs.Fits.{stage_fits};
+
+    /// Judges a complete head of `size` bytes, and returns the stage after it.
+    ///
+    /// The fault of a head that is not the one due is that of its row.
+    pub fn head(&mut self, due: Due, size: u64, head: Head) -> Result<Stage, BundleFault>
+        ensures judged { turned result self.new ≡ turns.judged due size head self.old }
+        ensures fits { IfOk result (λ stage. IsTrue (stage_fits stage self.new)) }
+    {
+        match due {
+            Due::Number(number) => Ok(self.number(number, bundle_row::unsigned(head)?)),
+            Due::Pair(pair) => self.pair(pair, head),
+            Due::Scheme(owner) => {
+                let scheme = bundle_row::scheme(head)?;
+                Ok(Stage::Head(owner.specific(scheme)))
+            }
+            Due::DtnPart(owner) => Ok(self.dtn(owner, bundle_row::dtn_part(head)?)),
+            Due::IpnPart(owner) => {
+                let count = bundle_row::ipn_part(head)?;
+                Ok(Stage::Head(owner.first_number(count)))
+            }
+            Due::Targets => self.targets(head),
+            Due::ContextId => {
+                self.security.context = row::integer(head)?;
+                Ok(Stage::Head(Due::Number(Number::ContextFlags)))
+            }
+            Due::Report => {
+                self.is_fragment = row::four_or_six(head)? == 6;
+                Ok(Stage::Head(Due::Assertions))
+            }
+            Due::Assertions => {
+                self.others = row::four_or_more(head)? - 4;
+                Ok(Stage::Head(Due::Assertion(Status::Received)))
+            }
+            Due::Assertion(status) => {
+                let has_time = row::one_or_two(head)? == 2;
+                Ok(Stage::Head(Due::Asserted(status, has_time)))
+            }
+            Due::Asserted(status, has_time) => {
+                let asserted = row::assertion(has_time, size, head)?;
+                Ok(self.asserted(status, has_time, asserted))
+            }
+        }
+    }
+
+    /// Judges the array of two elements that is due.
+    fn pair(&mut self, pair: Pair, head: Head) -> Result<Stage, BundleFault>
+        ensures judged { turned result self.new ≡ turns.judged (Due.Pair pair) 0 head self.old }
+        ensures fits { IfOk result (λ stage. IsTrue (stage_fits stage self.new)) }
+    {
+        bundle_row::pair(head)?;
+        Ok(Stage::Head(pair.first()))
+    }
+
+    /// Judges the array of the targets of a security block.
+    fn targets(&mut self, head: Head) -> Result<Stage, BundleFault>
+        ensures judged { turned result self.new ≡ turns.judged Due.Targets 0 head self.old }
+        ensures fits { IfOk result (λ stage. IsTrue (stage_fits stage self.new)) }
+    {
+        let count = row::array(head)?;
+        self.security.targets = count;
+        self.security.targets_primary = false;
+        Ok(Stage::Head(Due::targets(count)))
+    }
+
+    /// Takes the unsigned integer that is due.
+    fn number(&mut self, number: Number, value: u64) -> Stage
+        ensures took { (result, self.new) ≡ turns.took number value self.old }
+        ensures fits { IsTrue (stage_fits result self.new) }
+    {
+        match number {
+            Number::Age => Stage::Read(Found::BundleAge(value)),
+            Number::HopLimit => Stage::Head(Due::Number(Number::HopCount(value))),
+            Number::HopCount(limit) => Stage::Read(Found::HopCount(limit, value)),
+            Number::Target(left) => self.target(left, value),
+            Number::ContextFlags => Stage::Head(Due::Pair(Pair::Eid(Owner::Security))),
+            Number::RecordType => Stage::after_type(value),
+            Number::AssertedTime(status) => self.assertion(status, Assertion::YesAt(value)),
+            Number::Reason => {
+                self.report.reason = value;
+                Stage::Head(Due::Pair(Pair::Eid(Owner::Report)))
+            }
+            Number::CreationTime => {
+                self.report.time = value;
+                Stage::Head(Due::Number(Number::Sequence))
+            }
+            Number::Sequence => self.sequence(value),
+            Number::FragmentOffset => Stage::Head(Due::Number(Number::FragmentLength(value))),
+            Number::FragmentLength(offset) => {
+                self.report.fragment = Some((offset, value));
+                Stage::Read(Found::StatusReport)
+            }
+            Number::Allocator(owner) => {
+                Stage::Head(Due::Number(Number::Node(owner, Some(value))))
+            }
+            Number::Node(owner, allocator) => {
+                Stage::Head(Due::Number(Number::Service(owner, allocator, value)))
+            }
+            Number::Service(owner, allocator, node) => self.service(owner, allocator, node, value),
+        }
+    }
+
+    /// Takes a target of a security block, after which this many are left.
+    fn target(&mut self, left: u64, target: u64) -> Stage
+        ensures took { (result, self.new) ≡ turns.took (Number.Target left) target self.old }
+        ensures fits { IsTrue (stage_fits result self.new) }
+    {
+        self.security.targets_primary = self.security.targets_primary || target == 0;
+        Stage::Head(Due::targets(left))
+    }
+
+    /// Takes the Boolean of a status assertion.
+    fn asserted(&mut self, status: Status, has_time: bool, asserted: bool) -> Stage
+        ensures took { (result, self.new)
+            ≡ turns.took_asserted status has_time asserted self.old }
+        ensures fits { IsTrue (stage_fits result self.new) }
+    {
+        if has_time {
+            return Stage::Head(Due::Number(Number::AssertedTime(status)));
+        }
+        let assertion = if asserted {
+            Assertion::Yes
+        } else {
+            Assertion::No
+        };
+        self.assertion(status, assertion)
+    }
+
+    /// Keeps a status assertion, and returns the stage after it.
+    fn assertion(&mut self, status: Status, assertion: Assertion) -> Stage
+        ensures took { (result, self.new) ≡ turns.took_assertion status assertion self.old }
+        ensures fits { IsTrue (stage_fits result self.new) }
+    {
+        match status {
+            Status::Received => self.report.received = assertion,
+            Status::Forwarded => self.report.forwarded = assertion,
+            Status::Delivered => self.report.delivered = assertion,
+            Status::Deleted => self.report.deleted = assertion,
+            Status::Other(_) => {}
+        }
+        Stage::Head(status.next(self.others))
+    }
+
+    /// Takes the sequence number of a status report, after which the fields of a fragment are due.
+    fn sequence(&mut self, sequence: u64) -> Stage
+        ensures took { (result, self.new) ≡ turns.took_sequence sequence self.old }
+        ensures fits { IsTrue (stage_fits result self.new) }
+    {
+        self.report.sequence = sequence;
+        if self.is_fragment {
+            return Stage::Head(Due::Number(Number::FragmentOffset));
+        }
+        self.report.fragment = None;
+        Stage::Read(Found::StatusReport)
+    }
+
+    /// Takes the service number of an ipn endpoint ID.
+    fn service(&mut self, owner: Owner, allocator: Option<u64>, node: u64, service: u64) -> Stage
+        ensures took { (result, self.new)
+            ≡ turns.took (Number.Service owner allocator node) service self.old }
+        ensures fits { IsTrue (stage_fits result self.new) }
+    {
+        match allocator {
+            None => self.eid.set(EidForm::Ipn(node, service)),
+            Some(allocator) => self.eid.set(EidForm::Ipn3(allocator, node, service)),
+        }
+        owner.after_eid()
+    }
+
+    /// Takes the specific part of a dtn endpoint ID: the length of its name, or `None`.
+    fn dtn(&mut self, owner: Owner, part: Option<u64>) -> Stage
+        requires { IfSome part (λ size. size ≤ 1024) }
+        ensures took { (result, self.new) ≡ turns.took_dtn owner part self.old }
+        ensures fits { IsTrue (stage_fits result self.new) }
+    {
+        match part {
+            None => {
+                self.eid.set(EidForm::DtnNone);
+                owner.after_eid()
+            }
+            Some(size) => {
+                self.eid.set(EidForm::Dtn);
+                owner.name_due(size)
+            }
+        }
+    }
+
+    /// Takes bytes of a dtn name that has `left` bytes left.
+    pub fn name(&mut self, owner: Owner, left: u64, run: &[u8]) -> Stage
+        requires fits { IsTrue (stage_fits (Stage.Name owner left) self.old) }
+        requires within { length run.now ≤ left }
+        ensures took { (result, self.new) ≡ turns.took_run owner left run.now self.old }
+        ensures fits { IsTrue (stage_fits result self.new) }
+    {
+        self.eid.extend(run);
+        owner.name_due(left - run.len() as u64)
+    }
+}
