@@ -138,11 +138,24 @@ struct names {
   uint8_t bytes[2][TCPCLKIT_EID_LIMIT];
 };
 
-/* How many bytes a good bundle's endpoint ID has in its slice, if there is room. */
-static uint64_t name_length(uint32_t status, const struct tcpclkit_eid *eid) {
-  if (status != TCPCLKIT_OK && status != TCPCLKIT_TOO_SMALL)
-    return 0;
-  return eid->kind == TCPCLKIT_EID_DTN ? eid->name_length : 0;
+/* The fields of the primary block that come after those that were accepted are 0. */
+static void check_fields(uint32_t status, const struct tcpclkit_bundle *it) {
+  uint64_t fields = it->primary_fields;
+  CHECK(fields <= (it->is_fragment ? 10u : 8u) && it->primary_whole <= 1);
+  CHECK(fields >= 2 || it->flags == 0);
+  CHECK((fields >= 4) == (it->destination.kind != 0));
+  CHECK((fields >= 5) == (it->source.kind != 0));
+  CHECK(fields >= 7 || (it->time == 0 && it->sequence == 0));
+  CHECK(fields >= 8 || it->lifetime == 0);
+  CHECK(fields >= 9 || it->fragment_offset == 0);
+  CHECK(fields >= 10 || it->fragment_total == 0);
+  CHECK(!it->primary_whole || fields == (it->is_fragment ? 10u : 8u));
+  CHECK(it->is_fragment == (it->flags & 1));
+  if (it->verdict.has_payload || status == TCPCLKIT_OK)
+    CHECK(it->primary_whole);
+  if (status == TCPCLKIT_TRUNCATED || status == TCPCLKIT_FAULT)
+    CHECK(it->blocks == 0 && it->payload_length == 0);
+  count(16, fields, it->primary_whole, it->verdict.fault.code);
 }
 
 static uint32_t ask_info(const uint8_t *bytes, size_t length, int fill, struct names *it) {
@@ -154,28 +167,29 @@ static uint32_t ask_info(const uint8_t *bytes, size_t length, int fill, struct n
                                 &it->bundle);
   give_back(FIRST, it->rooms[0]);
   give_back(SECOND, it->rooms[1]);
-  keeps_rest(destination, it->rooms[0], name_length(status, &it->bundle.destination), fill);
-  keeps_rest(source, it->rooms[1], name_length(status, &it->bundle.source), fill);
+  keeps_rest(destination, it->rooms[0], it->bundle.destination.name_length, fill);
+  keeps_rest(source, it->rooms[1], it->bundle.source.name_length, fill);
+  check_fields(status, &it->bundle);
   memcpy(it->bytes[0], destination, it->rooms[0]);
   memcpy(it->bytes[1], source, it->rooms[1]);
   return status;
 }
 
-/* With less room each name is cut, and nothing else changes. */
+/* With less room each name is cut, and nothing else changes but the status of a good bundle. */
 static void ask_cut_names(const uint8_t *bytes, size_t length, const struct names *whole,
-                          size_t room) {
+                          uint32_t wanted, size_t room) {
   const struct tcpclkit_eid *eids[2] = {&whole->bundle.destination, &whole->bundle.source};
   struct names cut;
-  uint32_t status, wanted = TCPCLKIT_OK;
+  uint32_t status;
   int which;
   cut.rooms[0] = room % (TCPCLKIT_EID_LIMIT + 1);
   cut.rooms[1] = room / 7 % (TCPCLKIT_EID_LIMIT + 1);
   status = ask_info(bytes, length, 0x33, &cut);
   SAME(cut.bundle, whole->bundle);
   for (which = 0; which < 2; which++) {
-    size_t name = eids[which]->kind == TCPCLKIT_EID_DTN ? eids[which]->name_length : 0;
+    size_t name = eids[which]->name_length;
     CHECK(memcmp(cut.bytes[which], whole->bytes[which], least(name, cut.rooms[which])) == 0);
-    if (name > cut.rooms[which])
+    if (name > cut.rooms[which] && wanted == TCPCLKIT_OK)
       wanted = TCPCLKIT_TOO_SMALL;
   }
   CHECK(status == wanted);
@@ -196,12 +210,9 @@ static void ask_bundle(const uint8_t *bytes, size_t length, size_t cut, size_t r
   ask_prefix(bytes, length, cut, status, &verdict);
   count(1, status, verdict.fault.code, verdict.fault.offset);
   SAME(it.bundle, again.bundle);
-  if (status != TCPCLKIT_OK) {
+  if (status != TCPCLKIT_OK)
     ask_texts_of_fault(verdict.fault.code, verdict.fault.number, room);
-    ask_texts_of_eid(&it.bundle.source, it.bytes[1], 0, room);
-    return;
-  }
-  ask_cut_names(bytes, length, &it, room);
+  ask_cut_names(bytes, length, &it, status, room);
   ask_texts_of_eid(&it.bundle.destination, it.bytes[0], it.bundle.destination.name_length, room);
   ask_texts_of_eid(&it.bundle.source, it.bytes[1], it.bundle.source.name_length, room);
   count(2, it.bundle.source.kind, it.bundle.is_fragment, it.bundle.blocks);

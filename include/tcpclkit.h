@@ -37,8 +37,7 @@
  * alternate stack for signal handlers often has 8 KiB (SIGSTKSZ), which is too little. The code is
  * for x86-64-v2: it uses SSE 4.2, and no AVX.
  *
- * Slices. What a function writes into a slice begins at its first byte. The bytes after it stay as
- * they were.
+ * Slices. A function writes into a slice from its first byte on. The bytes after that stay.
  *
  * Fields. Each field of each struct is a uint64_t, so there is no padding. A field that the
  * comments do not name for a kind of message is 0. After TCPCLKIT_TRUNCATED and TCPCLKIT_FAULT, so
@@ -91,8 +90,7 @@ enum {
 /* -- faults ------------------------------------------------------------------------------------ */
 
 /*
- * The code of a fault. docs/FORMATS.md has the rule that each one breaks. `number` is the field of
- * struct tcpclkit_fault.
+ * The code of a fault, whose rule is in docs/FORMATS.md. `number` is of struct tcpclkit_fault.
  */
 enum {
   TCPCLKIT_NO_FAULT = 0,
@@ -216,20 +214,27 @@ struct tcpclkit_eid {
   uint64_t name_length;
 };
 
-/* The fields of a good bundle (RFC 9171 section 4.3.1). */
+/*
+ * The fields of a bundle. Those of the primary block are numbered in their order (RFC 9171 section
+ * 4.3.1): 1 is the version, 3 the type of the check value, and 6 the report-to endpoint. Those up
+ * to the number `primary_fields` were accepted. They come before the first fault, and each field
+ * after them is 0. The check value has no number. It may be wrong where all fields were accepted.
+ */
 struct tcpclkit_bundle {
   struct tcpclkit_verdict verdict;
-  uint64_t flags;
-  struct tcpclkit_eid destination;
-  struct tcpclkit_eid source;
-  uint64_t time;     /* milliseconds since 2000-01-01 UTC */
-  uint64_t sequence;
-  uint64_t lifetime; /* milliseconds after `time` */
-  uint64_t is_fragment;     /* 1 or 0 */
-  uint64_t fragment_offset; /* of a fragment */
-  uint64_t fragment_total;  /* of a fragment */
-  uint64_t blocks;   /* the number of canonical blocks */
-  uint64_t payload_length;
+  uint64_t primary_fields;  /* 0 to 8, or of a fragment 0 to 10 */
+  uint64_t primary_whole;   /* 1 if the whole primary block was accepted, its check value too */
+  uint64_t flags;           /* field 2 */
+  struct tcpclkit_eid destination; /* field 4 */
+  struct tcpclkit_eid source;      /* field 5 */
+  uint64_t time;            /* field 7: milliseconds since 2000-01-01 UTC */
+  uint64_t sequence;        /* field 7 */
+  uint64_t lifetime;        /* field 8: milliseconds after `time` */
+  uint64_t is_fragment;     /* 1 or 0, by `flags` */
+  uint64_t fragment_offset; /* field 9 of a fragment */
+  uint64_t fragment_total;  /* field 10 of a fragment */
+  uint64_t blocks;          /* of a good bundle: the number of canonical blocks */
+  uint64_t payload_length;  /* of a good bundle */
 };
 
 /*
@@ -252,16 +257,17 @@ static inline uint32_t tcpclkit_judge_bundle(const uint8_t *bytes, size_t length
 }
 
 /*
- * Judges the bytes as tcpclkit_judge_bundle does, and gives the fields of a good bundle.
+ * Judges the bytes as tcpclkit_judge_bundle does, and gives the fields of the bundle.
  *
- * The name of a dtn endpoint ID is copied into the slice that is lent for it. TCPCLKIT_TOO_SMALL:
- * the bundle is good and every field is given, but a name is longer than its slice, which has the
- * name's first bytes. If the bundle is not good, nothing is written into the slices, and each field
- * but `verdict` is 0. TCPCLKIT_RANGE: the slices overlap, or one of them overlaps the bytes.
+ * The name of a dtn endpoint ID is copied into the slice that is lent for it. If it is longer, the
+ * slice has its first bytes, and `name_length` is that of the whole name. Then the status of a good
+ * bundle is TCPCLKIT_TOO_SMALL, and that of a bad one stays TCPCLKIT_TRUNCATED or TCPCLKIT_FAULT.
+ * TCPCLKIT_RANGE: the slices overlap, or one of them overlaps the bytes.
  *
  * Proved of tcpclkit_raw_describe_bundle: `verdict` is as above. After TCPCLKIT_OK the fields and
  * the names are the bundle that `verdict` gives. After TCPCLKIT_TOO_SMALL they are too, with each
- * name cut to its room. Otherwise each other field is 0. The other bytes of the slices stay.
+ * name cut to its room. Otherwise they are `primary_fields` of the bytes, with each name cut. The
+ * fields `primary_fields` and `primary_whole` always are. The other bytes of the slices stay.
  */
 uint32_t tcpclkit_raw_describe_bundle(const uint8_t *bytes, size_t length,
                                       uint8_t *destination_name, size_t destination_room,
@@ -298,10 +304,11 @@ static inline uint32_t tcpclkit_describe_bundle(const uint8_t *bytes, size_t len
  *       status = tcpclkit_feed_scan(&scan, piece, length, &taken);
  *     } while (length > 0 && status == TCPCLKIT_TRUNCATED);
  *
- * It keeps what the heads of the bundle say, and no byte of the payload. The memory is the caller's
- * and needs no release. What is in it is the library's, and begins with a mark. Without the mark
- * the answer is TCPCLKIT_RANGE. Other memory that happens to have the mark is not refused. A scan
- * may be copied at any time, by assignment or memcpy: the copy has seen the same bytes.
+ * It keeps what the heads of the bundle say, and the first 3,257 bytes, which are as many as a
+ * primary block can need. The memory is the caller's and needs no release. What is in it is the
+ * library's, and begins with a mark. Without the mark the answer is TCPCLKIT_RANGE. Other memory
+ * that happens to have the mark is not refused. A scan may be copied at any time, by assignment or
+ * memcpy: the copy has seen the same bytes.
  */
 struct tcpclkit_scan {
   uint64_t memory[TCPCLKIT_SCAN_WORDS];
@@ -315,8 +322,7 @@ size_t tcpclkit_raw_scan_size(void);
 size_t tcpclkit_raw_scan_alignment(void);
 
 /*
- * Makes a scan that has seen no byte, whatever the memory has had in it. So one struct serves many
- * bundles, one after another.
+ * Makes a scan that has seen no byte, whatever was in the memory. So a struct serves many bundles.
  *
  * TCPCLKIT_OK or TCPCLKIT_NULL.
  *
@@ -368,7 +374,7 @@ static inline uint32_t tcpclkit_judge_scan(const struct tcpclkit_scan *scan,
 }
 
 /*
- * Gives the verdict on the bytes that were taken, and the fields of a good bundle.
+ * Gives the verdict on the bytes that were taken, and the fields of the bundle.
  *
  * The statuses are those of tcpclkit_describe_bundle; TCPCLKIT_RANGE if the memory has no scan.
  *
@@ -503,8 +509,7 @@ static inline uint32_t tcpclkit_read_message(const uint8_t *bytes, size_t length
  * TCPCLKIT_END. For other places: TCPCLKIT_FAULT if the item does not end within the list, and
  * TCPCLKIT_RANGE if not `offset` <= `end` <= `length`, or if more than 65,536 bytes are left.
  *
- * Proved of tcpclkit_raw_read_item: the answer is `item_head_at` and `total_at` of the bytes from
- * the offset on.
+ * Proved of tcpclkit_raw_read_item: the answer is `item_head_at` and `total_at` at the offset.
  */
 uint32_t tcpclkit_raw_read_item(const uint8_t *bytes, size_t length, uint64_t offset, uint64_t end,
                                 struct tcpclkit_item *item);
@@ -616,8 +621,7 @@ static inline uint32_t tcpclkit_write_fault_text(uint64_t code, uint64_t number,
  * `name_length` is not that of `eid` or is above TCPCLKIT_EID_LIMIT. So a name that was cut to its
  * slice is refused. 4,100 bytes are enough for every text.
  *
- * Proved of tcpclkit_raw_write_eid_text: the text is `eid_text`, and the bytes after it are as they
- * were.
+ * Proved of tcpclkit_raw_write_eid_text: the text is `eid_text`, and the bytes after it stay.
  */
 uint32_t tcpclkit_raw_write_eid_text(const struct tcpclkit_eid *eid, const uint8_t *name,
                                      size_t name_length, uint8_t *text, size_t room,
@@ -723,12 +727,10 @@ static inline uint32_t tcpclkit_list(const uint8_t *bytes, size_t length,
 }
 
 /*
- * `tcpclkit unpack`: the data of a recording's transfers, and a line for each of them as the
- * report.
+ * `tcpclkit unpack`: the data of a recording's transfers, and as the report a line for each.
  *
  * The statuses are those of tcpclkit_list; also TCPCLKIT_RANGE if `only_one`, `payload` or
- * `keep_going` is above 1, or `size` is that of no such struct. An output as long as the recording
- * is always large enough.
+ * `keep_going` is above 1, or `size` is of no such struct. An output of `length` bytes is enough.
  *
  * Proved of tcpclkit_raw_unpack: as for tcpclkit_raw_list, of `unpack_tool` of the options and the
  * bytes. The options are `option_count` numbers, which follow `size` in the struct. Those that are
@@ -756,8 +758,7 @@ static inline uint32_t tcpclkit_unpack(const uint8_t *bytes, size_t length,
 }
 
 /*
- * `tcpclkit pack`: bundles, one after another, as the stream of a sender, and a line for each of
- * them as the report.
+ * `tcpclkit pack`: bundles in turn as the stream of a sender, and as the report a line for each.
  *
  * `node` is the sender's node ID. The statuses are those of tcpclkit_list; also TCPCLKIT_RANGE if
  * an option or the length of `node` is not in its range, and TCPCLKIT_MEMORY if malloc refused the

@@ -64,6 +64,83 @@ static void infos(void) {
   CHECK(tcpclkit_describe_bundle(named, sizeof named, NULL, 4, from, 3, &info) == TCPCLKIT_NULL);
 }
 
+/* How far the fields of a bad bundle go: `whole` is whether its primary block is whole. */
+static int goes(const struct tcpclkit_bundle *info, uint64_t fields, uint64_t whole) {
+  return info->primary_fields == fields && info->primary_whole == whole && info->blocks == 0 &&
+         info->payload_length == 0;
+}
+
+/* The fields of a bundle whose bytes end after this many. */
+static struct tcpclkit_bundle cut(const uint8_t *bytes, size_t length) {
+  struct tcpclkit_bundle info;
+  uint8_t to[4], from[3];
+  CHECK(tcpclkit_describe_bundle(bytes, length, to, sizeof to, from, sizeof from, &info) ==
+        TCPCLKIT_TRUNCATED);
+  return info;
+}
+
+/* A cut bundle has the fields of its primary block that are whole (RFC 9171 section 4.3.1). */
+static void fields_of_cut_bundles(void) {
+  static const uint64_t ends[] = {3, 4, 5, 12, 18, 21, 24, 25};
+  struct tcpclkit_bundle info, none;
+  size_t length, fields = 0;
+  memset(&none, 0, sizeof none);
+  for (length = 0; length < sizeof named; length++) {
+    while (fields < 8 && ends[fields] <= length)
+      fields++;
+    info = cut(named, length);
+    CHECK(goes(&info, fields, fields == 8));
+    CHECK(info.destination.kind == (fields < 4 ? 0 : TCPCLKIT_EID_DTN));
+    CHECK(info.destination.name_length == (fields < 4 ? 0 : 4));
+    CHECK(info.source.name_length == (fields < 5 ? 0 : 3));
+    CHECK(info.time == (fields < 7 ? 0 : 5) && info.sequence == (fields < 7 ? 0 : 6));
+    CHECK(info.lifetime == (fields < 8 ? 0 : 7) && info.is_fragment == 0);
+  }
+  info = cut(bundle, 2);
+  none.verdict = info.verdict;
+  CHECK(memcmp(&info, &none, sizeof info) == 0);
+  info = cut(fragment, 4);
+  CHECK(goes(&info, 2, 0) && info.flags == 1 && info.is_fragment == 1);
+  info = cut(fragment, 20);
+  CHECK(goes(&info, 8, 0) && info.lifetime == 7 && info.fragment_offset == 0);
+  info = cut(fragment, 21);
+  CHECK(goes(&info, 9, 0) && info.fragment_offset == 2 && info.fragment_total == 0);
+  info = cut(fragment, 22);
+  CHECK(goes(&info, 10, 1) && info.fragment_offset == 2 && info.fragment_total == 9);
+}
+
+/* The fields before a fault are there, and those after it are 0. */
+static void fields_of_bad_bundles(void) {
+  uint8_t bad[sizeof checked], to[4], from[4];
+  struct tcpclkit_bundle info;
+  memcpy(bad, bundle, sizeof bundle);
+  bad[2] = 6;
+  CHECK(tcpclkit_describe_bundle(bad, BUNDLE_LENGTH, NULL, 0, NULL, 0, &info) == TCPCLKIT_FAULT);
+  CHECK(info.verdict.fault.code == TCPCLKIT_BUNDLE_BAD_VERSION && goes(&info, 0, 0));
+  bad[2] = 7;
+  bad[11] = 3; /* the scheme of the source */
+  CHECK(tcpclkit_describe_bundle(bad, BUNDLE_LENGTH, NULL, 0, NULL, 0, &info) == TCPCLKIT_FAULT);
+  CHECK(info.verdict.fault.code == TCPCLKIT_BUNDLE_BAD_SCHEME && goes(&info, 4, 0));
+  CHECK(info.destination.kind == TCPCLKIT_EID_IPN && info.destination.node == 2);
+  CHECK(info.source.kind == 0 && info.source.node == 0);
+  bad[11] = 2;
+  bad[24] = 2; /* the number of the payload block */
+  CHECK(tcpclkit_describe_bundle(bad, BUNDLE_LENGTH, NULL, 0, NULL, 0, &info) == TCPCLKIT_FAULT);
+  CHECK(info.verdict.fault.code == TCPCLKIT_BUNDLE_BAD_BLOCK_NUMBER && goes(&info, 8, 1));
+  CHECK(info.source.kind == TCPCLKIT_EID_IPN && info.source.node == 1);
+  CHECK(tcpclkit_describe_bundle(bundle, sizeof bundle, NULL, 0, NULL, 0, &info) == TCPCLKIT_FAULT);
+  CHECK(info.verdict.fault.code == TCPCLKIT_BUNDLE_TRAILING && goes(&info, 8, 1));
+  /* a primary block with a check value, which is right and then wrong */
+  CHECK(tcpclkit_describe_bundle(checked, sizeof checked, to, 4, from, 4, &info) == TCPCLKIT_OK);
+  CHECK(info.primary_fields == 10 && info.primary_whole == 1 && info.payload_length == 6);
+  memcpy(bad, checked, sizeof bad);
+  bad[37] ^= 1;
+  CHECK(tcpclkit_describe_bundle(bad, sizeof bad, to, 4, from, 2, &info) == TCPCLKIT_FAULT);
+  CHECK(info.verdict.fault.code == TCPCLKIT_BUNDLE_CHECK_DIFFERS && goes(&info, 10, 0));
+  CHECK(info.sequence == 9 && info.fragment_offset == 70000 && info.fragment_total == 140000);
+  CHECK(info.source.name_length == 3 && begins(from, "//") && info.destination.node == 2);
+}
+
 /* Feeds the bytes in pieces of this size, and checks what `verdict` and `info` then say of them. */
 static void scanned(struct tcpclkit_scan *scan, const uint8_t *bytes, size_t length, size_t size) {
   struct tcpclkit_verdict verdict, whole;
@@ -109,6 +186,9 @@ static void scans(void) {
   for (size = 1; size <= sizeof bundle; size++) {
     scanned(&scan, bundle, sizeof bundle, size);
     scanned(&scan, named, sizeof named, size);
+    if (size <= sizeof named)
+      scanned(&scan, named, size - 1, size);
+    scanned(&scan, checked, sizeof checked - size, size);
     scanned(&scan, bundle, BUNDLE_LENGTH - 4, size);
     for (at = 0; at < BUNDLE_LENGTH; at++) {
       memcpy(bad, bundle, sizeof bad);
@@ -467,6 +547,12 @@ static void rests(void) {
   memset(from, MARK, sizeof from);
   CHECK(tcpclkit_describe_bundle(named, 20, to, sizeof to, from, sizeof from, &info) ==
         TCPCLKIT_TRUNCATED);
+  CHECK(begins(to, "//bc") && is_marked(to + 4, sizeof to - 4));
+  CHECK(begins(from, "//a") && is_marked(from + 3, sizeof from - 3));
+  memset(to, MARK, sizeof to);
+  memset(from, MARK, sizeof from);
+  CHECK(tcpclkit_describe_bundle(named, 11, to, sizeof to, from, sizeof from, &info) ==
+        TCPCLKIT_TRUNCATED);
   CHECK(IS_MARKED(to) && IS_MARKED(from));
   CHECK(tcpclkit_describe_bundle(bundle, BUNDLE_LENGTH, to, sizeof to, from, sizeof from, &info) ==
         TCPCLKIT_OK);
@@ -481,6 +567,8 @@ int main(int argc, char **argv) {
   (void)argv;
   verdicts();
   infos();
+  fields_of_cut_bundles();
+  fields_of_bad_bundles();
   scans();
   messages();
   items();

@@ -97,8 +97,8 @@ _Verdict = _struct("_Verdict", "fault:_Fault has_payload payload_offset payload_
 _Eid = _struct("_Eid", "kind allocator node service name_length")
 _Bundle = _struct(
     "_Bundle",
-    "verdict:_Verdict flags destination:_Eid source:_Eid time sequence lifetime is_fragment "
-    "fragment_offset fragment_total blocks payload_length",
+    "verdict:_Verdict primary_fields primary_whole flags destination:_Eid source:_Eid time "
+    "sequence lifetime is_fragment fragment_offset fragment_total blocks payload_length",
 )
 _Contact = _struct("_Contact", "fault:_Fault flags")
 _Message = _struct(
@@ -306,6 +306,23 @@ class Bundle(NamedTuple):
     payload: Union[bytes, slice]
 
 
+class Primary(NamedTuple):
+    """The fields of a bundle's primary block that come before its first fault; the others are None.
+
+    They are numbered in their order (RFC 9171 section 4.3.1), and `accepted` is the number of the
+    last one, or 0. Field 1 is the version, 3 the type of the check value, and 6 the report-to
+    endpoint. `is_whole` is whether the whole block was accepted, its check value too.
+    """
+    accepted: int
+    is_whole: bool
+    flags: Optional[int]
+    destination: Optional[EndpointId]
+    source: Optional[EndpointId]
+    creation: Optional[Tuple[int, int]]  # the time, in milliseconds, and the sequence number
+    lifetime: Optional[int]
+    fragment: Optional[Tuple[int, int]]  # the offset and the total length
+
+
 def _verdict(status, it):
     """Returns the verdict that the library wrote."""
     end = it.payload_offset + it.payload_seen
@@ -321,13 +338,21 @@ def verdict(content):
 
 def bundle(content):
     """Judges the bytes as one bundle, and returns a good one. Raises the Fault of any other."""
-    lent, it = _Lent(content), _Bundle()
-    names = _room(EID_LIMIT), _room(EID_LIMIT)
-    status = _call(
-        "describe_bundle", *lent.slice, names[0], EID_LIMIT, names[1], EID_LIMIT, byref(it)
-    )
-    place = _bundle(status, it, *names)
+    lent = _Lent(content)
+    place = _bundle(*_described(_call, "describe_bundle", *lent.slice))
     return place._replace(payload=lent[place.payload])
+
+
+def primary(content):
+    """Returns the fields of the primary block before the first fault, also of a bad bundle."""
+    return _primary(*_described(_call, "describe_bundle", *_Lent(content).slice))
+
+
+def _described(call, name, *arguments):
+    """Returns the status of a call, and what it wrote of a bundle: the fields and the names."""
+    it, names = _Bundle(), (_room(EID_LIMIT), _room(EID_LIMIT))
+    status = call(name, *arguments, names[0], EID_LIMIT, names[1], EID_LIMIT, byref(it))
+    return status, it, *names
 
 
 def _bundle(status, it, destination, source):
@@ -342,6 +367,20 @@ def _bundle(status, it, destination, source):
     )
 
 
+def _primary(_status, it, destination, source):
+    """Returns the fields of the primary block that the library wrote."""
+    count = it.primary_fields
+    return Primary(
+        count, it.primary_whole == 1,
+        it.flags if count >= 2 else None,
+        _eid(it.destination, destination) if count >= 4 else None,
+        _eid(it.source, source) if count >= 5 else None,
+        (it.time, it.sequence) if count >= 7 else None,
+        it.lifetime if count >= 8 else None,
+        (it.fragment_offset, it.fragment_total) if count >= 10 else None,
+    )
+
+
 class Scan:
     """A scan of one bundle that comes in pieces of any size.
 
@@ -351,7 +390,7 @@ class Scan:
             taken = scan.feed(piece)
         bundle = scan.bundle()
 
-    It keeps what the heads of the bundle say, and no byte of the payload.
+    It keeps what the heads of the bundle say, and the first 3,257 bytes.
     """
 
     def __init__(self):
@@ -389,9 +428,11 @@ class Scan:
 
     def bundle(self):
         """Returns the good bundle that was taken, or raises the Fault of any other bytes."""
-        it, names = _Bundle(), (_room(EID_LIMIT), _room(EID_LIMIT))
-        status = self._call("describe_scan", names[0], EID_LIMIT, names[1], EID_LIMIT, byref(it))
-        return _bundle(status, it, *names)
+        return _bundle(*_described(self._call, "describe_scan"))
+
+    def primary(self):
+        """Returns the fields of the primary block, as far as they were taken and accepted."""
+        return _primary(*_described(self._call, "describe_scan"))
 
 
 # ---- recordings

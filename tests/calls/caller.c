@@ -131,6 +131,32 @@ static int put_judgement(struct text *text, const uint8_t *bytes, size_t length,
   return status == TCPCLKIT_OK;
 }
 
+/* Appends a line with the fields of the primary block that come before its first fault. */
+static void put_primary(struct text *text, const struct job *job) {
+  uint8_t destination[TCPCLKIT_EID_LIMIT], source[TCPCLKIT_EID_LIMIT];
+  struct tcpclkit_bundle it;
+  tcpclkit_describe_bundle(job->bytes, job->length, destination, sizeof destination, source,
+                           sizeof source, &it);
+  put(text, "primary accepted=%" PRIu64 " whole=%" PRIu64, it.primary_fields, it.primary_whole);
+  if (it.primary_fields >= 2)
+    put(text, " flags=%" PRIu64, it.flags);
+  if (it.primary_fields >= 4) {
+    put(text, " destination=");
+    put_eid(text, &it.destination, destination);
+  }
+  if (it.primary_fields >= 5) {
+    put(text, " source=");
+    put_eid(text, &it.source, source);
+  }
+  if (it.primary_fields >= 7)
+    put(text, " creation=%" PRIu64 "/%" PRIu64, it.time, it.sequence);
+  if (it.primary_fields >= 8)
+    put(text, " lifetime=%" PRIu64, it.lifetime);
+  if (it.primary_fields >= 10)
+    put(text, " fragment=%" PRIu64 "/%" PRIu64, it.fragment_offset, it.fragment_total);
+  put(text, "\n");
+}
+
 /* Feeds the bytes to a scan in pieces. What it has found is what the bytes that it took are. */
 static void compare_scan(const struct job *job) {
   uint8_t names[4][TCPCLKIT_EID_LIMIT] = {{0}};
@@ -169,6 +195,7 @@ static int judge(const struct job *job) {
   if (is_good)
     put(&output, "flags=%" PRIu64 " lifetime=%" PRIu64 " blocks=%" PRIu64 "\n", it.flags,
         it.lifetime, it.blocks);
+  put_primary(&output, job);
   return is_good ? 0 : 1;
 }
 

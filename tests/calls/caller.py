@@ -34,6 +34,17 @@ def judgement(content):
     return text + (f" fragment={it.fragment[0]}/{it.fragment[1]}" if it.fragment else ""), it
 
 
+def primary_line(it):
+    """Returns the line of the fields of a primary block that come before its first fault."""
+    line = f"primary accepted={it.accepted} whole={int(it.is_whole)}"
+    for name in ("flags", "destination", "source"):
+        value = getattr(it, name)
+        line += f" {name}={value}" if value is not None else ""
+    line += f" creation={it.creation[0]}/{it.creation[1]}" if it.creation else ""
+    line += f" lifetime={it.lifetime}" if it.lifetime is not None else ""
+    return line + (f" fragment={it.fragment[0]}/{it.fragment[1]}" if it.fragment else "")
+
+
 def compare_scan(content):
     """Feeds the bytes to a scan in pieces. What it has found is what the bytes that it took are."""
     scan, at, size = tcpclkit.Scan(), 0, 1 + len(content) % 13
@@ -41,6 +52,8 @@ def compare_scan(content):
         at += scan.feed(content[at:at + size])
     if scan.verdict() != tcpclkit.verdict(content[:at]):
         raise ValueError("the bytes in pieces have another verdict")
+    if scan.primary() != tcpclkit.primary(content[:at]):
+        raise ValueError("the bytes in pieces have another primary block")
     try:
         it = scan.bundle()
     except tcpclkit.Fault:
@@ -61,6 +74,7 @@ def judge(content):
         lines.append(f"payload {start} {end - start}")
     if it is not None:
         lines.append(f"flags={it.flags} lifetime={it.lifetime} blocks={it.blocks}")
+    lines.append(primary_line(tcpclkit.primary(content)))
     return 0 if it else 1, "".join(f"{line}\n" for line in lines).encode(), b""
 
 

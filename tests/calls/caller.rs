@@ -6,8 +6,9 @@ use std::fmt::Write as _;
 use std::io::{BufRead, Read, Write};
 use std::ops::Range;
 use tcpclkit::{
-    bundle, contact, list, messages, pack, unpack, verdict, Bundle, Fault, Fields, Items, Message,
-    Order, PackOptions, Run, Scan, ToolError, Turn, UnpackOptions, CONTACT_LENGTH, SEGMENT_START,
+    bundle, contact, list, messages, pack, primary, unpack, verdict, Bundle, Fault, Fields, Items,
+    Message, Order, PackOptions, Primary, Run, Scan, ToolError, Turn, UnpackOptions,
+    CONTACT_LENGTH, SEGMENT_START,
 };
 
 /// A status and two texts.
@@ -52,6 +53,26 @@ fn judgement(it: &Result<Bundle<&[u8]>, Fault>) -> String {
     }
 }
 
+/// The line of the fields of a primary block that come before its first fault.
+fn primary_line(it: &Primary) -> String {
+    let (accepted, whole) = (it.accepted, u8::from(it.is_whole));
+    let mut text = format!("primary accepted={accepted} whole={whole}");
+    let mut put = |name, value: Option<String>| {
+        if let Some(value) = value {
+            let _ = write!(text, " {name}={value}");
+        }
+    };
+    put("flags", it.flags.map(|flags| flags.to_string()));
+    put("destination", it.destination.as_ref().map(|eid| eid.to_string()));
+    put("source", it.source.as_ref().map(|eid| eid.to_string()));
+    let of = |(one, other): (u64, u64)| format!("{one}/{other}");
+    put("creation", it.creation.map(of));
+    put("lifetime", it.lifetime.map(|lifetime| lifetime.to_string()));
+    let fragment = it.fragment.map(|part| (part.offset, part.total));
+    put("fragment", fragment.map(of));
+    text + "\n"
+}
+
 /// Feeds the bytes to a scan in pieces. What it has found is what the bytes that it took are.
 fn compare_scan(bytes: &[u8]) {
     let (mut scan, mut at) = (Scan::new(), 0);
@@ -64,6 +85,7 @@ fn compare_scan(bytes: &[u8]) {
         (found.fault, found.payload.map(part)),
         (same.fault, same.payload)
     );
+    assert_eq!(scan.primary(), primary(&bytes[..at]));
     match (scan.bundle(), bundle(&bytes[..at])) {
         (Ok(found), Ok(same)) => assert_eq!(
             (found.source, found.destination, part(found.payload)),
@@ -90,6 +112,7 @@ fn judge(bytes: &[u8]) -> Answer {
             it.flags, it.lifetime, it.blocks
         );
     }
+    text += &primary_line(&primary(bytes));
     (it.is_err().into(), text.into(), vec![])
 }
 

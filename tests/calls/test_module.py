@@ -55,6 +55,19 @@ class Bundles(unittest.TestCase):
             self.assertEqual(judged, (Fault(Code.BUNDLE_CUT, 0, length), payload))
             self.assertTrue(judged.fault.is_truncated)
 
+    def test_primary_blocks(self):
+        ends = [3, 4, 5, 10, 16, 19, 22, 23, 28, 33]
+        for length in range(len(FRAGMENT) + 1):
+            it = tcpclkit.primary(FRAGMENT[:length])
+            self.assertEqual(it.accepted, sum(end <= length for end in ends))
+            self.assertEqual((it.is_whole, it.lifetime is None), (length >= 38, length < 23))
+        wrong = FRAGMENT[:37] + b"\0" + FRAGMENT[38:]
+        fields = Ipn(None, 2, 1), Dtn(b"//x"), (0, 9), 0, (70000, 140000)
+        self.assertEqual(tcpclkit.primary(wrong), (10, False, 1, *fields))
+        with self.assertRaises(Fault) as raised:
+            tcpclkit.bundle(wrong)
+        self.assertEqual(raised.exception.code, Code.BUNDLE_CHECK_DIFFERS)
+
     def test_faults(self):
         for content, code, offset in [
             (HELLO + b"\0", Code.BUNDLE_TRAILING, 34),

@@ -76,6 +76,30 @@ pub struct Bundle<P> {
     pub payload: P,
 }
 
+/// The fields of a bundle's primary block that come before its first fault.
+///
+/// They are numbered in their order (RFC 9171 section 4.3.1). Field 1 is the version, 3 the type of
+/// the check value, and 6 the report-to endpoint.
+#[derive(Clone, Debug, PartialEq, Eq)]
+pub struct Primary {
+    /// The number of the last field that was accepted, or 0.
+    pub accepted: u64,
+    /// Whether the whole block was accepted, its check value too.
+    pub is_whole: bool,
+    /// Field 2: the bundle processing control flags.
+    pub flags: Option<u64>,
+    /// Field 4: the destination.
+    pub destination: Option<EndpointId>,
+    /// Field 5: the source node.
+    pub source: Option<EndpointId>,
+    /// Field 7: the creation time, in milliseconds since 2000-01-01 UTC, and the sequence number.
+    pub creation: Option<(u64, u64)>,
+    /// Field 8: the lifetime, in milliseconds after the creation time.
+    pub lifetime: Option<u64>,
+    /// Fields 9 and 10, which a fragment alone has.
+    pub fragment: Option<Fragment>,
+}
+
 /// Judges the bytes as one bundle.
 pub fn verdict(bytes: &[u8]) -> Verdict<&[u8]> {
     let (status, verdict) = raw::answer(|verdict| {
@@ -92,8 +116,16 @@ pub fn verdict(bytes: &[u8]) -> Verdict<&[u8]> {
 /// The first fault, if the bytes are no good bundle. It [is truncated](Fault::is_truncated) if they
 /// end inside one.
 pub fn bundle(bytes: &[u8]) -> Result<Bundle<&[u8]>, Fault> {
-    let (mut destination, mut source) = ([0; raw::EID_LIMIT], [0; raw::EID_LIMIT]);
-    let (status, it) = raw::answer(|bundle| {
+    described(bytes).bundle(|place| part(bytes, place))
+}
+
+/// The fields of the primary block that come before the first fault, also of a bad bundle.
+pub fn primary(bytes: &[u8]) -> Primary {
+    described(bytes).primary()
+}
+
+fn described(bytes: &[u8]) -> Described {
+    Described::by(|[destination, source], bundle| {
         // SAFETY: the slices and the struct are valid, and do not overlap.
         unsafe {
             raw::tcpclkit_raw_describe_bundle(
@@ -106,9 +138,7 @@ pub fn bundle(bytes: &[u8]) -> Result<Bundle<&[u8]>, Fault> {
                 bundle,
             )
         }
-    });
-    let payload = |place| part(bytes, place);
-    Bundle::of(status, &it, &destination, &source, payload)
+    })
 }
 
 /// The bytes at a place that the library wrote.
@@ -116,33 +146,67 @@ fn part(bytes: &[u8], place: Range<u64>) -> &[u8] {
     &bytes[place.start as usize..place.end as usize]
 }
 
-impl<P> Bundle<P> {
-    /// The bundle that the library wrote, or the fault. The names begin with those that it has.
-    pub(crate) fn of(
-        status: u32,
-        it: &raw::Bundle,
-        destination: &[u8],
-        source: &[u8],
+/// What the library wrote of a bundle.
+pub(crate) struct Described {
+    status: u32,
+    it: raw::Bundle,
+    /// The destination and the source begin with their names, if they have some.
+    names: Names,
+}
+
+type Names = [[u8; raw::EID_LIMIT]; 2];
+
+impl Described {
+    /// What a call of the library writes.
+    pub(crate) fn by(call: impl FnOnce(&mut Names, &mut raw::Bundle) -> u32) -> Described {
+        let mut names = [[0; raw::EID_LIMIT]; 2];
+        let (status, it) = raw::answer(|bundle| call(&mut names, bundle));
+        Described { status, it, names }
+    }
+
+    /// The good bundle, or the fault.
+    pub(crate) fn bundle<P>(
+        &self,
         payload: impl FnOnce(Range<u64>) -> P,
     ) -> Result<Bundle<P>, Fault> {
-        let verdict = Verdict::of(status, &it.verdict, payload);
-        let fragment = Fragment {
-            offset: it.fragment_offset,
-            total: it.fragment_total,
-        };
+        let it = &self.it;
+        let verdict = Verdict::of(self.status, &it.verdict, payload);
         match verdict.fault {
             Some(fault) => Err(fault),
             None => Ok(Bundle {
                 flags: it.flags,
-                destination: EndpointId::of(&it.destination, destination),
-                source: EndpointId::of(&it.source, source),
+                destination: EndpointId::of(&it.destination, &self.names[0]),
+                source: EndpointId::of(&it.source, &self.names[1]),
                 time: it.time,
                 sequence: it.sequence,
                 lifetime: it.lifetime,
-                fragment: (it.is_fragment == 1).then_some(fragment),
+                fragment: (it.is_fragment == 1).then(|| self.fragment()),
                 blocks: it.blocks,
                 payload: verdict.payload.expect("a good bundle has a payload"),
             }),
+        }
+    }
+
+    /// The fields of the primary block that were accepted.
+    pub(crate) fn primary(&self) -> Primary {
+        let it = &self.it;
+        let has = |field| it.primary_fields >= field;
+        Primary {
+            accepted: it.primary_fields,
+            is_whole: it.primary_whole == 1,
+            flags: has(2).then_some(it.flags),
+            destination: has(4).then(|| EndpointId::of(&it.destination, &self.names[0])),
+            source: has(5).then(|| EndpointId::of(&it.source, &self.names[1])),
+            creation: has(7).then_some((it.time, it.sequence)),
+            lifetime: has(8).then_some(it.lifetime),
+            fragment: has(10).then(|| self.fragment()),
+        }
+    }
+
+    fn fragment(&self) -> Fragment {
+        Fragment {
+            offset: self.it.fragment_offset,
+            total: self.it.fragment_total,
         }
     }
 }

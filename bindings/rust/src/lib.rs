@@ -26,7 +26,7 @@ mod scan;
 mod text;
 mod tools;
 
-pub use bundle::{bundle, verdict, Bundle, EndpointId, Fragment, Verdict};
+pub use bundle::{bundle, primary, verdict, Bundle, EndpointId, Fragment, Primary, Verdict};
 pub use fault::{Code, Fault};
 pub use order::{Order, Taken, Turn};
 pub use recording::{

@@ -52,9 +52,9 @@ structs! {
     Verdict { fault: Fault, has_payload: u64, payload_offset: u64, payload_seen: u64 }
     Eid { kind: u64, allocator: u64, node: u64, service: u64, name_length: u64 }
     Bundle {
-        verdict: Verdict, flags: u64, destination: Eid, source: Eid, time: u64, sequence: u64,
-        lifetime: u64, is_fragment: u64, fragment_offset: u64, fragment_total: u64, blocks: u64,
-        payload_length: u64,
+        verdict: Verdict, primary_fields: u64, primary_whole: u64, flags: u64, destination: Eid,
+        source: Eid, time: u64, sequence: u64, lifetime: u64, is_fragment: u64,
+        fragment_offset: u64, fragment_total: u64, blocks: u64, payload_length: u64,
     }
     Contact { fault: Fault, flags: u64 }
     Message {

@@ -1,6 +1,6 @@
 //! Bundles that come in pieces.
 
-use crate::bundle::{Bundle, Verdict};
+use crate::bundle::{Bundle, Described, Primary, Verdict};
 use crate::fault::Fault;
 use crate::raw;
 use std::fmt;
@@ -8,7 +8,7 @@ use std::ops::Range;
 
 /// A scan of one bundle that comes in pieces of any size.
 ///
-/// It keeps what the heads of the bundle say, and no byte of the payload. So the payload of what it
+/// It keeps what the heads of the bundle say, and the first 3,257 bytes. So the payload of what it
 /// returns is a place: the offsets in the bundle where it begins and where it ends.
 ///
 /// ```
@@ -87,8 +87,16 @@ impl Scan {
     ///
     /// The first fault. It [is truncated](Fault::is_truncated) while the bundle goes on.
     pub fn bundle(&self) -> Result<Bundle<Range<u64>>, Fault> {
-        let (mut destination, mut source) = ([0; raw::EID_LIMIT], [0; raw::EID_LIMIT]);
-        let (status, it) = raw::answer(|bundle| {
+        self.described().bundle(|place| place)
+    }
+
+    /// The fields of the primary block, as far as they were taken and accepted.
+    pub fn primary(&self) -> Primary {
+        self.described().primary()
+    }
+
+    fn described(&self) -> Described {
+        Described::by(|[destination, source], bundle| {
             // SAFETY: the memory has a scan, the slices and the struct are valid, and nothing
             // overlaps.
             unsafe {
@@ -101,8 +109,7 @@ impl Scan {
                     bundle,
                 )
             }
-        });
-        Bundle::of(status, &it, &destination, &source, |place| place)
+        })
     }
 }
 

@@ -1,6 +1,6 @@
 //! Bundles of `examples/`, whole, cut and changed.
 
-use tcpclkit::{bundle, verdict, Code, EndpointId, Fault, Fragment};
+use tcpclkit::{bundle, primary, verdict, Code, EndpointId, Fault, Fragment, Primary};
 
 /// A bundle from ipn:1.1 to ipn:2.1, with the payload `hello`.
 fn hello() -> Vec<u8> {
@@ -47,10 +47,7 @@ fn a_good_bundle_has_its_fields() {
 
 #[test]
 fn a_fragment_and_a_name_are_shown() {
-    let bytes = hex(concat!(
-        "9f8b07010282028202018201632f2f78820100820009001a000111701a000222e04469890dbe",
-        "8501010000466d6964646c65ff",
-    ));
+    let bytes = middle();
     let it = bundle(&bytes).unwrap();
     assert_eq!(it.source, EndpointId::Dtn(b"//x"[..].into()));
     assert_eq!(
@@ -61,6 +58,54 @@ fn a_fragment_and_a_name_are_shown() {
         })
     );
     assert_eq!((it.flags, it.sequence, it.payload), (1, 9, &b"middle"[..]));
+}
+
+/// A fragment from dtn://x to ipn:2.1, whose primary block has a check value of four bytes.
+fn middle() -> Vec<u8> {
+    hex(concat!(
+        "9f8b07010282028202018201632f2f78820100820009001a000111701a000222e04469890dbe",
+        "8501010000466d6964646c65ff",
+    ))
+}
+
+#[test]
+fn a_bad_bundle_has_the_fields_before_its_fault() {
+    let mut bytes = middle();
+    let whole = primary(&bytes);
+    assert_eq!((whole.accepted, whole.is_whole), (10, true));
+    bytes[37] ^= 1;
+    assert_eq!(bundle(&bytes).unwrap_err().code, Code::BundleCheckDiffers);
+    let found = Primary {
+        accepted: 10,
+        is_whole: false,
+        flags: Some(1),
+        destination: Some(EndpointId::Ipn {
+            node: 2,
+            service: 1,
+        }),
+        source: Some(EndpointId::Dtn(b"//x"[..].into())),
+        creation: Some((0, 9)),
+        lifetime: Some(0),
+        fragment: Some(Fragment {
+            offset: 70000,
+            total: 140000,
+        }),
+    };
+    assert_eq!(primary(&bytes), found);
+}
+
+#[test]
+fn a_cut_bundle_has_the_fields_that_came() {
+    let bytes = middle();
+    let ends = [3, 4, 5, 10, 16, 19, 22, 23, 28, 33];
+    for length in 0..bytes.len() {
+        let found = primary(&bytes[..length]);
+        let accepted = ends.iter().filter(|end| **end <= length).count() as u64;
+        assert_eq!((found.accepted, found.is_whole), (accepted, length >= 38));
+        assert_eq!(found.source.is_some(), length >= 16);
+        assert_eq!(found.creation.is_some(), length >= 22);
+        assert_eq!(found.fragment.is_some(), length >= 33);
+    }
 }
 
 #[test]

@@ -1,6 +1,6 @@
 //! Bundles of `examples/` in pieces.
 
-use tcpclkit::{bundle, verdict, Code, EndpointId, Scan};
+use tcpclkit::{bundle, primary, verdict, Code, EndpointId, Scan};
 
 /// Two bundles, of 34 and of 37 bytes.
 fn bundles() -> Vec<u8> {
@@ -36,6 +36,7 @@ fn a_scan_shows_what_has_come() {
         assert_eq!(found.fault, same.fault);
         assert_eq!(found.payload.is_some(), same.payload.is_some());
         assert!(scan.bundle().unwrap_err().is_truncated());
+        assert_eq!(scan.primary(), primary(&bytes[..length]));
         assert_eq!(scan.feed(&[]), 0);
         assert_eq!(scan.feed(&bytes[length..=length]), 1);
     }

@@ -7,7 +7,7 @@ use Rattle.link_list.specs.Listing.{list_tool}
 use Rattle.link_pack.specs.Packing.{pack_tool}
 use Rattle.link_pack.specs.PackRun.{LacksMemory}
 use Rattle.link_pack.specs.declared.options.PackOptions.{PackOptions}
-use Rattle.link_run.specs.Run.{Tool, Outcome, Texts, Looks, Devices, HandedBack, FinishedRun, EndedRun, AfterRun}
+use Rattle.link_run.specs.Run.{Tool, Outcome, Texts, Looks, Devices, HandedBack, FinishedRun, EndedRun, Wait, AfterRun}
 use Rattle.link_run.specs.declared.run.Status.{Status}
 use Rattle.link_tools.specs.Options.{AfterJob}
 use Rattle.link_tools.specs.declared.options.Job.{Job}
@@ -113,7 +113,7 @@ module _ {R W E : Type 0} (look : Looks R W E)
   whole_ran : (tool : Tool) (ready : Job) (answer : Result Status IoFault)
       → ((output report : List ℕ) → WroteWhole (tool.whole bytes) output report answer
       → HasWritten ready bytes output report answer)
-      → AfterRun look tool start now answer
+      → {waits : List (Wait W E)} → AfterRun look tool start now waits answer
       → Ran ready bytes output_start output_end report_start report_end answer
   whole_ran tool ready (Ok status) is run =
       let wrote = ended tool (Ok status) run.given run.gave in
@@ -152,17 +152,17 @@ module _ {R W E : Type 0} (look : Looks R W E)
       }
 
   -- a run of the tool that is ready
-  pub job_ran : (ready : Job) (answer : Result Status IoFault)
-      → AfterJob look ready start now answer
+  pub job_ran : (ready : Job) (answer : Result Status IoFault) (waits : List (Wait W E))
+      → AfterJob look ready start now waits answer
       → Ran ready bytes output_start output_end report_start report_end answer
-  job_ran job.List answer run = whole_ran list_tool job.List answer (λ output report wrote. wrote) run
-  job_ran (job.Unpack wanted) answer run =
+  job_ran job.List answer waits run = whole_ran list_tool job.List answer (λ output report wrote. wrote) run
+  job_ran (job.Unpack wanted) answer waits run =
       whole_ran (unpack_tool wanted) (job.Unpack wanted) answer (λ output report wrote. wrote) run
-  job_ran (job.Pack options (Ok cutter)) answer run =
+  job_ran (job.Pack options (Ok cutter)) answer waits run =
       whole_ran (pack_tool options) (job.Pack options (Ok cutter)) answer (λ output report wrote. wrote) run
-  job_ran (job.Pack options (Err refused)) (Ok status) run =
+  job_ran (job.Pack options (Err refused)) (Ok status) waits run =
       let never : Ok status ≡ Err Memory = run.is in cc
-  job_ran (job.Pack options (Err refused)) (Err fault) run =
+  job_ran (job.Pack options (Err refused)) (Err fault) waits run =
       lacking (job.Pack options (Err refused)) (Err fault) fault refl (λ wrote. wrote) run
 
 -- ---- what is returned of a run
@@ -263,30 +263,8 @@ pub packed : (options : PackOptions) (memory : Result Cutter AllocError) (bytes 
 packed options (Ok cutter) bytes wants old new run status gave = inl gave
 packed options (Err refused) bytes wants old new run status gave = inr gave
 
-not_range : (fits : Bool) (status : ℕ) → status ≡ (if fits then 0 else 5) → status ≡ 6 → ⊥
-not_range true status is six = absurd (omega (arith, is, six))
-not_range false status is six = absurd (omega (arith, is, six))
-
-pub texts_not_range : (whole : Outcome) (wants : Wants) (old new : Slices) (run : Run) (status : ℕ)
-    → ReturnsTexts whole wants old new run status → status ≡ 6 → ⊥
-texts_not_range whole wants old new run status gave six = not_range _ status gave.gives six
-
-pub packed_not_range : (whole : Outcome) (wants : Wants) (old new : Slices) (run : Run)
-    (status : ℕ)
-    → ReturnsTexts whole wants old new run status ⊎ ReturnsNothing old new run status
-    → status ≡ 6 → ⊥
-packed_not_range whole wants old new run status (inl gave) six =
-    texts_not_range whole wants old new run status gave six
-packed_not_range whole wants old new run status (inr gave) six =
-    let eight : status ≡ 8 = gave.gives in absurd (omega (arith, eight, six))
-
--- the options that were in their ranges, and those that were not
+-- the options that were in their ranges
 pub wanted_some : (fits : Bool) (wanted found : Wanted)
     → (if fits then Some wanted else None) ≡ Some found → (fits ≡ true) × (wanted ≡ found)
 wanted_some true wanted found is = (refl, cc)
 wanted_some false wanted found is = cc
-
-pub wanted_none : (fits : Bool) (wanted : Wanted) → (if fits then Some wanted else None) ≡ None
-    → fits ≡ false
-wanted_none true wanted is = cc
-wanted_none false wanted is = refl

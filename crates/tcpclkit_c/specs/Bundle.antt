@@ -7,6 +7,8 @@ use Rattle.link_bundle_types.specs.declared.fault.State.{State}
 use Rattle.link_bundle_types.specs.declared.fault.State.TheVariants.{Going, Ended, Failed}
 use Rattle.link_bundle_types.specs.declared.info.BundleInfo.{BundleInfo}
 use Rattle.link_bundle.specs.Bundle.{verdict, payload_seen, state_of}
+use Rattle.link_bundle_heads.specs.Rows.{is_fragment}
+use Rattle.link_primary.specs.Fields.{PrimaryFields}
 use Rattle.tcpclkit_c.specs.Slice.{HoldsFront, KeepsRest}
 use Rattle.tcpclkit_c.specs.Fault.{no_fault, bundle_fault}
 use Rattle.tcpclkit_c.specs.declared.fault.Fault.{Fault}
@@ -61,16 +63,48 @@ name_of (Dtn name) = name.items
 name_of (Ipn node service) = []
 name_of (Ipn3 allocator node service) = []
 
+-- an endpoint ID that may be missing
+abbrev pub eid_or_none : Option Eid → EidNumbers
+eid_or_none None = no_eid
+eid_or_none (Some eid) = eid_shown eid
+
+abbrev pub name_or_none : Option Eid → List ℕ
+name_or_none None = []
+name_or_none (Some eid) = name_of eid
+
+-- Bytes that are no good bundle: the fields of its primary block up to the first fault. Each field
+-- after the fault is 0.
+abbrev pub primary_shown : Verdict → PrimaryFields → Bundle
+primary_shown verdict primary =
+    record {
+      verdict = verdict;
+      primary_fields = primary.accepted;
+      primary_whole = if primary.whole then 1 else 0;
+      flags = primary.flags;
+      destination = eid_or_none primary.destination;
+      source = eid_or_none primary.source;
+      time = primary.time;
+      sequence = primary.sequence;
+      lifetime = primary.lifetime;
+      is_fragment = if is_fragment primary.flags then 1 else 0;
+      fragment_offset = primary.fragment_offset;
+      fragment_total = primary.fragment_total;
+      blocks = 0;
+      payload_length = 0;
+    }
+
 -- whether there is a fragment, its offset, and its total length
 abbrev pub fragment_shown : Option (ℕ × ℕ) → ℕ × (ℕ × ℕ)
 fragment_shown None = (0, (0, 0))
 fragment_shown (Some fragment) = (1, fragment)
 
 -- a good bundle as numbers
-abbrev pub bundle_shown : Verdict → BundleInfo → Bundle
-bundle_shown verdict info =
+abbrev pub bundle_shown : Verdict → PrimaryFields → BundleInfo → Bundle
+bundle_shown verdict primary info =
     record {
       verdict = verdict;
+      primary_fields = primary.accepted;
+      primary_whole = if primary.whole then 1 else 0;
       flags = info.flags;
       destination = eid_shown info.destination;
       source = eid_shown info.source;
@@ -84,57 +118,42 @@ bundle_shown verdict info =
       payload_length = info.payload;
     }
 
--- the verdict on bytes that are no good bundle; each field of the bundle is 0
-abbrev pub no_bundle : Verdict → Bundle
-no_bundle verdict =
-    record {
-      verdict = verdict;
-      flags = 0;
-      destination = no_eid;
-      source = no_eid;
-      time = 0;
-      sequence = 0;
-      lifetime = 0;
-      is_fragment = 0;
-      fragment_offset = 0;
-      fragment_total = 0;
-      blocks = 0;
-      payload_length = 0;
-    }
-
 -- the slices for the two names, before or after a call
 pub record Names : Type 0 where
   pub destination : List ℕ
   pub source : List ℕ
 
+-- the slices have these names, as far as there is room, and their other bytes are as they were
+pub record GivesNames (destination source : List ℕ) (old new : Names) : Type 0 where
+  pub destination_name : HoldsFront new.destination destination
+  pub destination_rest : KeepsRest old.destination new.destination destination
+  pub source_name : HoldsFront new.source source
+  pub source_rest : KeepsRest old.source new.source source
+
 -- TCPCLKIT_OK, or TCPCLKIT_TOO_SMALL if a name is longer than the slice for it
-abbrev pub names_status : BundleInfo → Names → ℕ
-names_status info names =
-    if nat_le (length (name_of info.destination)) (length names.destination)
-    && nat_le (length (name_of info.source)) (length names.source) then 0 else 5
+abbrev pub names_status : (destination source : List ℕ) → Names → ℕ
+names_status destination source names =
+    if nat_le (length destination) (length names.destination)
+    && nat_le (length source) (length names.source) then 0 else 5
 
 -- the numbers are those of the bundle, and the slices have its names
-pub record ReturnsBundle (info : BundleInfo) (verdict : Verdict) (old new : Names)
-    (bundle : Bundle) (status : ℕ) : Type 0 where
-  pub numbers : bundle ≡ bundle_shown verdict info
-  pub destination_name : HoldsFront new.destination (name_of info.destination)
-  pub destination_rest : KeepsRest old.destination new.destination (name_of info.destination)
-  pub source_name : HoldsFront new.source (name_of info.source)
-  pub source_rest : KeepsRest old.source new.source (name_of info.source)
-  pub fits : status ≡ names_status info new
+pub record ReturnsBundle (info : BundleInfo) (verdict : Verdict) (primary : PrimaryFields)
+    (old new : Names) (bundle : Bundle) (status : ℕ) : Type 0 where
+  pub numbers : bundle ≡ bundle_shown verdict primary info
+  pub names : GivesNames (name_of info.destination) (name_of info.source) old new
+  pub fits : status ≡ names_status (name_of info.destination) (name_of info.source) new
 
--- the bytes are no good bundle: only the verdict is given, each other field is 0, and no name is
--- written
-pub record ReturnsStop (verdict : Verdict) (state : State) (old new : Names) (bundle : Bundle)
-    (status : ℕ) : Type 0 where
-  pub numbers : bundle ≡ no_bundle verdict
-  pub no_names : new ≡ old
+-- the bytes are no good bundle: the numbers and the names are those up to the first fault
+pub record ReturnsStop (verdict : Verdict) (state : State) (primary : PrimaryFields)
+    (old new : Names) (bundle : Bundle) (status : ℕ) : Type 0 where
+  pub numbers : bundle ≡ primary_shown verdict primary
+  pub names : GivesNames (name_or_none primary.destination) (name_or_none primary.source) old new
   pub stops : status ≡ state_status state
 
--- the answer, by the verdict and by where the payload's bytes are
-abbrev pub ReturnsInfo : Result BundleInfo (BundleFault × ℕ) → Option (ℕ × ℕ)
+-- the answer, by the verdict, by where the payload's bytes are, and by the primary block
+abbrev pub ReturnsInfo : Result BundleInfo (BundleFault × ℕ) → Option (ℕ × ℕ) → PrimaryFields
     → (old new : Names) → Bundle → ℕ → Type 0
-ReturnsInfo (Ok info) span old new bundle status =
-    ReturnsBundle info (verdict_shown (Ok info) span) old new bundle status
-ReturnsInfo (Err stop) span old new bundle status =
-    ReturnsStop (verdict_shown (Err stop) span) (state_of (Err stop)) old new bundle status
+ReturnsInfo (Ok info) span primary old new bundle status =
+    ReturnsBundle info (verdict_shown (Ok info) span) primary old new bundle status
+ReturnsInfo (Err stop) span primary old new bundle status =
+    ReturnsStop (verdict_shown (Err stop) span) (state_of (Err stop)) primary old new bundle status

@@ -12,6 +12,7 @@ use Rattle.link_wire.specs.declared.message.ListOf.TheVariants.{Transfer}
 use Rattle.link_wire.specs.declared.message.Message as read
 use Rattle.link_wire.specs.declared.slices.ItemAt.{ItemAt}
 use Rattle.link_wire.specs.declared.slices.MessageAt.{MessageAt}
+use Rattle.link_wire.specs.declared.slices.Span.{Span}
 use Rattle.tcpclkit_c.specs.Fault.{no_fault, wire_status, wire_fault}
 use Rattle.tcpclkit_c.specs.declared.fault.Fault.{Fault}
 use Rattle.tcpclkit_c.specs.declared.recording.Contact.{Contact}
@@ -82,6 +83,19 @@ fields_shown (SessTerm flags reason) =
 fields_shown (MsgReject reason header) =
     record nothing { kind = 6; reason = reason; header = header }
 
+abbrev pub nowhere : Span
+nowhere = record { offset = 0; length = 0 }
+
+-- where the node ID of a message is, and where its items are
+abbrev pub node_of : Fields → Span → Span
+node_of (SessInit interval segment_mru transfer_mru) node = node
+node_of others node = nowhere
+
+abbrev pub items_of : Fields → Span → Span
+items_of (SessInit interval segment_mru transfer_mru) items = items
+items_of (Segment flags id size) items = items
+items_of others items = nowhere
+
 -- the number of data bytes of a message, by its head
 abbrev pub size_of : MessageAt → ℕ
 size_of found = (fields_shown found.fields).data_length
@@ -96,10 +110,10 @@ abbrev pub message_shown : (size offset : ℕ) → MessageAt → Message
 message_shown size offset found =
     record (fields_shown found.fields) {
       fault = data_fault size offset found;
-      node_offset = found.node.offset;
-      node_length = found.node.length;
-      items_offset = found.items.offset;
-      items_length = found.items.length;
+      node_offset = (node_of found.fields found.node).offset;
+      node_length = (node_of found.fields found.node).length;
+      items_offset = (items_of found.fields found.items).offset;
+      items_length = (items_of found.fields found.items).length;
       data_offset = found.end;
       data_seen = min (size_of found) (size - found.end);
       next = if nat_le (size_of found) (size - found.end) then found.end + size_of found else 0;

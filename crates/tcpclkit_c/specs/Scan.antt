@@ -1,11 +1,12 @@
 -- A scan of a bundle in pieces, in memory that C lends.
-use Rattle.std.specs.Prelude.{◌≡◌, Bool, ℕ, ◌+◌, ◌-◌, ◌^◌, nat_le, List, [], ◌++◌, length, if◌then◌else◌}
+use Rattle.std.specs.Prelude.{◌≡◌, Bool, ℕ, ◌+◌, ◌-◌, ◌^◌, nat_le, List, [], ◌++◌, length, take, if◌then◌else◌}
 use base.Fml.{Fml, fex, fsep, ftrue}
 use base.Fraction.{full_share}
 use denote.RawPtr.{Ptr, lies_at}
 use Rattle.link_cbor.specs.Pieces.{taken}
 use Rattle.link_bundle.specs.Bundle.{verdict, payload_seen, state_of, bundle_goes}
 use Rattle.link_bundle.specs.Scan.{HasScanned}
+use Rattle.link_primary.specs.Fields.{primary_fields}
 use Rattle.tcpclkit_c.specs.Bundle.{state_status, Names, ReturnsVerdict, ReturnsInfo}
 use Rattle.tcpclkit_c.specs.contracts.scan.MarkedScan.{the_row}
 use Rattle.tcpclkit_c.specs.declared.bundle.Bundle.{Bundle}
@@ -16,10 +17,12 @@ use Rattle.tcpclkit_c.specs.declared.scan.MarkedScan.{MarkedScan}
 abbrev pub mark : ℕ
 mark = 11674977472243525447
 
--- the scan has its mark, and has seen exactly these bytes
+-- the scan has its mark, has seen exactly these bytes, and keeps as many of them as a primary block
+-- can need
 pub record IsScan (held : MarkedScan) (seen : List ℕ) : Type 0 where
   pub marked : held.mark ≡ mark
   pub scanned : HasScanned held.scan seen
+  pub keeps : held.kept ≡ take 3257 seen
 
 -- a scan that has seen exactly these bytes lies at the pointer
 abbrev pub HoldsScan : Ptr → List ℕ → Fml
@@ -60,5 +63,6 @@ pub record JudgesMarked (held : MarkedScan) (old new : Verdict) (status : ℕ) :
 pub record DescribesMarked (held : MarkedScan) (old_names names : Names) (old new : Bundle)
     (status : ℕ) : Type 0 where
   pub scan : (seen : List ℕ) → IsScan held seen
-      → ReturnsInfo (verdict seen) (payload_seen seen) old_names names new status
+      → ReturnsInfo (verdict seen) (payload_seen seen) (primary_fields seen) old_names names new
+      status
   pub other : (held.mark ≡ mark → ⊥) → (status ≡ 6) × (new ≡ old) × (names ≡ old_names)

@@ -57,7 +57,7 @@ Unpacks options bytes wants old new run status =
     wants old new run status
 
 -- The bundles were packed with these options, and the texts are returned as by the other tools. Or
--- the one request for memory was refused (`ReturnsJob`).
+-- nothing was written, and the status is TCPCLKIT_MEMORY.
 pub record ReturnsPacked (words node bytes : List ℕ) (wants : Wants) (old new : Slices) (run : Run)
     (status : ℕ) : Type 0 where
   pub options : PackOptions

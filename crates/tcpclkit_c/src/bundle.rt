@@ -1,16 +1,20 @@
 //! Exports about a bundle that lies in one slice.
 
-ghost use Rattle.std.specs.Prelude.{◌≡◌, ℕ, List, [], length, Option};
+ghost use Rattle.std.specs.Prelude.{◌≡◌, ℕ, List, [], length, Option, option_map, if◌then◌else◌};
 ghost use Rattle.link_bundle_types.specs.BundleView.{viewed_info, viewed_verdict};
 ghost use Rattle.link_bundle_types.specs.EidView.{viewed_eid};
 ghost use Rattle.link_bundle.specs.Bundle.{verdict, payload_seen, state_of};
 ghost use Rattle.link_bundle.specs.Scan.{HasJudged};
-ghost use Rattle.tcpclkit_c.specs.Bundle.{state_status, fault_of, with_span, verdict_shown, no_eid, eid_shown, name_of, bundle_shown, no_bundle, ReturnsVerdict, ReturnsBundle, ReturnsInfo};
+ghost use Rattle.link_primary.specs.Fields.{primary_fields};
+ghost use Rattle.link_primary.specs.View.{viewed_fields};
+ghost use Rattle.tcpclkit_c.specs.Bundle.{state_status, fault_of, with_span, verdict_shown, no_eid, eid_shown, eid_or_none, name_of, name_or_none, primary_shown, bundle_shown, ReturnsVerdict, GivesNames, names_status, ReturnsBundle, ReturnsStop, ReturnsInfo};
 
 use crate::fault::Fault;
 use crate::slice::copy_front;
 use crate::status::{FAULT, OK, TOO_SMALL, TRUNCATED};
 use link_bundle::{BundleFault, BundleScan, BundleView, EidView, State};
+use link_bundle_heads::row;
+use link_primary::{PrimaryView, primary_fields};
 
 /// `struct tcpclkit_verdict`: the verdict on bytes as one bundle, and where its payload is.
 #[repr(C)]
@@ -43,12 +47,16 @@ pub struct EidNumbers {
     pub name_length: u64,
 }
 
-/// `struct tcpclkit_bundle`: the verdict, and the fields of a good bundle.
+/// `struct tcpclkit_bundle`: the verdict, and the fields of a bundle as far as they were accepted.
 #[repr(C)]
 #[derive(Clone, Copy, Debug, PartialEq, Eq)]
 pub struct Bundle {
     /// The verdict on the bytes.
     pub verdict: Verdict,
+    /// The number of elements of the primary block that were accepted.
+    pub primary_fields: u64,
+    /// 1 if the whole primary block was accepted, and else 0.
+    pub primary_whole: u64,
     /// The bundle processing control flags.
     pub flags: u64,
     /// The endpoint ID of the destination.
@@ -190,6 +198,16 @@ fn eid_shown(eid: &EidView<'_>) -> EidNumbers
     }
 }
 
+/// The kind and the numbers of an endpoint ID, if there is one.
+fn eid_or_none(eid: &Option<EidView<'_>>) -> EidNumbers
+    ensures { result ≡ eid_or_none (option_map viewed_eid eid.now) }
+{
+    match eid {
+        None => no_eid(),
+        Some(eid) => eid_shown(eid),
+    }
+}
+
 /// The name of an endpoint ID; it is empty if the endpoint ID has none.
 fn name_of<'a>(eid: &EidView<'a>) -> &'a [u8]
     ensures { result.now ≡ name_of (viewed_eid eid.now) }
@@ -200,9 +218,48 @@ fn name_of<'a>(eid: &EidView<'a>) -> &'a [u8]
     }
 }
 
+/// The name of an endpoint ID, if there is one; else it is empty.
+fn name_or_none<'a>(eid: &Option<EidView<'a>>) -> &'a [u8]
+    ensures { result.now ≡ name_or_none (option_map viewed_eid eid.now) }
+{
+    match eid {
+        None => &[],
+        Some(eid) => name_of(eid),
+    }
+}
+
+/// Whether something holds, as a number.
+fn one_if(holds: bool) -> u64
+    ensures { result ≡ (if holds then 1 else 0) }
+{
+    if holds { 1 } else { 0 }
+}
+
+/// The fields of a primary block up to its first fault, as numbers.
+fn primary_shown(verdict: Verdict, primary: &PrimaryView<'_>) -> Bundle
+    ensures { result ≡ primary_shown verdict (viewed_fields primary.now) }
+{
+    Bundle {
+        verdict,
+        primary_fields: primary.accepted,
+        primary_whole: one_if(primary.whole),
+        flags: primary.flags,
+        destination: eid_or_none(&primary.destination),
+        source: eid_or_none(&primary.source),
+        time: primary.time,
+        sequence: primary.sequence,
+        lifetime: primary.lifetime,
+        is_fragment: one_if(row::is_fragment(primary.flags)),
+        fragment_offset: primary.fragment_offset,
+        fragment_total: primary.fragment_total,
+        blocks: 0,
+        payload_length: 0,
+    }
+}
+
 /// The fields of a good bundle, as numbers.
-fn bundle_shown(verdict: Verdict, info: &BundleView<'_>) -> Bundle
-    ensures { result ≡ bundle_shown verdict (viewed_info info.now) }
+fn bundle_shown(verdict: Verdict, primary: &PrimaryView<'_>, info: &BundleView<'_>) -> Bundle
+    ensures { result ≡ bundle_shown verdict (viewed_fields primary.now) (viewed_info info.now) }
 {
     let (is_fragment, (fragment_offset, fragment_total)) = match info.fragment {
         None => (0, (0, 0)),
@@ -210,6 +267,8 @@ fn bundle_shown(verdict: Verdict, info: &BundleView<'_>) -> Bundle
     };
     Bundle {
         verdict,
+        primary_fields: primary.accepted,
+        primary_whole: one_if(primary.whole),
         flags: info.flags,
         destination: eid_shown(&info.destination),
         source: eid_shown(&info.source),
@@ -224,42 +283,21 @@ fn bundle_shown(verdict: Verdict, info: &BundleView<'_>) -> Bundle
     }
 }
 
-/// A verdict on bytes that are no good bundle; each field of the bundle is 0.
-fn no_bundle(verdict: Verdict) -> Bundle
-    ensures { result ≡ no_bundle verdict }
-{
-    Bundle {
-        verdict,
-        flags: 0,
-        destination: no_eid(),
-        source: no_eid(),
-        time: 0,
-        sequence: 0,
-        lifetime: 0,
-        is_fragment: 0,
-        fragment_offset: 0,
-        fragment_total: 0,
-        blocks: 0,
-        payload_length: 0,
-    }
-}
-
-/// Gives the fields and the names of a good bundle.
-fn give(
-    info: &BundleView<'_>,
-    verdict: Verdict,
+/// Copies the names of destination and source, and returns the status if nothing else is wrong.
+fn give_names(
+    destination: &[u8],
+    source: &[u8],
     destination_name: &mut [u8],
     source_name: &mut [u8],
-    answer: &mut Bundle,
 ) -> u32
-    ensures { ReturnsBundle (viewed_info info.now) verdict
+    ensures names { GivesNames destination.now source.now
         (record { destination = destination_name.old; source = source_name.old })
-        (record { destination = destination_name.new; source = source_name.new })
-        answer.new result }
+        (record { destination = destination_name.new; source = source_name.new }) }
+    ensures status { result ≡ names_status destination.now source.now
+        (record { destination = destination_name.new; source = source_name.new }) }
 {
-    *answer = bundle_shown(verdict, info);
-    let destination_fits = copy_front(destination_name, name_of(&info.destination));
-    let source_fits = copy_front(source_name, name_of(&info.source));
+    let destination_fits = copy_front(destination_name, destination);
+    let source_fits = copy_front(source_name, source);
     if destination_fits && source_fits {
         OK
     } else {
@@ -267,30 +305,89 @@ fn give(
     }
 }
 
-/// Gives the verdict on the bytes that a scan has judged, and the fields of a good bundle.
+/// Gives the fields and the names of a good bundle.
+fn give_good(
+    info: &BundleView<'_>,
+    verdict: Verdict,
+    primary: &PrimaryView<'_>,
+    destination_name: &mut [u8],
+    source_name: &mut [u8],
+    answer: &mut Bundle,
+) -> u32
+    ensures { ReturnsBundle (viewed_info info.now) verdict (viewed_fields primary.now)
+        (record { destination = destination_name.old; source = source_name.old })
+        (record { destination = destination_name.new; source = source_name.new })
+        answer.new result }
+{
+    *answer = bundle_shown(verdict, primary, info);
+    give_names(
+        name_of(&info.destination),
+        name_of(&info.source),
+        destination_name,
+        source_name,
+    )
+}
+
+/// Gives the fields and the names that a bundle in this state has before its first fault.
+fn give_bad(
+    state: State,
+    verdict: Verdict,
+    primary: &PrimaryView<'_>,
+    destination_name: &mut [u8],
+    source_name: &mut [u8],
+    answer: &mut Bundle,
+) -> u32
+    ensures { ReturnsStop verdict state (viewed_fields primary.now)
+        (record { destination = destination_name.old; source = source_name.old })
+        (record { destination = destination_name.new; source = source_name.new })
+        answer.new result }
+{
+    *answer = primary_shown(verdict, primary);
+    give_names(
+        name_or_none(&primary.destination),
+        name_or_none(&primary.source),
+        destination_name,
+        source_name,
+    );
+    state_status(state)
+}
+
+/// Gives the verdict on the bytes that a scan has judged, and the fields that were accepted.
 pub(crate) fn give_info(
     scan: &BundleScan,
+    primary: &PrimaryView<'_>,
     destination_name: &mut [u8],
     source_name: &mut [u8],
     answer: &mut Bundle,
 ) -> u32
     ensures { (bytes : List ℕ) → HasJudged scan.now bytes
-        → ReturnsInfo (verdict bytes) (payload_seen bytes)
+        → ReturnsInfo (verdict bytes) (payload_seen bytes) (viewed_fields primary.now)
         (record { destination = destination_name.old; source = source_name.old })
         (record { destination = destination_name.new; source = source_name.new })
         answer.new result }
 {
     let verdict = found(scan);
     match scan.view() {
-        Ok(info) => give(&info, verdict, destination_name, source_name, answer),
-        Err(_) => {
-            *answer = no_bundle(verdict);
-            state_status(scan.state())
-        }
+        Ok(info) => give_good(
+            &info,
+            verdict,
+            primary,
+            destination_name,
+            source_name,
+            answer,
+        ),
+        Err(_) => give_bad(
+            scan.state(),
+            verdict,
+            primary,
+            destination_name,
+            source_name,
+            answer,
+        ),
     }
 }
 
-/// Judges the bytes as one bundle, and gives the fields of a good one.
+/// Judges the bytes as one bundle, and gives the fields that were accepted.
 #[unsafe(no_mangle)]
 pub extern "C" fn tcpclkit_raw_describe_bundle(
     bytes: &[u8],
@@ -298,11 +395,12 @@ pub extern "C" fn tcpclkit_raw_describe_bundle(
     source_name: &mut [u8],
     answer: &mut Bundle,
 ) -> u32
-    ensures { ReturnsInfo (verdict bytes.now) (payload_seen bytes.now)
+    ensures { ReturnsInfo (verdict bytes.now) (payload_seen bytes.now) (primary_fields bytes.now)
         (record { destination = destination_name.old; source = source_name.old })
         (record { destination = destination_name.new; source = source_name.new })
         answer.new result }
 {
     let scan = judged_scan(bytes);
-    give_info(&scan, destination_name, source_name, answer)
+    let primary = primary_fields(bytes);
+    give_info(&scan, &primary, destination_name, source_name, answer)
 }

@@ -3,10 +3,11 @@
 //! `include/tcpclkit.h` declares every export and says what its caller owes. An export takes
 //! slices, numbers and structs of numbers, which [`fault`] and the other modules define. It tests
 //! what a caller may get wrong, calls one proved function, and writes the answer as numbers. Its
-//! contract has the words of that function's contract, so no export has a condition.
+//! contract has the words of that function's contract.
 //!
-//! The exports of [`scan`] also take a pointer to memory that has a scan in it. No loan follows a
-//! raw pointer, so their contracts say what memory the caller gives up and gets back.
+//! An export of [`scan`] that takes a pointer has a condition: a scan lies there, or memory for
+//! one. No loan follows a raw pointer, so the contract says what memory the caller gives up and
+//! gets back. No other export has a condition.
 #![tactic(auto)]
 
 ghost use Rattle.std.specs.Prelude.{◌≡◌};
@@ -15,6 +16,7 @@ mod bundle;
 mod device;
 mod fault;
 mod history;
+mod kept;
 mod options;
 mod order;
 mod recording;

@@ -2,12 +2,13 @@
 
 ghost use Rattle.std.specs.Prelude.{◌≡◌, ◌-◌, ◌^◌, ◌<◌, ◌≤◌, length, drop};
 ghost use Rattle.link_wire.specs.Message.{contact_at, message_at};
-ghost use Rattle.tcpclkit_c.specs.Recording.{nothing, ReturnsContact, fields_shown, message_shown, data_status, ReturnsMessage, no_item, item_shown, item_part, ReturnsItem};
+ghost use Rattle.tcpclkit_c.specs.Recording.{nothing, ReturnsContact, fields_shown, node_of, items_of, message_shown, data_status, ReturnsMessage, no_item, item_shown, item_part, ReturnsItem};
 
 use crate::fault::{Fault, wire_status};
 use crate::status::{DATA_TRUNCATED, END, OK, RANGE};
 use link_wire::{
-    Fields, ItemAt, ListOf, MAX_LIST_LENGTH, MessageAt, WireFault, contact_in, item_in, message_in,
+    Fields, ItemAt, ListOf, MAX_LIST_LENGTH, MessageAt, Span, WireFault, contact_in, item_in,
+    message_in,
 };
 
 /// `struct tcpclkit_contact`: a contact header, or its fault.
@@ -199,6 +200,24 @@ fn fields_shown(fields: Fields) -> Message
     }
 }
 
+/// The place of what a message does not have.
+const NOWHERE: Span = Span {
+    offset: 0,
+    length: 0,
+};
+
+/// Where the node ID of a message is, and where its items are.
+fn places_of(found: &MessageAt) -> (Span, Span)
+    ensures node { result.0 ≡ node_of found.now.fields found.now.node }
+    ensures items { result.1 ≡ items_of found.now.fields found.now.items }
+{
+    match found.fields {
+        Fields::SessInit { .. } => (found.node, found.items),
+        Fields::Segment { .. } => (NOWHERE, found.items),
+        _ => (NOWHERE, NOWHERE),
+    }
+}
+
 /// A message as numbers, and whether its data is there; `size` is the number of the bytes.
 ///
 /// If the data is cut, the message has the fault of a message at this offset.
@@ -208,12 +227,13 @@ fn shown(found: &MessageAt, size: usize, offset: u64) -> (Message, u32)
     ensures status { result.1 ≡ data_status size found.now }
 {
     let fields = fields_shown(found.fields);
+    let (node, items) = places_of(found);
     let there = (size - found.end) as u64;
     let placed = Message {
-        node_offset: found.node.offset as u64,
-        node_length: found.node.length as u64,
-        items_offset: found.items.offset as u64,
-        items_length: found.items.length as u64,
+        node_offset: node.offset as u64,
+        node_length: node.length as u64,
+        items_offset: items.offset as u64,
+        items_length: items.length as u64,
         data_offset: found.end as u64,
         data_seen: fields.data_length.min(there),
         ..fields

@@ -6,14 +6,17 @@ ghost use prog.Memory.{size, align};
 ghost use denote.Memory.{lone};
 ghost use denote.RawPtr.{room_at};
 ghost use Rattle.link_bundle.specs.Bundle.{verdict, payload_seen, state_of};
+ghost use Rattle.link_primary.specs.Fields.{primary_fields};
 ghost use Rattle.tcpclkit_c.specs.Bundle.{verdict_shown, state_status, ReturnsInfo};
 ghost use Rattle.tcpclkit_c.specs.Scan.{IsScan, HoldsScan, fed, fed_status, FeedsMarked, JudgesMarked, DescribesMarked};
 ghost use Rattle.tcpclkit_c.specs.contracts.scan.MarkedScan.{the_row};
 
 use crate::bundle::{Bundle, Verdict, give_info, give_verdict, state_status};
+use crate::kept::Kept;
 use crate::status::{OK, RANGE};
 use link_bundle::BundleScan;
 use link_cbor::Piecewise;
+use link_primary::primary_fields;
 use link_wire::INPUT_LIMIT;
 
 /// The first word of each scan. It was drawn at random, so other memory hardly begins with it.
@@ -24,6 +27,8 @@ const MARK: u64 = 0xa205_da27_81c3_6747;
 pub struct MarkedScan {
     mark: u64,
     scan: BundleScan,
+    /// The first bytes that the scan has taken, for the fields of a bad bundle.
+    kept: Kept,
 }
 
 /// The size of a scan in bytes.
@@ -51,6 +56,7 @@ fn new_scan() -> MarkedScan
     MarkedScan {
         mark: MARK,
         scan: BundleScan::new(),
+        kept: Kept::new(),
     }
 }
 
@@ -76,7 +82,9 @@ fn feed(scan: &mut MarkedScan, piece: &[u8], taken: &mut u64) -> u32
     if scan.scan.count().saturating_add(piece.len() as u64) > INPUT_LIMIT {
         return RANGE;
     }
-    *taken = scan.scan.feed(piece) as u64;
+    let count = scan.scan.feed(piece);
+    scan.kept.extend(&piece[..count]);
+    *taken = count as u64;
     state_status(scan.scan.state())
 }
 
@@ -118,7 +126,7 @@ pub unsafe extern "C" fn tcpclkit_raw_judge_scan(memory: *const u64, answer: &mu
     judge(&*(memory as *const MarkedScan), answer)
 }
 
-/// Gives the verdict on the bytes seen, and the fields of a good bundle.
+/// Gives the verdict on the bytes seen, and the fields that were accepted.
 fn describe(
     scan: &MarkedScan,
     destination_name: &mut [u8],
@@ -133,10 +141,11 @@ fn describe(
     if scan.mark != MARK {
         return RANGE;
     }
-    give_info(&scan.scan, destination_name, source_name, answer)
+    let primary = primary_fields(scan.kept.as_slice());
+    give_info(&scan.scan, &primary, destination_name, source_name, answer)
 }
 
-/// The verdict on the bytes seen, and the fields of a good bundle.
+/// The verdict on the bytes seen, and the fields that were accepted.
 #[unsafe(no_mangle)]
 pub unsafe extern "C" fn tcpclkit_raw_describe_scan(
     memory: *const u64,
@@ -147,7 +156,7 @@ pub unsafe extern "C" fn tcpclkit_raw_describe_scan(
     ghost seen: { List ℕ }
     requires* { sem 𝓛 (HoldsScan memory seen) }
     ensures* scan { sem 𝓛 (HoldsScan memory seen) }
-    ensures answer { ReturnsInfo (verdict seen) (payload_seen seen)
+    ensures answer { ReturnsInfo (verdict seen) (payload_seen seen) (primary_fields seen)
         (record { destination = destination_name.old; source = source_name.old })
         (record { destination = destination_name.new; source = source_name.new })
         answer.new result }

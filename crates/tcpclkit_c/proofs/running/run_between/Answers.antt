@@ -35,7 +35,7 @@ ran c =
     (text_of c.args.output) (text_of end.output) (text_of c.args.report) (text_of end.report)
     (ap (λ (state : Input). state.left) c.new.ensures) refl refl refl refl refl refl refl refl
     (omega arith)
-    c.args.job end.answer c.run_tool.ensures
+    c.args.job end.answer end.waits.items c.run_tool.ensures
 
 pub returns-clause-output : goal.returns-clause-output
 returns-clause-output c = (labels_are _ _ _ _ _ _ _ (ran c).output_is).0

@@ -1,9 +1,9 @@
-use Rattle.std.proofs.Common.{◌≡◌, ap, sym, ◌∙◌}
+use Rattle.std.proofs.Common.{◌≡◌, ap, sym, ◌∙◌, rules}
 use Rattle.tcpclkit_c.specs.declared.history.History.{History}
 use Rattle.tcpclkit_c.proofs.Runs.{left_in}
 use Rattle.tcpclkit_c.proofs.running.run_whole.Goals as goal
 
--- each writer still has its slice, so the last bytes of that are the writer's
+-- Each writer still has its slice, so the last bytes of that are the writer's: the search finds it.
 pub returns : goal.returns
 returns c =
     let ran = c.run_into-answer in
@@ -15,14 +15,12 @@ returns c =
     let report_before : report.history.before ≡ c.args.report.now =
     ran.ensures.report_before
     ∙ ap (λ (history : History). history.before) c.new-to_report.ensures.history in
+    let same_output = sym (ran.ensures.output ∙ c.new-to_output.ensures.same_reference) in
+    let same_report = sym (ran.ensures.report ∙ c.new-to_report.ensures.same_reference) in
     record {
       output_text = output.history.text;
       report_text = report.history.text;
       wrote = ran.ensures.run.wrote;
-      output = left_in output_before
-          (c.output-1.given.1.1 (sym (ran.ensures.output ∙ c.new-to_output.ensures.same_reference)))
-          c.written_by.ensures;
-      report = left_in report_before
-          (c.report-1.given.1.1 (sym (ran.ensures.report ∙ c.new-to_report.ensures.same_reference)))
-          c.written_by-2.ensures;
+      output = left_in output_before (search (rules, same_output)) c.written_by.ensures;
+      report = left_in report_before (search (rules, same_report)) c.written_by-2.ensures;
     }

@@ -3,7 +3,7 @@ use Rattle.std.proofs.lemmas.Bool.{le-leb}
 use Rattle.link_cbor.specs.Pieces.{taken}
 use Rattle.link_bundle.specs.Bundle.{bundle_goes}
 use Rattle.tcpclkit_c.specs.Scan.{has_room}
-use Rattle.tcpclkit_c.proofs.Scanning.{feeds}
+use Rattle.tcpclkit_c.proofs.Scanning.{feeds, keeps_taken}
 use Rattle.tcpclkit_c.proofs.scan.feed.Goals as goal
 
 pub returns : goal.returns
@@ -11,9 +11,14 @@ returns c = record {
   scan = λ seen has.
       let room : has_room seen c.args.piece.now ≡ true =
       le-leb _ _ (omega (arith, c.count.ensures.seen seen has.scanned, c.saturating_add.ensures, c.if-saturating_add-gt-INPUT_LIMIT.false)) in
-      let come = c.feed.ensures.seen seen has.scanned in
-      feeds seen c.args.piece.now room _ _ _ _ (record { marked = has.marked; scanned = come })
-      (c.feed.ensures.count seen has.scanned)
+      let come = c.feed-count.ensures.seen seen has.scanned in
+      feeds seen c.args.piece.now room _ _ _ _ (record {
+        marked = has.marked;
+        scanned = come;
+        keeps = keeps_taken 3257 seen c.args.piece.now _ _ c.feed-count.result has.keeps
+            (c.feed-count.ensures.count seen has.scanned) c.extend.ensures;
+      })
+      (c.feed-count.ensures.count seen has.scanned)
       (c.state.ensures.seen (seen ++ taken bundle_goes seen c.args.piece.now) come) c.state_status.ensures;
   other = λ not. absurd (not c.if-scan.false);
 }

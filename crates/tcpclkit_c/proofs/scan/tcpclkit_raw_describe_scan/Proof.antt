@@ -4,6 +4,7 @@ use prog.Wp.{WpFn}
 use Rattle.tcpclkit_c.specs.declared.scan.MarkedScan.{MarkedScan}
 use Rattle.tcpclkit_c.specs.contracts.scan.MarkedScan.{the_row as R}
 use Rattle.link_bundle.specs.Bundle.{verdict, payload_seen}
+use Rattle.link_primary.specs.Fields.{primary_fields}
 use Rattle.tcpclkit_c.specs.Bundle.{Names, ReturnsInfo}
 use Rattle.tcpclkit_c.specs.Scan.{HoldsScan, DescribesMarked}
 use Rattle.tcpclkit_c.proofs.Lending.{lent_scan, lends_scan, held_scan}
@@ -70,7 +71,7 @@ tcpclkit_raw_describe_scan_spec 𝓤 𝓛 𝓜 𝓡 wired =
     use1 𝓛 (‵ (HoldsScan (block_ptr b o) seen)) (held_scan 𝓛 scan b o seen has) $
     move ! (1 ∷ []) $ nothing ! $ join ! $
     -- [what is left of the parameters; the scan; the result; the tokens]
-    use0 𝓛 (raw (fact 𝓤 (ReturnsInfo (verdict seen) (payload_seen seen) before (record { destination = ws.1.0; source = ws.1.1.0 }) ws.1.1.1.0 r))) (fact_i 𝓤 (ReturnsInfo (verdict seen) (payload_seen seen) before (record { destination = ws.1.0; source = ws.1.1.0 }) ws.1.1.1.0 r) (emp 𝓤) (gives.scan seen has)) $
+    use0 𝓛 (raw (fact 𝓤 (ReturnsInfo (verdict seen) (payload_seen seen) (primary_fields seen) before (record { destination = ws.1.0; source = ws.1.1.0 }) ws.1.1.1.0 r))) (fact_i 𝓤 (ReturnsInfo (verdict seen) (payload_seen seen) (primary_fields seen) before (record { destination = ws.1.0; source = ws.1.1.0 }) ws.1.1.1.0 r) (emp 𝓤) (gives.scan seen has)) $
     move ! (4 ∷ 1 ∷ 3 ∷ 2 ∷ []) $
     suffices ! _ (ends_at 𝓛 f.ended stayed c (y (block_ptr b o)) v r (tt, ws.1) (tt, (tt, (tt, (tt, tt))))) $
     group ! 3 $ done !)))))))))))

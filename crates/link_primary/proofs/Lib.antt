@@ -1,0 +1,3 @@
+pub mod Known
+mod Heads
+pub mod Short

@@ -1,0 +1,58 @@
+//! What is known of a primary block.
+ghost use Rattle.std.specs.Prelude.{◌≡◌};
+ghost use Rattle.link_primary.specs.Fields.{no_fields};
+ghost use Rattle.link_primary.specs.View.{viewed_fields};
+
+use link_bundle_types::EidView;
+
+/// The greatest length of a primary block and the byte before it.
+///
+/// An endpoint ID has at most 1,051 bytes: a name of 1,024 bytes, and three heads of at most 9.
+pub const PRIMARY_LIMIT: usize = 3257;
+
+/// The fields of a primary block (RFC 9171 section 4.3.1) that come before its first fault.
+///
+/// The other fields are 0 or `None`. It borrows the bytes of dtn endpoint IDs.
+#[derive(Clone, Copy, Debug, PartialEq, Eq)]
+pub struct PrimaryView<'a> {
+    /// The number of elements of the block's array that were accepted, in their order.
+    pub accepted: u64,
+    /// Whether the whole block was accepted, its check value too.
+    pub whole: bool,
+    /// The bundle processing control flags, element 2.
+    pub flags: u64,
+    /// The endpoint ID of the destination, element 4.
+    pub destination: Option<EidView<'a>>,
+    /// The endpoint ID of the source node, element 5.
+    pub source: Option<EidView<'a>>,
+    /// The creation time, in milliseconds since 2000-01-01 UTC; the first part of element 7.
+    pub time: u64,
+    /// The sequence number, the second part of element 7.
+    pub sequence: u64,
+    /// The lifetime, in milliseconds after the creation time; element 8.
+    pub lifetime: u64,
+    /// The offset of a fragment in bytes, element 9 of a fragment.
+    pub fragment_offset: u64,
+    /// The total length of a fragment's bundle in bytes, element 10 of a fragment.
+    pub fragment_total: u64,
+}
+
+impl PrimaryView<'_> {
+    /// No field was accepted.
+    pub(crate) fn none() -> PrimaryView<'static>
+        ensures { viewed_fields result ≡ no_fields }
+    {
+        PrimaryView {
+            accepted: 0,
+            whole: false,
+            flags: 0,
+            destination: None,
+            source: None,
+            time: 0,
+            sequence: 0,
+            lifetime: 0,
+            fragment_offset: 0,
+            fragment_total: 0,
+        }
+    }
+}
