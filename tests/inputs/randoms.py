@@ -7,7 +7,8 @@ import random
 import struct
 
 from .lengths import KINDS
-from .spelling import CONTACT, END, START, canonical, head, item, laid, primary, segment, sess_init, spelled, total
+from . import spelling
+from .spelling import CONTACT, END, START, canonical, encoded, head, item, laid, primary, segment, sess_init, spelled, total
 
 NUMBERS = [0, 1, 2, 3, 5, 23, 24, 255, 256, 1024, 65535, 65536, 2**32 - 1, 2**32, 2**63, 2**64 - 1]
 
@@ -35,18 +36,53 @@ def width_of(rng):
     return lambda value: rng.choice([it for it in (0, 1, 2, 4, 8) if value < (1 << 8 * it if it else 24)])
 
 
+def status_report(rng):
+    """The heads of a random status report."""
+    times = [rng.choice((False, True, rng.choice(NUMBERS))) for _ in range(rng.choice((4, 4, 4, 3, 5, 9)))]
+    fragment = [rng.choice(NUMBERS), rng.choice(NUMBERS)] if rng.random() < 0.3 else []
+    return spelling.status_report(times, rng.choice((*range(18), *NUMBERS)), endpoint(rng), (rng.choice(NUMBERS), 0), fragment)
+
+
+def data_of(rng, kind):
+    """The heads of the data of a block of a type whose data is read."""
+    if kind in (11, 12):
+        targets = [rng.choice((0, 1, 2, 3)) for _ in range(rng.choice((0, 1, 1, 2, 5)))]
+        return spelling.security(targets, rng.choice((1, 2, -1, -2**64)), endpoint(rng), rng.choice((0, 1)))
+    one, two = rng.choice(NUMBERS), rng.choice(NUMBERS)
+    return {1: status_report(rng), 6: spelling.endpoint(endpoint(rng)), 7: [spelling.unsigned(one)],
+            10: spelling.hop_count(one, two)}[kind]
+
+
+def read_data(rng, kind):
+    """The data of such a block, in some cases with another head, more bytes, or damage."""
+    heads = data_of(rng, kind)
+    changed = rng.randrange(len(heads)) if rng.random() < 0.3 else None
+    content = encoded(heads, changed, rng.choice(KINDS))
+    after = some_bytes(rng, 9) if rng.random() < 0.2 else b""
+    return damage(rng, content) if rng.random() < 0.1 else content + after
+
+
+def extension(rng, number):
+    """A random extension block, whose data is read in most cases."""
+    number = rng.randint(0, 4) if rng.random() < 0.1 else number
+    flags = rng.choice((0, 0, 1, 2, 4, 0x10, 0x17, rng.choice(NUMBERS)))
+    kind = rng.choice((0, 2, 192, 2**64 - 1, *[6, 7, 10, 11, 12] * 3))
+    content = read_data(rng, kind) if kind in (6, 7, 10, 11, 12) else some_bytes(rng, 30)
+    return canonical(kind, number, content, rng.randint(0, 2), flags)
+
+
 def blocks_of(rng):
     """The blocks of a bundle, with numbers that are mostly distinct."""
-    flags = rng.choice((0, 0, 0, 4, 1, 1, rng.choice(NUMBERS)))
+    flags = rng.choice((0, 0, 2, 2, 4, 1, 1, 0x4000, rng.choice(NUMBERS)))
     fragment = [rng.choice(NUMBERS), rng.choice(NUMBERS)] if flags & 1 else []
     stamp = rng.choice(NUMBERS), rng.choice(NUMBERS)
     names = [endpoint(rng) for _ in range(3)]
     blocks = [primary(*names, rng.randint(0, 2), flags, stamp, rng.choice(NUMBERS), fragment)]
     for number in range(2, 2 + rng.choice((0, 0, 1, 2, 5))):
-        number = rng.randint(0, 4) if rng.random() < 0.1 else number
-        blocks.append(canonical(rng.choice((0, 2, 7, 192, 2**64 - 1)), number, some_bytes(rng, 30), rng.randint(0, 2)))
+        blocks.append(extension(rng, number))
     longest = rng.choice((0, 10, 100, 100, 1000, 9000))
-    return blocks + [canonical(1, 1, some_bytes(rng, longest), rng.randint(0, 2))]
+    payload = read_data(rng, 1) if flags & 2 and rng.random() < 0.9 else some_bytes(rng, longest)
+    return blocks + [canonical(1, 1, payload, rng.randint(0, 2))]
 
 
 def bundle(rng):

@@ -147,10 +147,48 @@ def primary(destination, source, report, kind=0, flags=0, stamp=(0, 0), lifetime
     return heads + check_field(kind)
 
 
-def canonical(block_type, number, content, kind=0):
+def canonical(block_type, number, content, kind=0, flags=0):
     """A canonical block (section 4.3.2)."""
-    heads = [array(5 + (kind > 0), 6), unsigned(block_type, 1), unsigned(number, 1), unsigned(0), unsigned(kind, 2)]
+    heads = [array(5 + (kind > 0), 6), unsigned(block_type, 1), unsigned(number, 1), unsigned(flags), unsigned(kind, 2)]
     return heads + [data(content)] + check_field(kind)
+
+
+def boolean(value):
+    """A Boolean."""
+    return Head(7, 21 if value else 20)
+
+
+def integer(value):
+    """An integer, which may be negative."""
+    return Head(0, value) if value >= 0 else Head(1, -1 - value)
+
+
+def hop_count(limit, count):
+    """The heads of a hop count block's data (section 4.4.3)."""
+    return [array(2), unsigned(limit), unsigned(count)]
+
+
+def security(targets, context, source, flags=0):
+    """The heads of the beginning of an abstract security block (RFC 9172 section 3.6)."""
+    return [array(len(targets)), *map(unsigned, targets), integer(context), unsigned(flags), *endpoint(source)]
+
+
+def assertion(it):
+    """The heads of a status, which is False, True or a time (RFC 9171 section 6.1.1)."""
+    return [array(1), boolean(it)] if isinstance(it, bool) else [array(2), boolean(True), unsigned(it)]
+
+
+def status_report(assertions, reason, source, stamp, fragment=()):
+    """The heads of an administrative record that is a status report (section 6.1.1)."""
+    heads = [array(2), unsigned(1), array(4 + len(fragment)), array(len(assertions))]
+    heads += [head for it in assertions for head in assertion(it)]
+    return heads + [unsigned(reason), *endpoint(source), array(2), *map(unsigned, stamp), *map(unsigned, fragment)]
+
+
+def encoded(heads, changed=None, other=b""):
+    """Heads as bytes, with what follows each. The head number `changed` is spelled `other`."""
+    spellings = [other if number == changed else head(it.major, it.value) for number, it in enumerate(heads)]
+    return b"".join(spelling + it.content for spelling, it in zip(spellings, heads))
 
 
 def head(major, value, width=None):

@@ -2,11 +2,17 @@
 
 It is written from those documents alone, and shares no code and no definition with the program. It
 reads whole byte strings, and nothing piece by piece. `listing`, `unpacking` and `packing` of
-`tools` take an input and options, and return (output, report, status).
+`tools`, `block_listing` of `blocks` and `checking` of `checking` take an input and options, and
+return (output, report, status).
 
-    wire    the reading of a recorded stream
-    bundle  the judgement of a bundle
-    check   the two check values
-    texts   the words and lines
-    tools   the three tools
+    wire            the reading of a recorded stream
+    bundle          the judgement of a bundle
+    block_data      what the data of a block says
+    check           the two check values
+    texts           the words and lines
+    tools           `list`, `unpack` and `pack`, and the walk over transfers
+    blocks          `blocks`
+    rules           the rules of `check`, which are in `message_rules`, `transfer_rules` and
+                    `bundle_rules`
+    checking        `check`
 """

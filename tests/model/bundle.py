@@ -22,28 +22,72 @@ class Identity(NamedTuple):
     fragment: Optional[tuple]
 
 
+class Primary(NamedTuple):
+    """A whole primary block (section 4.3.1): its offset, its length, and its fields."""
+    at: int
+    length: int
+    flags: int
+    check: int
+    destination: object
+    source: object
+    report_to: object
+    time: int
+    sequence: int
+    lifetime: int
+    fragment: Optional[tuple]
+
+
+class Block(NamedTuple):
+    """A whole canonical block (section 4.3.2): its offset, its length, and its fields.
+
+    `kind` is the block type code. The block-type-specific data is at `data_at`, after its head.
+    """
+    at: int
+    length: int
+    kind: int
+    number: int
+    flags: int
+    check: int
+    data_at: int
+    data: bytes
+
+
 class Judgement(NamedTuple):
     """The judgement of some bytes: a fault (code, offset), or a bundle at their beginning.
 
     `length` is the length of the bundle. With a fault it is the number of bytes before the one that
     shows the fault, and for B1 the number of all bytes. `payload` is the offset of the payload's
-    data and its length by its head, if that head was good.
+    data and its length by its head, if that head was good. `primary` and `blocks` are the blocks
+    that are whole and good. `long_head` is the offset of the first head that is longer than needed.
     """
     fault: Optional[tuple]
     identity: Optional[Identity]
     length: int
     payload: Optional[tuple]
+    primary: Optional[Primary] = None
+    blocks: tuple = ()
+    long_head: Optional[int] = None
 
 
 class Fault(Exception):
     """A code, the offset of the fault, and the number of bytes before the one that shows it."""
 
 
+# The least value that needs the argument of a head with this additional information
+LEAST = {24: 24, 25: 1 << 8, 26: 1 << 16, 27: 1 << 32}
+
+
 class Scan:
-    """The bytes of a bundle, the number of bytes judged, and the offset of the last head."""
+    """The bytes of a bundle, the number of bytes judged, and the offset of the last head.
+
+    It keeps what a `Judgement` says of the blocks and of the heads. `fields` are those of the
+    primary block that were good, and `is_whole` is whether its check field was good too.
+    """
 
     def __init__(self, content):
         self.content, self.at, self.place, self.payload = content, 0, 0, None
+        self.primary_block, self.blocks, self.long_head = None, [], None
+        self.fields, self.is_whole = [], False
 
     def fault(self, code):
         """Raises a fault of the last head. The last byte judged shows the fault."""
@@ -73,6 +117,8 @@ class Scan:
         value = int.from_bytes(self.take(1 << information - 24), "big")
         if major == 7 and information == 24 and value < 0x20:
             self.fault("B4")
+        if value < LEAST[information] and self.long_head is None:
+            self.long_head = self.place
         return major, value
 
     def unsigned(self):
@@ -153,19 +199,28 @@ class Scan:
         return tuple(self.unsigned() for _ in range(self.counted((major, value), (2, 3))))
 
     def primary(self):
-        """The primary block (section 4.3.1), as a bundle's identity that has no payload yet."""
-        start = self.at
+        """Reads the primary block (section 4.3.1), and keeps it and each field that is good."""
+        start, fields = self.at, self.fields
         count = self.array(range(8, 12))
-        if self.unsigned() != 7:
+        version = self.unsigned()
+        if version != 7:
             self.fault("B7")
-        is_fragment = self.unsigned() & 1
-        kind = self.check_type(count, 10 if is_fragment else 8)
-        destination, source, _ = self.endpoint(), self.endpoint(), self.endpoint()
+        fields.append(version)
+        fields.append(self.unsigned())
+        is_fragment = fields[1] & 1
+        fields.append(self.check_type(count, 10 if is_fragment else 8))
+        for _ in range(3):
+            fields.append(self.endpoint())
         self.array([2])
-        time, sequence, _ = self.unsigned(), self.unsigned(), self.unsigned()
-        fragment = (self.unsigned(), self.unsigned()) if is_fragment else None
-        self.check_field(start, kind)
-        return Identity(source, time, sequence, destination, 0, fragment)
+        fields.append((self.unsigned(), self.unsigned()))
+        fields.append(self.unsigned())
+        for _ in range(2 if is_fragment else 0):
+            fields.append(self.unsigned())
+        self.check_field(start, fields[2])
+        self.is_whole = True
+        _, flags, kind, destination, source, report_to, (time, sequence), lifetime, *fragment = fields
+        numbers = time, sequence, lifetime, tuple(fragment) or None
+        self.primary_block = Primary(start, self.at - start, flags, kind, destination, source, report_to, *numbers)
 
     def number(self, kind, earlier):
         """The number of a canonical block of type `kind` (section 4.1).
@@ -180,20 +235,20 @@ class Scan:
         return number
 
     def canonical(self, start, count, earlier):
-        """Reads a canonical block after its first head (section 4.3.2), and returns its number."""
+        """Reads a canonical block after its first head (section 4.3.2), and returns it."""
         kind = self.unsigned()
         number = self.number(kind, earlier)
-        self.unsigned()
+        flags = self.unsigned()
         check_kind = self.check_type(count, 5)
         length = self.length()
         if number == 1:
             self.payload = self.at, length
-        self.take(length)
+        data_at, data = self.at, self.take(length)
         self.check_field(start, check_kind)
-        return number
+        return Block(start, self.at - start, kind, number, flags, check_kind, data_at, data)
 
     def canonicals(self):
-        """Reads the canonical blocks and the break (section 4.1).
+        """Reads the canonical blocks and the break (section 4.1), and keeps the blocks.
 
         The last block is the payload block, and no other block is.
         """
@@ -205,7 +260,8 @@ class Scan:
             count = self.counted(head, (5, 6))
             if len(numbers) == MAX_BLOCKS:
                 self.fault("B16")
-            numbers.append(self.canonical(start, count, numbers))
+            self.blocks.append(self.canonical(start, count, numbers))
+            numbers.append(self.blocks[-1].number)
         if self.head() != (7, None):
             self.fault("B17")
 
@@ -213,20 +269,31 @@ class Scan:
         """A bundle (section 4.1)."""
         if self.take(1) != b"\x9f":
             self.fault("B3")
-        identity = self.primary()
+        self.primary()
         self.canonicals()
-        return identity._replace(payload=self.payload[1])
+        it = self.primary_block
+        return Identity(it.source, it.time, it.sequence, it.destination, self.payload[1], it.fragment)
 
 
 def first(content):
     """The judgement of the bundle at the beginning of some bytes, whatever comes after it."""
     scan = Scan(content)
     try:
-        identity = scan.bundle()
-    except Fault as fault:
-        code, place, before = fault.args
-        return Judgement((code, place), None, before, scan.payload)
-    return Judgement(None, identity, scan.at, scan.payload)
+        fault, identity, length = None, scan.bundle(), scan.at
+    except Fault as it:
+        code, place, length = it.args
+        fault, identity = (code, place), None
+    return Judgement(fault, identity, length, scan.payload, scan.primary_block, tuple(scan.blocks), scan.long_head)
+
+
+def primary(content):
+    """The fields of the primary block before its first fault, in order, and whether it is whole."""
+    scan = Scan(content)
+    try:
+        scan.bundle()
+    except Fault:
+        pass
+    return scan.fields, scan.is_whole
 
 
 def whole(content):

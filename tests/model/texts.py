@@ -1,14 +1,37 @@
 """The words and lines of `list` and of the report.
 
-The sections of docs/FORMATS.md are "Report lines", "Fault lines", "Unpacking" and "Packing".
+The sections of docs/FORMATS.md are "Report lines", "Fault lines", "Unpacking" and "Packing". The
+lines of `blocks` are here too.
 """
 
-from . import wire
+from . import block_data, wire
 
 # The names of reasons, by their codes in RFC 9174 sections 5.2.4, 6.1 and 5.1.2
 REFUSE = ["unknown", "completed", "no-resources", "retransmit", "not-acceptable", "extension-failure", "session-terminating"]
 TERM = ["unknown", "idle-timeout", "version-mismatch", "busy", "contact-failure", "resource-exhaustion"]
 REJECT = ["?", "message-type-unknown", "message-unsupported", "message-unexpected"]
+
+# The names of check types (RFC 9171 section 4.2.1), and of block types (RFC 9171 section 4.4 and
+# RFC 9172 section 3)
+CHECKS = ["none", "crc16", "crc32c"]
+BLOCKS = {
+    block_data.PAYLOAD: "payload",
+    block_data.PREVIOUS_NODE: "previous-node",
+    block_data.BUNDLE_AGE: "bundle-age",
+    block_data.HOP_COUNT: "hop-count",
+    block_data.INTEGRITY: "block-integrity",
+    block_data.CONFIDENTIALITY: "block-confidentiality",
+}
+
+# The names of the reasons of status reports, by their codes (RFC 9171 section 6.1.1 and RFC 9172
+# section 7.1)
+REPORT = [
+    "no-additional-information", "lifetime-expired", "forwarded-over-unidirectional-link", "transmission-canceled",
+    "depleted-storage", "destination-unavailable", "no-known-route", "no-timely-contact", "block-unintelligible",
+    "hop-limit-exceeded", "traffic-pared", "block-unsupported", "missing-security-operation",
+    "unknown-security-operation", "unexpected-security-operation", "failed-security-operation",
+    "conflicting-security-operation",
+]
 
 # The texts of the faults of bundles, and of the one fault of `pack`.
 FAULTS = {
@@ -37,9 +60,14 @@ def escaped(content):
     return "".join(chr(byte) if 0x21 <= byte <= 0x7E and byte != 0x5C else f"\\x{byte:02x}" for byte in content)
 
 
+def name(names, code):
+    """The name of a code in a list of names."""
+    return names[code] if code < len(names) else "?"
+
+
 def reason(names, code):
     """A reason code and its name."""
-    return f"reason={code:02x}/{names[code] if code < len(names) else '?'}"
+    return f"reason={code:02x}/{name(names, code)}"
 
 
 def items(listed):
@@ -78,6 +106,57 @@ def identity(it):
     text = f"source={endpoint(it.source)} time={it.time} sequence={it.sequence}"
     text += f" destination={endpoint(it.destination)} payload={it.payload}"
     return text + (f" fragment={it.fragment[0]}/{it.fragment[1]}" if it.fragment else "")
+
+
+def hexadecimal(number):
+    """H: flags of a bundle or of a block, in as many pairs of digits as the number needs."""
+    return number.to_bytes(max(1, (number.bit_length() + 7) // 8), "big").hex()
+
+
+def primary(it):
+    """The line of a primary block after its first word."""
+    text = f"primary at={it.at} length={it.length} flags={hexadecimal(it.flags)} check={CHECKS[it.check]}"
+    text += f" destination={endpoint(it.destination)} source={endpoint(it.source)} report-to={endpoint(it.report_to)}"
+    text += f" time={it.time} sequence={it.sequence} lifetime={it.lifetime}"
+    return text + (f" fragment={it.fragment[0]}/{it.fragment[1]}" if it.fragment else "")
+
+
+def block(it, content):
+    """The line of a canonical block after its first word. `content` is what its data says."""
+    text = f"block {it.number} at={it.at} length={it.length} type={it.kind}/{BLOCKS.get(it.kind, '?')}"
+    text += f" flags={hexadecimal(it.flags)} check={CHECKS[it.check]} data-at={it.data_at} data-length={len(it.data)}"
+    return text if content is None else f"{text} {WORDS[type(content)](content)}"
+
+
+def assertion(it):
+    """W: a status of a status report, which is asserted or not, or has a time."""
+    return {False: "no", True: "yes"}[it] if isinstance(it, bool) else f"{it}"
+
+
+def security(it):
+    """The words of a security block."""
+    return f"targets={len(it.targets)} context={it.context} source={endpoint(it.source)}"
+
+
+def status_report(it):
+    """The words of a status report."""
+    statuses = zip(["received", "forwarded", "delivered", "deleted"], it.assertions)
+    text = "record=1/status-report " + " ".join(f"{status}={assertion(each)}" for status, each in statuses)
+    text += f" reason={it.reason}/{name(REPORT, it.reason)}"
+    text += f" of-source={endpoint(it.source)} of-time={it.time} of-sequence={it.sequence}"
+    return text + (f" of-fragment={it.fragment[0]}+{it.fragment[1]}" if it.fragment else "")
+
+
+# The words of the data of each kind
+WORDS = {
+    block_data.Malformed: lambda it: f"malformed-at={it.at}",
+    block_data.PreviousNode: lambda it: f"node={endpoint(it.node)}",
+    block_data.BundleAge: lambda it: f"age={it.age}",
+    block_data.HopCount: lambda it: f"limit={it.limit} count={it.count}",
+    block_data.Security: security,
+    block_data.StatusReport: status_report,
+    block_data.OtherRecord: lambda it: f"record={it.kind}/?",
+}
 
 
 def wire_fault(fault):

@@ -100,28 +100,80 @@ def is_closed(segments):
     return bool(segments[-1].flags & wire.END) and not wire.is_cut(segments[-1])
 
 
-def length_differs(items, length):
-    """The judgement of a transfer whose Transfer Length items (section 5.2.5.1) are bad, or None.
+def length_items(items):
+    """The values of the Transfer Length items among the items of a transfer (section 5.2.5.1)."""
+    return [it.value for it in items if it.kind == TRANSFER_LENGTH]
 
-    They are malformed, or announce another length than `length`.
+
+def is_malformed(values):
+    """Whether the values of a transfer's Transfer Length items are malformed."""
+    return len(values) > 1 or any(len(value) != 8 for value in values)
+
+
+def announced(items):
+    """The length that the items of a transfer announce, or None."""
+    values = length_items(items)
+    return int.from_bytes(values[0], "big") if values and not is_malformed(values) else None
+
+
+# The lines of one head, in their order.
+REFUSED, ABANDONED, CLOSED = range(3)
+
+
+class Transfer(NamedTuple):
+    """A transfer: its ID, heads, items and data, and the judgement of the data as a bundle.
+
+    `due` says when its line is due: the number of a head, and which of its lines it is. It is None
+    if a fault leaves the transfer open.
     """
-    announced = [it.value for it in items if it.kind == TRANSFER_LENGTH]
-    if len(announced) > 1 or any(len(value) != 8 for value in announced):
-        return "bad-length-item"
-    total = int.from_bytes(announced[0], "big") if announced else length
-    return None if total == length else f"length-differs announced={total}"
+    id: int
+    heads: list
+    items: list
+    data: bytes
+    judged: bundle.Judgement
+    due: Optional[tuple]
 
 
-def judgement_of(segments, data, judged):
-    """JUDGEMENT: the first judgement that holds."""
-    if not is_closed(segments):
+def over_at(transfer, following, count, fault):
+    """When the line of a transfer is due, or None.
+
+    After the last of `count` heads, a clean end abandons the open transfer. `following` has the
+    heads of the transfer after it, or is None.
+    """
+    if is_closed([head.it for head in transfer]):
+        return transfer[-1].number, CLOSED
+    if following:
+        return following[0].number, ABANDONED
+    return None if fault else (count, ABANDONED)
+
+
+def walk(heads, fault):
+    """The transfers of a run that goes through these heads and is ended by that fault, or None."""
+    transfers, walked = transfers_of(heads), []
+    for each, following in zip(transfers, [*transfers[1:], None]):
+        segments = [head.it for head in each]
+        data, due = b"".join(it.data for it in segments), over_at(each, following, len(heads), fault)
+        walked.append(Transfer(segments[0].id, each, segments[0].items, data, bundle.whole(data), due))
+    return walked
+
+
+def why_not_good(transfer):
+    """JUDGEMENT of a transfer that is over: the first that holds, or None for a good one."""
+    if transfer.due[1] == ABANDONED:
         return "abandoned"
-    differs = length_differs(segments[0].items, len(data))
-    if differs:
-        return differs
-    if judged.fault:
-        return f"bad={judged.fault[0]} byte={judged.fault[1]}"
-    return f"good {texts.identity(judged.identity)}"
+    if is_malformed(length_items(transfer.items)):
+        return "bad-length-item"
+    length = announced(transfer.items)
+    if length not in (None, len(transfer.data)):
+        return f"length-differs announced={length}"
+    fault = transfer.judged.fault
+    return f"bad={fault[0]} byte={fault[1]}" if fault else None
+
+
+def status_of(heads, transfers, fault):
+    """The status of a run over transfers: 3 at a fault, 1 if something is refused or not good."""
+    is_good = not any(head.why for head in heads) and not any(it.due and why_not_good(it) for it in transfers)
+    return 3 if fault else 0 if is_good else 1
 
 
 def part_of(data, judged, payload):
@@ -132,41 +184,24 @@ def part_of(data, judged, payload):
     return data[start:start + length]
 
 
-# The lines of one head, in their order.
-REFUSED, ABANDONED, CLOSED = range(3)
-
-
-def over_at(transfer, following, count, fault):
-    """When the line of a transfer is due: the number of a head, and which of its lines it is.
-
-    After the last of `count` heads, a clean end abandons the open transfer. The result is None if
-    a fault leaves it open. `following` is the transfer after it, or None.
-    """
-    if is_closed([head.it for head in transfer]):
-        return transfer[-1].number, CLOSED
-    if following:
-        return following[0].number, ABANDONED
-    return None if fault else (count, ABANDONED)
+def refused_lines(heads):
+    """The fault lines of the heads that are refused, each with when it is due."""
+    return [((head.number, REFUSED), *texts.wire_fault((head.at, head.why))) for head in heads if head.why]
 
 
 def unpacking(stream, transfer=None, payload=False, keep_going=False):
     """`unpack`: "Unpacking" and "Going on after a fault of the order"."""
     heads, fault = heads_of(wire.reading(stream), keep_going)
-    transfers, output, is_good = transfers_of(heads), b"", not any(head.why for head in heads)
-    due = [((head.number, REFUSED), *texts.wire_fault((head.at, head.why))) for head in heads if head.why]
-    for each, following in zip(transfers, [*transfers[1:], None]):
-        segments = [head.it for head in each]
-        data = b"".join(it.data for it in segments)
-        judged, number = bundle.whole(data), segments[0].id
-        part = part_of(data, judged, payload) if transfer in (None, number) else b""
-        when = over_at(each, following, len(heads), fault)
-        if when:
-            judgement = judgement_of(segments, data, judged)
-            is_good = is_good and judgement.startswith("good ")
-            due.append((when, f"transfer {number} start={len(output)} written={len(part)} length={len(data)} {judgement}"))
+    transfers, output, due = walk(heads, fault), b"", refused_lines(heads)
+    for each in transfers:
+        part = part_of(each.data, each.judged, payload) if transfer in (None, each.id) else b""
+        if each.due:
+            judgement = why_not_good(each) or f"good {texts.identity(each.judged.identity)}"
+            line = f"transfer {each.id} start={len(output)} written={len(part)} length={len(each.data)} {judgement}"
+            due.append((each.due, line))
         output += part
     report = [line for _, line in sorted(due)] + texts.wire_fault(fault)
-    return output, texts.lines(report), 3 if fault else 0 if is_good else 1
+    return output, texts.lines(report), status_of(heads, transfers, fault)
 
 
 def session_head(node, keepalive, segment_mru, transfer_mru):
@@ -175,14 +210,14 @@ def session_head(node, keepalive, segment_mru, transfer_mru):
     return b"dtn!\x04\x00" + numbers + node + bytes(4)
 
 
-def segment(flags, number, data, announced):
+def segment(flags, number, data, length):
     """XFER_SEGMENT with its data: "Written heads".
 
     With START its extension list is empty, or announces a length.
     """
     listed = b""
     if flags & wire.START:
-        item = b"" if announced is None else struct.pack(">BHHQ", 0x00, TRANSFER_LENGTH, 8, announced)
+        item = b"" if length is None else struct.pack(">BHHQ", 0x00, TRANSFER_LENGTH, 8, length)
         listed = struct.pack(">I", len(item)) + item
     return struct.pack(">BBQ", 0x01, flags, number) + listed + struct.pack(">Q", len(data)) + data
 
@@ -199,15 +234,16 @@ def chunks_of(content, size, hold, is_whole):
     return [content[at:at + size] for at in range(0, len(content) - size + 1, size)]
 
 
-def segments_of(number, chunks, announced, is_whole):
+def segments_of(number, chunks, length, is_whole):
     """The segments that carry the chunks of a bundle.
 
-    The first has START, and the last of a whole bundle has END.
+    The first has START and announces a length, if it is not None. The last of a whole bundle has
+    END.
     """
     sent = b""
     for index, chunk in enumerate(chunks):
         flags = (wire.START if index == 0 else 0) | (wire.END if is_whole and index + 1 == len(chunks) else 0)
-        sent += segment(flags, number, chunk, announced)
+        sent += segment(flags, number, chunk, length)
     return sent
 
 
@@ -231,8 +267,8 @@ def packing(content, node, keepalive=60, segment_mru=65536, transfer_mru=1048576
         judged = limited(bundle.first(content), peer_transfer)
         taken, is_whole = content[:judged.length], judged.fault is None
         chunks = chunks_of(taken, size, announce, is_whole)
-        announced = len(taken) if is_whole and len(chunks) > 1 and len(taken) <= announce else None
-        output += segments_of(number, chunks, announced, is_whole)
+        length = len(taken) if is_whole and len(chunks) > 1 and len(taken) <= announce else None
+        output += segments_of(number, chunks, length, is_whole)
         if not is_whole:
             return output, texts.lines(report + [texts.bundle_fault(number, *judged.fault)]), 3
         report.append(f"bundle {number} segments={len(chunks)} length={len(taken)} {texts.identity(judged.identity)}")

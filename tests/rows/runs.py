@@ -1,0 +1,246 @@
+"""`check`: several rules at once and their order, the options, faults, and the status."""
+
+import make
+from inputs.spelling import head, hop_count, security, spelled
+
+from . import Row
+from .broken import AGE, CLEAN, INIT, KEEPALIVE, LAST, VERSION, block, blocks_of, bundle, row, sent, two
+from .lines import BOTH, END, HEAD, START
+
+ALONE = {"bundles": True}
+length = make.length_item
+
+# A bundle that breaks two rules, one of each level: 33 bytes
+TWO_RULES = bundle(flags=0x08, stamp=(0, 0))
+
+# The beginning of a transfer of CLEAN, which ends at 69 if it is the first, and its end
+BEGINS, ENDS = make.xfer_segment(START, 0, CLEAN[:9]), make.xfer_segment(END, 0, CLEAN[9:])
+# 51 bytes, of which the last 33 are data
+STRAY = make.xfer_segment(END | 0x40, 1, CLEAN)
+# An empty transfer in one segment, and one that has begun: 22 bytes each
+EMPTY, OPENED = make.xfer_segment(BOTH, 5, b""), make.xfer_segment(START, 6, b"")
+# A SESS_TERM with a reserved flag: 3 bytes
+TERM = make.sess_term(2, 0)
+
+# A bundle that breaks each rule of bundles that can be broken together, in their order. The primary
+# block has 23 bytes, so the data of the first block is at 30.
+EVERY_RULE, _ = spelled(
+    blocks_of(
+        block(6, 2, b"\x00"), block(6, 3, b"\x82\x01\x00"),
+        block(10, 4, hop_count(0, 1), flags=0x0A), block(10, 5, b""),
+        flags=0x400B, kind=0, source=None, destination=b"n", stamp=(0, 0), fragment=(0, 1),
+    ),
+    VERSION, head(0, 7, 1),
+)
+EVERY_LINE = [
+    "0 must long-head bundle=0 byte=2",
+    "0 should bundle-flags bundle=0 flags=400b",
+    "0 must primary-check bundle=0",
+    "0 must anonymous bundle=0 flags=400b",
+    "0 must record-reports bundle=0 flags=400b",
+    "0 must block-reports bundle=0 block=4",
+    "0 should block-flags bundle=0 block=4 flags=0a",
+    "0 must dtn-name bundle=0 of=destination",
+    "0 must fragment bundle=0 offset=0 length=1 total=1",
+    "0 must age bundle=0 blocks=0",
+    "0 must previous-node bundle=0 blocks=2",
+    "0 must hop-count bundle=0 blocks=2 limit=0",
+    "0 should hops bundle=0 limit=0 count=1",
+    "0 must block-data bundle=0 block=2 byte=30",
+]
+
+
+def stream_row(name, messages, lines, report=(), status=None, **options):
+    """A run of `check` of a recording with these messages after its SESS_INIT."""
+    status = int(bool(lines)) if status is None else status
+    return Row(name, "check", options, HEAD + b"".join(messages), lines, list(report), status)
+
+
+def bundle_row(name, content, lines, report=(), status=None, **options):
+    """A run of `check --bundles`."""
+    status = int(bool(lines)) if status is None else status
+    return Row(name, "check", {**ALONE, **options}, content, lines, list(report), status)
+
+
+def of_one_message():
+    """Several rules that one message breaks."""
+    init = make.sess_init(make.item(2, 9, b""), node=b"n")
+    yield row("a SESS_INIT", b"dtn!\x04\x04" + KEEPALIVE + init, [
+        "0 must contact-flags flags=04",
+        "6 should before-session type=04",
+        "7 must node-id length=1",
+        "7 must item-flags item=0 flags=02",
+    ])
+    # The run of IDs is 5, 6, of the segments at 38 and 60.
+    late = make.xfer_segment(BOTH | 0x08, 5, CLEAN, length(34), make.item(0x10, 1, b""))
+    yield stream_row("a START that breaks most rules", [EMPTY, OPENED, TERM, late], [
+        "38 must bundle transfer=5 code=B1 byte=0",
+        "82 must term-flags flags=02",
+        "85 must item-flags item=1 flags=10",
+        "85 must order fault=start-after-session-termination",
+        "85 should interleaved id=5 open=6",
+        "85 must segment-flags flags=0b",
+        "85 must transfer-id id=5",
+        "85 must peer-segment length=33 limit=32",
+        "85 must peer-transfer length=33 limit=31",
+        "85 must length-item transfer=5",
+        "85 should length-of-one-segment transfer=5",
+    ], peer_segment=32, peer_transfer=31)
+    yield stream_row("a stray segment", [BEGINS, STRAY, ENDS], [
+        "69 must order fault=no-such-open-transfer",
+        "69 must segment-flags flags=41",
+        "69 must peer-segment length=33 limit=32",
+    ], peer_segment=32, peer_transfer=33)
+
+
+def of_one_bundle():
+    """Several rules that one transfer or one bundle breaks, and data that may be ciphertext."""
+    yield stream_row("a wrong length and no bundle", [make.xfer_segment(BOTH, 0, b"\x00", length(2))], [
+        "38 must length-differs transfer=0 announced=2 length=1",
+        "38 should length-of-one-segment transfer=0",
+        "38 must bundle transfer=0 code=B3 byte=0",
+    ])
+    yield stream_row("a wrong length hides no rule of bundles", [two(TWO_RULES, 9, length(34))], [
+        "38 must length-differs transfer=0 announced=34 length=33",
+        "38 should bundle-flags transfer=0 flags=08",
+        "38 must age transfer=0 blocks=0",
+    ])
+    yield bundle_row("a bundle", EVERY_RULE, EVERY_LINE)
+    yield bundle_row("a record", bundle(flags=0x4002, source=None, stamp=(0, 0)), [
+        "0 must anonymous bundle=0 flags=4002",
+        "0 must record-reports bundle=0 flags=4002",
+        "0 must age bundle=0 blocks=0",
+        "0 must record bundle=0 byte=32",
+    ])
+    # The blocks are at 25, 32 and 38, and the payload, a head that is cut, is at 44.
+    yield bundle_row("a block and a record", bundle(AGE, block(6, 3, b""), flags=0x02), [
+        "0 must block-data bundle=0 block=3 byte=38",
+        "0 must record bundle=0 byte=45",
+    ])
+    yield bundle_row("two long heads", bundle()[:25] + bytes.fromhex("98 05 01 01 00 00 58 01 78 ff"), [
+        "0 must long-head bundle=0 byte=25",
+    ])
+    yield bundle_row("dtn:none as a text", bundle(source=b"none"), ["0 must dtn-name bundle=0 of=source"])
+    hops, cut = block(10, 3, hop_count(0, 1)), block(10, 4, b"")
+    yield bundle_row("two hop count blocks, the first malformed", bundle(cut, hops), [
+        "0 must hop-count bundle=0 blocks=2",
+        "0 must block-data bundle=0 block=4 byte=31",
+    ])
+    hidden = block(12, 2, security([0], 2, (1, 1)))
+    yield bundle_row("data that may be ciphertext", bundle(hidden, hops, cut, block(7, 5, b""), flags=0x02), [
+        "0 must hop-count bundle=0 blocks=2",
+        "0 must confidential-primary bundle=0 block=2",
+    ])
+
+
+def transfers():
+    """Which transfers are judged, and when their lines come."""
+    begins, ends = make.xfer_segment(START, 0, TWO_RULES[:9]), make.xfer_segment(END, 0, TWO_RULES[9:])
+    yield stream_row("lines of a transfer", [begins, make.xfer_segment(0x04, 0, b""), ends, TERM], [
+        "69 must segment-flags flags=04",
+        "38 should bundle-flags transfer=0 flags=08",
+        "38 must age transfer=0 blocks=0",
+        "129 must term-flags flags=02",
+    ])
+    yield stream_row("a START of its own ID abandons it", [BEGINS, sent(CLEAN)], [
+        "69 must order fault=start-repeats-the-open-transfer",
+        "69 must transfer-id id=0",
+    ])
+    last = make.xfer_segment(START, 1, b"\x00", length(9))
+    yield stream_row("the last is unfinished", [sent(CLEAN), last], ["93 should unfinished transfer=1 length=1"])
+    yield stream_row("a stray segment between two transfers", [BEGINS, STRAY, sent(CLEAN, 2)], [
+        "69 must order fault=no-such-open-transfer",
+        "69 must segment-flags flags=41",
+        "120 should interleaved id=2 open=0",
+    ])
+    yield stream_row("IDs of transfers that are refused", [TERM, sent(CLEAN, 7), sent(CLEAN, 7)], [
+        "38 must term-flags flags=02",
+        "41 must order fault=start-after-session-termination",
+        "96 must order fault=start-after-session-termination",
+        "96 must transfer-id id=7",
+    ])
+
+
+def once():
+    """What breaks a rule once in a transfer or in a recording."""
+    middle, ends = make.xfer_segment(0, 0, CLEAN[9:20]), make.xfer_segment(END, 0, CLEAN[20:])
+    yield stream_row("a limit that is passed", [BEGINS, middle, ends], [
+        "69 must peer-transfer length=20 limit=19",
+    ], peer_transfer=19)
+    yield stream_row("a limit that is passed before a stray segment", [BEGINS, STRAY, ENDS], [
+        "38 must peer-transfer length=9 limit=8",
+        "69 must order fault=no-such-open-transfer",
+        "69 must segment-flags flags=41",
+    ], peer_transfer=8)
+    yield stream_row("a limit that is passed twice", [two(CLEAN, 20, length(33))], [
+        "38 must peer-transfer announced=33 limit=19",
+    ], peer_transfer=19)
+    # The list of two items has 26 bytes, so the second segment is at 95.
+    yield stream_row("malformed items announce nothing", [two(CLEAN, 9, length(99), length(99))], [
+        "95 must peer-transfer length=33 limit=32",
+        "38 must length-item transfer=0",
+    ], peer_transfer=32)
+    none = make.sess_init(keepalive=0)
+    yield stream_row("a second SESS_INIT without keepalives", [KEEPALIVE, none, KEEPALIVE, KEEPALIVE, none, KEEPALIVE], [
+        "39 should order fault=second-session-initiation",
+        "71 should keepalive",
+        "73 should order fault=second-session-initiation",
+    ])
+
+
+def faults():
+    """Faults of the stream end the run. A cut segment counts with the length in its head."""
+    yield Row("no recording", "check", {}, b"", [], ["tcpclkit: byte 0: truncated"], 3)
+    version = ["tcpclkit: byte 0: unsupported version 3"]
+    yield Row("another version", "check", {}, b"dtn!\x03\x80", [], version, 3)
+    cut, whole = ["tcpclkit: byte 38: truncated"], make.xfer_segment(BOTH | 0x04, 0, CLEAN)
+    yield stream_row("a segment that is cut", [whole[:-1]], [
+        "38 must segment-flags flags=07",
+        "38 must peer-segment length=33 limit=32",
+        "38 must peer-transfer length=33 limit=0",
+    ], cut, 3, peer_segment=32, peer_transfer=0)
+    yield stream_row("a head that is cut", [whole[:21]], [], cut, 3, peer_segment=0)
+    most = make.xfer_segment(END, 0, b"")[:-8] + LAST.to_bytes(8, "big")
+    yield stream_row("a sum beyond 64 bits", [make.xfer_segment(START, 0, b"ab"), most], [
+        f"62 must peer-segment length={LAST} limit=2",
+        f"62 must peer-transfer length={LAST + 2} limit={LAST}",
+    ], ["tcpclkit: byte 62: truncated"], 3, peer_segment=2, peer_transfer=LAST)
+    yield stream_row("open at a fault", [OPENED, b"\x16"], [], ["tcpclkit: byte 60: unknown message type 16"], 3)
+    yield stream_row("lines before a fault", [KEEPALIVE, INIT, b"\x16"], [
+        "39 should order fault=second-session-initiation",
+    ], ["tcpclkit: byte 71: unknown message type 16"], 3)
+
+
+def levels():
+    """`--must` leaves lines out, and they do not count."""
+    yield stream_row("every level", [sent(TWO_RULES), INIT], [
+        "38 should bundle-flags transfer=0 flags=08",
+        "38 must age transfer=0 blocks=0",
+        "93 should order fault=second-session-initiation",
+    ])
+    yield stream_row("must", [sent(TWO_RULES), INIT], ["38 must age transfer=0 blocks=0"], must=True)
+    yield stream_row("none of must", [INIT, OPENED], [], must=True)
+    fault = ["tcpclkit: byte 70: unknown message type 00"]
+    yield stream_row("none of must before a fault", [INIT, b"\x00"], [], fault, 3, must=True)
+    yield bundle_row("must, of a bundle", TWO_RULES, ["0 must age bundle=0 blocks=0"], must=True)
+
+
+def files():
+    """`--bundles`: good bundles, the first bad one, and no bundle."""
+    yield bundle_row("no bundle", b"", [])
+    yield bundle_row("three bundles", CLEAN + TWO_RULES + CLEAN, [
+        "33 should bundle-flags bundle=1 flags=08",
+        "33 must age bundle=1 blocks=0",
+    ])
+    yield bundle_row("a bad bundle", TWO_RULES + CLEAN[:-1] + b"\x00" + TWO_RULES, [
+        "0 should bundle-flags bundle=0 flags=08",
+        "0 must age bundle=0 blocks=0",
+    ], ["tcpclkit: bundle 1 byte 32: B17 no payload block at the end"], 3)
+    cut = ["tcpclkit: bundle 0 byte 39: B1 input ends inside a bundle"]
+    yield bundle_row("a cut bundle", bundle(AGE)[:-1], [], cut, 3, must=True)
+
+
+def rows():
+    """The rows of this file."""
+    for part in (of_one_message, of_one_bundle, transfers, once, faults, levels, files):
+        yield from part()
