@@ -1,5 +1,5 @@
 -- The window of a source: the part of an array between two indices, and the bytes after it.
-use Rattle.std.proofs.Common.{◌≡◌, ℕ, ◌+◌, ◌-◌, ◌<◌, ◌≤◌, List, [], ◌++◌, length, take, drop, slice_range, Option, None, Some, arith, refl, ap, sym, ◌∙◌, append_assoc, length-append}
+use Rattle.std.proofs.Common.{◌≡◌, ℕ, ◌+◌, ◌-◌, ◌<◌, ◌≤◌, List, [], ◌++◌, length, take, drop, slice_range, Option, None, Some, arith, refl, ap, sym, ◌∙◌, append_assoc, append-nil, length-append}
 use Rattle.std.proofs.lemmas.List.{drop-drop, drop-take, take-append-drop}
 use Rattle.std.specs.Io.KnownBytes.{prepend_known}
 use Rattle.link_io.specs.Device.{BeginsWith, HasBytes}
@@ -29,6 +29,10 @@ begins_window (Some all) window = (all, refl)
 pub begins_nothing : (left : Option (List ℕ)) → BeginsWith left []
 begins_nothing None = tt
 begins_nothing (Some all) = (all, refl)
+
+-- all of the bytes come next in them
+pub begins_all : (bytes : List ℕ) → BeginsWith (Some bytes) bytes
+begins_all bytes = ([], sym (append-nil bytes))
 
 -- if some bytes come next, the input has bytes
 pub begins_some : (left : Option (List ℕ)) (bytes : List ℕ) → BeginsWith left bytes

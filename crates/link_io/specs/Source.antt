@@ -58,8 +58,13 @@ module _ {R : Type 0} where
   abbrev pub ahead : (R → Input) → Source R → Option (List ℕ)
   ahead look source = prepend_known (window_of source) (look source.reader).left
 
-  -- The bytes at hand: those of the window, or those that the reader holds if it is empty. What the
-  -- reader holds is not taken yet.
+  -- the bytes at hand: those of the window, and then those that the reader holds, which are not
+  -- taken yet
+  abbrev pub at_hand : (R → Input) → Source R → List ℕ
+  at_hand look source = window_of source ++ (look source.reader).held
+
+  -- The front: the bytes of the window, or those that the reader holds if the window is empty. They
+  -- lie in one piece.
   unfoldable pub front_of : (R → Input) → Source R → List ℕ
   front_of look source =
       if nat_lt source.start source.end

@@ -57,7 +57,7 @@ pub struct Source<R> {
 impl<R: InDevice> Source<R> {
     ghost use Rattle.std.specs.Prelude.{◌≡◌, ◌+◌, ◌-◌, ◌<◌, ◌≤◌, ◌==◌, true, false, [], length, take, drop, IfOk, IfErr, OnOk, MatchResult, IsTrue};
     ghost use Rattle.link_io.specs.Limits.{window_size};
-    ghost use Rattle.link_io.specs.Source.{IsSourceAt, is_fresh, reader_of, given_by, taken_by, window_of, front_of, ahead, reach, IsLive, IsOver, HasEnded, HasFailed, Takes, StopsAfter, AfterReady, AfterReadyFront};
+    ghost use Rattle.link_io.specs.Source.{IsSourceAt, is_fresh, reader_of, given_by, taken_by, window_of, at_hand, front_of, ahead, reach, IsLive, IsOver, HasEnded, HasFailed, Takes, StopsAfter, AfterReady, AfterReadyFront};
 
     /// Makes a source that has taken nothing.
     pub fn new(reader: R) -> Source<R>
@@ -114,8 +114,10 @@ impl<R: InDevice> Source<R> {
     pub fn may_wait(&self) -> bool
         ensures few { IsTrue result → length (window_of self.now) < window_size }
         ensures none { IsTrue result → (R.state (reader_of self.now)).held ≡ [] }
-        // If a read need not wait, the reader has bytes left.
+        // If a read need not wait, the reader holds bytes, which are the next that it has left.
         ensures held { result ≡ false → length (window_of self.now) < window_size
+            → 0 < length (R.state (reader_of self.now)).held }
+        ensures left { result ≡ false → length (window_of self.now) < window_size
             → HasBytes (R.state (reader_of self.now)).left }
     {
         self.reader.held().is_empty() && self.end - self.start < WINDOW
@@ -128,6 +130,7 @@ impl<R: InDevice> Source<R> {
     pub fn peek(&self, bytes: &mut [u8]) -> usize
         ensures fits { result ≤ length bytes.old }
         ensures size { length bytes.new ≡ length bytes.old }
+        ensures here { BeginsWith (Some (at_hand R.state self.now)) (take result bytes.new) }
         ensures next { BeginsWith (ahead R.state self.now) (take result bytes.new) }
         ensures rest { drop result bytes.new ≡ drop result bytes.old }
     {

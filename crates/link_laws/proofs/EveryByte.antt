@@ -5,7 +5,7 @@ use Rattle.std.specs.List.{AllByRecursion, flat_map, fold}
 use Rattle.std.proofs.lemmas.Bool.{ltb-true}
 use Rattle.link_wire.specs.Codes.{is_start}
 use Rattle.link_wire.specs.Message.{data_length, contact_at, message_at}
-use Rattle.link_wire.specs.Stream.{Entry, Cut, Stream, ended, with_entry, stream_by, messages_at, stream_at, reading_by, reading_of}
+use Rattle.link_wire.specs.Stream.{Entry, Cut, Stream, ended, with_entry, stream_by, messages_at, stream_at, reading_by, reading_of, cut_heads, heads_of}
 use Rattle.link_wire.specs.declared.fault.WireFault.{WireFault}
 use Rattle.link_wire.specs.declared.message.Contact.{Contact}
 use Rattle.link_wire.specs.declared.message.Message.{Message}
@@ -14,7 +14,7 @@ use Rattle.link_wire.specs.declared.message.SegmentHead.{SegmentHead}
 use Rattle.link_transfer.specs.Event.{event_of}
 use Rattle.link_transfer.specs.Order.{is_segment, is_stray, refusal, with_taken}
 use Rattle.link_transfer.specs.declared.fault.OrderFault.{OrderFault}
-use Rattle.link_unpack.specs.Transfers.{cut_heads, heads_of, Ordered, ordered_by, ordered_after, ordered, Transfer, closes, continued, after_segment, after_message, transfers_of}
+use Rattle.link_unpack.specs.Transfers.{Ordered, ordered_by, ordered_after, ordered, Transfer, closes, continued, after_segment, after_message, transfers_of}
 use Rattle.link_unpack.specs.Unpacking.{parts_of, Unpacked, none_unpacked, transfers_with, with_head, unpacked_of, unpacking_of}
 use Rattle.link_unpack.specs.UnpackRun.{AreInOrder}
 use Rattle.link_unpack.specs.declared.wanted.Wanted.{Wanted}

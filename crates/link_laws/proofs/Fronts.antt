@@ -1,6 +1,5 @@
 -- Texts that are prefixes of others.
-use Rattle.std.proofs.Common.{◌≡◌, ℕ, ◌+◌, ◌-◌, ◌≤◌, List, [], ◌++◌, length, take, refl, ap, sym, ◌∙◌, append-nil, append_assoc, arith}
-use Rattle.std.proofs.Math.Seq.{take-append-add}
+use Rattle.std.proofs.Common.{◌≡◌, ℕ, List, [], ◌++◌, refl, ap, sym, ◌∙◌, append-nil, append_assoc}
 use Rattle.link_run.specs.Run.{Texts}
 use Rattle.link_laws.specs.Prefix.{IsFrontOf}
 
@@ -47,9 +46,3 @@ fronts_trans texts mid whole first second = record {
   output = front_trans _ _ _ first.output second.output;
   report = front_trans _ _ _ first.report second.report;
 }
-
--- a prefix of joined bytes, if it is at least as long as the first of them
-pub take-append : (count : ℕ) (front back : List ℕ) → length front ≤ count
-    → take count (front ++ back) ≡ front ++ take (count - length front) back
-take-append count front back enough =
-    ap (λ n. take n (front ++ back)) {y = length front + (count - length front)} (omega arith) ∙ take-append-add front back (count - length front)

@@ -12,9 +12,7 @@ mod GivenBack
 mod Listed
 mod Fronts
 mod Prefixes
-mod Divisions
 mod Packings
-mod Continued
 mod Listings
 mod Payloads
 mod Accepted

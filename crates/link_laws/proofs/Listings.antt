@@ -6,7 +6,7 @@ use Rattle.link_report.specs.Message.{message_text}
 use Rattle.link_list.specs.Listing.{contact_lines, message_lines, listed_lines, listing_of, listing_by, list_tool}
 use Rattle.link_laws.specs.Prefix.{IsFrontOf, IsPrefixed}
 use Rattle.link_laws.proofs.Fronts.{front_same, front_after, front_none, fronts_same}
-use Rattle.link_laws.proofs.Continued.{GoesOn, stream_of, ReadingGoesOn, reading_on}
+use Rattle.link_run.proofs.Continued.{GoesOn, stream_of, ReadingGoesOn, reading_on}
 use Rattle.link_laws.proofs.Prefixes.{prefixed}
 
 pub message_lines-append : (entries more : List Entry)

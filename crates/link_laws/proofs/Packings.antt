@@ -7,17 +7,18 @@ use Rattle.link_bundle_types.specs.declared.fault.BundleFault.{BundleFault}
 use Rattle.link_bundle_types.specs.declared.info.BundleInfo.{BundleInfo}
 use Rattle.link_bundle.specs.Bundle.{verdict, bundle_goes}
 use Rattle.link_run.specs.Made.{Made}
-use Rattle.link_pack.specs.Bundles.{Packed, Refusal, Longer, Faulty, Divided, bundle_prefix, refused_by, with_bundle, divided_by, divided, with_bundles}
-use Rattle.link_pack.specs.Packing.{prelude_bytes, segment_size, sending, transfer_bytes, rest_segments, bundles_output, report_lines, report_line, packing_of, packing_by, pack_tool}
+use Rattle.link_pack.specs.Bundles.{Packed, Refusal, Longer, Faulty, Divided, IsOpen, bundle_prefix, refused_by, with_bundle, divided_by, divided, with_bundles}
+use Rattle.link_pack.specs.Packing.{prelude_bytes, segment_size, sending, transfer_bytes, rest_segments, bundles_output, report_lines, report_line, packing_of, pack_tool}
 use Rattle.link_pack.specs.PackRun.{texts_of}
 use Rattle.link_pack.specs.Segments.{segments_of}
 use Rattle.link_pack.specs.declared.options.PackOptions.{PackOptions}
-use Rattle.link_pack.proofs.Dividing.{front_more, whole_stops, faulty_stops, within_limit, beyond_limit, divided_front}
-use Rattle.link_pack.proofs.Outcomes.{made_as, texts_going, unshown_going}
+use Rattle.link_pack.proofs.Dividing.{front_more, whole_stops, faulty_stops, within_limit, beyond_limit, refused_so, divided_front}
+use Rattle.link_pack.proofs.Divisions.{IsRefused, StaysDivided, stays_divided}
+use Rattle.link_pack.proofs.Outcomes.{made_as, texts_going, unshown_going, refused_same}
 use Rattle.link_pack.proofs.Sending.{segments_grow, segments_none}
 use Rattle.link_laws.specs.Prefix.{IsFrontOf, IsPrefixed}
-use Rattle.link_laws.proofs.Divisions.{IsRefused, IsOpen, StaysDivided, refused_so, stays_divided}
-use Rattle.link_laws.proofs.Fronts.{front_same, front_then, front_after, front_first, front_none, AreFronts, fronts_same, take-append}
+use Rattle.link_run.proofs.Ends.{take-append}
+use Rattle.link_laws.proofs.Fronts.{front_same, front_then, front_after, front_first, front_none, AreFronts, fronts_same}
 use Rattle.link_laws.proofs.Prefixes.{MadeOn, prefixed}
 
 -- if more bytes are needed before `run`, and none after it, then `run` is not empty
@@ -81,7 +82,7 @@ module _ (options : PackOptions) where
 
     -- the bundle is refused, or goes on
     rest_front : (run accepted : List ℕ) (refusal : Refusal) → accepted ≡ begun ++ run
-        → IsFrontOf (begun_segments number begun) (segments number (refused_so refusal accepted))
+        → IsFrontOf (begun_segments number begun) (segments number (refused_so [] accepted refusal))
     unfolding transfer_bytes
     rest_front run accepted refusal is = rw (is, add-zero) (grown_any run)
 
@@ -161,12 +162,7 @@ module _ (options : PackOptions) where
     refused_on : IsRefused options.peer_transfer begun
         → MadeOn (packing_of options bytes) (packing_of options (bytes ++ more))
     refused_on refused =
-        let input = refused_so refused.refusal refused.accepted in
-        let made = packing_by options (with_bundles bundles input) in
-        let is : (rest : List ℕ) → packing_of options (bytes ++ rest) ≡ made =
-        λ rest. made_as options (bytes ++ rest) (with_bundles bundles input)
-        (divides rest ∙ ap (with_bundles bundles) (refused.divides rest)) in
-        let same = is more ∙ sym (is []) ∙ ap (packing_of options) (append-nil bytes) in
+        let same = refused_same options bytes bundles begun refused divides more in
         record {
           texts = fronts_same _ _ (ap (λ (m : Made). m.texts) (sym same));
           ended = ended_front (bytes ++ more);
@@ -191,8 +187,8 @@ module _ (options : PackOptions) where
       -- another bundle has begun, and goes on
       open_on : MadeOn (packing_of options bytes) (packing_of options (bytes ++ more))
       open_on =
-          let texts = texts_going options bytes bundles begun front goes within divides in
-          let unshown = unshown_going options bytes bundles begun front goes within divides in
+          let texts = texts_going options bytes bundles begun opened divides in
+          let unshown = unshown_going options bytes bundles begun opened divides in
           record {
             texts = rw texts texts_on;
             ended = ended_front (bytes ++ more);

@@ -1,10 +1,9 @@
 -- The reading of a packed stream.
 use Rattle.std.proofs.Common.{◌≡◌, ℕ, List, length, Option, Some, None, refl, ap, sym, ◌∙◌, subst, arith}
 use Rattle.link_wire.specs.SpelledStream.{IsReading}
-use Rattle.link_wire.specs.Stream.{Entry, Reading, reading_of}
+use Rattle.link_wire.specs.Stream.{Entry, Reading, reading_of, heads_of}
 use Rattle.link_run.specs.Made.{Made, whole_by}
 use Rattle.link_run.specs.Run.{Outcome}
-use Rattle.link_unpack.specs.Transfers.{heads_of}
 use Rattle.link_unpack.proofs.Heads.{heads_clean}
 use Rattle.link_pack.specs.Bundles.{Rest, Divided, divided}
 use Rattle.link_pack.specs.Packing.{stop_by, packing_by, packing_of, pack_tool}

@@ -2,7 +2,7 @@
 use Rattle.std.proofs.Common.{◌≡◌, ℕ, Bool, true, false, List, [], ◌∷◌, ◌++◌, length, Option, Some, None, if◌then◌else◌, refl, ap, ap₂, sym, ◌∙◌, subst, append-nil, append_assoc}
 use Rattle.std.specs.List.{flat_map, fold}
 use Rattle.std.proofs.lemmas.List.Concat.{flat_map-append}
-use Rattle.link_wire.specs.Stream.{Entry, End, reading_of}
+use Rattle.link_wire.specs.Stream.{Entry, End, reading_of, heads_of}
 use Rattle.link_transfer.specs.Event.{event_of}
 use Rattle.link_transfer.specs.Order.{begins, is_segment, is_stray, refusal}
 use Rattle.link_transfer.specs.declared.event.Event.{Event}
@@ -10,7 +10,7 @@ use Rattle.link_transfer.specs.declared.fault.OrderFault.{OrderFault}
 use Rattle.link_report.specs.Fault.{fault_text}
 use Rattle.link_report.specs.declared.transfer.TransferEntry.{TransferEntry}
 use Rattle.link_run.specs.Made.{StreamStop, stop_of, whole_by}
-use Rattle.link_unpack.specs.Transfers.{heads_of, Transfer, settled}
+use Rattle.link_unpack.specs.Transfers.{Transfer, settled}
 use Rattle.link_unpack.specs.Unpacking.{parts_of, entry_of, line_of, Unpacked, none_unpacked, order_line, transfers_with, with_head, unpacked_of, going_on_by, unpacking_of}
 use Rattle.link_unpack.specs.declared.wanted.Wanted.{Wanted}
 use Rattle.link_unpack.proofs.GoingOn.{KnowsOpen, knows_none, knows_head, if_open, if_closed, due, due_is, abandoned_is, settled_all, settles_by}

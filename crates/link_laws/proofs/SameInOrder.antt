@@ -1,8 +1,8 @@
 -- If no head is refused, `unpack` makes the same, whether or not a fault of the order ends the run.
 use Rattle.std.proofs.Common.{◌≡◌, ℕ, List, [], ◌∷◌, ◌++◌, length, refl, ap, ap₂, sym, ◌∙◌}
-use Rattle.link_wire.specs.Stream.{End, reading_of}
+use Rattle.link_wire.specs.Stream.{End, reading_of, heads_of}
 use Rattle.link_report.specs.Transfer.{transfer_text}
-use Rattle.link_unpack.specs.Transfers.{Ordered, ordered, heads_of, Transfer, transfers_of, settled}
+use Rattle.link_unpack.specs.Transfers.{Ordered, ordered, Transfer, transfers_of, settled}
 use Rattle.link_unpack.specs.Unpacking.{part_of, parts_of, entry_of, lines_of, unpacking_by, unpacking_of}
 use Rattle.link_unpack.specs.declared.wanted.Wanted.{Wanted}
 use Rattle.link_unpack.proofs.GoingOn.{made_in_order}

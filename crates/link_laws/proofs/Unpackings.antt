@@ -1,18 +1,18 @@
 -- The texts of `unpack` that some bytes determine are prefixes of its texts for longer inputs.
-use Rattle.std.proofs.Common.{◌≡◌, ℕ, Bool, true, false, List, ◌++◌, Option, Some, None, refl, ap, sym, ◌∙◌, append_assoc}
-use Rattle.link_wire.specs.Stream.{Entry, End, Stream, Reading, reading_of}
+use Rattle.std.proofs.Common.{◌≡◌, ℕ, Bool, true, false, List, ◌++◌, Option, Some, None, refl, ap, sym}
+use Rattle.link_wire.specs.Stream.{Entry, End, Reading, reading_of, heads_of}
 use Rattle.link_transfer.specs.declared.fault.OrderFault.{OrderFault}
-use Rattle.link_run.specs.Made.{shows_fault}
-use Rattle.link_unpack.specs.Transfers.{Ordered, ordered, cut_heads, heads_of}
-use Rattle.link_unpack.specs.Unpacking.{stop_by, unpacking_by, unpacked_of, made_of, unpacking_of, unpack_tool}
+use Rattle.link_unpack.specs.Transfers.{Ordered, ordered}
+use Rattle.link_unpack.specs.Unpacking.{unpacking_by, unpacked_of, made_of, unpacking_of, unpack_tool}
 use Rattle.link_unpack.specs.UnpackRun.{texts_of}
 use Rattle.link_unpack.specs.declared.wanted.Wanted.{Wanted}
 use Rattle.link_unpack.proofs.GoingOn.{unpacked_in_order, lines_abandoned}
 use Rattle.link_laws.specs.Prefix.{IsPrefixed}
 use Rattle.link_laws.proofs.Accepted.{accepted_in_order}
-use Rattle.link_laws.proofs.Continued.{ReadingGoesOn, reading_on}
+use Rattle.link_run.proofs.Continued.{ReadingGoesOn, reading_on}
 use Rattle.link_laws.proofs.Fronts.{front_same, front_first, AreFronts, fronts_same, fronts_trans}
-use Rattle.link_laws.proofs.Heads.{HeadsGoOn, unpacked_on, OrderGoesOn, order_on}
+use Rattle.link_unpack.proofs.Lasting.{heads_on, orders, stays}
+use Rattle.link_laws.proofs.Heads.{unpacked_on}
 use Rattle.link_laws.proofs.Prefixes.{MadeOn, prefixed}
 
 module _ (wanted : Wanted) where
@@ -27,27 +27,11 @@ module _ (wanted : Wanted) where
   -- ---- what is made of a reading that goes on
 
   module _ (before after : Reading) (on : ReadingGoesOn before after) where
-    heads_on : HeadsGoOn (heads_of before) (heads_of after)
-    heads_on =
-        let rest = on.messages.rest in
-        record {
-          first = before.entries;
-          last = cut_heads before.end;
-          more = rest.entries ++ cut_heads rest.end;
-          are = refl;
-          others_are = ap (λ (s : Stream). s.entries ++ cut_heads s.end) on.messages.are
-              ∙ append_assoc before.entries rest.entries (cut_heads rest.end);
-          follows = on.messages.follows;
-        }
-
     abbrev order : Ordered
     order = ordered (heads_of before)
 
     abbrev later : Ordered
     later = ordered (heads_of after)
-
-    orders : OrderGoesOn order later
-    orders = order_on (heads_of before) (heads_of after) heads_on
 
     -- ---- a fault of the order ends the run
 
@@ -56,34 +40,26 @@ module _ (wanted : Wanted) where
         (unpacking_by wanted after.end later).texts
     texts_by (Some stop) is =
         fronts_same _ _
-        (sym (ap (λ (o : Ordered). (unpacking_by wanted before.end o).texts) (orders.stays stop is)))
+        (sym (ap (λ (o : Ordered). (unpacking_by wanted before.end o).texts) ((orders before after on).stays stop is)))
     texts_by None is =
         fronts_trans _ _ _
         (fronts_same _ _ (accepted_texts before.end (heads_of before)))
-        (fronts_trans _ _ _ (unpacked_on wanted order.heads later.heads (orders.goes is))
+        (fronts_trans _ _ _ (unpacked_on wanted order.heads later.heads ((orders before after on).goes is))
         (fronts_same _ _ (sym (accepted_texts after.end (heads_of after)))))
-
-    -- a head is refused, or a fault of the wire is shown
-    stays_by : (refused : Option (ℕ × OrderFault)) → order.refused ≡ refused
-        → shows_fault (stop_by refused before.end) ≡ true
-        → made_of false wanted after ≡ made_of false wanted before
-    stays_by (Some stop) is shown =
-        ap (unpacking_by wanted after.end) (orders.stays stop is) ∙ rw is refl
-    stays_by None is shown = ap (made_of false wanted) (on.stays shown)
 
     -- ---- with each option
 
     made_on : (keep_going : Bool)
         → MadeOn (made_of keep_going wanted before) (made_of keep_going wanted after)
     made_on true = record {
-      texts = unpacked_on wanted (heads_of before) (heads_of after) heads_on;
+      texts = unpacked_on wanted (heads_of before) (heads_of after) (heads_on before after on);
       ended = record { output = front_same _ _ refl; report = front_first _ _ };
-      stays = λ shown. ap (made_of true wanted) (on.stays shown);
+      stays = stays before after on true wanted;
     }
     made_on false = record {
       texts = texts_by order.refused refl;
       ended = record { output = front_same _ _ refl; report = (_, lines_abandoned wanted _) };
-      stays = stays_by order.refused refl;
+      stays = stays before after on false wanted;
     }
 
   pub unpack_prefix : (bytes more : List ℕ) → IsPrefixed (unpack_tool wanted) bytes more

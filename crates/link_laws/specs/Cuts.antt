@@ -2,7 +2,7 @@
 -- where a fault of the order ends the run, and where it does not.
 use Rattle.std.specs.Prelude.{◌≡◌, ℕ, ◌+◌, ◌≤◌, Bool, true, false, List, [], ◌∷◌, ◌++◌, length, Option, Some, None}
 use Rattle.std.specs.List.{flat_map}
-use Rattle.link_wire.specs.Stream.{Entry, reading_of}
+use Rattle.link_wire.specs.Stream.{Entry, reading_of, heads_of}
 use Rattle.link_wire.specs.declared.message.Message.{Message}
 use Rattle.link_transfer.specs.Event.{event_of}
 use Rattle.link_transfer.specs.Order.{is_stray, refusal, with_taken}
@@ -12,7 +12,7 @@ use Rattle.link_report.specs.declared.fault.Fault.TheVariants.{Order}
 use Rattle.link_report.specs.Transfer.{transfer_text}
 use Rattle.link_report.specs.declared.transfer.TransferEntry.{TransferEntry}
 use Rattle.link_run.specs.Made.{StreamStop, stop_of}
-use Rattle.link_unpack.specs.Transfers.{Transfer, Ordered, ordered, heads_of, transfers_of, settled}
+use Rattle.link_unpack.specs.Transfers.{Transfer, Ordered, ordered, transfers_of, settled}
 use Rattle.link_unpack.specs.Unpacking.{parts_of, entry_of, stop_by, unpacked_of, unpacking_of, unpack_tool}
 use Rattle.link_unpack.specs.declared.wanted.Wanted.{Wanted}
 use Rattle.link_laws.specs.RoundTrip.{all}

@@ -1,13 +1,13 @@
 -- A packed stream and the limits of the peer for which it was packed.
 use Rattle.std.specs.Prelude.{◌≡◌, ℕ, ◌<◌, ◌≤◌, ◌⊎◌, true, length, List, None}
 use Rattle.std.specs.List.{All}
-use Rattle.link_wire.specs.Stream.{Entry, reading_of}
+use Rattle.link_wire.specs.Stream.{Entry, reading_of, heads_of}
 use Rattle.link_wire.specs.declared.message.Message.{Message}
 use Rattle.link_wire.specs.declared.message.Message.TheVariants.{Segment}
 use Rattle.link_transfer.specs.Announced.{announced_of}
 use Rattle.link_transfer.specs.declared.announcement.Announced.TheVariants.{Absent, Total}
 use Rattle.link_list.specs.Listing.{list_tool}
-use Rattle.link_unpack.specs.Transfers.{Transfer, ordered, heads_of, transfers_of}
+use Rattle.link_unpack.specs.Transfers.{Transfer, ordered, transfers_of}
 use Rattle.link_pack.specs.declared.options.PackOptions.{PackOptions}
 
 -- A segment has some data. It has no more than the peer takes (RFC 9174 section 4.6), and no more

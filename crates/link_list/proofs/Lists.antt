@@ -16,13 +16,14 @@ use Rattle.link_wire.specs.declared.session.Session.{Session}
 use Rattle.link_wire.proofs.Contacts.{reading-none}
 use Rattle.link_io.proofs.Sources.{Takes-none, Takes-then, Readies-takes}
 use Rattle.link_report.specs.Message.{contact_text, message_text}
-use Rattle.link_run.specs.Made.{Made, whole_by, shows_fault, stop_of}
+use Rattle.link_run.specs.Made.{Made, IsLasting, whole_by, shows_fault, stop_of}
 use Rattle.link_run.specs.Run.{Texts, no_texts, ◌then◌, Looks, Devices, Place, devices_at, LastStep, progress_after}
 use Rattle.link_run.specs.Stages.{Stands, AfterStage, MayBegin}
 use Rattle.link_run.specs.Writers.{place_of, on_output, AfterWrite}
 use Rattle.link_run.specs.declared.run.Progress.{Progress}
 use Rattle.link_run.specs.declared.run.Status.{Status}
 use Rattle.link_run.specs.declared.writers.Writers.{Writers}
+use Rattle.link_run.proofs.Continued.{reading_on}
 use Rattle.link_run.proofs.Runs.{texts_as, then_assoc, then_none, few_over, writes_none}
 use Rattle.link_run.proofs.Sessions.{SameTexts}
 use Rattle.link_run.proofs.Stands.{ends, goes_on, written}
@@ -69,10 +70,16 @@ no_lines = refl
 pub nothing_listed : (listing_of []).texts ≡ no_texts
 nothing_listed = ap (λ (m : Made). m.texts) (by_reading []) ∙ ap (λ r. on_output (listed_lines r)) reading-none ∙ texts_as no_lines refl
 
+lasting : IsLasting listing_of
+unfolding listing_of
+lasting bytes more shown =
+    ap (λ (r : Reading). shows_fault (stop_of r.end)) ((reading_on bytes more).stays shown) ∙ shown
+
 pub may_begin : MayBegin listing_of true
 may_begin = record {
   texts = nothing_listed;
   unshown = ap (λ (m : Made). shows_fault m.stop) (by_reading []) ∙ ap (λ (r : Reading). shows_fault (stop_of r.end)) reading-none;
+  lasting = lasting;
 }
 
 -- a reading with the same messages has the same lines
@@ -187,7 +194,7 @@ module _ {R W E : Type 0} {look : Looks R W E} {start : Devices R W E} (old new 
       let stop_is : (listing_of (history ++ [])).stop ≡ stop_of Clean = ap (λ (m : Made). m.stop) made_is ∙ ap stop_of got.clean in
       ends longest_head (source_of old) (source_of new) w at got.takes (omega arith) (few_over look.input (source_of new) got.over) w no_texts
       (then_none (listing_of history).texts ∙ ap (λ (m : Made). m.texts) (by_reading history) ∙ sym (ap (λ s. (whole_by s (listing_of (history ++ []))).texts) stop_is ∙ ap (λ (m : Made). m.ended) made_is))
-      (inl got.over) (Ok status)
+      (inl (got.over, ap shows_fault stop_is)) (Ok status)
       (writes_none look.output look.report w, zero ∙ sym (ap (λ s. (whole_by s (listing_of (history ++ []))).status) stop_is ∙ ap (λ (m : Made). if m.good then 0 else 1) made_is))
 
 -- ---- data

@@ -1,11 +1,11 @@
 //! `list`: a line for the contact header and for each message of a recorded stream.
 
-ghost use Rattle.std.specs.Prelude.{◌≡◌, ◌<◌, true, false, [], IsTrue, List, ℕ, Err};
+ghost use Rattle.std.specs.Prelude.{◌≡◌, ◌<◌, true, false, [], IsTrue, List, ℕ};
 ghost use Rattle.link_wire.specs.Session.{may_open, may_read, is_opened, left_of, source_of};
-ghost use Rattle.link_run.specs.Reading.{inner_of};
+ghost use Rattle.link_run.specs.Reading.{inner_of, SessionWaits, Unread};
 ghost use Rattle.link_run.specs.Run.{Texts, Devices, devices_at, looks, AfterRun};
-ghost use Rattle.link_run.specs.Stages.{Stands, AfterStage, HandsOn, IsMore};
-ghost use Rattle.link_run.specs.Writers.{AfterWrite, WritesSome, on_output, place_of};
+ghost use Rattle.link_run.specs.Stages.{Stands, AfterStage, IsMore};
+ghost use Rattle.link_run.specs.Writers.{AfterWrite, on_output, place_of};
 ghost use Rattle.link_list.specs.Listing.{listing_of, list_tool};
 ghost use Rattle.link_list.specs.ListRun.{may_go_on, may_follow, latest_line, IsListing, Begins, Lists, IsListedTo, AfterRead, AfterLines, AfterStepOrStride, WaitsForData};
 
@@ -73,7 +73,7 @@ impl<R: InDevice, W: OutDevice, E: OutDevice> Stages<Session<R>, W, E> for Listi
     #[inline(always)]
     fn stage(
         &mut self,
-        input: &mut Input<Session<R>>,
+        input: &mut Input<Session<R>, W, E>,
         writers: &mut Writers<W, E>,
     ) -> Result<Progress, IoFault> {
         step(self, PIECE, false, input, writers)
@@ -83,7 +83,7 @@ impl<R: InDevice, W: OutDevice, E: OutDevice> Stages<Session<R>, W, E> for Listi
     #[inline(always)]
     fn stride(
         &mut self,
-        input: &mut Input<Session<R>>,
+        input: &mut Input<Session<R>, W, E>,
         writers: &mut Writers<W, E>,
     ) -> Result<Progress, IoFault> {
         step(self, usize::MAX, true, input, writers)
@@ -97,7 +97,7 @@ fn step<R: InDevice, W: OutDevice, E: OutDevice>(
     tool: &mut Listing,
     piece: usize,
     far: bool,
-    input: &mut Input<Session<R>>,
+    input: &mut Input<Session<R>, W, E>,
     writers: &mut Writers<W, E>,
 ) -> Result<Progress, IoFault>
     requires fits { IsTrue (may_go_on tool.old.stage (inner_of input.old)) }
@@ -113,12 +113,10 @@ fn step<R: InDevice, W: OutDevice, E: OutDevice>(
         (place_of (source_of (inner_of input.new)) writers.new)
         (IsListing R.state tool.new.stage (latest_line tool.new.latest) (inner_of input.new))
         history result }
-    ensures handed { (history : List ℕ)
+    ensures waits { (history : List ℕ)
         → IsListing R.state tool.old.stage (latest_line tool.old.latest) (inner_of input.old)
         history
-        → (result ≡ Err IoFault.Write → ⊥)
-        → HandsOn (looks R.state W.state E.state)
-        (inner_of input.old) (inner_of input.new) writers.old writers.new }
+        → SessionWaits (looks R.state W.state E.state) input.old input.new writers.old }
 {
     if let Stage::Contact = tool.stage {
         tool.stage = Stage::Message;
@@ -141,7 +139,7 @@ fn step<R: InDevice, W: OutDevice, E: OutDevice>(
 #[cold]
 #[inline(never)]
 fn list_contact<R: InDevice, W: OutDevice, E: OutDevice>(
-    input: &mut Input<Session<R>>,
+    input: &mut Input<Session<R>, W, E>,
     writers: &mut Writers<W, E>,
 ) -> Result<Progress, IoFault>
     requires { IsTrue (may_open (inner_of input.old)) }
@@ -154,9 +152,7 @@ fn list_contact<R: InDevice, W: OutDevice, E: OutDevice>(
         (place_of (source_of (inner_of input.old)) writers.old)
         (place_of (source_of (inner_of input.new)) writers.new)
         (Lists R.state Stage.Message line (inner_of input.new)) 6 history result }
-    ensures handed { (result ≡ Err IoFault.Write → ⊥)
-        → HandsOn (looks R.state W.state E.state)
-        (inner_of input.old) (inner_of input.new) writers.old writers.new }
+    ensures waits { SessionWaits (looks R.state W.state E.state) input.old input.new writers.old }
 {
     match input.open() {
         Ok(contact) => {
@@ -173,7 +169,7 @@ fn list_contact<R: InDevice, W: OutDevice, E: OutDevice>(
 fn advance<R: InDevice, W: OutDevice, E: OutDevice>(
     stage: Stage,
     piece: usize,
-    input: &mut Input<Session<R>>,
+    input: &mut Input<Session<R>, W, E>,
     writers: &mut Writers<W, E>,
     latest: &mut Latest,
 ) -> Read
@@ -187,11 +183,9 @@ fn advance<R: InDevice, W: OutDevice, E: OutDevice>(
         → IsListing R.state stage (latest_line latest.old) (inner_of input.old) history
         → AfterRead (looks R.state W.state E.state) start piece stage (inner_of input.old)
         (inner_of input.new) writers.new (latest_line latest.new) history result }
-    ensures handed { (history : List ℕ)
+    ensures waits { (history : List ℕ)
         → IsListing R.state stage (latest_line latest.old) (inner_of input.old) history
-        → (result ≡ Read.Ended (Err IoFault.Write) → ⊥)
-        → HandsOn (looks R.state W.state E.state)
-        (inner_of input.old) (inner_of input.new) writers.old writers.new }
+        → SessionWaits (looks R.state W.state E.state) input.old input.new writers.old }
 {
     match stage {
         Stage::Data => pass_data(piece, input, writers),
@@ -202,7 +196,7 @@ fn advance<R: InDevice, W: OutDevice, E: OutDevice>(
 /// Reads the head of a message.
 #[inline(always)]
 fn read_message<R: InDevice, W: OutDevice, E: OutDevice>(
-    input: &mut Input<Session<R>>,
+    input: &mut Input<Session<R>, W, E>,
     writers: &mut Writers<W, E>,
     latest: &mut Latest,
 ) -> Read
@@ -214,11 +208,9 @@ fn read_message<R: InDevice, W: OutDevice, E: OutDevice>(
         → Lists R.state Stage.Message (latest_line latest.old) (inner_of input.old) history
         → AfterRead (looks R.state W.state E.state) start piece Stage.Message (inner_of input.old)
         (inner_of input.new) writers.new (latest_line latest.new) history result }
-    ensures handed { (history : List ℕ)
+    ensures waits { (history : List ℕ)
         → Lists R.state Stage.Message (latest_line latest.old) (inner_of input.old) history
-        → (result ≡ Read.Ended (Err IoFault.Write) → ⊥)
-        → HandsOn (looks R.state W.state E.state)
-        (inner_of input.old) (inner_of input.new) writers.old writers.new }
+        → SessionWaits (looks R.state W.state E.state) input.old input.new writers.old }
 {
     match input.next_message(writers, &mut latest.message) {
         Ok(Some(offset)) => {
@@ -234,7 +226,7 @@ fn read_message<R: InDevice, W: OutDevice, E: OutDevice>(
 #[inline(always)]
 fn pass_data<R: InDevice, W: OutDevice, E: OutDevice>(
     piece: usize,
-    input: &mut Input<Session<R>>,
+    input: &mut Input<Session<R>, W, E>,
     writers: &mut Writers<W, E>,
 ) -> Read
     requires opened { IsTrue (is_opened (inner_of input.old)) }
@@ -246,11 +238,9 @@ fn pass_data<R: InDevice, W: OutDevice, E: OutDevice>(
         → Lists R.state Stage.Data line (inner_of input.old) history
         → AfterRead (looks R.state W.state E.state) start piece Stage.Data (inner_of input.old)
         (inner_of input.new) writers.new line history result }
-    ensures handed { (line history : List ℕ)
+    ensures waits { (line history : List ℕ)
         → Lists R.state Stage.Data line (inner_of input.old) history
-        → (result ≡ Read.Ended (Err IoFault.Write) → ⊥)
-        → HandsOn (looks R.state W.state E.state)
-        (inner_of input.old) (inner_of input.new) writers.old writers.new }
+        → SessionWaits (looks R.state W.state E.state) input.old input.new writers.old }
 {
     match input.load_data(writers) {
         Ok(ready) => {
@@ -263,7 +253,7 @@ fn pass_data<R: InDevice, W: OutDevice, E: OutDevice>(
 
 /// Returns whether the message that was read last is whole, or more of its data is to come.
 #[inline(always)]
-fn go_on<R: InDevice>(input: &Input<Session<R>>) -> Read
+fn go_on<R: InDevice, W: OutDevice, E: OutDevice>(input: &Input<Session<R>, W, E>) -> Read
     requires { IsTrue (is_opened (inner_of input.now)) }
     ensures fits { IsTrue (may_follow result (inner_of input.now)) }
     ensures goes { WaitsForData (left_of (inner_of input.now)) result }
@@ -281,7 +271,7 @@ fn go_on<R: InDevice>(input: &Input<Session<R>>) -> Read
 #[inline(always)]
 fn write_lines<R: InDevice, W: OutDevice, E: OutDevice>(
     far: bool,
-    input: &mut Input<Session<R>>,
+    input: &mut Input<Session<R>, W, E>,
     writers: &mut Writers<W, E>,
     latest: &mut Latest,
 ) -> Result<(), IoFault>
@@ -292,7 +282,7 @@ fn write_lines<R: InDevice, W: OutDevice, E: OutDevice>(
         → IsListedTo R.state first (inner_of input.old) (latest_line latest.old) history
         → AfterLines (looks R.state W.state E.state) first (inner_of input.old)
         (inner_of input.new) writers.old writers.new history result }
-    ensures wrote { WritesSome W.state E.state writers.old writers.new result }
+    ensures unread { Unread R.state source_of input.old input.new }
 {
     'lines: loop {
         match write_line(writers, latest) {
@@ -340,6 +330,7 @@ pub fn list_run<R: InDevice, W: OutDevice, E: OutDevice>(
     ensures stands { ⟦<ListRun<R, W, E> as Run<R, W, E>>⟧.stands result
         (record { reader = reader; output = output; report = report }) [] }
     ensures tool { ⟦<ListRun<R, W, E> as Run<R, W, E>>⟧.tool result ≡ list_tool }
+    ensures waits { ⟦<ListRun<R, W, E> as Run<R, W, E>>⟧.waits result ≡ [] }
     ensures devices { devices_at (⟦<ListRun<R, W, E> as Run<R, W, E>>⟧.place result)
         ≡ record { reader = reader; output = output; report = report } }
 {
@@ -373,7 +364,7 @@ pub fn list<R: InDevice, W: OutDevice, E: OutDevice>(
     ensures { AfterRun (looks R.state W.state E.state) list_tool
         (record { reader = reader; output = output; report = report })
         (record { reader = result.reader; output = result.output; report = result.report })
-        result.answer }
+        result.waits.items result.answer }
 {
     list_run(reader, output, report).run()
 }

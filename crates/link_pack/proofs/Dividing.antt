@@ -1,8 +1,9 @@
 -- How an input is divided into bundles.
-use Rattle.std.proofs.Common.{◌≡◌, ℕ, zero, suc, ◌-◌, ◌<◌, ◌≤◌, Bool, true, false, nat_lt, List, [], ◌∷◌, ◌++◌, length, take, drop, Some, None, Result, Ok, Err, if◌then◌else◌, refl, ap, sym, ◌∙◌, ⊎_elim, append-nil, append_assoc, length-append, length-drop, arith}
-use Rattle.std.proofs.Math.Seq.{take-append_seam, drop-append_seam}
+use Rattle.std.proofs.Common.{◌≡◌, ℕ, zero, suc, ◌+◌, ◌-◌, ◌<◌, ◌≤◌, inr, Bool, true, false, nat_lt, List, [], ◌∷◌, ◌++◌, length, take, drop, Some, None, Result, Ok, Err, if◌then◌else◌, refl, ap, sym, ◌∙◌, subst, ⊎_elim, take_all, append-nil, append_assoc, length-append, length-drop, arith}
+use Rattle.std.proofs.Math.Seq.{take-append_seam, take-append-add, drop-append_seam}
 use Rattle.std.proofs.lemmas.Bool.{cases_Bool, false≢true, lt-ltb, le-ltb}
-use Rattle.link_cbor.specs.PieceLaws.{taken-idle, taken-cons, taken-nil, joins_pieces}
+use Rattle.std.proofs.lemmas.List.{length-take, take-take}
+use Rattle.link_cbor.specs.PieceLaws.{taken-idle, taken-cons, taken-nil, joins_pieces, takes_shortest}
 use Rattle.link_cbor.specs.Pieces.{taken}
 use Rattle.link_bundle_types.specs.Faults.{lasts}
 use Rattle.link_bundle_types.specs.declared.fault.BundleFault.{BundleFault}
@@ -10,7 +11,7 @@ use Rattle.link_bundle_types.specs.declared.fault.BundleFault.TheVariants.{Cut}
 use Rattle.link_bundle_types.specs.declared.fault.State.TheVariants as state
 use Rattle.link_bundle_types.specs.declared.info.BundleInfo.{BundleInfo}
 use Rattle.link_bundle.specs.Bundle.{opening_at, bundle_at, judged_bundle, verdict, state_of, is_going, bundle_goes}
-use Rattle.link_pack.specs.Bundles.{Packed, Refusal, Longer, Faulty, Divided, bundle_prefix, refused_by, judged_front, with_bundle, divided_by, divided_in, divided, with_bundles}
+use Rattle.link_pack.specs.Bundles.{Packed, Refusal, Longer, Faulty, Divided, IsOpen, bundle_prefix, refused_by, judged_front, with_bundle, divided_by, divided_in, divided, with_bundles}
 use Rattle.link_pack.specs.Packer.{EndsInBundle}
 
 -- ---- prefixes
@@ -45,6 +46,35 @@ pub front_stopped : (front more : List ℕ) → bundle_prefix front ≡ front �
 front_stopped front more is idle =
     front_more front more is ∙ ap (λ (bytes : List ℕ). front ++ bytes) (taken-idle bundle_goes front more idle) ∙ append-nil front
 
+-- before its last byte, a prefix begins a bundle that goes on
+open_before : (limit : ℕ) (front : List ℕ) → bundle_prefix front ≡ front
+    → (count : ℕ) → count < length front → count ≤ limit → IsOpen limit (take count front)
+open_before limit front is count less within =
+    let wanted = ((takes_shortest bundle_goes [] front front).1 (sym is)).wanted in
+    let part = take count front in
+    let size = length-take count front in
+    record {
+      front = sym ((takes_shortest bundle_goes [] part part).0 (record {
+        is_front = sym (take_all (length part) part (omega arith));
+        wanted = λ fewer short.
+            ap bundle_goes (take-take fewer count front (omega (arith, size)))
+            ∙ wanted fewer (omega (arith, size));
+        stops = inr refl;
+      }));
+      goes = wanted count less;
+      within = omega (arith, size);
+    }
+
+-- the same, for a run of bytes at the end of the prefix
+pub run_open : (limit : ℕ) (begun run : List ℕ) → bundle_prefix (begun ++ run) ≡ begun ++ run
+    → length (begun ++ run) ≤ suc limit
+    → (count : ℕ) → count < length run → IsOpen limit (begun ++ take count run)
+run_open limit begun run front within count less =
+    let sizes = length-append begun run in
+    subst (IsOpen limit) (take-append-add begun run count)
+    (open_before limit (begun ++ run) front (length begun + count) (omega (arith, sizes))
+    (omega (arith, sizes)))
+
 -- ---- verdicts
 
 verdict_none : verdict [] ≡ Err (Cut, 0)
@@ -64,8 +94,9 @@ faulty_stops front fault offset is stays =
 pub none_goes : bundle_goes [] ≡ true
 none_goes = ap (λ said. is_going (state_of said)) verdict_none
 
-pub none_front : bundle_prefix [] ≡ []
-none_front = taken-nil bundle_goes []
+pub none_open : (limit : ℕ) → IsOpen limit []
+none_open limit =
+    record { front = taken-nil bundle_goes []; goes = none_goes; within = omega arith }
 
 -- bytes that need no more are not empty
 pub some_stopped : (front : List ℕ) → bundle_goes front ≡ false → 0 < length front
@@ -151,8 +182,10 @@ enough_turns (suc count) (suc other) limit (byte ∷ bytes) p q =
     let fewer = fewer_left limit byte bytes front info is in
     enough_turns count other limit (drop (length front) (byte ∷ bytes)) (omega arith) (omega arith))
 
-abbrev refused_with : Refusal → (accepted : List ℕ) → Divided
-refused_with refusal accepted = record { bundles = []; rest = Some (record { accepted = accepted; refusal = refusal }) }
+-- these bundles, and then bytes that do not begin with a bundle that the peer takes
+abbrev pub refused_so : List Packed → (accepted : List ℕ) → Refusal → Divided
+refused_so bundles accepted refusal =
+    record { bundles = bundles; rest = Some (record { accepted = accepted; refusal = refusal }) }
 
 pub divided_none : (limit : ℕ) → divided limit [] ≡ record { bundles = []; rest = None }
 unfolding divided divided_in
@@ -184,46 +217,41 @@ divided_whole limit bundle more info front is within =
 pub divided_longer : (limit : ℕ) (part : List ℕ) (byte : ℕ) (more : List ℕ) → bundle_prefix part ≡ part
     → bundle_goes part ≡ true → length part ≡ limit
     → divided limit (part ++ byte ∷ more)
-    ≡ record { bundles = []; rest = Some (record { accepted = part; refusal = Longer limit }) }
+    ≡ refused_so [] part (Longer limit)
 divided_longer limit part byte more front goes full =
     let rest = taken bundle_goes (part ++ byte ∷ []) more in
     divided_front limit (part ++ byte ∷ rest) (part ++ byte ∷ more) (omega (arith, length-append part (byte ∷ more)))
     (front_more part (byte ∷ more) front ∙ ap (λ (bytes : List ℕ). part ++ bytes) (taken-cons bundle_goes part byte more goes))
     ∙ ap (divided_by (divided limit) (part ++ byte ∷ rest) (part ++ byte ∷ more)) (beyond_limit limit (part ++ byte ∷ rest) (omega (arith, length-append part (byte ∷ rest))))
-    ∙ ap (refused_with (Longer limit)) (ap (λ count. take count (part ++ byte ∷ rest)) (sym full) ∙ take-append_seam part (byte ∷ rest))
+    ∙ ap (λ (accepted : List ℕ). refused_so [] accepted (Longer limit))
+    (ap (λ count. take count (part ++ byte ∷ rest)) (sym full)
+    ∙ take-append_seam part (byte ∷ rest))
 
 -- the last byte of the prefix shows a fault
 pub divided_faulty : (limit : ℕ) (front more : List ℕ) (fault : BundleFault) (offset : ℕ)
     → bundle_prefix front ≡ front → verdict front ≡ Err (fault, offset)
     → lasts fault ≡ true → length front ≤ limit
     → divided limit (front ++ more)
-    ≡ record {
-      bundles = [];
-      rest = Some (record {
-        accepted = take (length front - 1) front;
-        refusal = Faulty fault offset;
-      });
-    }
+    ≡ refused_so [] (take (length front - 1) front) (Faulty fault offset)
 divided_faulty limit front more fault offset is said stays within =
     let stops = faulty_stops front fault offset said stays in
     let some = some_stopped front stops in
     divided_front limit front (front ++ more) (omega (arith, length-append front more)) (front_stopped front more is stops)
     ∙ ap (divided_by (divided limit) front (front ++ more)) (within_limit limit front within ∙ ap refused_by said)
-    ∙ ap (λ test. refused_with (Faulty fault offset) (if test then take (length front - 1) front else front)) stays
+    ∙ ap (λ test. refused_so [] (if test then take (length front - 1) front else front)
+    (Faulty fault offset)) stays
 
 -- the bytes end inside a bundle
 pub divided_open : (limit : ℕ) (part : List ℕ) (fault : BundleFault) (offset : ℕ)
     → bundle_prefix part ≡ part → bundle_goes part ≡ true → 0 < length part → length part ≤ limit
     → verdict part ≡ Err (fault, offset)
     → divided limit part
-    ≡ record {
-      bundles = [];
-      rest = Some (record { accepted = part; refusal = Faulty fault offset });
-    }
+    ≡ refused_so [] part (Faulty fault offset)
 divided_open limit part fault offset front goes some within said =
     divided_front limit part part some front
     ∙ ap (divided_by (divided limit) part part) (within_limit limit part within ∙ ap refused_by said)
-    ∙ ap (λ test. refused_with (Faulty fault offset) (if test then take (length part - 1) part else part)) (open_mends part fault offset said goes)
+    ∙ ap (λ test. refused_so [] (if test then take (length part - 1) part else part)
+    (Faulty fault offset)) (open_mends part fault offset said goes)
 
 -- ---- the bundles so far
 

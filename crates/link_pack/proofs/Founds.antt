@@ -6,7 +6,7 @@ use Rattle.link_wire.specs.Source.{front_of as at_hand, IsLive, IsOver, Takes, R
 use Rattle.link_wire.specs.declared.IoFault.{IoFault}
 use Rattle.link_wire.specs.declared.Source.{Source}
 use Rattle.link_io.proofs.Sources.{IsSourceAt-then, Takes-none, front_room}
-use Rattle.link_bundle.specs.Bundle.{verdict, bundle_goes}
+use Rattle.link_bundle.specs.Bundle.{verdict}
 use Rattle.link_bundle_types.specs.declared.info.BundleInfo.{BundleInfo}
 use Rattle.link_report.specs.Fault.{fault_text}
 use Rattle.link_report.specs.declared.fault.Fault.{Fault}
@@ -20,7 +20,7 @@ use Rattle.link_run.specs.declared.writers.Writers.{Writers}
 use Rattle.link_run.proofs.Runs.{few_over}
 use Rattle.link_run.proofs.Sessions.{then_fault}
 use Rattle.link_run.proofs.Stands.{goes_on, loses, ends, last_step, written}
-use Rattle.link_pack.specs.Bundles.{Packed, Faulty, bundle_prefix, divided, with_bundles}
+use Rattle.link_pack.specs.Bundles.{Packed, Faulty, IsOpen, divided, with_bundles}
 use Rattle.link_pack.specs.Packing.{prelude_bytes, end_bytes, report_line, refusal_fault, packing_of, packing_by, pack_tool}
 use Rattle.link_transfer.specs.Cutter.{IsCutterAt}
 use Rattle.link_pack.specs.Packer.{cutting, before_last, Holds, Grows, Refuses, MakesOf, EndsInBundle, CutShort}
@@ -30,9 +30,10 @@ use Rattle.link_pack.specs.declared.packer.Found.{Found}
 use Rattle.link_pack.specs.declared.packer.Found.TheVariants as found
 use Rattle.link_pack.specs.declared.packer.Packer.{Packer}
 use Rattle.link_pack.specs.declared.packing.Stage.TheVariants as stage
-use Rattle.link_pack.proofs.Dividing.{divided_whole, joined_push, none_front, none_goes}
+use Rattle.link_pack.proofs.Dividing.{none_open, refused_so, divided_whole, joined_push}
+use Rattle.link_pack.proofs.Divisions.{IsRefused}
 use Rattle.link_pack.proofs.Grown.{texts_grown, texts_refused, texts_whole}
-use Rattle.link_pack.proofs.Outcomes.{made_as, made_none, prelude_texts, refused_so, stopped, clean, whole_of, texts_going, unshown_going, whole_clean, whole_cut}
+use Rattle.link_pack.proofs.Outcomes.{made_none, prelude_texts, stopped, clean, whole_of, texts_going, unshown_going, whole_clean, whole_cut, made_refused, refused_same}
 
 -- the first step is given no bytes
 pub prelude_written : {R W E : Type 0} {look : Looks R W E} {start : Devices R W E} (source : Source R)
@@ -61,7 +62,15 @@ module _ {R W E : Type 0} {look : Looks R W E} {start : Devices R W E} (most : �
   limit = packer.options.peer_transfer
 
   texts_now : (packing_of options history).texts ≡ texts_of options at.bundles at.begun
-  texts_now = texts_going options history at.bundles at.begun at.holds.front at.holds.goes at.holds.within at.divides
+  texts_now = texts_going options history at.bundles at.begun at.holds.opened at.divides
+
+  divides : (run rest : List ℕ)
+      → divided limit ((history ++ run) ++ rest)
+      ≡ with_bundles at.bundles (divided limit ((at.begun ++ run) ++ rest))
+  divides run rest =
+      ap (divided limit) (append_assoc history run rest) ∙ at.divides (run ++ rest)
+      ∙ ap (λ (bytes : List ℕ). with_bundles at.bundles (divided limit bytes))
+      (sym (append_assoc at.begun run rest))
 
   -- ---- a run of bytes was given
 
@@ -72,25 +81,17 @@ module _ {R W E : Type 0} {look : Looks R W E} {start : Devices R W E} (most : �
     abbrev Gives : Result Progress IoFault → Type 0
     Gives = AfterStage look (packing_of options) start true (place_of old before) (place_of new after) (Packs look.input packed new) most history
 
-    divides : (rest : List ℕ)
-        → divided limit ((history ++ run) ++ rest)
-        ≡ with_bundles at.bundles (divided limit ((at.begun ++ run) ++ rest))
-    divides rest =
-        ap (divided limit) (append_assoc history run rest) ∙ at.divides (run ++ rest)
-        ∙ ap (λ (bytes : List ℕ). with_bundles at.bundles (divided limit bytes)) (sym (append_assoc at.begun run rest))
-
     -- the new options and number are those before the step
     as_stood : (P : PackOptions → ℕ → Type 0) → P mid.options mid.number
         → P options (length at.bundles)
     as_stood P is = subst (λ o. P o (length at.bundles)) same (subst (λ n. P mid.options n) (numbered ∙ at.holds.number) is)
 
-    within : length (at.begun ++ run) ≤ mid.options.peer_transfer
-        → length (at.begun ++ run) ≤ limit
-    within is = subst (λ (o : PackOptions). length (at.begun ++ run) ≤ o.peer_transfer) same is
+    as_limit : (P : ℕ → Type 0) → P mid.options.peer_transfer → P limit
+    as_limit P is = subst P (ap (λ (o : PackOptions). o.peer_transfer) same) is
 
     -- the run goes on
     module _ (more : Texts) (bundles : List Packed) (begun : List ℕ)
-        (front : bundle_prefix begun ≡ begun) (goes : bundle_goes begun ≡ true) (fits : length begun ≤ limit)
+        (opened : IsOpen limit begun)
         (grown : texts_of options at.bundles at.begun then more ≡ texts_of options bundles begun)
         (come : (rest : List ℕ) → divided limit ((history ++ run) ++ rest) ≡ with_bundles bundles (divided limit (begun ++ rest)))
         (few : length bundles + length begun ≤ length (history ++ run)) where
@@ -108,26 +109,34 @@ module _ {R W E : Type 0} {look : Looks R W E} {start : Devices R W E} (most : �
           }
 
       due : (packing_of options history).texts then more ≡ (packing_of options (history ++ run)).texts
-      due = ap (λ t. t then more) texts_now ∙ grown ∙ sym (texts_going options (history ++ run) bundles begun front goes fits come)
+      due =
+          ap (λ t. t then more) texts_now ∙ grown
+          ∙ sym (texts_going options (history ++ run) bundles begun opened come)
+
+      unshown : shows_fault (packing_of options (history ++ run)).stop ≡ false
+      unshown = unshown_going options (history ++ run) bundles begun opened come
 
       by_write : (write : Result (Unit {0}) IoFault) → AfterWrite look.output look.report before after more write
           → OnOk write (Holds packed bundles begun) → Gives (progress_after write)
       by_write (Ok done) writes holds =
-          goes_on most old new before stood takes size (takes.window.less some) after more due (unshown_going options (history ++ run) bundles begun front goes fits come)
-          (Packs look.input packed new) (λ is. some) (packs holds) writes (λ may. refl)
+          goes_on most old new before stood takes size (takes.window.less some) after more due
+          unshown (Packs look.input packed new) (λ is. some) (packs holds) writes (λ may. refl)
       by_write (Err fault) part holds =
-          loses most old new before stood takes size (takes.window.less some) after more due (unshown_going options (history ++ run) bundles begun front goes fits come) fault part
+          loses most old new before stood takes size (takes.window.less some) after more due unshown
+          fault part
 
       going : WritesOn look.output look.report before after more (Holds packed bundles begun) result → Gives result
       going gave = subst Gives (sym gave.is) (by_write gave.written gave.gives gave.holds)
 
-    part_came : Grows mid at.begun run → bundle_goes (at.begun ++ run) ≡ true
+    part_came : IsOpen mid.options.peer_transfer (at.begun ++ run)
         → WritesOn look.output look.report before after (on_output (run_segments mid.options mid.number at.begun run false)) (Holds packed at.bundles (at.begun ++ run)) result
         → Gives result
-    part_came grows goes gave =
+    part_came opened gave =
         let few = at.few in
-        going (on_output (run_segments options (length at.bundles) at.begun run false)) at.bundles (at.begun ++ run) grows.front goes (within grows.within)
-        (texts_grown options at.bundles at.begun run) divides (omega (arith, length-append at.begun run, length-append history run))
+        going (on_output (run_segments options (length at.bundles) at.begun run false))
+        at.bundles (at.begun ++ run) (as_limit (λ n. IsOpen n (at.begun ++ run)) opened)
+        (texts_grown options at.bundles at.begun run) (divides run)
+        (omega (arith, length-append at.begun run, length-append history run))
         (as_stood (λ o n. WritesOn look.output look.report before after (on_output (run_segments o n at.begun run false)) (Holds packed at.bundles (at.begun ++ run)) result) gave)
 
     -- the whole bundle
@@ -141,23 +150,39 @@ module _ {R W E : Type 0} {look : Looks R W E} {start : Devices R W E} (most : �
     whole_came grows info is gave =
         let few = at.few in
         going (record { output = run_segments options (length at.bundles) at.begun run true; report = report_line options (length at.bundles) (bundle_of info) })
-        (at.bundles ++ bundle_of info ∷ []) [] none_front none_goes (omega arith) (texts_whole options at.bundles at.begun run (bundle_of info) refl some)
-        (λ rest. divides rest ∙ ap (with_bundles at.bundles) (divided_whole limit (at.begun ++ run) rest info grows.front is (within grows.within)) ∙ joined_push at.bundles (bundle_of info) (divided limit rest))
+        (at.bundles ++ bundle_of info ∷ []) [] (none_open limit)
+        (texts_whole options at.bundles at.begun run (bundle_of info) refl some)
+        (λ rest. divides run rest
+        ∙ ap (with_bundles at.bundles)
+        (divided_whole limit (at.begun ++ run) rest info grows.front is
+        (as_limit (λ n. length (at.begun ++ run) ≤ n) grows.within))
+        ∙ joined_push at.bundles (bundle_of info) (divided limit rest))
         (omega (arith, length-append at.bundles (bundle_of info ∷ []), length-append history run))
         (as_stood (λ o n. WritesOn look.output look.report before after (record { output = run_segments o n at.begun run true; report = report_line o n (bundle_of info) }) (Holds packed (at.bundles ++ bundle_of info ∷ []) []) result) gave)
 
     module _ (fault : Fault) (refuses : Refuses mid at.begun run fault) where
-      made_refused : (rest : List ℕ)
-          → packing_of options ((history ++ run) ++ rest)
-          ≡ packing_by options (refused_so options at.bundles (at.begun ++ before_last run) refuses.refusal)
-      made_refused rest =
-          made_as options _ _ (divides rest
-          ∙ ap (with_bundles at.bundles) (subst (λ (o : PackOptions). divided o.peer_transfer ((at.begun ++ run) ++ rest) ≡ refused_so options [] (at.begun ++ before_last run) refuses.refusal) same (refuses.divides rest))
-          ∙ ap (λ (all : List Packed). refused_so options all (at.begun ++ before_last run) refuses.refusal) (append-nil at.bundles))
+      is_refused : IsRefused limit (at.begun ++ run)
+      is_refused = record {
+        accepted = at.begun ++ before_last run;
+        refusal = refuses.refusal;
+        divides = as_limit (λ n. (rest : List ℕ) → divided n ((at.begun ++ run) ++ rest)
+            ≡ refused_so [] (at.begun ++ before_last run) refuses.refusal) refuses.divides;
+      }
 
       made_now : packing_of options (history ++ run)
-          ≡ packing_by options (refused_so options at.bundles (at.begun ++ before_last run) refuses.refusal)
-      made_now = ap (packing_of options) (sym (append-nil (history ++ run))) ∙ made_refused []
+          ≡ packing_by options (refused_so at.bundles (at.begun ++ before_last run) refuses.refusal)
+      unfolding is_refused
+      made_now =
+          made_refused options (history ++ run) at.bundles (at.begun ++ run) is_refused
+          (divides run)
+
+      -- before the last byte of the run, the bundle goes on
+      unshown_before : (count : ℕ) → count < length run
+          → shows_fault (packing_of options (history ++ take count run)).stop ≡ false
+      unshown_before count less =
+          unshown_going options (history ++ take count run) at.bundles (at.begun ++ take count run)
+          (as_limit (λ n. IsOpen n (at.begun ++ take count run)) (refuses.before count less))
+          (divides (take count run))
 
       refused_came : WritesLast look.output look.report before after (record { output = run_segments mid.options mid.number at.begun (before_last run) false; report = fault_text fault }) 3 result
           → Gives result
@@ -172,13 +197,18 @@ module _ {R W E : Type 0} {look : Looks R W E} {start : Devices R W E} (most : �
           (ends most old new before stood takes size (takes.window.less some) after texts
           (ap (λ t. t then texts) texts_now ∙ texts_refused options at.bundles at.begun (before_last run) (fault_text fault) ∙ then_fault fault _
           ∙ ap (λ f. with_fault f (texts_of options at.bundles (at.begun ++ before_last run))) line ∙ sym (ap (λ (o : Outcome). o.texts) now))
-          (inr (ap (λ (m : Made). shows_fault m.stop) made_now ∙ refuses.lasts, λ rest. made_refused rest ∙ sym made_now))
+          (inr (
+            ap (λ (m : Made). shows_fault m.stop) made_now ∙ refuses.lasts,
+            refused_same options (history ++ run) at.bundles (at.begun ++ run) is_refused
+                (divides run),
+            unshown_before,
+          ))
           gave.answer (subst P (sym (ap (λ (o : Outcome). o.status) now)) gave_now)))
 
     pub came : (what : Found) (took : MakesOf mid at.begun run what)
         → WritesFound look.output look.report before after mid at.bundles at.begun run packed what took result
         → Gives result
-    came found.Part took gave = part_came took.0 took.1 gave
+    came found.Part took gave = part_came took.1 gave
     came found.Whole took gave = whole_came took.0 took.1.0 took.1.1 gave
     came (found.Refused fault) took gave = refused_came fault took gave
 
@@ -194,7 +224,12 @@ module _ {R W E : Type 0} {look : Looks R W E} {start : Devices R W E} (most : �
         let now : whole_of (packing_of options (history ++ [])) ≡ outcome = ap (λ bytes. whole_of (packing_of options bytes)) (append-nil history) ∙ is in
         let P : ℕ → Type 0 = λ status. AfterLastWrite look.output look.report before after more status answer in
         ends most old new before stood takes (omega arith) (few_over look.input new over) after more
-        (ap (λ t. t then more) texts_now ∙ same ∙ sym (ap (λ (o : Outcome). o.texts) now)) (inl over)
+        (ap (λ t. t then more) texts_now ∙ same ∙ sym (ap (λ (o : Outcome). o.texts) now))
+        (inl (
+          over,
+          ap (λ (bytes : List ℕ). shows_fault (packing_of options bytes).stop)
+              (append-nil history) ∙ stood.unshown,
+        ))
         answer (subst P (sym (ap (λ (o : Outcome). o.status) now)) gives)
 
     ended_short : (short : Option Fault) → CutShort packer.number at.begun short
@@ -202,12 +237,12 @@ module _ {R W E : Type 0} {look : Looks R W E} {start : Devices R W E} (most : �
         → LastStep look (pack_tool options) start (devices_at (place_of new after)) most history answer
     ended_short None why gives =
         ended_by (on_output (end_bytes options)) (clean options at.bundles at.begun)
-        (whole_clean options history at.bundles at.begun at.holds.front at.holds.goes at.holds.within at.divides why) refl gives
+        (whole_clean options history at.bundles at.begun at.holds.opened at.divides why) refl gives
     ended_short (Some fault) why gives =
         let cut : EndsInBundle at.begun = why.1.0 in
         let line : fault ≡ refusal_fault (length at.bundles) (Faulty cut.fault cut.offset) = why.1.1 ∙ ap (λ n. refusal_fault n (Faulty cut.fault cut.offset)) at.holds.number in
         ended_by (on_report (fault_text fault)) (stopped options at.bundles at.begun (Faulty cut.fault cut.offset))
-        (whole_cut options history at.bundles at.begun at.holds.front at.holds.goes at.holds.within at.divides cut why.0)
+        (whole_cut options history at.bundles at.begun at.holds.opened at.divides cut why.0)
         (then_fault fault _ ∙ ap (λ f. with_fault f (texts_of options at.bundles at.begun)) line) gives
 
     pub finished : WritesFinish look.output look.report before after packer at.begun answer

@@ -1,31 +1,27 @@
 -- What is written once bytes of a bundle have come.
-use Rattle.std.proofs.Common.{◌≡◌, ◌⊎◌, ℕ, ◌+◌, ◌<◌, true, false, List, [], ◌∷◌, ◌++◌, length, OnOk, Option, Some, None, Result, Ok, Err, refl, ap, sym, ◌∙◌, append-nil, length-append, arith}
+use Rattle.std.proofs.Common.{◌≡◌, ℕ, ◌+◌, ◌<◌, true, false, List, [], ◌∷◌, ◌++◌, length, OnOk, Result, Ok, Err, refl, ap, sym, ◌∙◌, append-nil, length-append}
 use Rattle.link_wire.specs.Device.{Output}
 use Rattle.link_wire.specs.declared.IoFault.{IoFault}
-use Rattle.link_wire.specs.declared.IoFault.TheVariants as io
-use Rattle.link_wire.specs.declared.Source.{Source}
 use Rattle.link_bundle.specs.Scan.{HasScanned}
 use Rattle.link_report.specs.Fault.{fault_text}
 use Rattle.link_report.specs.declared.fault.Fault.{Fault}
 use Rattle.link_transfer.specs.Cutter.{IsCutterAt}
 use Rattle.link_transfer.specs.Cutting.{with_bytes}
-use Rattle.link_run.specs.Run.{Texts, ◌then◌, Looks, answer_of, progress_after}
-use Rattle.link_run.specs.Stages.{HandedOn}
-use Rattle.link_run.specs.Writers.{place_of, on_output, on_report, Writes, WritesPart, AfterWrite, AfterLastWrite, HasHandedOn}
+use Rattle.link_run.specs.Run.{◌then◌, answer_of, progress_after}
+use Rattle.link_run.specs.Writers.{on_output, on_report, Writes, WritesPart, AfterWrite, AfterLastWrite}
 use Rattle.link_run.specs.declared.run.Progress.{Progress}
 use Rattle.link_run.specs.declared.run.Status.{Status}
 use Rattle.link_run.specs.declared.writers.Writers.{Writers}
-use Rattle.link_run.proofs.Handing.{handed_by, handed_written}
 use Rattle.link_run.proofs.Runs.{texts_as, writes_then, part_of_more, part_behind}
 use Rattle.link_pack.specs.Bundles.{Packed}
 use Rattle.link_pack.specs.Packing.{segment_size, report_line}
 use Rattle.link_pack.specs.Packer.{cutting, before_last, accepted_of, is_whole, Holds, MakesOf}
-use Rattle.link_pack.specs.PackRun.{WritesFound, WritesEnd, WritesFinish}
+use Rattle.link_pack.specs.PackRun.{WritesFound}
 use Rattle.link_pack.specs.Segments.{segments_left, all_given}
 use Rattle.link_pack.specs.declared.packer.Found.{Found}
 use Rattle.link_pack.specs.declared.packer.Found.TheVariants as found
 use Rattle.link_pack.specs.declared.packer.Packer.{Packer}
-use Rattle.link_pack.proofs.Dividing.{none_front, none_goes}
+use Rattle.link_pack.proofs.Dividing.{none_open}
 use Rattle.link_pack.proofs.Keeping.{kept_few}
 use Rattle.link_pack.proofs.Sending.{all_given_open, all_given_ended, open_none}
 
@@ -80,11 +76,9 @@ module _ {W E : Type 0} (out_look : W → Output) (report_look : E → Output) w
         → Holds packed bundles (begun ++ run)
     grown took packed options number scan cut = record {
       number = number ∙ numbered;
-      scanned = rw scan took.0.scanned;
+      scanned = rw scan took.0;
       cut = rw (options, sym (all_given_open (segment_size old.options) old.options.announce begun run some)) cut;
-      front = took.0.front;
-      goes = took.1;
-      within = rw options took.0.within;
+      opened = rw options took.1;
       kept = kept_few packed.options packed.cutter (begun ++ run)
           (rw (options, sym (all_given_open (segment_size old.options) old.options.announce begun run some)) cut);
     }
@@ -99,9 +93,7 @@ module _ {W E : Type 0} (out_look : W → Output) (report_look : E → Output) w
       number = number ∙ ap (λ n. n + 1) numbered ∙ sym (length-append bundles (record { bytes = begun ++ run; info = took.1.0 } ∷ []));
       scanned = scanned;
       cut = rw (options, open_none (segment_size old.options) old.options.announce, sym (all_given_ended (segment_size old.options) old.options.announce begun run some)) cut;
-      front = none_front;
-      goes = none_goes;
-      within = omega arith;
+      opened = none_open packed.options.peer_transfer;
       kept = kept_few packed.options packed.cutter []
           (rw (options, open_none (segment_size old.options) old.options.announce, sym (all_given_ended (segment_size old.options) old.options.announce begun run some)) cut);
     }
@@ -129,40 +121,3 @@ module _ {W E : Type 0} (out_look : W → Output) (report_look : E → Output) w
         → WritesFound out_look report_look before after old bundles begun run packed (found.Refused why) took result
     refused why took after packed answer result is writes gives =
         record { answer = answer; is = is; gives = last_given before mid after _ _ writes answer gives }
-
--- ---- what was written is handed on before the read
-
-module _ {R W E : Type 0} (look : Looks R W E) {enough : Type 0} (old new : Source R) (before mid after : Writers W E)
-    (kept : Writes look.output look.report before mid (on_output []))
-    (held : HasHandedOn look.output look.report mid ⊎ enough) where
-  abbrev Handed : Type 0
-  Handed = HandedOn look enough (place_of old before) (place_of new after)
-
-  handed_last : (texts : Texts) (status : ℕ) (answer : Result Status IoFault)
-      → AfterLastWrite look.output look.report mid after texts status answer
-      → (answer_of answer ≡ Err io.Write → ⊥) → Handed
-  handed_last texts status (Ok ended) gives other = handed_by look old new before mid after texts kept held gives.0
-  handed_last texts status (Err fault) part other = absurd (other (ap Err part.kind))
-
-  module _ (packer : Packer) where
-    pub found_handed : (bundles : List Packed) (begun run : List ℕ) (packed : Packer) (what : Found)
-        (took : MakesOf packer begun run what) (result : Result Progress IoFault)
-        → WritesFound look.output look.report mid after packer bundles begun run packed what took result
-        → (result ≡ Err io.Write → ⊥) → Handed
-    found_handed bundles begun run packed found.Part took result gave other =
-        handed_written look old new before mid after _ gave.written kept held gave.gives (λ e. other (gave.is ∙ e))
-    found_handed bundles begun run packed found.Whole took result gave other =
-        handed_written look old new before mid after _ gave.written kept held gave.gives (λ e. other (gave.is ∙ e))
-    found_handed bundles begun run packed (found.Refused fault) took result gave other =
-        handed_last _ 3 gave.answer gave.gives (λ e. other (gave.is ∙ e))
-
-    short_handed : (short : Option Fault) (answer : Result Status IoFault)
-        → WritesEnd look.output look.report mid after packer.options short answer
-        → (answer_of answer ≡ Err io.Write → ⊥) → Handed
-    short_handed None answer gives other = handed_last _ 0 answer gives other
-    short_handed (Some fault) answer gives other = handed_last _ 3 answer gives other
-
-    pub finish_handed : (begun : List ℕ) (answer : Result Status IoFault)
-        → WritesFinish look.output look.report mid after packer begun answer
-        → (answer_of answer ≡ Err io.Write → ⊥) → Handed
-    finish_handed begun answer gives other = short_handed gives.short answer gives.gave other

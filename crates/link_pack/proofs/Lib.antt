@@ -1,4 +1,5 @@
 pub mod Dividing
+pub mod Divisions
 mod Texts
 pub mod Sending
 mod Keeping

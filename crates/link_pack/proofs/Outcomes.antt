@@ -1,18 +1,19 @@
 -- What `pack` makes of an input, from its bundles and the bytes of the next one.
-use Rattle.std.proofs.Common.{◌≡◌, ℕ, ◌<◌, ◌≤◌, true, false, List, [], ◌∷◌, ◌++◌, length, Option, Some, None, refl, ap, sym, ◌∙◌, append-nil, arith}
-use Rattle.link_bundle.specs.Bundle.{bundle_goes}
-use Rattle.link_run.specs.Made.{Made, with_fault, whole_by, shows_fault}
+use Rattle.std.proofs.Common.{◌≡◌, ℕ, ◌<◌, false, List, [], ◌∷◌, ◌++◌, length, Option, Some, None, ⊎_elim, refl, ap, sym, ◌∙◌, append-nil, arith}
+use Rattle.std.proofs.lemmas.Bool.{false≢true}
+use Rattle.link_run.specs.Made.{Made, IsLasting, with_fault, whole_by, shows_fault}
 use Rattle.link_run.specs.Run.{Outcome, ◌then◌}
 use Rattle.link_run.specs.Stages.{MayBegin}
 use Rattle.link_run.specs.Writers.{on_output}
 use Rattle.link_run.proofs.Runs.{texts_as}
-use Rattle.link_pack.specs.Bundles.{Packed, Refusal, Faulty, Rest, Divided, bundle_prefix, divided, with_bundles}
+use Rattle.link_pack.specs.Bundles.{Packed, Refusal, Faulty, Rest, Divided, IsOpen, divided, with_bundles}
 use Rattle.link_pack.specs.Packing.{prelude_bytes, segment_size, sending, transfer_bytes, rest_segments, end_bytes, report_lines, refusal_fault, stop_by, packing_of, packing_by}
 use Rattle.link_pack.specs.Packer.{EndsInBundle}
 use Rattle.link_pack.specs.PackRun.{texts_of}
 use Rattle.link_pack.specs.Segments.{segments_of}
 use Rattle.link_pack.specs.declared.options.PackOptions.{PackOptions}
-use Rattle.link_pack.proofs.Dividing.{divided_none, divided_open, goes_cut}
+use Rattle.link_pack.proofs.Dividing.{goes_cut, refused_so, divided_none, divided_open}
+use Rattle.link_pack.proofs.Divisions.{IsRefused, stays_divided}
 use Rattle.link_pack.proofs.Sending.{segments_none}
 
 -- the end of an input, after the bytes `begun` of a bundle
@@ -23,11 +24,12 @@ rest_of (byte ∷ bytes) cut = Some (record { accepted = byte ∷ bytes; refusal
 abbrev pub ends_so : List Packed → (begun : List ℕ) → EndsInBundle begun → Divided
 ends_so bundles begun cut = record { bundles = bundles; rest = rest_of begun cut }
 
-divided_begun : (limit : ℕ) (begun : List ℕ) (cut : EndsInBundle begun) → bundle_prefix begun ≡ begun
-    → bundle_goes begun ≡ true → length begun ≤ limit
+divided_begun : (limit : ℕ) (begun : List ℕ) (cut : EndsInBundle begun) → IsOpen limit begun
     → divided limit begun ≡ ends_so [] begun cut
-divided_begun limit [] cut front goes within = divided_none limit
-divided_begun limit (byte ∷ bytes) cut front goes within = divided_open limit (byte ∷ bytes) cut.fault cut.offset front goes (omega arith) within cut.is
+divided_begun limit [] cut opened = divided_none limit
+divided_begun limit (byte ∷ bytes) cut opened =
+    divided_open limit (byte ∷ bytes) cut.fault cut.offset opened.front opened.goes (omega arith)
+    opened.within cut.is
 
 unshown_rest : (number : ℕ) (begun : List ℕ) (cut : EndsInBundle begun)
     → shows_fault (stop_by number (rest_of begun cut)) ≡ false
@@ -48,9 +50,6 @@ module _ (options : PackOptions) where
 
   pub made_none : packing_of options [] ≡ packing_by options (record { bundles = []; rest = None })
   made_none = made_as [] _ (divided_none options.peer_transfer)
-
-  pub may_begin : MayBegin (packing_of options) false
-  may_begin = record { texts = refl; unshown = ap (λ (m : Made). shows_fault m.stop) made_none }
 
   pub prelude_texts : (packing_of options []).texts ≡ on_output (prelude_bytes options)
   unfolding transfer_bytes report_lines
@@ -93,32 +92,80 @@ module _ (options : PackOptions) where
   cut_by bundles [] cut some = absurd (omega arith)
   cut_by bundles (byte ∷ bytes) cut some = refl
 
-  abbrev pub refused_so : List Packed → (accepted : List ℕ) → Refusal → Divided
-  refused_so bundles accepted refusal = record { bundles = bundles; rest = Some (record { accepted = accepted; refusal = refusal }) }
-
   module _ (history : List ℕ) (bundles : List Packed) (begun : List ℕ)
-      (front : bundle_prefix begun ≡ begun) (goes : bundle_goes begun ≡ true)
-      (within : length begun ≤ options.peer_transfer)
-      (divides : (more : List ℕ) → divided options.peer_transfer (history ++ more) ≡ with_bundles bundles (divided options.peer_transfer (begun ++ more))) where
+      (opened : IsOpen options.peer_transfer begun)
+      (divides : (more : List ℕ) → divided options.peer_transfer (history ++ more)
+      ≡ with_bundles bundles (divided options.peer_transfer (begun ++ more))) where
     made_going : (cut : EndsInBundle begun)
         → packing_of options history ≡ packing_by options (ends_so bundles begun cut)
     made_going cut =
         made_as history _ (ap (divided options.peer_transfer) (sym (append-nil history)) ∙ divides []
         ∙ ap (λ (bytes : List ℕ). with_bundles bundles (divided options.peer_transfer bytes)) (append-nil begun)
-        ∙ ap (with_bundles bundles) (divided_begun options.peer_transfer begun cut front goes within)
+        ∙ ap (with_bundles bundles) (divided_begun options.peer_transfer begun cut opened)
         ∙ ap (λ (all : List Packed). record { bundles = all; rest = rest_of begun cut }) (append-nil bundles))
 
     pub texts_going : (packing_of options history).texts ≡ texts_of options bundles begun
-    texts_going = let cut = goes_cut begun goes in ap (λ (m : Made). m.texts) (made_going cut) ∙ texts_begun bundles begun cut
+    texts_going =
+        let cut = goes_cut begun opened.goes in
+        ap (λ (m : Made). m.texts) (made_going cut) ∙ texts_begun bundles begun cut
 
     pub unshown_going : shows_fault (packing_of options history).stop ≡ false
-    unshown_going = let cut = goes_cut begun goes in ap (λ (m : Made). shows_fault m.stop) (made_going cut) ∙ unshown_rest (length bundles) begun cut
+    unshown_going =
+        let cut = goes_cut begun opened.goes in
+        ap (λ (m : Made). shows_fault m.stop) (made_going cut)
+        ∙ unshown_rest (length bundles) begun cut
 
     -- the input ends between two bundles
     pub whole_clean : begun ≡ [] → whole_of (packing_of options history) ≡ clean bundles begun
-    whole_clean none = let cut = goes_cut begun goes in ap whole_of (made_going cut) ∙ clean_by bundles begun cut none
+    whole_clean none =
+        let cut = goes_cut begun opened.goes in
+        ap whole_of (made_going cut) ∙ clean_by bundles begun cut none
 
     -- the input ends inside a bundle
     pub whole_cut : (cut : EndsInBundle begun) → 0 < length begun
         → whole_of (packing_of options history) ≡ stopped bundles begun (Faulty cut.fault cut.offset)
     whole_cut cut some = ap whole_of (made_going cut) ∙ cut_by bundles begun cut some
+
+  -- ---- a bundle that is refused
+
+  module _ (history : List ℕ) (bundles : List Packed) (begun : List ℕ)
+      (refused : IsRefused options.peer_transfer begun)
+      (divides : (more : List ℕ) → divided options.peer_transfer (history ++ more)
+      ≡ with_bundles bundles (divided options.peer_transfer (begun ++ more))) where
+    abbrev stops_so : Divided
+    stops_so = refused_so bundles refused.accepted refused.refusal
+
+    refused_on : (more : List ℕ)
+        → packing_of options (history ++ more) ≡ packing_by options stops_so
+    refused_on more =
+        made_as (history ++ more) stops_so
+        (divides more ∙ ap (with_bundles bundles) (refused.divides more)
+        ∙ ap (λ (all : List Packed). refused_so all refused.accepted refused.refusal)
+        (append-nil bundles))
+
+    pub made_refused : packing_of options history ≡ packing_by options stops_so
+    made_refused = ap (packing_of options) (sym (append-nil history)) ∙ refused_on []
+
+    -- more bytes change nothing
+    pub refused_same : (more : List ℕ)
+        → packing_of options (history ++ more) ≡ packing_of options history
+    refused_same more = refused_on more ∙ sym made_refused
+
+  pub lasting_made : IsLasting (packing_of options)
+  lasting_made bytes more shown =
+      let parts = stays_divided options.peer_transfer bytes in
+      ⊎_elim
+      (λ refused.
+      let same = refused_same bytes parts.bundles parts.begun refused parts.divides more in
+      ap (λ (m : Made). shows_fault m.stop) same ∙ shown)
+      (λ opened.
+      let unshown = unshown_going bytes parts.bundles parts.begun opened parts.divides in
+      absurd (false≢true (sym unshown ∙ shown)))
+      parts.last
+
+  pub may_begin : MayBegin (packing_of options) false
+  may_begin = record {
+    texts = refl;
+    unshown = ap (λ (m : Made). shows_fault m.stop) made_none;
+    lasting = lasting_made;
+  }

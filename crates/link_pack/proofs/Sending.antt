@@ -179,8 +179,3 @@ pub all_given_ended : (segment hold : ℕ) (bundle run : List ℕ) → 0 < lengt
     → all_given (with_bytes run true (going segment hold bundle)) ≡ beginning segment hold
 all_given_ended segment hold bundle [] next = absurd (omega arith)
 all_given_ended segment hold bundle (byte ∷ bytes) next = refl
-
-pub all_given_idle : (segment hold : ℕ) (bundle : List ℕ)
-    → all_given (going segment hold bundle) ≡ going segment hold bundle
-unfolding due
-all_given_idle segment hold bundle = refl

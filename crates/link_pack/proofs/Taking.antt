@@ -5,7 +5,7 @@ use Rattle.std.proofs.lemmas.Grind.{div_ceil_times}
 use Rattle.std.proofs.lemmas.List.{length-take, take-take}
 use Rattle.std.proofs.Math.Seq.{take-append-add}
 use Rattle.link_cbor.specs.Pieces.{taken}
-use Rattle.link_cbor.specs.PieceLaws.{takes_shortest, taken-cons}
+use Rattle.link_cbor.specs.PieceLaws.{takes_shortest, taken-cons, taken-nil}
 use Rattle.link_bundle_types.specs.declared.fault.BundleFault.{BundleFault}
 use Rattle.link_bundle_types.specs.declared.fault.State.TheVariants as state
 use Rattle.link_bundle_types.specs.declared.info.BundleInfo.{BundleInfo}
@@ -23,9 +23,15 @@ use Rattle.link_pack.specs.declared.options.PackOptions.{PackOptions}
 use Rattle.link_pack.specs.declared.packer.Found.{Found}
 use Rattle.link_pack.specs.declared.packer.Found.TheVariants as found
 use Rattle.link_pack.specs.declared.packer.Packer.{Packer}
-use Rattle.link_pack.proofs.Dividing.{front_kept, divided_longer, divided_faulty}
+use Rattle.link_pack.proofs.Dividing.{front_more, front_kept, run_open, divided_longer, divided_faulty}
 
 -- ---- a byte past the peer's limit
+
+taken_one : (begun : List ℕ) (byte : ℕ) → bundle_goes begun ≡ true
+    → taken bundle_goes begun (byte ∷ []) ≡ byte ∷ []
+taken_one begun byte goes =
+    taken-cons bundle_goes begun byte [] goes
+    ∙ ap (λ (bytes : List ℕ). byte ∷ bytes) (taken-nil bundle_goes (begun ++ byte ∷ []))
 
 pub too_long : (packer : Packer) (bundles : List Packed) (begun piece : List ℕ)
     → Holds packer bundles begun → 0 < length piece
@@ -37,7 +43,12 @@ too_long packer bundles begun (byte ∷ bytes) holds some full = record {
   is = refl;
   lasts = refl;
   divides = λ more. rw (append_assoc begun (byte ∷ []) more, append-nil begun)
-      (divided_longer packer.options.peer_transfer begun byte more holds.front holds.goes full);
+      (divided_longer packer.options.peer_transfer begun byte more
+      holds.opened.front holds.opened.goes full);
+  before = run_open packer.options.peer_transfer begun (byte ∷ [])
+      (front_more begun (byte ∷ []) holds.opened.front
+      ∙ ap (λ (run : List ℕ). begun ++ run) (taken_one begun byte holds.opened.goes))
+      (omega (arith, length-append begun (byte ∷ []), full));
 }
 
 -- ---- a run that was scanned
@@ -108,11 +119,19 @@ module _ (packer : Packer) (begun run : List ℕ) (here : Comes packer begun run
     is = refl;
     lasts = lasting;
     divides = λ more. rw (sym (but_last begun run here.some))
-        (divided_faulty packer.options.peer_transfer (begun ++ run) more fault offset here.front outcome lasting here.within);
+        (divided_faulty packer.options.peer_transfer (begun ++ run) more fault offset
+        here.front outcome lasting here.within);
+    before = run_open packer.options.peer_transfer begun run here.front
+        (let within = here.within in omega arith);
   }
   took_fault fault offset false lasting outcome = (
-    grows,
-    ap (λ outcome. is_going (state_of outcome)) outcome ∙ ap (λ test. is_going (if test then state.Failed fault offset else state.Going)) lasting,
+    here.scanned,
+    record {
+      front = here.front;
+      goes = ap (λ outcome. is_going (state_of outcome)) outcome
+          ∙ ap (λ test. is_going (if test then state.Failed fault offset else state.Going)) lasting;
+      within = here.within;
+    },
   )
 
   took_told : (outcome : Result BundleInfo (BundleFault × ℕ)) → verdict (begun ++ run) ≡ outcome

@@ -1,5 +1,5 @@
 -- The bundles of an input: one bundle (RFC 9171 section 4.1) after another, with nothing between.
-use Rattle.std.specs.Prelude.{ℕ, zero, suc, ◌-◌, nat_lt, List, [], ◌∷◌, ◌++◌, length, take, drop, Option, Some, None, Result, Ok, Err, if◌then◌else◌}
+use Rattle.std.specs.Prelude.{◌≡◌, ℕ, zero, suc, ◌-◌, ◌≤◌, nat_lt, true, List, [], ◌∷◌, ◌++◌, length, take, drop, Option, Some, None, Result, Ok, Err, if◌then◌else◌}
 use Rattle.link_cbor.specs.Pieces.{taken}
 use Rattle.link_bundle_types.specs.Faults.{lasts}
 use Rattle.link_bundle_types.specs.declared.fault.BundleFault.{BundleFault}
@@ -32,6 +32,12 @@ pub record Divided : Type 0 where
 -- there is no such prefix, it is all bytes.
 abbrev pub bundle_prefix : List ℕ → List ℕ
 bundle_prefix bytes = taken bundle_goes [] bytes
+
+-- the bytes begin a bundle that goes on, and that the peer takes so far
+pub record IsOpen (limit : ℕ) (begun : List ℕ) : Type 0 where
+  pub front : bundle_prefix begun ≡ begun
+  pub goes : bundle_goes begun ≡ true
+  pub within : length begun ≤ limit
 
 abbrev pub refused_by : Result BundleInfo (BundleFault × ℕ) → Result BundleInfo Refusal
 refused_by (Ok info) = Ok info

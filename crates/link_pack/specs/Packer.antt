@@ -1,6 +1,6 @@
 -- The history of a packer, and what a run of bytes shows of the current bundle.
 use Rattle.std.specs.Prelude.{◌≡◌, ℕ, ◌-◌, ◌<◌, ◌≤◌, max, Bool, true, false, List, [], ◌++◌, length, take, Option, Some, None, Ok, Err}
-use Rattle.link_bundle.specs.Bundle.{verdict, bundle_goes}
+use Rattle.link_bundle.specs.Bundle.{verdict}
 use Rattle.link_bundle.specs.Scan.{HasScanned}
 use Rattle.link_bundle_types.specs.Faults.{lasts}
 use Rattle.link_bundle_types.specs.declared.fault.BundleFault.{BundleFault}
@@ -12,7 +12,7 @@ use Rattle.link_transfer.specs.Cutting.{Cutting, beginning}
 use Rattle.link_transfer.specs.declared.cutter.Cutter.{Cutter}
 use Rattle.link_report.specs.declared.fault.Fault.{Fault}
 use Rattle.link_report.specs.declared.fault.Fault.TheVariants.{Bundle}
-use Rattle.link_pack.specs.Bundles.{Packed, Refusal, Faulty, bundle_prefix, divided}
+use Rattle.link_pack.specs.Bundles.{Packed, Refusal, Faulty, IsOpen, bundle_prefix, divided}
 use Rattle.link_pack.specs.Segments.{going}
 use Rattle.link_pack.specs.Packing.{segment_size, lasting, refusal_fault}
 use Rattle.link_pack.specs.declared.options.PackOptions.{PackOptions}
@@ -36,9 +36,7 @@ pub record Holds (packer : Packer) (bundles : List Packed) (begun : List ℕ) : 
   pub number : packer.number ≡ length bundles
   pub scanned : HasScanned packer.scan begun
   pub cut : IsCutterAt packer.cutter (cutting packer.options begun)
-  pub front : bundle_prefix begun ≡ begun
-  pub goes : bundle_goes begun ≡ true
-  pub within : length begun ≤ packer.options.peer_transfer
+  pub opened : IsOpen packer.options.peer_transfer begun
   -- the cutter keeps less than a segment, or a bundle whose length may still be announced
   pub kept : kept_size packer.cutter
       ≤ max (segment_size packer.options - 1) packer.options.announce
@@ -54,7 +52,7 @@ abbrev pub before_last : (run : List ℕ) → List ℕ
 before_last run = take (length run - 1) run
 
 -- The bytes `begun` and then `run` are not the start of a bundle that the peer takes, whatever
--- follows. The last byte shows this.
+-- follows. The last byte shows this: before it, the bundle goes on.
 pub record Refuses (packer : Packer) (begun run : List ℕ) (fault : Fault) : Type 0 where
   pub refusal : Refusal
   pub is : fault ≡ refusal_fault packer.number refusal
@@ -65,11 +63,13 @@ pub record Refuses (packer : Packer) (begun run : List ℕ) (fault : Fault) : Ty
         bundles = [];
         rest = Some (record { accepted = begun ++ before_last run; refusal = refusal });
       }
+  pub before : (count : ℕ) → count < length run
+      → IsOpen packer.options.peer_transfer (begun ++ take count run)
 
 -- what the bytes `run` show of the bundle, after the bytes `begun`
 abbrev pub MakesOf : Packer → (begun run : List ℕ) → Found → Type 0
 MakesOf packer begun run found.Part =
-    Grows packer begun run × (bundle_goes (begun ++ run) ≡ true)
+    HasScanned packer.scan (begun ++ run) × IsOpen packer.options.peer_transfer (begun ++ run)
 MakesOf packer begun run found.Whole =
     Grows packer begun run × ((info : BundleInfo) × (verdict (begun ++ run) ≡ Ok info))
 MakesOf packer begun run (found.Refused fault) = Refuses packer begun run fault

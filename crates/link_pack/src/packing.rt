@@ -1,11 +1,10 @@
 //! `pack`: the stream of a sender that carries the bundles, and a line for each bundle.
 
 ghost use Rattle.std.specs.Prelude.{◌≡◌, ◌+◌, ◌^◌, ◌<◌, ◌≤◌, IfErr, IfOk, OnOk, false, true, [], List, ℕ, length, Ok, Err};
-ghost use Rattle.link_wire.specs.Device.{HasBytes};
-ghost use Rattle.link_wire.specs.Source.{ahead};
-ghost use Rattle.link_run.specs.Reading.{inner_of};
+ghost use Rattle.link_wire.specs.Source.{at_hand};
+ghost use Rattle.link_run.specs.Reading.{inner_of, CallWaits};
 ghost use Rattle.link_run.specs.Run.{Devices, devices_at, looks, AfterRun};
-ghost use Rattle.link_run.specs.Stages.{Stands, AfterStage, HandedOn, IsMore};
+ghost use Rattle.link_run.specs.Stages.{Stands, AfterStage, IsMore};
 ghost use Rattle.link_run.specs.Writers.{AfterWrite, on_output, on_report, place_of};
 ghost use Rattle.link_bundle.specs.Bundle.{verdict, bundle_goes};
 ghost use Rattle.link_bundle.specs.Scan.{HasScanned};
@@ -66,7 +65,7 @@ impl<R: InDevice, W: OutDevice, E: OutDevice> Stages<Source<R>, W, E> for Packin
 
     fn stage(
         &mut self,
-        input: &mut Input<Source<R>>,
+        input: &mut Input<Source<R>, W, E>,
         writers: &mut Writers<W, E>,
     ) -> Result<Progress, IoFault> {
         match self.stage {
@@ -85,7 +84,7 @@ impl<R: InDevice, W: OutDevice, E: OutDevice> Stages<Source<R>, W, E> for Packin
     #[inline(always)]
     fn stride(
         &mut self,
-        input: &mut Input<Source<R>>,
+        input: &mut Input<Source<R>, W, E>,
         writers: &mut Writers<W, E>,
     ) -> Result<Progress, IoFault> {
         match self.stage {
@@ -134,7 +133,7 @@ fn write_prelude<W: OutDevice, E: OutDevice>(
 /// Reads bytes of one chunk of one bundle, at most this many, and writes what they make due.
 fn take_bundles<R: InDevice, W: OutDevice, E: OutDevice>(
     most: usize,
-    input: &mut Input<Source<R>>,
+    input: &mut Input<Source<R>, W, E>,
     writers: &mut Writers<W, E>,
     packer: &mut Packer,
     head: &mut HeadBuf,
@@ -149,11 +148,8 @@ fn take_bundles<R: InDevice, W: OutDevice, E: OutDevice>(
         → AfterStage (looks R.state W.state E.state) (packing_of packer.old.options) start true
         (place_of (inner_of input.old) writers.old) (place_of (inner_of input.new) writers.new)
         (Packs R.state packer.new (inner_of input.new)) most history result }
-    ensures handed { (history : List ℕ) → Packs R.state packer.old (inner_of input.old) history
-        → (result ≡ Err IoFault.Write → ⊥)
-        → HandedOn (looks R.state W.state E.state)
-        (HasBytes (ahead R.state (inner_of input.old)))
-        (place_of (inner_of input.old) writers.old) (place_of (inner_of input.new) writers.new) }
+    ensures waits { CallWaits (looks R.state W.state E.state) (λ source. source)
+        (0 < length (at_hand R.state (inner_of input.old))) input.old input.new writers.old }
     ensures options { packer.new.options ≡ packer.old.options }
 {
     let ready = match input.ready_bytes(writers) {
@@ -274,6 +270,7 @@ pub fn pack_run<R: InDevice, W: OutDevice, E: OutDevice>(
     ensures tool { ⟦<PackRun<R, W, E> as Run<R, W, E>>⟧.tool result ≡ pack_tool options }
     ensures devices { devices_at (⟦<PackRun<R, W, E> as Run<R, W, E>>⟧.place result)
         ≡ record { reader = reader; output = output; report = report } }
+    ensures waits { ⟦<PackRun<R, W, E> as Run<R, W, E>>⟧.waits result ≡ [] }
 {
     let tool = Packing {
         stage: Stage::Prelude,
@@ -307,7 +304,7 @@ pub fn pack<R: InDevice, W: OutDevice, E: OutDevice>(
         (pack_tool options)
         (record { reader = reader; output = output; report = report })
         (record { reader = result.reader; output = result.output; report = result.report })
-        result.answer) }
+        result.waits.items result.answer) }
     ensures lacked { IfErr memory
         (λ _. LacksMemory (record { reader = reader; output = output; report = report })
         (record { reader = result.reader; output = result.output; report = result.report })
@@ -315,11 +312,6 @@ pub fn pack<R: InDevice, W: OutDevice, E: OutDevice>(
 {
     match memory {
         Ok(cutter) => pack_run(cutter, options, reader, output, report).run(),
-        Err(_) => RunEnd {
-            reader,
-            output,
-            report,
-            answer: Err(IoFault::Memory),
-        },
+        Err(_) => RunEnd::unbegun(reader, output, report, IoFault::Memory),
     }
 }

@@ -1,5 +1,8 @@
 -- Where a recorded stream stops, and which texts of a tool have the line of its fault.
-use Rattle.std.proofs.Common.{◌≡◌, ℕ, ◌<◌, ◌⊎◌, inl, inr, Bool, true, false, List, [], ◌∷◌, ◌++◌, length, Option, Some, None, if◌then◌else◌, ⊎_elim, refl, ap, sym, ◌∙◌, length-append, append-nil, arith}
+use Rattle.std.proofs.Common.{◌≡◌, ℕ, ◌+◌, ◌-◌, ◌<◌, ◌≤◌, ◌⊎◌, inl, inr, Bool, true, false, List, [], ◌∷◌, ◌++◌, length, take, Option, Some, None, if◌then◌else◌, ⊎_elim, refl, ap, sym, ◌∙◌, length-append, append-nil, take_all, arith}
+use Rattle.std.proofs.Math.Seq.{take-append-add}
+use Rattle.std.proofs.lemmas.Bool.{cases_Bool, cases_lt, false≢true}
+use Rattle.std.proofs.lemmas.List.{take-append-le}
 use Rattle.link_wire.specs.Device.{Input}
 use Rattle.link_wire.specs.Limits.{window_size}
 use Rattle.link_wire.specs.Source.{window_of, Takes}
@@ -11,8 +14,8 @@ use Rattle.link_wire.specs.declared.fault.WireFault.TheVariants as wire
 use Rattle.link_report.specs.Fault.{fault_text}
 use Rattle.link_report.specs.declared.fault.Fault.{Fault as ReportedFault}
 use Rattle.link_report.proofs.Faults.{some_fault}
-use Rattle.link_run.specs.Made.{StreamStop, Made, with_fault, whole_by, so_far_by, shows_fault, tool_of, is_lasting, stop_of}
-use Rattle.link_run.specs.Run.{Texts}
+use Rattle.link_run.specs.Made.{StreamStop, Made, IsLasting, with_fault, whole_by, so_far_by, shows_fault, tool_of, is_lasting, stop_of}
+use Rattle.link_run.specs.Run.{Texts, EndsAtFault}
 use Rattle.link_run.proofs.Runs.{ReportsFaults, few_over}
 
 -- ---- where a recorded stream stops
@@ -94,3 +97,55 @@ by_stop (Some stop) made is = line_lasts stop.lasts stop.fault made.texts
 -- the report of an input that a fault stops has the line of that fault
 pub made_reports : (made : List ℕ → Made) → ReportsFaults (tool_of made)
 made_reports made given is = by_stop (made given).stop (made given) is
+
+-- ---- nothing is given after a fault is shown
+
+-- a prefix of joined bytes, if it is at least as long as the first of them
+pub take-append : (count : ℕ) (front back : List ℕ) → length front ≤ count
+    → take count (front ++ back) ≡ front ++ take (count - length front) back
+take-append count front back enough =
+    ap (λ n. take n (front ++ back)) {y = length front + (count - length front)} (omega arith)
+    ∙ take-append-add front back (count - length front)
+
+-- of two ways to part the same bytes, the shorter first part is in the longer one
+front_in : (front rest history given : List ℕ) → history ++ given ≡ front ++ rest
+    → length front ≤ length history
+    → history ≡ front ++ take (length history - length front) rest
+front_in front rest history given parts within =
+    let count = length history in
+    sym (take-append-le count history given (omega arith) ∙ take_all count history (omega arith))
+    ∙ ap (take count) parts ∙ take-append count front rest within
+
+unshown_front : (made : List ℕ → Made) → IsLasting made → (front more : List ℕ)
+    → shows_fault (made (front ++ more)).stop ≡ false → shows_fault (made front).stop ≡ false
+unshown_front made lasting front more unshown =
+    ⊎_elim (λ shown. absurd (false≢true (sym unshown ∙ lasting front more shown))) (λ is. is)
+    (cases_Bool (shows_fault (made front).stop))
+
+-- bytes that show no fault
+pub ends_unshown : (made : List ℕ → Made) → IsLasting made → (bytes : List ℕ)
+    → shows_fault (made bytes).stop ≡ false → EndsAtFault (tool_of made) bytes
+ends_unshown made lasting bytes unshown = λ front rest parts some.
+    unshown_front made lasting front rest
+    (ap (λ (all : List ℕ). shows_fault (made all).stop) (sym parts) ∙ unshown)
+
+-- If no proper prefix of the bytes given shows a fault after the history, no proper prefix of all
+-- bytes does.
+pub ends_shown : (made : List ℕ → Made) → IsLasting made → (history given : List ℕ)
+    → shows_fault (made history).stop ≡ false
+    → ((count : ℕ) → count < length given
+    → shows_fault (made (history ++ take count given)).stop ≡ false)
+    → EndsAtFault (tool_of made) (history ++ given)
+ends_shown made lasting history given unshown shown_last = λ front rest parts some.
+    let sizes = ap length parts in
+    ⊎_elim
+    (λ more.
+    let past = front_in history given front rest (sym parts) (omega (arith, more)) in
+    ap (λ (all : List ℕ). shows_fault (made all).stop) past
+    ∙ shown_last (length front - length history)
+    (omega (arith, more, sizes, length-append history given, length-append front rest)))
+    (λ less.
+    let first = front_in front rest history given parts less in
+    unshown_front made lasting front (take (length history - length front) rest)
+    (ap (λ (all : List ℕ). shows_fault (made all).stop) (sym first) ∙ unshown))
+    (cases_lt (length history) (length front))

@@ -1,5 +1,5 @@
 -- What a run reads from a session.
-use Rattle.std.proofs.Common.{◌≡◌, ℕ, refl, inl, true, List, [], Option, Result, Ok, Err}
+use Rattle.std.proofs.Common.{◌≡◌, ℕ, refl, inl, true, List, [], Option, Result, Ok, Err, ap, ◌∙◌}
 use Rattle.link_wire.specs.Session.{past_opening, reads_next, AfterNext, AfterLoad}
 use Rattle.link_wire.specs.declared.fault.Stop.{Stop}
 use Rattle.link_wire.specs.declared.message.Message.{Message}
@@ -9,6 +9,9 @@ use Rattle.link_wire.specs.declared.session.Session.{Session}
 use Rattle.link_run.specs.Run.{Looks}
 use Rattle.link_run.specs.Reading.{ReadsMessage, ReadsData}
 use Rattle.link_run.specs.Writers.{on_output, Writes}
+use Rattle.link_run.specs.declared.input.Input.{Input}
+use Rattle.link_run.specs.declared.input.Position.{Position}
+use Rattle.link_run.specs.declared.log.Log.{Log}
 use Rattle.link_run.specs.declared.writers.Writers.{Writers}
 
 -- a message is read only after the contact header
@@ -32,3 +35,10 @@ module _ {R W E : Type 0} (look : Looks R W E)
       → ReadsData look old new before after history next
   data_given (Ok n) gives = (writes, gives)
   data_given (Err why) gives = inl (writes, gives)
+
+-- inputs are equal if what they read and their waits are
+pub input_as : {S W E : Type 0} {p q : Input S W E} → p.inner ≡ q.inner → p.waits ≡ q.waits → p ≡ q
+input_as {S} {W} {E} {p} {q} inner waits =
+    let of_inner : S → Input S W E = λ is. record { inner = is; waits = p.waits } in
+    let of_waits : Log Position (Writers W E) → Input S W E = λ are. record { inner = q.inner; waits = are } in
+    ap of_inner inner ∙ ap of_waits waits

@@ -12,8 +12,8 @@ use Rattle.link_wire.specs.Source.{reader_of, window_of, ahead, Takes, StopsAfte
 use Rattle.link_wire.specs.declared.IoFault.{IoFault}
 use Rattle.link_wire.specs.declared.IoFault.TheVariants as io
 use Rattle.link_wire.specs.declared.Source.{Source}
-use Rattle.link_run.specs.Run.{Texts, no_texts, ◌then◌, Tool, Looks, Devices, Place, devices_at, NoneFailed, Moves, HasWritten, HandedBack, AllGiven, FinishedRun, AreDue, IsBehind, EndedRun, AfterRun}
-use Rattle.link_run.specs.Writers.{place_of, on_output, Writes, WritesPart, AfterWrite, WritesSome, Unsettled}
+use Rattle.link_run.specs.Run.{Texts, no_texts, ◌then◌, Tool, Looks, Devices, Place, devices_at, NoneFailed, Moves, HasWritten, HandedBack, AllGiven, FinishedRun, AreDue, IsBehind, EndedRun}
+use Rattle.link_run.specs.Writers.{place_of, on_output, Writes, WritesPart, AfterWrite, Unsettled}
 use Rattle.link_run.specs.declared.run.Status.{Status}
 use Rattle.link_run.specs.declared.writers.Writers.{Writers}
 
@@ -47,28 +47,6 @@ ReportsFaults tool =
     ⊎ (length (tool.so_far given).report < length (tool.whole given).texts.report)
 
 module _ {R W E : Type 0} (look : Looks R W E) where
-  pub moves_none : (p : Place R W E) → Moves look p p [] no_texts
-  moves_none p = record {
-    takes = Consumes-nil (ahead look.input p.source);
-    count = omega arith;
-    writes = Appends-nil (look.output p.output).written;
-    reports = Appends-nil (look.report p.report).written;
-  }
-
-  pub moves_then : (old mid new : Place R W E) (xs ys : List ℕ) (p q : Texts)
-      → Moves look old mid xs p
-      → Moves look mid new ys q
-      → Moves look old new (xs ++ ys) (p then q)
-  moves_then old mid new xs ys p q first second =
-      let one = first.count in
-      let two = second.count in
-      record {
-        takes = Consumes-trans (ahead look.input old.source) (ahead look.input mid.source) (ahead look.input new.source) xs ys first.takes second.takes;
-        count = omega (arith, length-append xs ys);
-        writes = Appends-trans (look.output old.output).written (look.output mid.output).written (look.output new.output).written p.output q.output first.writes second.writes;
-        reports = Appends-trans (look.report old.report).written (look.report mid.report).written (look.report new.report).written p.report q.report first.reports second.reports;
-      }
-
   pub written_then : (start : Devices R W E) (mid new : Place R W E) (xs ys : List ℕ) (p q : Texts)
       → HasWritten look start mid xs p
       → Moves look mid new ys q
@@ -93,18 +71,6 @@ module _ {R W E : Type 0} (look : Looks R W E) where
     writes = written.writes;
     reports = written.reports;
   }
-
-  -- the answer of a run, over the devices that it has returned
-  pub handed_back : (tool other : Tool) (start now devices : Devices R W E) (given : List ℕ)
-      (answer result : Result Status IoFault)
-      → EndedRun look tool start now given answer → tool ≡ other
-      → devices ≡ now → result ≡ answer
-      → AfterRun look other start devices result
-  handed_back tool other start now devices given answer result gave same back is =
-      let P : Tool → Type 0 = λ t. AfterRun look t start devices result in
-      let Q : Devices R W E → Type 0 = λ d. AfterRun look tool start d result in
-      let S : Result Status IoFault → Type 0 = λ r. AfterRun look tool start now r in
-      subst P same (subst Q (sym back) (subst S (sym is) (record { given = given; gave = gave })))
 
 -- a source that has ended has given all that it read
 none_between : (window : List ℕ) (start end : ℕ) → start ≡ end
@@ -456,13 +422,6 @@ module _ {W E : Type 0} (out_look : W → Output) (report_look : E → Output) (
       writes_then out_look report_look old mid new (on_output first) (on_output second) one two
   outputs_then first second (Err fault) one part =
       part_behind out_look report_look old mid new first (on_output second) fault one part
-
-  -- some texts were written, or a writer failed
-  pub wrote_some : (texts : Texts) (result : Result (Unit {0}) IoFault)
-      → AfterWrite out_look report_look old new texts result
-      → WritesSome out_look report_look old new result
-  wrote_some texts (Ok done) writes = (texts, writes)
-  wrote_some texts (Err fault) part = part.kind
 
 module _ {R W E : Type 0} (look : Looks R W E) where
   -- handing on leaves the written texts as they are

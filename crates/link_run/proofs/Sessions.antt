@@ -1,9 +1,9 @@
 -- How a run ends if its session stops. The tool depends only on the reading of its input.
-use Rattle.std.proofs.Common.{◌≡◌, ℕ, ◌<◌, ◌≤◌, inl, inr, true, false, List, [], ◌++◌, length, Some, None, Result, Err, ⊎_elim, refl, ap, sym, ◌∙◌, subst, append-nil, arith}
+use Rattle.std.proofs.Common.{◌≡◌, ℕ, ◌<◌, ◌≤◌, inl, inr, true, false, List, [], ◌++◌, length, take, Some, None, Result, Err, ⊎_elim, refl, ap, sym, ◌∙◌, subst, append-nil, arith}
 use Rattle.link_wire.specs.Limits.{window_size, longest_head}
 use Rattle.link_wire.specs.Source.{window_of, Takes, StopsAfter}
 use Rattle.link_wire.specs.Stream.{End, Clean, Cut, Fault, Reading, reading_of, ended}
-use Rattle.link_wire.specs.Session.{source_of, joined, IsSessionAt, IsRead, IsUndecided, SameMessages, AfterOpen, AfterNext, AfterLoad}
+use Rattle.link_wire.specs.Session.{source_of, joined, IsSessionAt, IsRead, IsUndecided, SameMessages, ShownLast, AfterOpen, AfterNext, AfterLoad}
 use Rattle.link_wire.specs.declared.IoFault.{IoFault}
 use Rattle.link_wire.specs.declared.Source.{Source}
 use Rattle.link_wire.specs.declared.fault.Stop.{Stop}
@@ -48,6 +48,16 @@ pub then_fault : (fault : ReportedFault) (texts : Texts)
     → texts then on_report (fault_text fault) ≡ with_fault fault texts
 then_fault fault texts = texts_as (append-nil texts.output) refl
 
+-- a part of a message shows no fault before its last byte
+pub part_unshown : (of : Reading → Made) (history given : List ℕ)
+    → SameTexts of (reading_of history) → ShownLast history given
+    → (count : ℕ) → count < length given
+    → shows_fault (of (reading_of (history ++ take count given))).stop ≡ false
+part_unshown of history given same last count less =
+    let part = last count less in
+    ap shows_fault (same (reading_of (history ++ take count given)) part.0 (undecided_uncut _ part.1)).1
+    ∙ undecided_unshown _ part.1
+
 module _ {R W E : Type 0} {look : Looks R W E} {made : List ℕ → Made} {start : Devices R W E}
     {history : List ℕ} (of : Reading → Made) (is : (bytes : List ℕ) → made bytes ≡ of (reading_of bytes))
     (most : ℕ) (old new : Source R) (before after : Writers W E)
@@ -59,9 +69,11 @@ module _ {R W E : Type 0} {look : Looks R W E} {made : List ℕ → Made} {start
       → IsRead look.input new (history ++ given) fault reading
       → (of reading).texts ≡ (made history).texts
       → (of reading).stop ≡ Some (record { fault = Wire offset fault; lasts = is_lasting fault })
+      → ((count : ℕ) → count < length given
+      → shows_fault (of (reading_of (history ++ take count given))).stop ≡ false)
       → AfterLastWrite look.output look.report before after (on_report (fault_text (Wire offset fault))) 3 answer
       → LastStep look (tool_of made) start (devices_at (place_of new after)) most history answer
-  wire_fault {given} offset fault reading answer takes size few read texts stops gives =
+  wire_fault {given} offset fault reading answer takes size few read texts stops shown_last gives =
       let bytes = history ++ given in
       let m_is : made bytes ≡ of reading =
       is bytes ∙ ap of (ap reading_of (sym (append-nil bytes)) ∙ read.all [] (λ e. refl)) in
@@ -72,8 +84,12 @@ module _ {R W E : Type 0} {look : Looks R W E} {made : List ℕ → Made} {start
       let P : ℕ → Type 0 = λ status. AfterLastWrite look.output look.report before after (on_report (fault_text (Wire offset fault))) status answer in
       ends most old new before at takes size few after (on_report (fault_text (Wire offset fault))) whole
       (⊎_elim
-      (λ e. inl (read.over e))
-      (λ e. inr (ap shows_fault stop_is ∙ e.1, λ more. is (bytes ++ more) ∙ ap of (read.all more (λ cut. absurd (e.0 cut))) ∙ sym m_is))
+      (λ e. inl (read.over e, ap shows_fault stop_is ∙ ap is_lasting e))
+      (λ e. inr (
+        ap shows_fault stop_is ∙ e.1,
+        λ more. is (bytes ++ more) ∙ ap of (read.all more (λ cut. absurd (e.0 cut))) ∙ sym m_is,
+        λ count less. ap (λ (m : Made). shows_fault m.stop) (is (history ++ take count given)) ∙ shown_last count less,
+      ))
       (lasts fault))
       answer (subst P (sym (ap (λ s. (whole_by s (made bytes)).status) stop_is)) gives)
 
@@ -106,7 +122,7 @@ module _ {R W E : Type 0} {look : Looks R W E} {made : List ℕ → Made} {start
         let kept = same (joined (reading_of history) (ended (Fault offset fault))) (record { contact = refl; entries = append-nil _ }) tt in
         wire_fault of is longest_head (source_of old) (source_of new) before after at offset fault _ answer got.takes got.size
         (few_at_fault look.input (source_of old) (source_of new) history got.given offset fault _ got.takes got.is_read refl (standing_unshown old.offset old.left _ session.left))
-        got.is_read (kept.0 ∙ sym here) kept.1 gives
+        got.is_read (kept.0 ∙ sym here) kept.1 (part_unshown of history got.given same got.shown_last) gives
     message_stops after session same (stop.Io fault) answer got gives =
         let kept = same (reading_of (history ++ got.given)) got.same (undecided_uncut _ got.undecided) in
         let size = got.size in
@@ -126,7 +142,7 @@ module _ {R W E : Type 0} {look : Looks R W E} {made : List ℕ → Made} {start
         wire_fault of is most (source_of old) (source_of new) before after at offset fault (reading_of history) answer got.takes (omega arith)
         (few_over look.input (source_of new) got.over)
         (record { over = λ e. got.over; all = λ more may. rw (may got.kind, append-nil, append-nil) refl })
-        (sym here) cut gives
+        (sym here) cut (λ count less. absurd (omega arith)) gives
     data_stops most after session stops (stop.Io fault) answer got gives =
         reader_fault of is most (source_of old) (source_of new) before after at fault answer got.stops (omega arith)
         (ap (λ b. (of (reading_of b)).texts) (append-nil history) ∙ sym here)
@@ -182,7 +198,7 @@ module _ {R W E : Type 0} {look : Looks R W E} {made : List ℕ → Made} {start
       let kept = same (record { contact = None; entries = []; end = Fault 0 fault }) (rw reading-none (record { contact = refl; entries = refl })) tt in
       wire_fault of is 6 (source_of old) (source_of new) before after at offset fault _ answer got.takes got.size
       (few_at_fault look.input (source_of old) (source_of new) [] got.given 0 fault _ got.takes got.is_read refl (ap (λ (r : Reading). shows_fault (stop_of r.end)) reading-none))
-      got.is_read (kept.0 ∙ sym none) (kept.1 ∙ ap (λ n. Some (record { fault = Wire n fault; lasts = is_lasting fault })) (sym got.offset_is)) gives
+      got.is_read (kept.0 ∙ sym none) (kept.1 ∙ ap (λ n. Some (record { fault = Wire n fault; lasts = is_lasting fault })) (sym got.offset_is)) (part_unshown of [] got.given same got.shown_last) gives
   contact_ended same (stop.Io fault) answer got gives =
       let kept = same (reading_of got.given) (rw (got.reading, reading-none) (record { contact = refl; entries = refl })) (rw got.reading tt) in
       let size = got.size in

@@ -1,5 +1,5 @@
 -- A step of a run for which `Stands` holds: the run goes on, it ends, or a device fails.
-use Rattle.std.proofs.Common.{◌≡◌, ℕ, ◌<◌, ◌≤◌, ◌⊎◌, inl, inr, Bool, true, false, List, [], ◌++◌, length, Result, Ok, Err, ⊎_elim, refl, ap, sym, ◌∙◌, append-nil, arith}
+use Rattle.std.proofs.Common.{◌≡◌, ℕ, ◌<◌, ◌≤◌, ◌⊎◌, inl, inr, Bool, true, false, List, [], ◌++◌, length, take, Result, Ok, Err, ⊎_elim, refl, ap, sym, ◌∙◌, append-nil, arith}
 use Rattle.link_wire.specs.Limits.{window_size}
 use Rattle.link_wire.specs.Source.{window_of, Takes, StopsAfter, IsOver}
 use Rattle.link_wire.specs.declared.IoFault.{IoFault}
@@ -10,7 +10,7 @@ use Rattle.link_run.specs.Stages.{Stands, AfterStage, written_by}
 use Rattle.link_run.specs.Writers.{place_of, Writes, WritesPart, AfterWrite, AfterLastWrite, Unsettled}
 use Rattle.link_run.specs.declared.run.Status.{Status}
 use Rattle.link_run.specs.declared.writers.Writers.{Writers}
-use Rattle.link_run.proofs.Ends.{unshown_sofar, shown_sofar, made_reports}
+use Rattle.link_run.proofs.Ends.{unshown_sofar, shown_sofar, made_reports, ends_unshown, ends_shown}
 use Rattle.link_run.proofs.Runs.{Stood, written_as, written_given, written_more, sound_given, sound_written, all_given, answered, writer_lost, settle_lost, settle_kept, reader_lost}
 
 -- the bytes so far determine what was written, or the report is empty
@@ -53,6 +53,7 @@ module _ {R W E : Type 0} {look : Looks R W E} {made : List ℕ → Made} {start
         written = written_as look (written_more look start new before after bytes had texts still writes) refl due;
         sound = sound_written look new before after texts still_sound writes;
         unshown = unshown;
+        lasting = at.lasting;
       }
 
       pub goes_on : (knows : List ℕ → Type 0) → (begun ≡ true → 0 < length given) → knows bytes
@@ -77,6 +78,7 @@ module _ {R W E : Type 0} {look : Looks R W E} {made : List ℕ → Made} {start
         gave = writer_lost look (tool_of made) (made_reports made) start new before after bytes had texts _ fault still still_sound refl
             (inl (due ∙ sym (unshown_sofar (made bytes).stop (made bytes).texts unshown))) few
             (λ some. stood_by begun made history given at.unshown) part;
+        ends = ends_unshown made at.lasting bytes unshown;
       }
 
       -- the same, by the result of the write
@@ -87,15 +89,18 @@ module _ {R W E : Type 0} {look : Looks R W E} {made : List ℕ → Made} {start
       written knows some known only (Ok done) writes = goes_on knows some known writes only
       written knows some known only (Err fault) part = loses fault part
 
-    -- These texts are the last. The whole input was given, or the bytes show a fault and no further
-    -- bytes change what is made of them.
+    -- These texts are the last. The whole input was given, or the bytes show a fault that no further
+    -- bytes change, and no fewer bytes show it.
     module _ (after : Writers W E) (texts : Texts)
         (whole : had then texts ≡ (whole_by (made bytes).stop (made bytes)).texts)
-        (over : IsOver look.input new ⊎ ((shows_fault (made bytes).stop ≡ true) × ((more : List ℕ) → made (bytes ++ more) ≡ made bytes))) where
+        (over : (IsOver look.input new × (shows_fault (made bytes).stop ≡ false))
+        ⊎ ((shows_fault (made bytes).stop ≡ true) × ((more : List ℕ) → made (bytes ++ more) ≡ made bytes)
+        × ((count : ℕ) → count < length given
+        → shows_fault (made (history ++ take count given)).stop ≡ false))) where
       due_last : AreDue look (tool_of made) (devices_at (place_of new after)) bytes (window_of new) (had then texts)
       due_last =
           ⊎_elim
-          (λ is. inr (all_given look new after is, whole))
+          (λ is. inr (all_given look new after is.0, whole))
           (λ is. inl (whole ∙ sym (shown_sofar (made bytes).stop (made bytes) is.0)))
           over
 
@@ -108,7 +113,7 @@ module _ {R W E : Type 0} {look : Looks R W E} {made : List ℕ → Made} {start
           (sound_written look new before after texts still_sound gives.0)
           gives.1
           (⊎_elim
-          (λ is. inl (all_given look new after is))
+          (λ is. inl (all_given look new after is.0))
           (λ is. inr (λ more. ap (λ (m : Made). whole_by m.stop m) (is.1 more)))
           over)
           few
@@ -119,7 +124,13 @@ module _ {R W E : Type 0} {look : Looks R W E} {made : List ℕ → Made} {start
       pub ends : (answer : Result Status IoFault)
           → AfterLastWrite look.output look.report before after texts (whole_by (made bytes).stop (made bytes)).status answer
           → LastStep look (tool_of made) start (devices_at (place_of new after)) most history answer
-      ends answer gives = record { given = given; size = size; gave = end_by answer gives }
+      ends answer gives = record {
+        given = given;
+        size = size;
+        gave = end_by answer gives;
+        ends = ⊎_elim (λ is. ends_unshown made at.lasting bytes is.1)
+            (λ is. ends_shown made at.lasting history given at.unshown is.2) over;
+      }
 
   -- the reader failed after these bytes, which show no fault
   pub read_fails : (given : List ℕ) (after : Writers W E) (fault : IoFault)
@@ -135,6 +146,7 @@ module _ {R W E : Type 0} {look : Looks R W E} {made : List ℕ → Made} {start
         size = size;
         gave = reader_lost look (tool_of made) start old new before history given _ fault at.written at.sound
             (due ∙ sym (unshown_sofar (made bytes).stop (made bytes).texts unshown)) unshown stops;
+        ends = ends_unshown made at.lasting bytes unshown;
       })
 
 module _ {R W E : Type 0} {look : Looks R W E} {made : List ℕ → Made} {start : Devices R W E}
@@ -147,6 +159,7 @@ module _ {R W E : Type 0} {look : Looks R W E} {made : List ℕ → Made} {start
     written = settle_kept look start source before after history (made history).texts at.written writes;
     sound = sound_written look source before after no_texts at.sound writes;
     unshown = at.unshown;
+    lasting = at.lasting;
   }
 
   -- if handing on fails, no text is lost
@@ -156,6 +169,7 @@ module _ {R W E : Type 0} {look : Looks R W E} {made : List ℕ → Made} {start
   not_handed_on most fault few part = record {
     given = [];
     size = omega arith;
+    ends = rw append-nil (ends_unshown made at.lasting history at.unshown);
     gave = rw append-nil (settle_lost look (tool_of made) (made_reports made) start source before after history fault
         (written_as look at.written refl (sym (unshown_sofar (made history).stop (made history).texts at.unshown)))
         at.sound at.unshown few part);

@@ -4,7 +4,7 @@ use Rattle.std.proofs.lemmas.Bool.{cases_lt}
 use Rattle.link_wire.specs.declared.IoFault.{IoFault}
 use Rattle.link_wire.specs.declared.Source.{Source}
 use Rattle.link_run.specs.Made.{Made, tool_of}
-use Rattle.link_run.specs.Run.{Tool, Looks, Devices, Place, EndedRun, WentOn, LastStep, AfterStep, AfterStride}
+use Rattle.link_run.specs.Run.{Tool, Looks, Devices, Place, EndedRun, WentOn, LastStep, AfterStep, EndsAtFault}
 use Rattle.link_run.specs.Stages.{Stands, AfterStage, IsMore}
 use Rattle.link_run.specs.declared.run.Progress.{Progress}
 use Rattle.link_run.specs.declared.run.Progress.TheVariants.{More, Done}
@@ -60,6 +60,7 @@ module _ {R W E : Type 0} (look : Looks R W E) (tool : Tool) (start : Devices R 
         given = bytes ++ last.given;
         size = omega (arith, length-append bytes last.given);
         gave = subst P (append_assoc history bytes last.given) last.gave;
+        ends = subst (EndsAtFault tool) (append_assoc history bytes last.given) last.ends;
       }
 
   module _ (old mid new : Place R W E) (between stands : List ℕ → Type 0) (history : List ℕ) where
@@ -71,18 +72,6 @@ module _ {R W E : Type 0} (look : Looks R W E) (tool : Tool) (start : Devices R 
     step_then first second (Ok More) went gives = went_later went gives
     step_then first second (Ok (Done status)) went gives = last_later went.given went.size gives
     step_then first second (Err fault) went gives = last_later went.given went.size gives
-
-    -- A stride that went on, and then another, are one stride. A step is a stride, too: its size is
-    -- its bound.
-    pub stride_then : (most later : ℕ) (result : Result Progress IoFault)
-        → (strode : AfterStride look tool start old mid between most history (Ok More))
-        → AfterStride look tool start mid new stands later (history ++ strode.2.given) result
-        → AfterStride look tool start old new stands most history result
-    stride_then most later result strode more = (
-      strode.0 + more.0,
-      λ some. let first = strode.1 some in omega arith,
-      step_then strode.0 more.0 result strode.2 more.2,
-    )
 
 -- what holds after a step of its tool holds of a run, which has no answer if it goes on
 pub stage_kept : {R W E : Type 0} (look : Looks R W E) (made later : List ℕ → Made)

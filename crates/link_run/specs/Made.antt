@@ -1,5 +1,5 @@
 -- What a tool makes of its input, and where the input stops.
-use Rattle.std.specs.Prelude.{ℕ, Bool, true, false, List, ◌++◌, Option, Some, None, if◌then◌else◌}
+use Rattle.std.specs.Prelude.{◌≡◌, ℕ, Bool, true, false, List, ◌++◌, Option, Some, None, if◌then◌else◌}
 use Rattle.link_wire.specs.Stream.{End, Clean, Cut, Fault}
 use Rattle.link_wire.specs.declared.fault.WireFault.{WireFault}
 use Rattle.link_wire.specs.declared.fault.WireFault.TheVariants.{Truncated}
@@ -44,6 +44,12 @@ so_far_by (Some stop) texts = if stop.lasts then with_fault stop.fault texts els
 abbrev pub shows_fault : Option StreamStop → Bool
 shows_fault None = false
 shows_fault (Some stop) = stop.lasts
+
+-- a fault that some bytes show is shown by all bytes that begin with them
+abbrev pub IsLasting : (List ℕ → Made) → Type 0
+IsLasting made =
+    (bytes more : List ℕ) → shows_fault (made bytes).stop ≡ true
+    → shows_fault (made (bytes ++ more)).stop ≡ true
 
 abbrev pub tool_of : (List ℕ → Made) → Tool
 tool_of made = record {

@@ -1,10 +1,10 @@
 -- What a run reads from a session or a source, after it has handed on what was written.
 use Rattle.std.specs.Prelude.{◌≡◌, ℕ, ◌<◌, ◌⊎◌, true, List, [], length, Option, Result, Ok, Err, IfOk, IfErr, IfSome, IsTrue}
-use Rattle.link_wire.specs.Device.{Input as Seen, HasBytes}
+use Rattle.link_wire.specs.Device.{Input as Seen}
 use Rattle.link_wire.specs.Limits.{window_size}
 use Rattle.link_wire.specs.MessageBuffer.{message_of, SegmentHasTotals}
-use Rattle.link_wire.specs.Session.{source_of, left_of, may_open, is_opened, HasStopped, IsSessionAt, HasNext, with_message_read, AfterNext, AfterLoad}
-use Rattle.link_wire.specs.Source.{window_of, ahead, AfterReadyFront}
+use Rattle.link_wire.specs.Session.{source_of, left_of, may_open, is_opened, data_in, HasStopped, IsSessionAt, HasNext, with_message_read, AfterNext, AfterLoad}
+use Rattle.link_wire.specs.Source.{window_of, at_hand, front_of, reach, IsLive, HasEnded, HasFailed, AfterReadyFront}
 use Rattle.link_wire.specs.declared.IoFault.{IoFault}
 use Rattle.link_wire.specs.declared.IoFault.TheVariants as io
 use Rattle.link_wire.specs.declared.Source.{Source}
@@ -13,16 +13,21 @@ use Rattle.link_wire.specs.declared.fault.Stop.TheVariants as stop
 use Rattle.link_wire.specs.declared.message.Message.{Message}
 use Rattle.link_wire.specs.declared.message.MessageBuffer.{MessageBuffer}
 use Rattle.link_wire.specs.declared.session.Session.{Session}
-use Rattle.link_run.specs.Run.{Looks}
-use Rattle.link_run.specs.Writers.{on_output, next_line, Writes, Unsettled, HasHandedOn}
+use Rattle.link_run.specs.Run.{Looks, Wait, IsWaitAt, WaitsOnce, IsSpared}
+use Rattle.link_run.specs.Writers.{place_of, on_output, next_line, Writes, Unsettled}
 use Rattle.link_run.specs.declared.input.Input.{Input}
 use Rattle.link_run.specs.declared.writers.Writers.{Writers}
 
--- the session or the source inside an input
-abbrev pub inner_of : {S : Type 0} → Input S → S
-inner_of input = input.inner
+module _ {S W E : Type 0} where
+  -- the session or the source inside an input
+  abbrev pub inner_of : Input S W E → S
+  inner_of input = input.inner
 
--- The session has enough bytes left for what comes next. Before the contact header this always
+  -- when the run had to wait for this input
+  abbrev pub waits_of : Input S W E → List (Wait W E)
+  waits_of input = input.waits.items
+
+-- The session has enough bytes at hand for what comes next. Before the contact header this always
 -- holds, since a run has written nothing yet.
 abbrev pub HasEnough : {R : Type 0} → (R → Seen) → Session R → Type 0
 HasEnough look session = (may_open session ≡ true) ⊎ HasNext look session
@@ -71,30 +76,82 @@ ReadsBytes look old new before after (Err fault) =
     ⊎ ((new ≡ old) × (length (window_of old) < window_size)
     × Unsettled look.output look.report before after fault)
 
--- Nothing is held back while a read waits: everything written was handed on, or the session has
--- enough bytes left for what comes next.
-abbrev pub HoldsNothingBack : {R W E : Type 0} → Looks R W E → Session R → Writers W E → Type 0
-HoldsNothingBack look session after =
-    (history : List ℕ) → IsSessionAt look.input session history
-    → HasHandedOn look.output look.report after ⊎ HasNext look.input session
+-- a call read nothing, and did not wait
+pub record Unread {S R W E : Type 0} (look : R → Seen) (source : S → Source R)
+    (old new : Input S W E) : Type 0 where
+  pub reach : reach look (source (inner_of new)) ≡ reach look (source (inner_of old))
+  pub waits : waits_of new ≡ waits_of old
+
+-- A call waits at most once, before it reads, and after all that was written was handed on. No wait
+-- is needed if the bytes at hand are enough, or nothing is read.
+abbrev pub CallWaits : {S R W E : Type 0} → Looks R W E → (source : S → Source R)
+    → (enough : Type 0) → (old new : Input S W E) → (before : Writers W E) → Type 0
+CallWaits look source enough old new before =
+    WaitsOnce (IsSpared look.input enough (source (inner_of old)) (source (inner_of new)))
+    (waits_of old) (waits_of new) (IsWaitAt look (place_of (source (inner_of old)) before))
+
+-- the same for a call of a session
+abbrev pub SessionWaits : {R W E : Type 0} → Looks R W E → (old new : Input (Session R) W E)
+    → (before : Writers W E) → Type 0
+SessionWaits look old new before =
+    CallWaits look source_of (HasEnough look.input (inner_of old)) old new before
 
 -- what holds after a call that reads the head of the next message into `message`
 pub record GetsMessage {R W E : Type 0} (look : Looks R W E)
-    (old new : Session R) (before after : Writers W E)
+    (old new : Input (Session R) W E) (before after : Writers W E)
     (message : MessageBuffer) (result : Result (Option ℕ) Stop) : Type 0 where
-  pub opened : IsTrue (is_opened new)
-  pub gives : (history : List ℕ) → IsSessionAt look.input old history
-      → ReadsMessage look old new before after history
+  pub opened : IsTrue (is_opened (inner_of new))
+  pub gives : (history : List ℕ) → IsSessionAt look.input (inner_of old) history
+      → ReadsMessage look (inner_of old) (inner_of new) before after history
       (with_message_read (message_of message) result)
-  pub handed : (result ≡ Err (stop.Io io.Write) → ⊥) → HoldsNothingBack look old after
+  pub waits : (history : List ℕ) → IsSessionAt look.input (inner_of old) history
+      → SessionWaits look old new before
   -- the items of a segment have their totals
   pub totals : IfOk result (λ got. IfSome got (λ offset. SegmentHasTotals message))
-  pub left : IfErr result (λ why. left_of new ≡ left_of old)
+  pub left : IfErr result (λ why. left_of (inner_of new) ≡ left_of (inner_of old))
   pub line : next_line after ≡ next_line before
-  pub stopped : (why : Stop) → HasStopped old why
+  pub stopped : (why : Stop) → HasStopped (inner_of old) why
       → (new ≡ old) × (after ≡ before) × (result ≡ Err why)
 
--- everything written was handed on, or the input has a byte left
-abbrev pub HoldsNoBytesBack : {R W E : Type 0} → Looks R W E → Source R → Writers W E → Type 0
-HoldsNoBytesBack look source after =
-    HasHandedOn look.output look.report after ⊎ HasBytes (ahead look.input source)
+-- what holds after a call that makes data of the segment ready
+pub record GetsData {R W E : Type 0} (look : Looks R W E)
+    (old new : Input (Session R) W E) (before after : Writers W E)
+    (result : Result ℕ Stop) : Type 0 where
+  pub size : IfOk result (λ n. n ≡ length (data_in look.input (inner_of new)))
+  -- if data is at hand already, nothing is handed on
+  pub here : 0 < length (data_in look.input (inner_of old)) → after ≡ before
+  pub opened : IsTrue (is_opened (inner_of old)) → IsTrue (is_opened (inner_of new))
+  pub gives : (history : List ℕ) → IsSessionAt look.input (inner_of old) history
+      → ReadsData look (inner_of old) (inner_of new) before after history result
+  pub waits : (history : List ℕ) → IsSessionAt look.input (inner_of old) history
+      → SessionWaits look old new before
+  pub left : IfErr result (λ why. left_of (inner_of new) ≡ left_of (inner_of old))
+  pub line : next_line after ≡ next_line before
+  pub stopped : (why : Stop) → HasStopped (inner_of old) why
+      → (new ≡ old) × (after ≡ before) × (result ≡ Err why)
+
+-- A source that has ended or failed returns this again. Or a writer failed to hand on what was
+-- written.
+abbrev pub EndsAgain : {R W E : Type 0} → Looks R W E → (before after : Writers W E)
+    → (again result : Result ℕ IoFault) → Type 0
+EndsAgain look before after again result =
+    ((result ≡ again) × Writes look.output look.report before after (on_output []))
+    ⊎ ((result ≡ Err io.Write) × Unsettled look.output look.report before after io.Write)
+
+-- what holds after a call that makes bytes ready
+pub record GetsBytes {R W E : Type 0} (look : Looks R W E)
+    (old new : Input (Source R) W E) (before after : Writers W E)
+    (result : Result ℕ IoFault) : Type 0 where
+  pub size : IfOk result (λ n. n ≡ length (front_of look.input (inner_of new)))
+  -- if bytes are at hand, nothing is handed on or read
+  pub here : 0 < length (front_of look.input (inner_of old))
+      → (new ≡ old) × (after ≡ before) × (result ≡ Ok (length (front_of look.input (inner_of old))))
+  pub gives : IsLive look.input (inner_of old)
+      → ReadsBytes look (inner_of old) (inner_of new) before after result
+  pub waits : CallWaits look (λ source. source) (0 < length (at_hand look.input (inner_of old)))
+      old new before
+  pub line : next_line after ≡ next_line before
+  pub ended : HasEnded (inner_of old)
+      → (inner_of new ≡ inner_of old) × EndsAgain look before after (Ok 0) result
+  pub failed : (fault : IoFault) → HasFailed (inner_of old) fault
+      → (inner_of new ≡ inner_of old) × EndsAgain look before after (Err fault) result

@@ -1,15 +1,17 @@
 -- What a run of a tool has written, and how it ends.
-use Rattle.std.specs.Prelude.{◌≡◌, ℕ, ◌+◌, ◌<◌, ◌≤◌, ◌⊎◌, Bool, true, false, List, [], ◌++◌, length, take, Result, Ok, Err}
+use Rattle.std.specs.Prelude.{◌≡◌, ℕ, ◌+◌, ◌<◌, ◌≤◌, ◌⊎◌, Bool, true, false, List, [], ◌∷◌, ◌++◌, All, length, take, Result, Ok, Err}
 use Rattle.std.specs.Io.KnownBytes.{Consumes, Appends, IsAtEnd}
 use Rattle.link_wire.specs.Device.{Input, Output}
 use Rattle.link_wire.specs.Limits.{longest_input, window_size}
-use Rattle.link_wire.specs.Source.{reader_of, given_by, window_of, ahead}
+use Rattle.link_wire.specs.Source.{reader_of, given_by, window_of, ahead, reach}
 use Rattle.link_wire.specs.declared.IoFault.{IoFault}
 use Rattle.link_wire.specs.declared.IoFault.TheVariants as io
 use Rattle.link_wire.specs.declared.Source.{Source}
+use Rattle.link_run.specs.declared.input.Position.{Position}
 use Rattle.link_run.specs.declared.run.Status.{Status}
 use Rattle.link_run.specs.declared.run.Progress.{Progress}
 use Rattle.link_run.specs.declared.run.Progress.TheVariants.{More, Done}
+use Rattle.link_run.specs.declared.writers.Writers.{Writers}
 
 -- what a run writes
 pub record Texts : Type 0 where
@@ -82,6 +84,73 @@ pub record IsBehind (tool : Tool) (given : List ℕ) (output_count report_count 
   pub parts : given ≡ front ++ rest
   pub output : length (tool.so_far front).output ≤ output_count
   pub report : report_count ≤ length (tool.so_far front).report
+
+-- A wait: how far the input had been read, and the writers, when a run had to wait for input.
+abbrev pub Wait : (W E : Type 0) → Type 0
+Wait W E = Position × Writers W E
+
+-- Since the device was as in `start`, exactly this text was written, and all of it was handed on.
+pub record HasShown (start now : Output) (text : List ℕ) : Type 0 where
+  pub written : Appends start.written now.written text
+  pub handed : now.handed ≡ now.written
+
+module _ {R W E : Type 0} (look : Looks R W E) where
+  -- The run waited at this place: since then nothing was given, and earlier texts were handed on.
+  -- Of the bytes taken from the reader, less than a window was not given.
+  pub record IsWaitAt (place : Place R W E) (wait : Wait W E) : Type 0 where
+    pub given : wait.0.given ≡ given_by place.source
+    pub ahead : wait.0.ahead ≡ length (window_of place.source)
+    pub few : wait.0.ahead < window_size
+    pub output : HasShown (look.output place.output) (look.output wait.1.output) []
+    pub report : HasShown (look.report place.report) (look.report wait.1.report) []
+    pub output_kept : (look.output wait.1.output).failed ≡ (look.output place.output).failed
+    pub report_kept : (look.report wait.1.report).failed ≡ (look.report place.report).failed
+
+  module _ (tool : Tool) (start : Devices R W E) where
+    -- The run waited when it had been given exactly these bytes. They show no fault, and all that
+    -- they determine had been handed on. No writer had failed.
+    pub record IsPrompt (given : List ℕ) (wait : Wait W E) : Type 0 where
+      pub count : wait.0.given ≡ length given
+      pub few : wait.0.ahead < window_size
+      pub unshown : tool.shows given ≡ false
+      pub output : HasShown (look.output start.output) (look.output wait.1.output)
+          (tool.so_far given).output
+      pub report : HasShown (look.report start.report) (look.report wait.1.report)
+          (tool.so_far given).report
+      pub output_sound : (look.output wait.1.output).failed ≡ false
+      pub report_sound : (look.report wait.1.report).failed ≡ false
+
+    -- the same, for a prefix of these bytes
+    pub record WasPrompt (given : List ℕ) (wait : Wait W E) : Type 0 where
+      pub front : List ℕ
+      pub rest : List ℕ
+      pub parts : given ≡ front ++ rest
+      pub prompt : IsPrompt front wait
+
+-- There was at most one wait, and `is` holds of it. If there was none, it was spared.
+abbrev pub WaitsOnce : {W E : Type 0} → (spared : Type 0) → (before after : List (Wait W E))
+    → (is : Wait W E → Type 0) → Type 0
+WaitsOnce {W} {E} spared before after is =
+    ((after ≡ before) × spared)
+    ⊎ ((wait : Wait W E) × (after ≡ before ++ wait ∷ []) × is wait)
+
+-- No wait is needed: the bytes at hand are enough, or nothing is read.
+abbrev pub IsSpared : {R : Type 0} → (R → Input) → (enough : Type 0) → (old new : Source R) → Type 0
+IsSpared look enough old new = enough ⊎ (reach look new ≡ reach look old)
+
+-- A step of a run that was given these bytes waits at most once: before it is given a byte, and
+-- before it writes.
+abbrev pub StepWaits : {R W E : Type 0} → Looks R W E → Tool → (start : Devices R W E)
+    → (given : List ℕ) → (enough : Type 0) → (old new : Place R W E)
+    → (before after : List (Wait W E)) → Type 0
+StepWaits look tool start given enough old new before after =
+    WaitsOnce (IsSpared look.input enough old.source new.source) before after
+    (λ wait. IsWaitAt look old wait × IsPrompt look tool start given wait)
+
+-- No proper prefix of the bytes shows a fault: nothing is given after one is shown.
+abbrev pub EndsAtFault : Tool → List ℕ → Type 0
+EndsAtFault tool given =
+    (front rest : List ℕ) → given ≡ front ++ rest → 0 < length rest → tool.shows front ≡ false
 
 module _ {R : Type 0} where
   -- A step was not the last. It was given at most `most` bytes, and at least one if `most` is not
@@ -218,11 +287,21 @@ module _ {R W E : Type 0} (look : Looks R W E) where
   EndedRun tool start now given (Ok status) = FinishedRun tool start now given status
   EndedRun tool start now given (Err fault) = FailedRun tool start now given fault
 
-  -- what holds after a whole run
-  pub record AfterRun (tool : Tool) (start now : Devices R W E)
+  -- What holds after a whole run. At each of its waits, all that the bytes given by then determine
+  -- had been handed on.
+  pub record AfterRun (tool : Tool) (start now : Devices R W E) (waits : List (Wait W E))
       (answer : Result Status IoFault) : Type 0 where
     pub given : List ℕ
     pub gave : EndedRun tool start now given answer
+    pub ends : EndsAtFault tool given
+    pub prompt : All (WasPrompt look tool start given) waits
+
+  -- what holds after a run that had waited before it began
+  pub record AfterRunFrom (tool : Tool) (start now : Devices R W E)
+      (before after : List (Wait W E)) (answer : Result Status IoFault) : Type 0 where
+    pub waits : List (Wait W E)
+    pub are : after ≡ before ++ waits
+    pub ran : AfterRun tool start now waits answer
 
   -- a step was the last of its run, and was given at most `most` bytes
   pub record LastStep (tool : Tool) (start now : Devices R W E) (most : ℕ) (history : List ℕ)
@@ -230,6 +309,7 @@ module _ {R W E : Type 0} (look : Looks R W E) where
     pub given : List ℕ
     pub size : length given ≤ most
     pub gave : EndedRun tool start now (history ++ given) answer
+    pub ends : EndsAtFault tool (history ++ given)
 
   -- what holds after a step, by its result
   abbrev pub AfterStep : Tool → Devices R W E → (old new : Place R W E) → (stands : List ℕ → Type 0)

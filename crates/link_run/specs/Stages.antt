@@ -1,17 +1,11 @@
--- The state of a run between two steps, and what a step hands on.
-use Rattle.std.specs.Prelude.{◌≡◌, ℕ, ◌<◌, ◌⊎◌, Bool, true, false, List, [], Option, Some, None, Result, Ok}
-use Rattle.std.specs.Io.KnownBytes.{Appends}
-use Rattle.link_wire.specs.Session.{source_of}
+-- The state of a run between two steps, and what a step does before it reads.
+use Rattle.std.specs.Prelude.{◌≡◌, ℕ, ◌<◌, Bool, true, false, List, [], Option, Some, None, Result, Ok}
 use Rattle.link_wire.specs.declared.IoFault.{IoFault}
-use Rattle.link_wire.specs.declared.session.Session.{Session}
 use Rattle.link_run.specs.Run.{Texts, no_texts, Looks, Devices, Place, devices_at, NoneFailed, HasWritten, AfterStep, answer_of}
-use Rattle.link_run.specs.Made.{Made, shows_fault, tool_of}
-use Rattle.link_run.specs.Reading.{HasEnough}
-use Rattle.link_run.specs.Writers.{place_of}
+use Rattle.link_run.specs.Made.{Made, IsLasting, shows_fault, tool_of}
 use Rattle.link_run.specs.declared.run.Progress.{Progress}
 use Rattle.link_run.specs.declared.run.Progress.TheVariants.{More}
 use Rattle.link_run.specs.declared.run.Status.{Status}
-use Rattle.link_run.specs.declared.writers.Writers.{Writers}
 
 -- the texts that a run has written: none before it has begun
 abbrev pub written_by : (begun : Bool) → Made → Texts
@@ -25,11 +19,13 @@ pub record Stands {R W E : Type 0} (look : Looks R W E) (made : List ℕ → Mad
   pub written : HasWritten look start now history (written_by begun (made history))
   pub sound : NoneFailed look (devices_at now)
   pub unshown : shows_fault (made history).stop ≡ false
+  pub lasting : IsLasting made
 
 -- before the first byte, nothing is written, and no fault is shown
 pub record MayBegin (made : List ℕ → Made) (begun : Bool) : Type 0 where
   pub texts : written_by begun (made []) ≡ no_texts
   pub unshown : shows_fault (made []).stop ≡ false
+  pub lasting : IsLasting made
 
 -- what holds after a step; if it is not the last, `Stands` and `knows` hold of the bytes so far
 abbrev pub AfterStage : {R W E : Type 0} → Looks R W E → (made : List ℕ → Made)
@@ -40,7 +36,7 @@ AfterStage look made start begun old new knows most history result =
     AfterStep look (tool_of made) start old new
     (λ bytes. Stands look made start begun new bytes × knows bytes) most history result
 
--- what holds after a stride of stages: what holds after a step, without its bound
+-- what holds after a stride of stages: what holds after a step, with another bound
 abbrev pub AfterStageStride : {R W E : Type 0} → Looks R W E → (made : List ℕ → Made)
     → (start : Devices R W E) → (begun : Bool) → (old new : Place R W E)
     → (knows : List ℕ → Type 0) → (most : ℕ) → (history : List ℕ)
@@ -48,28 +44,6 @@ abbrev pub AfterStageStride : {R W E : Type 0} → Looks R W E → (made : List 
 AfterStageStride look made start begun old new knows most history result =
     (size : ℕ) × (0 < most → 0 < size)
     × AfterStage look made start begun old new knows size history result
-
--- Nothing was held back while a step waited for input. At its read the writers were `output` and
--- `report`. By then everything written had been handed on, or the input had enough bytes left. The
--- texts of the step itself were written after the read.
-pub record HandedOn {R W E : Type 0} (look : Looks R W E) (enough : Type 0)
-    (old new : Place R W E) : Type 0 where
-  pub output : W
-  pub report : E
-  pub output_kept : Appends (look.output old.output).written (look.output output).written []
-  pub report_kept : Appends (look.report old.report).written (look.report report).written []
-  pub held : (((look.output output).handed ≡ (look.output output).written)
-      × ((look.report report).handed ≡ (look.report report).written)) ⊎ enough
-  pub texts : Texts
-  pub writes : Appends (look.output output).written (look.output new.output).written texts.output
-  pub reports : Appends (look.report report).written (look.report new.report).written texts.report
-
--- as `HandedOn`, for a stage that reads a session
-abbrev pub HandsOn : {R W E : Type 0} → Looks R W E → (old new : Session R)
-    → (before after : Writers W E) → Type 0
-HandsOn look old new before after =
-    HandedOn look (HasEnough look.input old)
-    (place_of (source_of old) before) (place_of (source_of new) after)
 
 -- the step was not the last
 abbrev pub IsMore : Result Progress IoFault → Type 0

@@ -1,5 +1,5 @@
 -- What the calls of a run's writers write.
-use Rattle.std.specs.Prelude.{◌≡◌, ℕ, ◌<◌, ◌≤◌, ◌⊎◌, true, List, [], length, take, Option, Result, Ok, Err}
+use Rattle.std.specs.Prelude.{◌≡◌, ℕ, ◌<◌, ◌≤◌, ◌⊎◌, true, List, [], length, take, Result, Ok, Err}
 use Rattle.std.specs.Io.KnownBytes.{Appends}
 use Rattle.link_wire.specs.Device.{Output}
 use Rattle.link_wire.specs.declared.IoFault.{IoFault}
@@ -73,11 +73,6 @@ module _ {W E : Type 0} (out_look : W → Output) (report_look : E → Output) w
   AfterWrite old new texts (Ok done) = Writes old new texts
   AfterWrite old new texts (Err fault) = WritesPart old new texts fault
 
-  -- some texts were written, or a writer failed
-  abbrev pub WritesSome : {A : Type 0} → Writers W E → Writers W E → Result A IoFault → Type 0
-  WritesSome old new (Ok value) = (texts : Texts) × Writes old new texts
-  WritesSome old new (Err fault) = fault ≡ io.Write
-
   -- these texts were written, and the run ends with this status; or a writer failed in them
   abbrev pub AfterLastWrite : Writers W E → Writers W E → Texts → (status : ℕ)
       → Result Status IoFault → Type 0
@@ -105,9 +100,3 @@ module _ {W E : Type 0} (out_look : W → Output) (report_look : E → Output) w
   abbrev pub AfterSettle : Writers W E → Writers W E → Result (Unit {0}) IoFault → Type 0
   AfterSettle old new (Ok done) = Writes old new (on_output [])
   AfterSettle old new (Err fault) = Unsettled old new fault
-
--- No writer holds back anything that was written.
-pub record HasHandedOn {W E : Type 0} (out_look : W → Output) (report_look : E → Output)
-    (writers : Writers W E) : Type 0 where
-  pub output : (out_look writers.output).handed ≡ (out_look writers.output).written
-  pub report : (report_look writers.report).handed ≡ (report_look writers.report).written

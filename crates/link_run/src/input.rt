@@ -1,18 +1,19 @@
 //! What a run reads: a session, or a source of bytes.
 //!
 //! A stage of a tool reads only through the calls of an [`Input`]. Before a read that may have to
-//! wait, these calls hand on what was written. So a reader of the output and the report sees
-//! everything that the bytes so far determine.
+//! wait, these calls hand on what was written, and note that they did. So a reader of the output
+//! and the report sees everything that the bytes so far determine.
 
 ghost use Rattle.std.specs.Prelude.{◌≡◌, ◌<◌, ◌⊎◌, ℕ, List, [], length, Err, IfErr, IfOk, IfSome, IsOk, IsTrue, OnOk, MatchResult};
 ghost use Rattle.link_wire.specs.MessageBuffer.{message_of, SegmentHasTotals};
-ghost use Rattle.link_wire.specs.Session.{may_read, is_opened, data_in, left_of, IsSessionAt, HasStopped};
+ghost use Rattle.link_wire.specs.Session.{source_of, may_read, is_opened, data_in, left_of, IsSessionAt, HasStopped};
 ghost use Rattle.link_wire.specs.Limits.{window_size};
-ghost use Rattle.link_wire.specs.Source.{window_of, HasEnded, HasFailed, IsLive};
-ghost use Rattle.link_run.specs.Run.{looks};
-ghost use Rattle.link_run.specs.Reading.{GetsMessage, HoldsNothingBack, HoldsNoBytesBack, NotHandedOn, ReadsData, ReadsBytes};
-ghost use Rattle.link_run.specs.Writers.{on_output, next_line, Writes, Unsettled};
+ghost use Rattle.link_wire.specs.Source.{window_of, at_hand, front_of, IsLive};
+ghost use Rattle.link_run.specs.Run.{looks, IsWaitAt, WaitsOnce};
+ghost use Rattle.link_run.specs.Reading.{inner_of, waits_of, GetsBytes, GetsData, GetsMessage, HasEnough, NotHandedOn, Unread};
+ghost use Rattle.link_run.specs.Writers.{place_of, on_output, next_line, Writes, Unsettled};
 
+use crate::log::Log;
 use crate::writers::Writers;
 use link_wire::{Contact, InDevice, IoFault, MessageBuffer, OutDevice, Session, Source, Stop};
 
@@ -26,7 +27,7 @@ pub trait Feed: Sized {
     /// The source that gives the bytes.
     ghost source: { Self → Source Self.Reader };
 
-    /// The input has enough bytes left for what comes next.
+    /// The bytes at hand are enough for what comes next.
     ghost has_next: { Self → Type 0 };
 
     /// Returns the source.
@@ -35,9 +36,6 @@ pub trait Feed: Sized {
 }
 
 impl<R: InDevice> Feed for Session<R> {
-    ghost use Rattle.link_wire.specs.Session.{source_of};
-    ghost use Rattle.link_run.specs.Reading.{HasEnough};
-
     type Reader = R;
 
     ghost source = { source_of };
@@ -50,53 +48,64 @@ impl<R: InDevice> Feed for Session<R> {
 }
 
 impl<R: InDevice> Feed for Source<R> {
-    ghost use Rattle.link_wire.specs.Device.{HasBytes};
-    ghost use Rattle.link_wire.specs.Source.{ahead};
-
     type Reader = R;
 
     ghost source = { λ source. source };
 
-    ghost has_next = { λ source. HasBytes (ahead R.state source) };
+    ghost has_next = { λ source. 0 < length (at_hand R.state source) };
 
     fn into_source(self) -> Source<R> {
         self
     }
 }
 
-/// The input of a tool's stages.
-///
-/// The field is private, so a stage can read only by the calls below.
-#[derive(Drop)]
-pub struct Input<S> {
-    inner: S,
+/// How far a source was read.
+#[derive(Clone, Copy, Debug, PartialEq, Eq)]
+pub struct Position {
+    /// The number of bytes given.
+    pub given: u64,
+    /// The number of bytes that were taken from the reader and not given.
+    pub ahead: usize,
 }
 
-impl<S> Input<S> {
-    ghost use Rattle.link_run.specs.Reading.{inner_of};
+/// The moments at which a run had to wait for its input: how far it had read, and its writers.
+pub type Waits<W, E> = Log<Position, Writers<W, E>>;
 
-    pub(crate) fn new(inner: S) -> Input<S>
-        ensures { inner_of result ≡ inner }
+/// The input of a tool's stages.
+///
+/// The fields are private, so a stage can read only by the calls below, and these note each wait.
+#[derive(Drop)]
+pub struct Input<S, W, E> {
+    inner: S,
+    waits: Waits<W, E>,
+}
+
+impl<S, W, E> Input<S, W, E> {
+    pub(crate) fn new(inner: S) -> Input<S, W, E>
+        ensures inner { inner_of result ≡ inner }
+        ensures waits { waits_of result ≡ [] }
     {
-        Input { inner }
+        Input {
+            inner,
+            waits: Log::new(),
+        }
     }
 
-    /// Returns the session or the source.
-    pub(crate) fn into_inner(self) -> S
-        ensures { result ≡ inner_of self }
+    /// Returns the session or the source, and the waits.
+    pub(crate) fn into_parts(self) -> (S, Waits<W, E>)
+        ensures inner { result.0 ≡ inner_of self }
+        ensures waits { result.1.items ≡ waits_of self }
     {
-        let Input { inner } = self;
-        inner
+        let Input { inner, waits } = self;
+        (inner, waits)
     }
 }
 
 /// The calls that read a recorded session.
-impl<R: InDevice> Input<Session<R>> {
+impl<R: InDevice, W: OutDevice, E: OutDevice> Input<Session<R>, W, E> {
     ghost use Rattle.std.specs.Prelude.{◌≤◌, None, take};
-    ghost use Rattle.link_wire.specs.Session.{source_of, may_open, HasNext, PassedBytes, AfterOpen};
-    ghost use Rattle.link_wire.specs.Source.{reach};
+    ghost use Rattle.link_wire.specs.Session.{may_open, PassedBytes, AfterOpen};
     ghost use Rattle.link_wire.specs.Whole.{ReadWhole, PassedQuiet};
-    ghost use Rattle.link_run.specs.Reading.{inner_of};
 
     /// Reads the contact header, as [`Session::open`] does.
     ///
@@ -110,6 +119,7 @@ impl<R: InDevice> Input<Session<R>> {
         ensures left { IfErr result
             (λ _. left_of (inner_of self.new) ≡ left_of (inner_of self.old)) }
         ensures settles { IfErr result (HasStopped (inner_of self.new)) }
+        ensures waits { waits_of self.new ≡ waits_of self.old }
     {
         self.inner.open()
     }
@@ -121,18 +131,18 @@ impl<R: InDevice> Input<Session<R>> {
     /// stop, although the session has not stopped. A session that has stopped returns its stop
     /// again.
     #[inline(always)]
-    pub fn next_message<W: OutDevice, E: OutDevice>(
+    pub fn next_message(
         &mut self,
         writers: &mut Writers<W, E>,
         message: &mut MessageBuffer,
     ) -> Result<Option<u64>, Stop>
         requires { IsTrue (may_read (inner_of self.old)) }
         ensures { GetsMessage (looks R.state W.state E.state)
-            (inner_of self.old) (inner_of self.new) writers.old writers.new message.new result }
+            self.old self.new writers.old writers.new message.new result }
     {
         match self.inner.next_here(message) {
             Some(offset) => Ok(Some(offset)),
-            None => read_message(&mut self.inner, writers, message),
+            None => read_message(self, writers, message),
         }
     }
 
@@ -151,13 +161,10 @@ impl<R: InDevice> Input<Session<R>> {
         ensures totals { IfSome result (λ offset. SegmentHasTotals message.new) }
         ensures opened { IsTrue (is_opened (inner_of self.new)) }
         ensures stopped { (stop : _) → HasStopped (inner_of self.old) stop → result ≡ None }
-        ensures here { (history : List ℕ) → IsSessionAt R.state (inner_of self.old) history
-            → IfSome result (λ offset. HasNext R.state (inner_of self.old)) }
         ensures shrinks { IfSome result (λ offset.
             length (window_of (source_of (inner_of self.new)))
             < length (window_of (source_of (inner_of self.old)))) }
-        ensures unread { reach R.state (source_of (inner_of self.new))
-            ≡ reach R.state (source_of (inner_of self.old)) }
+        ensures unread { Unread R.state source_of self.old self.new }
     {
         self.inner.next_whole(message)
     }
@@ -175,10 +182,7 @@ impl<R: InDevice> Input<Session<R>> {
             → PassedQuiet R.state (inner_of self.old) (inner_of self.new) history result }
         ensures opened { IsTrue (is_opened (inner_of self.new)) }
         ensures stopped { (stop : _) → HasStopped (inner_of self.old) stop → result ≡ 0 }
-        ensures here { (history : List ℕ) → IsSessionAt R.state (inner_of self.old) history
-            → 0 < result → HasNext R.state (inner_of self.old) }
-        ensures unread { reach R.state (source_of (inner_of self.new))
-            ≡ reach R.state (source_of (inner_of self.old)) }
+        ensures unread { Unread R.state source_of self.old self.new }
     {
         self.inner.pass_quiet()
     }
@@ -190,30 +194,12 @@ impl<R: InDevice> Input<Session<R>> {
     /// written. If that fails, it reads nothing and returns the failure as a stop, although the
     /// session has not stopped. A session that has stopped returns its stop again.
     #[inline(always)]
-    pub fn load_data<W: OutDevice, E: OutDevice>(
-        &mut self,
-        writers: &mut Writers<W, E>,
-    ) -> Result<usize, Stop>
-        ensures size { IfOk result (λ n. n ≡ length (data_in R.state (inner_of self.new))) }
-        // If data is at hand already, nothing is handed on.
-        ensures here { 0 < length (data_in R.state (inner_of self.old))
-            → writers.new ≡ writers.old }
-        ensures opened { IsTrue (is_opened (inner_of self.old))
-            → IsTrue (is_opened (inner_of self.new)) }
-        ensures gives { (history : List ℕ) → IsSessionAt R.state (inner_of self.old) history
-            → ReadsData (looks R.state W.state E.state) (inner_of self.old) (inner_of self.new)
-            writers.old writers.new history result }
-        ensures handed { (result ≡ Err (Stop.Io IoFault.Write) → ⊥)
-            → HoldsNothingBack (looks R.state W.state E.state)
-            (inner_of self.old) writers.new }
-        ensures left { IfErr result
-            (λ _. left_of (inner_of self.new) ≡ left_of (inner_of self.old)) }
-        ensures line { next_line writers.new ≡ next_line writers.old }
-        ensures stopped { (stop : _) → HasStopped (inner_of self.old) stop
-            → (self.new ≡ self.old) × (writers.new ≡ writers.old) × (result ≡ Err stop) }
+    pub fn load_data(&mut self, writers: &mut Writers<W, E>) -> Result<usize, Stop>
+        ensures { GetsData (looks R.state W.state E.state)
+            self.old self.new writers.old writers.new result }
     {
         if self.inner.loaded().is_empty() {
-            settle_before(&self.inner, writers)?;
+            return load_on(self, writers);
         }
         self.inner.load()
     }
@@ -237,8 +223,7 @@ impl<R: InDevice> Input<Session<R>> {
         ensures none { count ≡ 0 → self.new ≡ self.old }
         ensures stopped { (stop : _) → HasStopped (inner_of self.old) stop
             → HasStopped (inner_of self.new) stop }
-        ensures unread { reach R.state (source_of (inner_of self.new))
-            ≡ reach R.state (source_of (inner_of self.old)) }
+        ensures unread { Unread R.state source_of self.old self.new }
     {
         self.inner.pass(count);
     }
@@ -255,11 +240,10 @@ impl<R: InDevice> Input<Session<R>> {
 }
 
 /// The calls that read a source of bytes.
-impl<R: InDevice> Input<Source<R>> {
+impl<R: InDevice, W: OutDevice, E: OutDevice> Input<Source<R>, W, E> {
     ghost use Rattle.std.specs.Prelude.{◌≤◌, Ok, take};
     ghost use Rattle.link_wire.specs.Bytes.{AreBytes};
-    ghost use Rattle.link_wire.specs.Source.{front_of, reach, Takes};
-    ghost use Rattle.link_run.specs.Reading.{inner_of};
+    ghost use Rattle.link_wire.specs.Source.{Takes};
 
     /// Makes bytes ready, as [`Source::ready_front`] does, and returns how many are at hand: 0 at
     /// the end of the input.
@@ -268,33 +252,12 @@ impl<R: InDevice> Input<Source<R>> {
     /// If that fails, it reads nothing and returns [`IoFault::Write`]. Otherwise, after the end or
     /// a fault of the source, it reads nothing and returns the same result again.
     #[inline(always)]
-    pub fn ready_bytes<W: OutDevice, E: OutDevice>(
-        &mut self,
-        writers: &mut Writers<W, E>,
-    ) -> Result<usize, IoFault>
-        ensures size { IfOk result (λ n. n ≡ length (front_of R.state (inner_of self.new))) }
-        ensures gives { IsLive R.state (inner_of self.old)
-            → ReadsBytes (looks R.state W.state E.state) (inner_of self.old) (inner_of self.new)
-            writers.old writers.new result }
-        // If bytes are at hand, nothing is handed on or read.
-        ensures here { 0 < length (front_of R.state (inner_of self.old)) → (self.new ≡ self.old)
-            × (writers.new ≡ writers.old)
-            × (result ≡ Ok (length (front_of R.state (inner_of self.old)))) }
-        ensures handed { (result ≡ Err IoFault.Write → ⊥)
-            → HoldsNoBytesBack (looks R.state W.state E.state)
-            (inner_of self.old) writers.new }
-        ensures line { next_line writers.new ≡ next_line writers.old }
-        ensures ended { HasEnded (inner_of self.old) → (self.new ≡ self.old)
-            × ((result ≡ Ok 0) × Writes W.state E.state writers.old writers.new (on_output [])
-            ⊎ (result ≡ Err IoFault.Write)
-            × Unsettled W.state E.state writers.old writers.new IoFault.Write) }
-        ensures failed { (fault : _) → HasFailed (inner_of self.old) fault → (self.new ≡ self.old)
-            × ((result ≡ Err fault) × Writes W.state E.state writers.old writers.new (on_output [])
-            ⊎ (result ≡ Err IoFault.Write)
-            × Unsettled W.state E.state writers.old writers.new IoFault.Write) }
+    pub fn ready_bytes(&mut self, writers: &mut Writers<W, E>) -> Result<usize, IoFault>
+        ensures { GetsBytes (looks R.state W.state E.state)
+            self.old self.new writers.old writers.new result }
     {
         if self.inner.front().is_empty() {
-            settle_before_bytes(&self.inner, writers)?;
+            return read_bytes(self, writers);
         }
         self.inner.ready_front()
     }
@@ -316,7 +279,7 @@ impl<R: InDevice> Input<Source<R>> {
             (take count (front_of R.state (inner_of self.old))) }
         ensures live { IsLive R.state (inner_of self.old) → IsLive R.state (inner_of self.new) }
         ensures none { count ≡ 0 → self.new ≡ self.old }
-        ensures unread { reach R.state (inner_of self.new) ≡ reach R.state (inner_of self.old) }
+        ensures unread { Unread R.state (λ source. source) self.old self.new }
     {
         self.inner.give_front(count);
     }
@@ -326,66 +289,116 @@ impl<R: InDevice> Input<Source<R>> {
 #[cold]
 #[inline(never)]
 fn read_message<R: InDevice, W: OutDevice, E: OutDevice>(
-    session: &mut Session<R>,
+    input: &mut Input<Session<R>, W, E>,
     writers: &mut Writers<W, E>,
     message: &mut MessageBuffer,
 ) -> Result<Option<u64>, Stop>
-    requires { IsTrue (may_read session.old) }
+    requires { IsTrue (may_read (inner_of input.old)) }
     ensures { GetsMessage (looks R.state W.state E.state)
-        session.old session.new writers.old writers.new message.new result }
+        input.old input.new writers.old writers.new message.new result }
 {
-    settle_before(session, writers)?;
-    session.read_rest(message)
+    settle_before(&input.inner, writers, &mut input.waits)?;
+    input.inner.read_rest(message)
 }
 
-/// Hands on what was written, if the next call of the session may have to wait.
+/// Makes data of the segment ready if none is at hand.
+#[cold]
+#[inline(never)]
+fn load_on<R: InDevice, W: OutDevice, E: OutDevice>(
+    input: &mut Input<Session<R>, W, E>,
+    writers: &mut Writers<W, E>,
+) -> Result<usize, Stop>
+    requires { data_in R.state (inner_of input.old) ≡ [] }
+    ensures { GetsData (looks R.state W.state E.state)
+        input.old input.new writers.old writers.new result }
+{
+    settle_before(&input.inner, writers, &mut input.waits)?;
+    input.inner.load()
+}
+
+/// Makes bytes ready if none is at hand.
+#[cold]
+#[inline(never)]
+fn read_bytes<R: InDevice, W: OutDevice, E: OutDevice>(
+    input: &mut Input<Source<R>, W, E>,
+    writers: &mut Writers<W, E>,
+) -> Result<usize, IoFault>
+    requires { front_of R.state (inner_of input.old) ≡ [] }
+    ensures { GetsBytes (looks R.state W.state E.state)
+        input.old input.new writers.old writers.new result }
+{
+    settle_before_bytes(&input.inner, writers, &mut input.waits)?;
+    input.inner.ready_front()
+}
+
+/// Hands on what was written, if the next call of the session may have to wait. Then it notes the
+/// wait.
 #[cold]
 #[inline(never)]
 fn settle_before<R: InDevice, W: OutDevice, E: OutDevice>(
     session: &Session<R>,
     writers: &mut Writers<W, E>,
+    waits: &mut Waits<W, E>,
 ) -> Result<(), Stop>
     ensures gives { MatchResult result
         (λ _. Writes W.state E.state writers.old writers.new (on_output []))
         (NotHandedOn (looks R.state W.state E.state) session.now session.now
         writers.old writers.new) }
-    ensures handed { OnOk result
-        (HoldsNothingBack (looks R.state W.state E.state)
-        session.now writers.new) }
+    ensures waits { IfOk result (λ _. (history : List ℕ) → IsSessionAt R.state session.now history
+        → WaitsOnce (HasEnough R.state session.now) waits.old.items waits.new.items
+        (IsWaitAt (looks R.state W.state E.state)
+        (place_of (source_of session.now) writers.old))) }
+    ensures none { IfErr result (λ _. waits.new ≡ waits.old) }
     ensures line { next_line writers.new ≡ next_line writers.old }
     ensures stopped { (stop : _) → HasStopped session.now stop
-        → (writers.new ≡ writers.old) × (IsOk result) }
+        → (writers.new ≡ writers.old) × (waits.new ≡ waits.old) × (IsOk result) }
 {
     if !session.may_wait() {
         return Ok(());
     }
     match writers.settle() {
-        Ok(()) => Ok(()),
+        Ok(()) => {
+            let position = Position {
+                given: session.given(),
+                ahead: session.ahead(),
+            };
+            *waits = waits.and(&position, writers);
+            Ok(())
+        }
         Err(fault) => Err(Stop::Io(fault)),
     }
 }
 
-/// Hands on what was written, if the next read of the source may have to wait.
+/// Hands on what was written, if the next read of the source may have to wait. Then it notes the
+/// wait.
 #[cold]
 #[inline(never)]
 fn settle_before_bytes<R: InDevice, W: OutDevice, E: OutDevice>(
     source: &Source<R>,
     writers: &mut Writers<W, E>,
+    waits: &mut Waits<W, E>,
 ) -> Result<(), IoFault>
     requires { length (window_of source.now) ≡ 0 }
     ensures gives { MatchResult result
         (λ _. Writes W.state E.state writers.old writers.new (on_output []))
         (λ fault. (length (window_of source.now) < window_size)
         × Unsettled W.state E.state writers.old writers.new fault) }
-    ensures handed { OnOk result
-        (HoldsNoBytesBack (looks R.state W.state E.state)
-        source.now writers.new) }
+    ensures waits { IfOk result (λ _. WaitsOnce (0 < length (at_hand R.state source.now))
+        waits.old.items waits.new.items
+        (IsWaitAt (looks R.state W.state E.state) (place_of source.now writers.old))) }
+    ensures none { IfErr result (λ _. waits.new ≡ waits.old) }
     ensures line { next_line writers.new ≡ next_line writers.old }
 {
     if !source.may_wait() {
         return Ok(());
     }
-    writers.settle()
+    writers.settle()?;
+    let position = Position {
+        given: source.given(),
+        ahead: source.window().len(),
+    };
+    *waits = waits.and(&position, writers);
+    Ok(())
 }
 
 mod inner;

@@ -15,11 +15,13 @@
 #![tactic(auto)]
 
 mod input;
+mod log;
 mod run;
 mod stages;
 mod writers;
 
-pub use input::{Feed, Input};
+pub use input::{Feed, Input, Position, Waits};
+pub use log::Log;
 pub use run::{Progress, Run, RunEnd, Status};
 pub use stages::{PIECE, Stages, ToolRun};
 pub use writers::Writers;

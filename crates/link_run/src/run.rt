@@ -2,10 +2,11 @@
 
 ghost use Rattle.std.specs.Prelude.{◌≡◌, ◌<◌, ℕ, List, [], Result, Err};
 ghost use Rattle.link_wire.specs.declared.IoFault.{IoFault};
-ghost use Rattle.link_run.specs.Run.{Tool, Devices, Place, devices_at, looks, AfterStep, AfterStride, AfterRun, EndsRun};
-ghost use Rattle.link_run.specs.Stages.{HandedOn};
+ghost use Rattle.link_run.specs.Run.{Tool, Devices, Place, Wait, answer_of, devices_at, looks, AfterStep, AfterStride, AfterRunFrom, EndsRun, StepWaits};
 ghost use Rattle.link_run.specs.declared.run.Progress.{Progress};
 
+use crate::input::Waits;
+use crate::log::Log;
 use link_wire::{InDevice, IoFault, OutDevice};
 
 /// How a run ended, as the program's exit status: 0, 1 or 3.
@@ -58,7 +59,7 @@ impl Progress {
 }
 
 /// The devices and the answer of a run that has ended.
-#[derive(Debug, Drop)]
+#[derive(Drop)]
 pub struct RunEnd<R, W, E> {
     /// Where the input came from.
     pub reader: R,
@@ -68,6 +69,28 @@ pub struct RunEnd<R, W, E> {
     pub report: E,
     /// The exit status, or the failure that stopped the run.
     pub answer: Result<Status, IoFault>,
+    /// When the run had to wait for its input. Only proofs read it.
+    pub waits: Waits<W, E>,
+}
+
+impl<R, W, E> RunEnd<R, W, E> {
+    /// The end of a run that has not begun, so its devices are as they were.
+    ///
+    /// No clause says that it has not waited. So it cannot be passed off as the end of a run.
+    pub fn unbegun(reader: R, output: W, report: E, fault: IoFault) -> RunEnd<R, W, E>
+        ensures devices { ◌≡◌ {A = Devices R W E}
+            (record { reader = result.reader; output = result.output; report = result.report })
+            (record { reader = reader; output = output; report = report }) }
+        ensures answer { result.answer ≡ Err fault }
+    {
+        RunEnd {
+            reader,
+            output,
+            report,
+            answer: Err(fault),
+            waits: Log::new(),
+        }
+    }
 }
 
 /// A run of a tool over an input, step by step.
@@ -85,7 +108,10 @@ pub trait Run<R: InDevice, W: OutDevice, E: OutDevice>: Sized {
     // The next step is given at most this many bytes: 0 if it reads nothing.
     ghost most: { Self → ℕ };
 
-    // the input has enough bytes left for the next step
+    // when it had to wait for its input
+    ghost waits: { Self → List (Wait W E) };
+
+    // the bytes at hand are enough for the next step
     ghost has_next: { Self → Type 0 };
 
     // the run has ended, and each further step returns this
@@ -105,10 +131,9 @@ pub trait Run<R: InDevice, W: OutDevice, E: OutDevice>: Sized {
         ensures gives { (start : Devices R W E) (history : List ℕ) → stands self.old start history
             → AfterStep (looks R.state W.state E.state) (tool self.old) start (place self.old)
             (place self.new) (stands self.new start) (most self.old) history result }
-        ensures handed { (start : Devices R W E) (history : List ℕ) → stands self.old start history
-            → 0 < most self.old → (result ≡ Err IoFault.Write → ⊥)
-            → HandedOn (looks R.state W.state E.state) (has_next self.old)
-            (place self.old) (place self.new) }
+        ensures waits { (start : Devices R W E) (history : List ℕ) → stands self.old start history
+            → StepWaits (looks R.state W.state E.state) (tool self.old) start history
+            (has_next self.old) (place self.old) (place self.new) (waits self.old) (waits self.new) }
         ensures goes_on { most self.new ≡ 0 → EndsRun result }
         ensures ends { EndsRun result → has_ended self.new result }
         ensures again { (answer : _) → has_ended self.old answer
@@ -116,9 +141,9 @@ pub trait Run<R: InDevice, W: OutDevice, E: OutDevice>: Sized {
 
     /// Does at least one step, and as many more as the bytes at hand allow: a *stride*.
     ///
-    /// After it, the texts are those that the bytes given determine, as after a step. What was
-    /// written before it is handed on as [`Run::step`] does it. No clause bounds the bytes that it
-    /// is given, or says that none of them comes after a fault.
+    /// After it, the texts are those that the bytes given determine, as after a step. It waits as
+    /// [`Run::step`] does: at most once, before it is given a byte and before it writes. What it is
+    /// given was at hand then, or came with the reads after that wait.
     ///
     /// # Errors
     ///
@@ -128,56 +153,41 @@ pub trait Run<R: InDevice, W: OutDevice, E: OutDevice>: Sized {
         ensures gives { (start : Devices R W E) (history : List ℕ) → stands self.old start history
             → AfterStride (looks R.state W.state E.state) (tool self.old) start (place self.old)
             (place self.new) (stands self.new start) (most self.old) history result }
-        ensures handed { (start : Devices R W E) (history : List ℕ) → stands self.old start history
-            → 0 < most self.old → (result ≡ Err IoFault.Write → ⊥)
-            → HandedOn (looks R.state W.state E.state) (has_next self.old)
-            (place self.old) (place self.new) }
+        ensures waits { (start : Devices R W E) (history : List ℕ) → stands self.old start history
+            → StepWaits (looks R.state W.state E.state) (tool self.old) start history
+            (has_next self.old) (place self.old) (place self.new) (waits self.old) (waits self.new) }
         ensures goes_on { most self.new ≡ 0 → EndsRun result }
         ensures ends { EndsRun result → has_ended self.new result }
         ensures again { (answer : _) → has_ended self.old answer
             → (self.new ≡ self.old) × (result ≡ answer) };
 
-    /// Returns the reader, the output and the report. Bytes that were read ahead and not given are
-    /// dropped.
-    fn into_parts(self) -> (R, W, E)
-        ensures { record { reader = result.0; output = result.1; report = result.2 }
-            ≡ devices_at (place self) };
+    /// Returns the devices with this answer, which is that of the last step. Bytes that were read
+    /// ahead and not given are dropped.
+    ///
+    /// Only of a run that has ended a clause says when it waited.
+    fn into_end(self, answer: Result<Status, IoFault>) -> RunEnd<R, W, E>
+        ensures devices { record {
+          reader = result.reader;
+          output = result.output;
+          report = result.report;
+        } ≡ devices_at (place self) }
+        ensures answer { result.answer ≡ answer }
+        ensures waits { has_ended self (answer_of answer) → result.waits.items ≡ waits self };
 
     /// Takes strides until the run has ended.
     final fn run(self) -> RunEnd<R, W, E>
         requires { stands self (devices_at (place self)) [] }
-        ensures { AfterRun (looks R.state W.state E.state) (tool self) (devices_at (place self))
+        ensures { AfterRunFrom (looks R.state W.state E.state) (tool self) (devices_at (place self))
             (record { reader = result.reader; output = result.output; report = result.report })
-            result.answer }
+            (waits self) result.waits.items result.answer }
     {
         let mut run = self;
         'strides: loop {
             match run.stride() {
                 Ok(Progress::More) => {}
-                Ok(Progress::Done(status)) => return end(run, Ok(status)),
-                Err(fault) => return end(run, Err(fault)),
+                Ok(Progress::Done(status)) => return run.into_end(Ok(status)),
+                Err(fault) => return run.into_end(Err(fault)),
             }
         }
-    }
-}
-
-/// Takes a run apart into its devices, and adds its answer.
-fn end<R: InDevice, W: OutDevice, E: OutDevice, T: Run<R, W, E>>(
-    run: T,
-    answer: Result<Status, IoFault>,
-) -> RunEnd<R, W, E>
-    ensures devices { record {
-      reader = result.reader;
-      output = result.output;
-      report = result.report;
-    } ≡ devices_at (T.place run) }
-    ensures answer { result.answer ≡ answer }
-{
-    let (reader, output, report) = run.into_parts();
-    RunEnd {
-        reader,
-        output,
-        report,
-        answer,
     }
 }

@@ -1,15 +1,15 @@
 //! The stages of a tool, and the run that goes through them by steps or by strides.
 
-ghost use Rattle.std.specs.Prelude.{◌≡◌, ◌<◌, ℕ, Bool, List, IsTrue, Err, None};
+ghost use Rattle.std.specs.Prelude.{◌≡◌, ◌<◌, ℕ, Bool, false, List, [], IsTrue, Err, None};
 ghost use Rattle.link_wire.specs.declared.IoFault.{IoFault};
 ghost use Rattle.link_run.specs.Run.{Devices, looks, EndsRun};
 ghost use Rattle.link_run.specs.Made.{Made, tool_of};
-ghost use Rattle.link_run.specs.Reading.{inner_of};
-ghost use Rattle.link_run.specs.Stages.{Stands, AfterStage, AfterStageStride, HandedOn, IsMore, RunHasEnded};
+ghost use Rattle.link_run.specs.Reading.{inner_of, waits_of, CallWaits};
+ghost use Rattle.link_run.specs.Stages.{Stands, AfterStage, AfterStageStride, IsMore, RunHasEnded};
 ghost use Rattle.link_run.specs.Writers.{place_of};
 
 use crate::input::{Feed, Input};
-use crate::run::{Progress, Run, Status};
+use crate::run::{Progress, Run, RunEnd, Status};
 use crate::writers::Writers;
 use link_wire::{InDevice, IoFault, OutDevice};
 
@@ -36,7 +36,7 @@ pub trait Stages<S: Feed, W: OutDevice, E: OutDevice>: Sized {
     /// Does the next step.
     fn stage(
         &mut self,
-        input: &mut Input<S>,
+        input: &mut Input<S, W, E>,
         writers: &mut Writers<W, E>,
     ) -> Result<Progress, IoFault>
         requires { IsTrue (fits self.old (inner_of input.old)) }
@@ -51,12 +51,10 @@ pub trait Stages<S: Feed, W: OutDevice, E: OutDevice>: Sized {
             (place_of (S.source (inner_of input.new)) writers.new)
             (knows self.new (inner_of input.new)) (most self.old) history result }
         ensures goes_on { most self.new ≡ 0 → EndsRun result }
-        ensures handed { (history : List ℕ) → knows self.old (inner_of input.old) history
-            → 0 < most self.old → (result ≡ Err IoFault.Write → ⊥)
-            → HandedOn (looks S.Reader.state W.state E.state)
-            (S.has_next (inner_of input.old))
-            (place_of (S.source (inner_of input.old)) writers.old)
-            (place_of (S.source (inner_of input.new)) writers.new) };
+        ensures waits { (history : List ℕ) → knows self.old (inner_of input.old) history
+            → CallWaits (looks S.Reader.state W.state E.state) S.source
+            (S.has_next (inner_of input.old)) input.old input.new writers.old }
+        ensures begins { begun self.old ≡ false → waits_of input.new ≡ waits_of input.old };
 
     /// Does at least one step, and as many more as the bytes at hand allow.
     ///
@@ -64,7 +62,7 @@ pub trait Stages<S: Feed, W: OutDevice, E: OutDevice>: Sized {
     #[inline(always)]
     fn stride(
         &mut self,
-        input: &mut Input<S>,
+        input: &mut Input<S, W, E>,
         writers: &mut Writers<W, E>,
     ) -> Result<Progress, IoFault>
         requires { IsTrue (fits self.old (inner_of input.old)) }
@@ -79,12 +77,10 @@ pub trait Stages<S: Feed, W: OutDevice, E: OutDevice>: Sized {
             (place_of (S.source (inner_of input.new)) writers.new)
             (knows self.new (inner_of input.new)) (most self.old) history result }
         ensures goes_on { most self.new ≡ 0 → EndsRun result }
-        ensures handed { (history : List ℕ) → knows self.old (inner_of input.old) history
-            → 0 < most self.old → (result ≡ Err IoFault.Write → ⊥)
-            → HandedOn (looks S.Reader.state W.state E.state)
-            (S.has_next (inner_of input.old))
-            (place_of (S.source (inner_of input.old)) writers.old)
-            (place_of (S.source (inner_of input.new)) writers.new) }
+        ensures waits { (history : List ℕ) → knows self.old (inner_of input.old) history
+            → CallWaits (looks S.Reader.state W.state E.state) S.source
+            (S.has_next (inner_of input.old)) input.old input.new writers.old }
+        ensures begins { begun self.old ≡ false → waits_of input.new ≡ waits_of input.old }
     {
         self.stage(input, writers)
     }
@@ -93,7 +89,7 @@ pub trait Stages<S: Feed, W: OutDevice, E: OutDevice>: Sized {
 /// A run of a tool: its input, its writers, the tool, and the answer once the run has ended.
 #[derive(Drop)]
 pub struct ToolRun<S: Feed, W: OutDevice, E: OutDevice, T: Stages<S, W, E>> {
-    input: Input<S>,
+    input: Input<S, W, E>,
     writers: Writers<W, E>,
     tool: T,
     answer: Option<Result<Status, IoFault>>,
@@ -101,7 +97,6 @@ pub struct ToolRun<S: Feed, W: OutDevice, E: OutDevice, T: Stages<S, W, E>> {
 }
 
 impl<S: Feed, W: OutDevice, E: OutDevice, T: Stages<S, W, E> + Drop> ToolRun<S, W, E, T> {
-    ghost use Rattle.std.specs.Prelude.{[], false};
     ghost use Rattle.link_wire.specs.Source.{is_fresh, reader_of};
     ghost use Rattle.link_run.specs.Run.{devices_at};
     ghost use Rattle.link_run.specs.Stages.{MayBegin};
@@ -121,6 +116,7 @@ impl<S: Feed, W: OutDevice, E: OutDevice, T: Stages<S, W, E> + Drop> ToolRun<S, 
             ≡ record { reader = reader_of (S.source inner); output = output; report = report } }
         ensures stands { ⟦<ToolRun<S, W, E, T> as Run<S::Reader, W, E>>⟧.stands result
             (record { reader = reader_of (S.source inner); output = output; report = report }) [] }
+        ensures waits { ⟦<ToolRun<S, W, E, T> as Run<S::Reader, W, E>>⟧.waits result ≡ [] }
     {
         ToolRun {
             input: Input::new(inner),
@@ -162,6 +158,8 @@ impl<S: Feed, W: OutDevice, E: OutDevice, T: Stages<S, W, E> + Drop> Run<S::Read
 
     ghost most = { λ run. most_unless_ended run.answer (T.most run.tool) };
 
+    ghost waits = { λ run. waits_of run.input };
+
     ghost has_next = { λ run. S.has_next (inner_of run.input) };
 
     ghost has_ended = { λ run. RunHasEnded run.answer };
@@ -186,19 +184,22 @@ impl<S: Feed, W: OutDevice, E: OutDevice, T: Stages<S, W, E> + Drop> Run<S::Read
         progress
     }
 
-    fn into_parts(self) -> (S::Reader, W, E) {
+    fn into_end(self, answer: Result<Status, IoFault>) -> RunEnd<S::Reader, W, E> {
         let ToolRun {
             input,
             writers,
             tool: _,
             answer: _,
         } = self;
+        let (inner, waits) = input.into_parts();
         let (output, report) = writers.into_parts();
-        (
-            input.into_inner().into_source().into_reader(),
+        RunEnd {
+            reader: inner.into_source().into_reader(),
             output,
             report,
-        )
+            answer,
+            waits,
+        }
     }
 }
 

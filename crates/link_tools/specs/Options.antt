@@ -1,7 +1,7 @@
 -- The tools by their options: when a tool is ready to run, and what a whole run does.
-use Rattle.std.specs.Prelude.{Result, Ok, Err, IfOk, ⊤}
+use Rattle.std.specs.Prelude.{List, Result, Ok, Err, IfOk, ⊤}
 use Rattle.link_wire.specs.declared.IoFault.{IoFault}
-use Rattle.link_run.specs.Run.{Looks, Devices, AfterRun}
+use Rattle.link_run.specs.Run.{Looks, Devices, Wait, AfterRun}
 use Rattle.link_run.specs.declared.run.Status.{Status}
 use Rattle.link_list.specs.Listing.{list_tool}
 use Rattle.link_unpack.specs.Unpacking.{unpack_tool}
@@ -11,13 +11,13 @@ use Rattle.link_pack.specs.PackRun.{LacksMemory}
 use Rattle.link_tools.specs.declared.options.Job.{Job}
 use Rattle.link_tools.specs.declared.options.Job.TheVariants as job
 use Rattle.link_tools.specs.declared.options.Options.{Options}
-use Rattle.link_tools.specs.declared.options.Options.TheVariants.{List, Unpack, Pack}
+use Rattle.link_tools.specs.declared.options.Options.TheVariants as chosen
 
 -- the options of the tool that is ready to run
 abbrev pub options_of : Job → Options
-options_of job.List = List
-options_of (job.Unpack wanted) = Unpack wanted
-options_of (job.Pack options memory) = Pack options
+options_of job.List = chosen.List
+options_of (job.Unpack wanted) = chosen.Unpack wanted
+options_of (job.Pack options memory) = chosen.Pack options
 
 -- `pack` has a new cutter for its options, or its request for memory was refused. The other tools
 -- are always ready.
@@ -26,16 +26,16 @@ IsReady job.List = ⊤
 IsReady (job.Unpack wanted) = ⊤
 IsReady (job.Pack options memory) = IfOk memory (IsCutterFor options)
 
--- A whole run of the tool took the devices from `start` to `now`, and returned this answer
--- (`AfterRun`). If the memory of `pack` was refused, nothing was read or written, and the answer
--- is that fault.
+-- A whole run of the tool took the devices from `start` to `now`, with these waits, and returned
+-- this answer (`AfterRun`). If the memory of `pack` was refused, nothing was read or written, and
+-- the answer is that fault.
 abbrev pub AfterJob : {R W E : Type 0} → Looks R W E → Job → (start now : Devices R W E)
-    → Result Status IoFault → Type 0
-AfterJob look job.List start now answer =
-    AfterRun look list_tool start now answer
-AfterJob look (job.Unpack wanted) start now answer =
-    AfterRun look (unpack_tool wanted) start now answer
-AfterJob look (job.Pack options (Ok cutter)) start now answer =
-    AfterRun look (pack_tool options) start now answer
-AfterJob look (job.Pack options (Err refused)) start now answer =
+    → List (Wait W E) → Result Status IoFault → Type 0
+AfterJob look job.List start now waits answer =
+    AfterRun look list_tool start now waits answer
+AfterJob look (job.Unpack wanted) start now waits answer =
+    AfterRun look (unpack_tool wanted) start now waits answer
+AfterJob look (job.Pack options (Ok cutter)) start now waits answer =
+    AfterRun look (pack_tool options) start now waits answer
+AfterJob look (job.Pack options (Err refused)) start now waits answer =
     LacksMemory start now answer

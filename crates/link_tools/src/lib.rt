@@ -17,6 +17,6 @@ mod options;
 pub use exit::run_exit;
 pub use link_list::{ListRun, list, list_run};
 pub use link_pack::{PackOptions, PackRun, cutter_for, pack, pack_run};
-pub use link_run::{Progress, Run, RunEnd, Status};
+pub use link_run::{Progress, Run, RunEnd, Status, Waits};
 pub use link_unpack::{UnpackRun, Wanted, unpack, unpack_run};
 pub use options::{Job, Options, run_tool};

@@ -70,7 +70,7 @@ pub fn run_tool<R: InDevice, W: OutDevice, E: OutDevice>(
     ensures { AfterJob (looks R.state W.state E.state) job
         (record { reader = reader; output = output; report = report })
         (record { reader = result.reader; output = result.output; report = result.report })
-        result.answer }
+        result.waits.items result.answer }
 {
     match job {
         Job::List => list(reader, output, report),

@@ -12,18 +12,19 @@ use Rattle.link_wire.specs.declared.message.Message.TheVariants.{Segment}
 use Rattle.link_wire.specs.declared.message.MessageBuffer.{MessageBuffer}
 use Rattle.link_wire.specs.declared.message.SegmentHead.{SegmentHead}
 use Rattle.link_wire.specs.declared.session.Session.{Session}
-use Rattle.link_run.specs.Run.{◌then◌, Looks, Devices, devices_at, EndedRun}
-use Rattle.link_run.specs.Writers.{place_of, on_report, Writes, WritesPart}
+use Rattle.link_run.specs.Run.{◌then◌, Looks, Devices}
+use Rattle.link_run.specs.Writers.{on_report, Writes, WritesPart}
 use Rattle.link_run.specs.declared.writers.Writers.{Writers}
 use Rattle.link_run.proofs.Ends.{made_reports}
 use Rattle.link_run.proofs.Runs.{texts_as, written_as, written_more, sound_written, writer_lost, part_of_more}
 use Rattle.link_unpack.specs.Transfers.{Transfer, settled}
 use Rattle.link_unpack.specs.Unpacking.{parts_of, are_good, judgement_of, is_good, Unpacked, abandoned_line, closed_line, unpack_tool, unpacking_of}
 use Rattle.link_unpack.specs.TransferScan.{IsAtTransfer, begun}
-use Rattle.link_unpack.specs.UnpackRun.{unpacked_from, IsJoining, IsBeginning}
+use Rattle.link_unpack.specs.UnpackRun.{unpacked_from, StandsNext, IsJoining, IsBeginning}
+use Rattle.link_unpack.specs.declared.unpacking.Next.TheVariants as next
 use Rattle.link_unpack.specs.declared.unpacking.Unpacker.{Unpacker}
 use Rattle.link_unpack.specs.declared.wanted.Wanted.{Wanted}
-use Rattle.link_unpack.proofs.Joins.{sofar_here}
+use Rattle.link_unpack.proofs.Joins.{sofar_here, lost_here}
 use Rattle.link_unpack.proofs.Transfers.{part_of-begun}
 use Rattle.link_unpack.proofs.Texts.{parts_more, good_more, settled_open}
 
@@ -137,11 +138,14 @@ module _ {R W E : Type 0} (look : Looks R W E)
     -- too if it is closed.
     pub abandon_lost : (after : Writers W E) (fault : IoFault)
         → WritesPart look.output look.report w after (on_report gone) fault
-        → EndedRun look (unpack_tool u.latest.wanted) start
-        (devices_at (place_of (source_of s) after)) history (Err fault)
+        → StandsNext look start u.latest.wanted s after u history (next.Ended (Err fault))
     abandon_lost after fault part =
         let more = on_report (closed_line u.latest.wanted unpacked.transfers) in
-        writer_lost look (unpack_tool u.latest.wanted) (made_reports (unpacking_of u.latest.wanted)) start (source_of s) w after history _ _ _ fault at.written at.sound
+        lost_here look start s after u history fault at.session_at at.taken
+        (writer_lost look (unpack_tool u.latest.wanted)
+        (made_reports (unpacking_of u.latest.wanted)) start (source_of s) w after history _ _ _
+        fault at.written at.sound
         (texts_as (append-nil _ ∙ parts_same ∙ ap (parts_of u.latest.wanted) (sym at.are)) (sym at.reports)
         ∙ sym (sofar_here look start s u history at.session_at at.taken))
-        (inl refl) at.window (λ none. absurd (omega arith)) (part_of_more look.output look.report w after _ more fault (λ some. refl) part)
+        (inl refl) at.window (λ none. absurd (omega arith))
+        (part_of_more look.output look.report w after _ more fault (λ some. refl) part))

@@ -5,11 +5,10 @@ use Rattle.std.proofs.lemmas.Bool.{lt-ltb}
 use Rattle.link_wire.specs.Device.{Input}
 use Rattle.link_wire.specs.Message.{data_length}
 use Rattle.link_wire.specs.Session.{left_of, joined, data_after, IsLeft, PassedBytes}
-use Rattle.link_wire.specs.Stream.{Entry, End, Clean, Cut, ended, with_entry, Reading, reading_of}
+use Rattle.link_wire.specs.Stream.{Entry, End, Clean, Cut, ended, with_entry, Reading, reading_of, heads_of}
 use Rattle.link_wire.specs.declared.session.Session.{Session}
 use Rattle.link_transfer.specs.Event.{event_of}
 use Rattle.link_transfer.specs.Order.{is_stray}
-use Rattle.link_unpack.specs.Transfers.{heads_of}
 use Rattle.link_unpack.specs.Unpacking.{Unpacked, unpacked_of, with_head}
 use Rattle.link_unpack.specs.UnpackRun.{AreInOrder, AreTaken, unpacked_from, EndsInSegment}
 use Rattle.link_unpack.specs.declared.wanted.Wanted.{Wanted}

@@ -4,29 +4,30 @@ use Rattle.link_wire.specs.Codes.{is_start}
 use Rattle.link_wire.specs.Device.{Input}
 use Rattle.link_wire.specs.Message.{data_length}
 use Rattle.link_wire.specs.Session.{source_of, left_of, PassedBytes}
-use Rattle.link_wire.specs.Stream.{reading_of}
+use Rattle.link_wire.specs.Stream.{reading_of, heads_of}
 use Rattle.link_wire.specs.declared.IoFault.{IoFault}
 use Rattle.link_wire.specs.declared.message.Message.{Message}
 use Rattle.link_wire.specs.declared.message.SegmentHead.{SegmentHead}
 use Rattle.link_wire.specs.declared.session.Session.{Session}
 use Rattle.link_wire.specs.Source.{Takes}
 use Rattle.link_transfer.specs.Order.{open_of}
-use Rattle.link_run.specs.Run.{◌then◌, Looks, Devices, devices_at, NoneFailed, HasWritten, EndedRun}
+use Rattle.link_run.specs.Run.{◌then◌, Looks, Devices, devices_at, NoneFailed, HasWritten}
 use Rattle.link_run.specs.Writers.{place_of, on_output, on_report, Writes, WritesPart}
 use Rattle.link_run.specs.declared.writers.Writers.{Writers}
 use Rattle.link_run.proofs.Ends.{made_reports}
 use Rattle.link_run.proofs.Runs.{texts_as, written_as, written_given, written_more, sound_given, sound_written, writer_lost, part_of_more, Stood}
-use Rattle.link_unpack.specs.Transfers.{heads_of, Transfer, closes, continued, after_segment, settled}
+use Rattle.link_unpack.specs.Transfers.{Transfer, closes, continued, after_segment, settled}
 use Rattle.link_unpack.specs.Unpacking.{parts_of, part_of, are_good, Unpacked, abandoned_line, closed_line, with_head, unpack_tool, unpacking_of}
 use Rattle.link_unpack.specs.TransferScan.{IsAtTransfer, grown}
-use Rattle.link_unpack.specs.UnpackRun.{AreTaken, unpacked_from, texts_of, IsAtOpen, IsInData, Unpacks, UnpackStands, IsJoining}
+use Rattle.link_unpack.specs.UnpackRun.{AreTaken, unpacked_from, texts_of, IsAtOpen, IsInData, Unpacks, UnpackStands, StandsNext, IsJoining}
 use Rattle.link_unpack.specs.declared.transfer.TransferScan.{TransferScan}
+use Rattle.link_unpack.specs.declared.unpacking.Next.TheVariants as next
 use Rattle.link_unpack.specs.declared.unpacking.Stage.TheVariants as stage
 use Rattle.link_unpack.specs.declared.unpacking.Unpacker.{Unpacker}
 use Rattle.link_unpack.specs.declared.wanted.Wanted.{Wanted}
 use Rattle.link_unpack.proofs.Cuts.{before, was, size_left, is_now, same_messages, same_order, still_taken, still_cut}
 use Rattle.link_unpack.proofs.Heads.{transfer_grows, is_whole}
-use Rattle.link_unpack.proofs.Joins.{sofar_here}
+use Rattle.link_unpack.proofs.Joins.{sofar_here, lost_here}
 use Rattle.link_unpack.proofs.Taken.{texts_taken}
 use Rattle.link_unpack.proofs.Texts.{parts_more, open_none, settled_open}
 use Rattle.link_unpack.proofs.Turns.{due, segment_transfers, segment_report}
@@ -269,11 +270,11 @@ module _ {R W E : Type 0} {look : Looks R W E} {start : Devices R W E} {last : B
   -- The line of the transfer is due too if it is closed.
   pub part_lost : (written : Writers W E) (fault : IoFault)
       → WritesPart look.output look.report writers written (on_output part) fault
-      → EndedRun look (unpack_tool wanted) start
-      (devices_at (place_of (source_of new) written)) (history ++ bytes) (Err fault)
+      → StandsNext look start wanted new written u (history ++ bytes) (next.Ended (Err fault))
   part_lost written fault lost =
       let more = on_report (closed_line wanted (grown transfer bytes closing ∷ earlier)) in
-      writer_lost look (unpack_tool wanted) (made_reports (unpacking_of wanted)) start
+      lost_here look start new written u (history ++ bytes) fault come.gave.at new_taken
+      (writer_lost look (unpack_tool wanted) (made_reports (unpacking_of wanted)) start
       (source_of new) writers written (history ++ bytes) _ _ _ fault given_written given_sound
       (texts_as
       (ap (λ (xs : List ℕ). parts_of wanted (unpacked_from wanted history).transfers ++ xs)
@@ -282,4 +283,4 @@ module _ {R W E : Type 0} {look : Looks R W E} {start : Devices R W E} {last : B
       (sym new_report)
       ∙ sym (sofar_here look start new u (history ++ bytes) come.gave.at new_taken))
       (inl refl) (takes.window.less come.some) (λ some_output. stood)
-      (part_of_more look.output look.report writers written _ more fault (λ none. refl) lost)
+      (part_of_more look.output look.report writers written _ more fault (λ none. refl) lost))

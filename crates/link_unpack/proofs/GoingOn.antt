@@ -5,7 +5,7 @@ use Rattle.std.specs.List.{fold}
 use Rattle.std.proofs.lemmas.Bool.{false≢true}
 use Rattle.std.proofs.lemmas.Grind.{fold-append}
 use Rattle.link_wire.specs.Codes.{is_start, is_end}
-use Rattle.link_wire.specs.Stream.{Entry, End, Reading}
+use Rattle.link_wire.specs.Stream.{Entry, End, Reading, heads_of}
 use Rattle.link_wire.specs.declared.message.Message.{Message}
 use Rattle.link_wire.specs.declared.message.Message.TheVariants as message
 use Rattle.link_wire.specs.declared.message.SegmentHead.{SegmentHead}
@@ -15,7 +15,7 @@ use Rattle.link_transfer.specs.declared.event.Event.{Event}
 use Rattle.link_transfer.specs.declared.event.Event.TheVariants as event
 use Rattle.link_transfer.proofs.Joining.{after-segment, after-other, not_stray as never_stray}
 use Rattle.link_run.specs.Made.{Made, stop_of}
-use Rattle.link_unpack.specs.Transfers.{ordered_after, ordered, heads_of, Transfer, closes, continued, after_segment, after_message, transfers_of, settled}
+use Rattle.link_unpack.specs.Transfers.{ordered_after, ordered, Transfer, closes, continued, after_segment, after_message, transfers_of, settled}
 use Rattle.link_unpack.specs.Unpacking.{parts_of, line_of, lines_of, are_good, unpacking_by, Unpacked, none_unpacked, abandoned_line, closed_line, transfers_with, transfer_lines, with_head, unpacked_of, going_on_by, made_of}
 use Rattle.link_unpack.specs.TransferScan.{grown}
 use Rattle.link_unpack.specs.UnpackRun.{messages_of, AreInOrder, AreTaken}

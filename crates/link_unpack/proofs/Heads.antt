@@ -1,24 +1,22 @@
 -- The heads of a reading that goes on, and the transfers that they make.
-use Rattle.std.proofs.Common.{◌≡◌, ℕ, zero, suc, ◌+◌, Bool, true, false, ◌==◌, nat_lt, List, [], ◌∷◌, ◌++◌, length, if◌then◌else◌, refl, ap, sym, ◌∙◌, append-nil, append_assoc, arith}
+use Rattle.std.proofs.Common.{◌≡◌, ℕ, zero, suc, ◌+◌, Bool, true, false, ◌==◌, nat_lt, List, [], ◌∷◌, ◌++◌, if◌then◌else◌, refl, ap, sym, ◌∙◌, append-nil, append_assoc, arith}
 use Rattle.std.proofs.lemmas.List.{map_push}
 use Rattle.std.proofs.lemmas.Grind.{fold-append}
 use Rattle.std.proofs.lemmas.Bool.{eq-eqb, ne_eqb}
 use Rattle.link_wire.specs.Codes.{is_start}
 use Rattle.link_wire.specs.Message.{data_length}
-use Rattle.link_wire.specs.Session.{joined, with_message, data_after, with_data, rest_after}
-use Rattle.link_wire.specs.Stream.{Entry, Clean, Cut, Stream, ended, with_entry, Reading}
+use Rattle.link_wire.specs.Session.{joined, with_message, data_after, with_data}
+use Rattle.link_wire.specs.Stream.{Entry, Clean, Cut, Stream, ended, with_entry, Reading, cut_heads, heads_of}
 use Rattle.link_wire.specs.declared.message.Message.{Message}
 use Rattle.link_wire.specs.declared.message.Message.TheVariants as message
 use Rattle.link_wire.specs.declared.message.SegmentHead.{SegmentHead}
 use Rattle.link_transfer.specs.Event.{event_of}
 use Rattle.link_transfer.specs.Order.{is_segment}
-use Rattle.link_unpack.specs.Transfers.{cut_heads, heads_of, Transfer, closes, continued, after_segment, after_message, transfers_of}
+pub use Rattle.link_run.proofs.Continued.{entry}
+use Rattle.link_unpack.specs.Transfers.{Transfer, closes, continued, after_segment, after_message, transfers_of}
 use Rattle.link_unpack.specs.UnpackRun.{messages_of}
 
 -- ---- heads
-
-abbrev pub entry : ℕ → Message → List ℕ → Entry
-entry offset sent content = record { offset = offset; message = sent; content = content }
 
 -- the heads of a reading that ends between two messages, or inside the data of a segment
 pub heads_clean : (reading : Reading) → reading.end ≡ Clean → heads_of reading ≡ reading.entries
@@ -48,27 +46,6 @@ module _ (reading : Reading) (offset : ℕ) (sent : Message) where
   heads_with_data content bytes left cut =
       ap (λ e. heads_of (joined reading (data_after left bytes e))) cut
       ∙ one_head_by (nat_lt 0 left) offset sent (content ++ bytes) reading.entries
-
--- the heads of a reading that goes on: those of its whole messages, and then those of the rest
-pub heads_joined : (reading : Reading) (rest : Stream)
-    → heads_of (joined reading rest) ≡ reading.entries ++ (rest.entries ++ cut_heads rest.end)
-heads_joined reading rest = append_assoc reading.entries rest.entries (cut_heads rest.end)
-
--- the rest begins with the same head, which has data
-pub record StaysFirst (offset : ℕ) (sent : Message) (rest : Stream) : Type 0 where
-  pub content : List ℕ
-  pub others : List Entry
-  pub are : rest.entries ++ cut_heads rest.end ≡ entry offset sent content ∷ others
-
-stays_by : (test : Bool) (offset : ℕ) (sent : Message) (whole part : List ℕ) (rest : Stream)
-    → StaysFirst offset sent (if test then ended (Cut offset sent whole)
-    else with_entry (entry offset sent part) rest)
-stays_by true offset sent whole part rest = record { content = whole; others = []; are = refl }
-stays_by false offset sent whole part rest = record { content = part; others = rest.entries ++ cut_heads rest.end; are = refl }
-
-pub stays_first : (place left offset : ℕ) (sent : Message) (content more : List ℕ)
-    → StaysFirst offset sent (rest_after place left (Cut offset sent content) more)
-stays_first place left offset sent content more = stays_by (nat_lt (length more) left) offset sent _ _ _
 
 -- ---- messages
 

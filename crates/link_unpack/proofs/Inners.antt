@@ -19,7 +19,7 @@ use Rattle.link_transfer.specs.Order.{continuable}
 use Rattle.link_transfer.specs.declared.joiner.Joiner.{Joiner}
 use Rattle.link_transfer.specs.declared.joiner.Turn.TheVariants as effects
 use Rattle.link_transfer.proofs.Continuing.{may_continue, continues_open, joiner_stays}
-use Rattle.link_run.specs.Run.{Looks, Devices, devices_at, WentOn, AfterStep, EndedRun}
+use Rattle.link_run.specs.Run.{Looks, Devices, WentOn, AfterStep}
 use Rattle.link_run.specs.Writers.{place_of, on_output, Writes, WritesPart}
 use Rattle.link_run.specs.declared.writers.Writers.{Writers}
 use Rattle.link_run.proofs.Strides.{step_then}
@@ -109,8 +109,7 @@ module _ {R W E : Type 0} (look : Looks R W E) (start : Devices R W E)
 
     pub inner_lost : (written : Writers W E) (fault : IoFault)
         → WritesPart look.output look.report before written (on_output part) fault
-        → EndedRun look (unpack_tool wanted) start (devices_at (place_of (source_of new) written))
-        (headed ++ content) (Err fault)
+        → StandsNext look start wanted new written v (headed ++ content) (next.Ended (Err fault))
     inner_lost written fault lost = part_lost data_taken written fault lost
 
 -- ---- a loop over inner segments
@@ -215,9 +214,8 @@ module _ {R W E : Type 0} (look : Looks R W E) where
         let ended = inner_lost look start old new before u bytes
         (stood_here start history stood at) (at_here start history stood at) id content
         (is_continued start history stood at) passed latest part taken after fault lost in
-        let P : Wanted → Type 0 = λ w. EndedRun look (unpack_tool w) start
-        (devices_at (place_of (source_of new) after))
-        ((bytes ++ passed.read.given) ++ content) (Err fault) in
+        let P : Wanted → Type 0 = λ w. StandsNext look start w new after after_turn
+        ((bytes ++ passed.read.given) ++ content) (next.Ended (Err fault)) in
         then_turn start history stood at (next.Ended (Err fault)) (subst P same ended)
 
 -- ---- a step, and then inner segments
@@ -247,10 +245,18 @@ module _ {R W E : Type 0} (look : Looks R W E) (start : Devices R W E) (wanted :
     window = few_later look.input (source_of mid) (source_of new) taken.given taken.takes few;
     at = taken.stands;
   }
-  as_step bytes (next.Ended (Ok status)) few taken =
-      record { given = taken.given; size = omega arith; gave = taken.stands }
-  as_step bytes (next.Ended (Err fault)) few taken =
-      record { given = taken.given; size = omega arith; gave = taken.stands }
+  as_step bytes (next.Ended (Ok status)) few taken = record {
+    given = taken.given;
+    size = omega arith;
+    gave = taken.stands.0;
+    ends = taken.stands.1;
+  }
+  as_step bytes (next.Ended (Err fault)) few taken = record {
+    given = taken.given;
+    size = omega arith;
+    gave = taken.stands.0;
+    ends = taken.stands.1;
+  }
 
   pub far_inner : (result : Next) → 0 < most
       → (went : WentOn (source_of old) (source_of mid) stands most history)

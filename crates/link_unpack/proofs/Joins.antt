@@ -2,21 +2,23 @@
 use Rattle.std.proofs.Common.{◌≡◌, ℕ, ◌+◌, ◌<◌, ◌≤◌, inl, Bool, true, false, not, ◌&&◌, List, ◌∷◌, ◌++◌, length, Err, refl, ap, sym, ◌∙◌, subst, append-nil, arith}
 use Rattle.std.proofs.Math.Bool.{and_assoc}
 use Rattle.link_wire.specs.Session.{source_of, left_of, IsLeft, IsSessionAt}
-use Rattle.link_wire.specs.Stream.{End, Clean, Cut, Fault, reading_of}
+use Rattle.link_wire.specs.Stream.{End, Clean, Cut, Fault, reading_of, heads_of}
 use Rattle.link_wire.specs.declared.IoFault.{IoFault}
 use Rattle.link_wire.specs.declared.session.Session.{Session}
 use Rattle.link_transfer.specs.Joiner.{IsJoinerAt}
 use Rattle.link_run.specs.Run.{◌then◌, Looks, Devices, devices_at, NoneFailed, HasWritten, EndedRun}
 use Rattle.link_run.specs.Writers.{place_of, on_report, Writes, WritesPart}
 use Rattle.link_run.specs.declared.writers.Writers.{Writers}
-use Rattle.link_run.proofs.Ends.{standing_unshown, made_reports}
+use Rattle.link_run.proofs.Ends.{standing_unshown, made_reports, ends_unshown}
 use Rattle.link_run.proofs.Runs.{texts_as, written_as, written_more, sound_written, writer_lost}
-use Rattle.link_unpack.specs.Transfers.{heads_of, Transfer, settled}
+use Rattle.link_unpack.specs.Transfers.{Transfer, settled}
 use Rattle.link_unpack.specs.Unpacking.{parts_of, line_of, are_good, judgement_of, is_good, Unpacked, unpack_tool, unpacking_of}
-use Rattle.link_unpack.specs.UnpackRun.{AreTaken, unpacked_from, texts_of, is_good_so_far, IsAtOpen, IsOpen, IsWaiting, StandsAt, IsJoining}
+use Rattle.link_unpack.specs.UnpackRun.{AreTaken, unpacked_from, texts_of, is_good_so_far, IsAtOpen, IsOpen, IsWaiting, StandsAt, StandsNext, IsJoining}
+use Rattle.link_unpack.specs.declared.unpacking.Next.TheVariants as next
 use Rattle.link_unpack.specs.declared.unpacking.Stage.{Stage}
 use Rattle.link_unpack.specs.declared.unpacking.Stage.TheVariants as stage
 use Rattle.link_unpack.specs.declared.unpacking.Unpacker.{Unpacker}
+use Rattle.link_unpack.proofs.Lasting.{unpacking_lasts}
 use Rattle.link_unpack.proofs.Taken.{texts_taken, unshown_taken, sofar_taken}
 use Rattle.link_unpack.proofs.Texts.{closes_none, closes_some, parts_sum, open_none, closed_one, good_more, settled_open, settled_closed}
 
@@ -45,7 +47,9 @@ module _ {R W E : Type 0} (look : Looks R W E)
     record {
       written = written_as look written refl (sym (texts_taken u.latest.wanted history taken));
       sound = sound;
-      unshown = unshown_taken u.latest.wanted history taken (standing_unshown s.offset s.left _ session.left);
+      unshown = unshown_taken u.latest.wanted history taken
+          (standing_unshown s.offset s.left _ session.left);
+      lasting = unpacking_lasts u.latest.wanted;
     },
     record {
       session_at = session;
@@ -65,6 +69,20 @@ module _ {R W E : Type 0} (look : Looks R W E)
       ≡ texts_of u.latest.wanted (unpacked_from u.latest.wanted history)
   sofar_here s u history session taken =
       sofar_taken u.latest.wanted history taken (standing_unshown s.offset s.left _ session.left)
+
+  -- a writer failed, and the bytes so far show no fault
+  pub lost_here : (s : Session R) (w : Writers W E) (u : Unpacker) (history : List ℕ)
+      (fault : IoFault) → IsSessionAt look.input s history
+      → AreTaken u.latest.wanted (heads_of (reading_of history))
+      → EndedRun look (unpack_tool u.latest.wanted) start
+      (devices_at (place_of (source_of s) w)) history (Err fault)
+      → StandsNext look start u.latest.wanted s w u history (next.Ended (Err fault))
+  lost_here s w u history fault session taken ended = (
+    ended,
+    ends_unshown (unpacking_of u.latest.wanted) (unpacking_lasts u.latest.wanted) history
+        (unshown_taken u.latest.wanted history taken
+        (standing_unshown s.offset s.left _ session.left)),
+  )
 
   module _ (last : Bool) (s : Session R) (w : Writers W E) (u : Unpacker) (history : List ℕ)
       (at : IsJoining look start last s w u history) where
@@ -157,9 +175,11 @@ module _ {R W E : Type 0} (look : Looks R W E)
       pub line_lost : (after : Writers W E) (fault : IoFault)
           → WritesPart look.output look.report w after
           (on_report (line_of u.latest.wanted at.transfer at.earlier)) fault
-          → EndedRun look (unpack_tool u.latest.wanted) start
-          (devices_at (place_of (source_of s) after)) history (Err fault)
+          → StandsNext look start u.latest.wanted s after u history (next.Ended (Err fault))
       line_lost after fault part =
-          writer_lost look (unpack_tool u.latest.wanted) (made_reports (unpacking_of u.latest.wanted)) start (source_of s) w after history _ _ _ fault at.written at.sound
+          lost_here s after u history fault at.session_at at.taken
+          (writer_lost look (unpack_tool u.latest.wanted)
+          (made_reports (unpacking_of u.latest.wanted)) start (source_of s) w after history _ _ _
+          fault at.written at.sound
           (with_line ∙ sym (sofar_here s u history at.session_at at.taken))
-          (inl refl) at.window (λ none. absurd (omega arith)) part
+          (inl refl) at.window (λ none. absurd (omega arith)) part)

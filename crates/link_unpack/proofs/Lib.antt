@@ -3,6 +3,7 @@ mod Payloads
 mod Transfers
 pub mod Orders
 pub mod Heads
+pub mod Lasting
 pub mod Texts
 mod Taken
 mod Turns
@@ -16,7 +17,6 @@ mod Steps
 mod Data
 mod Strays
 mod Loads
-mod Writing
 mod Quiets
 mod Strides
 mod Inners

@@ -1,23 +1,20 @@
 -- Data was made ready in the window, and then a step takes it. If none could be, the run ends.
-use Rattle.std.proofs.Common.{◌≡◌, ℕ, ◌<◌, ◌≤◌, true, Bool, List, [], Option, Result, Err, ap, ◌∙◌, subst, append-nil, arith}
+use Rattle.std.proofs.Common.{ℕ, ◌<◌, ◌≤◌, true, Bool, List, [], Result, Err, ◌∙◌, subst, append-nil, arith}
 use Rattle.std.specs.Io.KnownBytes.{Consumes}
 use Rattle.std.proofs.KnownBytes.{Consumes-trans}
-use Rattle.link_wire.specs.Session.{source_of, IsSessionAt, LoadedData}
+use Rattle.link_wire.specs.Session.{source_of, LoadedData}
 use Rattle.link_wire.specs.Source.{ahead}
 use Rattle.link_wire.specs.Stream.{reading_of}
 use Rattle.link_wire.specs.declared.IoFault.{IoFault}
-use Rattle.link_wire.specs.declared.IoFault.TheVariants as io
 use Rattle.link_wire.specs.declared.fault.Stop.{Stop}
-use Rattle.link_wire.specs.declared.fault.Stop.TheVariants as stop
 use Rattle.link_wire.specs.declared.session.Session.{Session}
 use Rattle.link_run.specs.Made.{Made}
-use Rattle.link_run.specs.Reading.{ReadsData, HoldsNothingBack}
+use Rattle.link_run.specs.Reading.{ReadsData}
 use Rattle.link_run.specs.Run.{Looks, Devices, devices_at, LastStep}
-use Rattle.link_run.specs.Stages.{Stands, HandsOn}
+use Rattle.link_run.specs.Stages.{Stands}
 use Rattle.link_run.specs.Writers.{place_of, AfterEnd}
 use Rattle.link_run.specs.declared.run.Status.{Status}
 use Rattle.link_run.specs.declared.writers.Writers.{Writers}
-use Rattle.link_run.proofs.Handing.{enough_by, handed_at_end}
 use Rattle.link_run.proofs.Sessions.{data_ended}
 use Rattle.link_unpack.specs.Unpacking.{unpack_tool}
 use Rattle.link_unpack.specs.UnpackRun.{Unpacks, UnpackStands, AfterUnpackStep}
@@ -53,6 +50,7 @@ module _ {R W E : Type 0} (look : Looks R W E) (start : Devices R W E) (old mid 
           report = at.sound.report;
         };
         unshown = at.unshown;
+        lasting = at.lasting;
       }
 
   pub unpacks_ready : (last : Bool) (u : Unpacker)
@@ -87,7 +85,7 @@ module _ {R W E : Type 0} (look : Looks R W E) (start : Devices R W E) (old mid 
       }
   given_ready wanted size piece last new after u (next.Ended answer) some within end =
       let fits = end.size in
-      record { given = end.given; size = omega arith; gave = end.gave }
+      record { given = end.given; size = omega arith; gave = end.gave; ends = end.ends }
 
 -- ---- no data could be made ready, and the run ends
 
@@ -103,18 +101,3 @@ load_ended {history} u old new before mid after most stood at why answer got giv
     let wanted = u.latest.wanted in
     data_ended (by_reading wanted) (made_is wanted) old new before mid after stood at.session_at
     most (stop_is wanted (reading_of history) at.taken) why answer got gives
-
-pub load_handed : {R W E : Type 0} {look : Looks R W E} {history : List ℕ} (old new : Session R)
-    (before mid after : Writers W E) (why : Stop) (answer : Result Status IoFault)
-    → IsSessionAt look.input old history
-    → ((history : List ℕ) → IsSessionAt look.input old history
-    → ReadsData look old new before mid history (Err why))
-    → AfterEnd look.output look.report why mid after answer
-    → (next.Ended answer ≡ next.Ended (Err io.Write) → ⊥)
-    → ((◌≡◌ {A = Result ℕ Stop} (Err why) (Err (stop.Io io.Write)) → ⊥)
-    → HoldsNothingBack look old mid)
-    → HandsOn look old new before after
-load_handed {look} {history} old new before mid after why answer session got gives other held =
-    handed_at_end look old new before mid after why answer (got history session) gives
-    (λ e. other (ap next.Ended e))
-    (λ is. enough_by look.input old (held (λ e. is (cc)) history session))

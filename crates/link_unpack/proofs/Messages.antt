@@ -6,7 +6,7 @@ use Rattle.link_wire.specs.Codes.{is_start, is_end}
 use Rattle.link_wire.specs.Message.{data_length}
 use Rattle.link_wire.specs.MessageBuffer.{message_of}
 use Rattle.link_wire.specs.Session.{source_of, left_of, joined, ReadMessage}
-use Rattle.link_wire.specs.Stream.{Entry, End, Clean, Cut, ended, with_entry, Reading, reading_of}
+use Rattle.link_wire.specs.Stream.{Entry, End, Clean, Cut, ended, with_entry, Reading, reading_of, heads_of}
 use Rattle.link_wire.specs.declared.message.Message.{Message}
 use Rattle.link_wire.specs.declared.message.Message.TheVariants as variant
 use Rattle.link_wire.specs.declared.message.MessageBuffer.{MessageBuffer}
@@ -23,7 +23,7 @@ use Rattle.link_bundle.specs.Bundle.{payload_in}
 use Rattle.link_run.specs.Run.{Looks, Devices}
 use Rattle.link_run.specs.declared.writers.Writers.{Writers}
 use Rattle.link_run.proofs.Runs.{texts_as, written_as, written_given, sound_given}
-use Rattle.link_unpack.specs.Transfers.{heads_of, Transfer, closes, continued, after_segment, after_message, settled}
+use Rattle.link_unpack.specs.Transfers.{Transfer, closes, continued, after_segment, after_message, settled}
 use Rattle.link_unpack.specs.Unpacking.{parts_of, part_of, is_selected, are_good, Unpacked, unpacked_of, order_line, abandoned_line, closed_line, transfers_with, with_head}
 use Rattle.link_unpack.specs.TransferScan.{IsAtTransfer, begun, grown}
 use Rattle.link_unpack.specs.UnpackRun.{messages_of, AreInOrder, AreTaken, unpacked_from, is_open_after, IsAtOpen, IsOpen, EndsInSegment, IsInData, IsWaiting, IsWaitingAfter, Unpacks, UnpackStands, StandsAt, StandsNext, AfterUnpackStep, HeadHasCome, IsTaken, IsJoining, IsBeginning}

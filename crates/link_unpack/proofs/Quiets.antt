@@ -3,7 +3,7 @@ use Rattle.std.proofs.Common.{◌≡◌, ℕ, Bool, true, false, not, ◌&&◌, 
 use Rattle.std.proofs.Math.Bool.{and-true}
 use Rattle.std.proofs.lemmas.List.Elements.{All-head, All-tail}
 use Rattle.link_wire.specs.Session.{source_of}
-use Rattle.link_wire.specs.Stream.{Entry, Clean, Reading, reading_of}
+use Rattle.link_wire.specs.Stream.{Entry, Clean, Reading, reading_of, heads_of}
 use Rattle.link_wire.specs.Whole.{is_quiet, IsQuiet, PassedQuiet}
 use Rattle.link_wire.specs.Session.{IsLeft}
 use Rattle.link_wire.specs.declared.message.Message.{Message}
@@ -19,7 +19,7 @@ use Rattle.link_run.proofs.Ends.{standing_unshown}
 use Rattle.link_run.proofs.Runs.{written_as, written_given, sound_given}
 use Rattle.link_run.specs.Run.{Looks, Devices, WentOn}
 use Rattle.link_run.specs.declared.writers.Writers.{Writers}
-use Rattle.link_unpack.specs.Transfers.{heads_of, Transfer, settled}
+use Rattle.link_unpack.specs.Transfers.{Transfer, settled}
 use Rattle.link_unpack.specs.Unpacking.{parts_of, are_good, Unpacked, unpacked_of, order_line}
 use Rattle.link_unpack.specs.UnpackRun.{AreTaken, unpacked_from, is_open_after, IsOpen, Unpacks, StandsAt, UnpackStands}
 use Rattle.link_unpack.specs.declared.unpacking.Stage.TheVariants as stage
@@ -178,6 +178,7 @@ module _ {R W E : Type 0} (look : Looks R W E) (old mid : Session R) (u : Unpack
     unshown =
         unshown_taken wanted bytes (same.taken at.taken)
         (standing_unshown mid.offset mid.left _ got.passed.at.left);
+    lasting = stood.lasting;
   }
 
   -- passing over them is a step that goes on

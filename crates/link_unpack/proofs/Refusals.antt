@@ -3,7 +3,7 @@ use Rattle.std.proofs.Common.{◌≡◌, ℕ, inl, true, false, ◌&&◌, List, 
 use Rattle.std.proofs.lemmas.Bool.{and_right, false≢true}
 use Rattle.link_wire.specs.MessageBuffer.{message_of}
 use Rattle.link_wire.specs.Session.{source_of}
-use Rattle.link_wire.specs.Stream.{reading_of}
+use Rattle.link_wire.specs.Stream.{reading_of, heads_of}
 use Rattle.link_wire.specs.declared.IoFault.{IoFault}
 use Rattle.link_wire.specs.declared.message.MessageBuffer.{MessageBuffer}
 use Rattle.link_wire.specs.declared.session.Session.{Session}
@@ -13,16 +13,17 @@ use Rattle.link_transfer.specs.declared.fault.OrderFault.{OrderFault}
 use Rattle.link_transfer.specs.declared.joiner.Joiner.{Joiner}
 use Rattle.link_report.specs.Fault.{fault_text}
 use Rattle.link_report.specs.declared.fault.Fault.TheVariants.{Order}
-use Rattle.link_run.specs.Run.{Looks, Devices, devices_at, EndedRun}
-use Rattle.link_run.specs.Writers.{place_of, on_report, Writes, WritesPart}
+use Rattle.link_run.specs.Run.{Looks, Devices}
+use Rattle.link_run.specs.Writers.{on_report, Writes, WritesPart}
 use Rattle.link_run.specs.declared.writers.Writers.{Writers}
 use Rattle.link_run.proofs.Ends.{made_reports}
 use Rattle.link_run.proofs.Runs.{texts_as, written_as, written_more, sound_written, writer_lost, part_of_more}
-use Rattle.link_unpack.specs.Transfers.{heads_of, settled}
+use Rattle.link_unpack.specs.Transfers.{settled}
 use Rattle.link_unpack.specs.Unpacking.{parts_of, are_good, Unpacked, order_line, transfer_lines, unpack_tool, unpacking_of}
-use Rattle.link_unpack.specs.UnpackRun.{AreTaken, HeadHasCome}
+use Rattle.link_unpack.specs.UnpackRun.{AreTaken, StandsNext, HeadHasCome}
+use Rattle.link_unpack.specs.declared.unpacking.Next.TheVariants as next
 use Rattle.link_unpack.specs.declared.unpacking.Unpacker.{Unpacker}
-use Rattle.link_unpack.proofs.Joins.{sofar_here}
+use Rattle.link_unpack.proofs.Joins.{sofar_here, lost_here}
 use Rattle.link_unpack.proofs.Messages.{after, unpacked, unpacked_is, parts_head}
 
 module _ {R W E : Type 0} (look : Looks R W E) (start : Devices R W E) (before : Unpacked)
@@ -79,14 +80,17 @@ module _ {R W E : Type 0} (look : Looks R W E) (start : Devices R W E) (before :
 
     pub line_lost : (written : Writers W E) (fault : IoFault)
         → WritesPart look.output look.report w written (on_report line) fault
-        → EndedRun look (unpack_tool u.latest.wanted) start
-        (devices_at (place_of (source_of s) written)) history (Err fault)
+        → StandsNext look start u.latest.wanted s written u history (next.Ended (Err fault))
     line_lost written fault part =
-        writer_lost look (unpack_tool u.latest.wanted) (made_reports (unpacking_of u.latest.wanted)) start (source_of s) w written history _ _ _ fault at.written at.sound
+        lost_here look start s written u history fault at.session_at taken
+        (writer_lost look (unpack_tool u.latest.wanted)
+        (made_reports (unpacking_of u.latest.wanted)) start (source_of s) w written history _ _ _
+        fault at.written at.sound
         (texts_as
         (append-nil _ ∙ sym (parts_head (is_stray before.taken (event_of (message_of message))) u.latest.wanted before.transfers offset (message_of message))
         ∙ sym (ap (λ (un : Unpacked). parts_of u.latest.wanted un.transfers) now_is))
         (reports ∙ sym (ap (λ (un : Unpacked). un.report) now_is))
         ∙ sym (sofar_here look start s u history at.session_at taken))
         (inl refl) at.window (λ none. absurd (omega arith))
-        (part_of_more look.output look.report w written _ (on_report rest) fault (λ some. refl) part)
+        (part_of_more look.output look.report w written _ (on_report rest) fault (λ some. refl)
+        part))

@@ -2,9 +2,9 @@
 use Rattle.std.proofs.Common.{◌≡◌, ℕ, ◌<◌, ◌≤◌, inl, inr, Bool, true, false, ◌&&◌, is_some, List, [], ◌++◌, length, Some, Result, if◌then◌else◌, refl, ap, sym, ◌∙◌, subst, append-nil, arith}
 use Rattle.link_wire.specs.Limits.{longest_head}
 use Rattle.link_wire.proofs.Contacts.{reading-none}
-use Rattle.link_wire.specs.Session.{source_of, joined, rest_after, ReadContact, ReadMessage, CleanEnd}
+use Rattle.link_wire.specs.Session.{source_of, ReadContact, ReadMessage, CleanEnd}
 use Rattle.link_wire.specs.Source.{Takes}
-use Rattle.link_wire.specs.Stream.{Entry, Clean, Reading, reading_of}
+use Rattle.link_wire.specs.Stream.{Entry, Clean, Reading, reading_of, cut_heads, heads_of}
 use Rattle.link_wire.specs.declared.IoFault.{IoFault}
 use Rattle.link_wire.specs.declared.message.Contact.{Contact}
 use Rattle.link_wire.specs.declared.message.Message.{Message}
@@ -22,10 +22,10 @@ use Rattle.link_run.specs.Writers.{place_of, on_report, AfterLastWrite}
 use Rattle.link_run.specs.declared.run.Status.{Status}
 use Rattle.link_run.specs.declared.writers.Writers.{Writers}
 use Rattle.link_run.proofs.Runs.{few_over, texts_as, writes_none, then_none}
-use Rattle.link_run.proofs.Sessions.{SameTexts, then_fault}
+use Rattle.link_run.proofs.Sessions.{SameTexts, then_fault, part_unshown}
 use Rattle.link_run.proofs.Stands.{ends, goes_on}
 use Rattle.link_run.proofs.Strides.{went_with}
-use Rattle.link_unpack.specs.Transfers.{cut_heads, heads_of, transfers_of, settled}
+use Rattle.link_unpack.specs.Transfers.{transfers_of, settled}
 use Rattle.link_unpack.specs.Unpacking.{parts_of, lines_of, are_good, Unpacked, none_unpacked, unpacked_of, abandoned_line, going_on_by, unpack_tool, unpacking_of, unpacking_by}
 use Rattle.link_unpack.specs.UnpackRun.{most_by, messages_of, AreInOrder, AreTaken, unpacked_from, texts_of, is_open_after, is_good_so_far, IsOpen, IsWaitingAfter, Begins, Unpacks, StandsNext, AfterUnpackStep, AfterFinish, EndsWith, UnpackStands}
 use Rattle.link_unpack.specs.declared.unpacking.Next.{Next}
@@ -35,11 +35,12 @@ use Rattle.link_unpack.specs.declared.unpacking.Stage.TheVariants as stage
 use Rattle.link_unpack.specs.declared.unpacking.Unpacker.{Unpacker}
 use Rattle.link_unpack.specs.declared.wanted.Wanted.{Wanted}
 use Rattle.link_unpack.proofs.GoingOn.{unpacked_none, unpacked_in_order}
-use Rattle.link_unpack.proofs.Heads.{heads_clean}
+use Rattle.link_unpack.proofs.Heads.{heads_with_message}
+use Rattle.link_unpack.proofs.Lasting.{unpacking_stays, unpacking_lasts}
 use Rattle.link_unpack.proofs.Orders.{in_order_none}
-use Rattle.link_unpack.proofs.Outcomes.{refused_at, made_refused, HasHead, head_stays}
+use Rattle.link_unpack.proofs.Outcomes.{refused_at, made_refused}
 use Rattle.link_unpack.proofs.Taken.{made_from, texts_taken, unshown_taken, same_texts}
-use Rattle.link_unpack.proofs.Texts.{by_reading}
+use Rattle.link_unpack.proofs.Texts.{by_reading, made_is}
 
 -- `StandsNext` for the bytes given implies `AfterUnpackStep` for the step
 pub stage_given : {R W E : Type 0} (look : Looks R W E) (start : Devices R W E) (wanted : Wanted)
@@ -61,7 +62,7 @@ stage_given look start wanted piece now old new after u history given (next.Stag
     }
 stage_given look start wanted piece now old new after u history given (next.Ended answer) takes some
     size waiting stood =
-    record { given = given; size = size; gave = stood }
+    record { given = given; size = size; gave = stood.0; ends = stood.1 }
 
 module _ {R W E : Type 0} {look : Looks R W E} {start : Devices R W E} (old new : Session R)
     (before after : Writers W E) (u : Unpacker) {history : List ℕ}
@@ -98,7 +99,7 @@ module _ {R W E : Type 0} {look : Looks R W E} {start : Devices R W E} (old new 
         (ap (λ (t : Texts). t then line) had_texts
         ∙ texts_as (append-nil (parts_of u.latest.wanted unpacked.transfers)) refl
         ∙ sym (ap (λ (m : Made). (whole_by m.stop m).texts) made_here))
-        (inl got.over) answer
+        (inl (got.over, ap (λ (m : Made). shows_fault m.stop) made_here)) answer
         (subst P (sym (ap (λ (m : Made). (whole_by m.stop m).status) made_here))
         (gives at.good))
 
@@ -113,9 +114,6 @@ module _ {R W E : Type 0} {look : Looks R W E} {start : Devices R W E} (old new 
     in_order : AreInOrder heads
     in_order = at.taken stops
 
-    entries_are : (reading_of history).entries ≡ heads
-    entries_are = sym (heads_clean (reading_of history) at.waits.0)
-
     here : unpacked ≡ record {
       taken = messages_of heads;
       transfers = transfers_of heads;
@@ -127,29 +125,17 @@ module _ {R W E : Type 0} {look : Looks R W E} {start : Devices R W E} (old new 
     refused_here : refusal (messages_of heads) (event_of sent) ≡ Some fault
     refused_here = ap (λ (un : Unpacked). refusal un.taken (event_of sent)) (sym here) ∙ refused
 
-    has_head : (more : List ℕ)
-        → HasHead heads offset sent (reading_of ((history ++ got.given) ++ more))
-    has_head more =
-        let P : Reading → Type 0 = λ r. HasHead heads offset sent r in
-        let Q : Reading → Type 0 = λ r. HasHead heads offset sent
-        (joined r (rest_after (length (history ++ got.given)) new.left r.end more)) in
-        subst P (sym (got.at.goes_on more))
-        (subst Q (sym got.reading) (head_stays (reading_of history) heads offset sent _ _ more
-        entries_are))
-
     abbrev refused_made : Made
     refused_made = unpacking_by u.latest.wanted Clean (refused_at heads offset fault)
 
-    made_order : (more : List ℕ)
-        → unpacking_of u.latest.wanted ((history ++ got.given) ++ more) ≡ refused_made
-    made_order more =
-        let head = has_head more in
-        made_refused u.latest.wanted heads offset sent fault stops in_order refused_here _
-        head.content head.others head.are
-
     made_now : unpacking_of u.latest.wanted (history ++ got.given) ≡ refused_made
     made_now =
-        ap (unpacking_of u.latest.wanted) (sym (append-nil (history ++ got.given))) ∙ made_order []
+        made_refused u.latest.wanted heads offset sent fault stops in_order refused_here
+        (history ++ got.given)
+        (ap heads_of got.reading ∙ heads_with_message (reading_of history) offset sent at.waits.0)
+
+    shown : shows_fault (unpacking_of u.latest.wanted (history ++ got.given)).stop ≡ true
+    shown = ap (λ (m : Made). shows_fault m.stop) made_now
 
     order_reported : (answer : Result Status IoFault)
         → AfterLastWrite look.output look.report before after
@@ -165,8 +151,14 @@ module _ {R W E : Type 0} {look : Looks R W E} {start : Devices R W E} (old new 
         (had_texts ∙ ap (texts_of u.latest.wanted) here)
         ∙ then_fault (Order offset fault) (refused_made.texts)
         ∙ sym (ap (λ (m : Made). (whole_by m.stop m).texts) made_now))
-        (inr
-        (ap (λ (m : Made). shows_fault m.stop) made_now, λ more. made_order more ∙ sym made_now))
+        (inr (
+          shown,
+          λ more. unpacking_stays u.latest.wanted (history ++ got.given) more shown,
+          λ count less.
+              ap (λ (m : Made). shows_fault m.stop) (made_is u.latest.wanted _)
+              ∙ part_unshown (by_reading u.latest.wanted) history got.given no_head got.shown_last
+              count less,
+        ))
         answer (subst P (sym (ap (λ (m : Made). (whole_by m.stop m).status) made_now)) gives)
 
     -- the same, by what comes next
@@ -219,6 +211,7 @@ before_all wanted =
 
 pub may_begin : (wanted : Wanted) → MayBegin (unpacking_of wanted) true
 may_begin wanted = record {
+  lasting = unpacking_lasts wanted;
   texts = nothing_yet wanted [] heads_none;
   unshown = unshown_taken wanted [] (none_taken wanted [] heads_none)
       (ap (λ (r : Reading). shows_fault (stop_of r.end)) reading-none);

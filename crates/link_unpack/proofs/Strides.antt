@@ -1,17 +1,15 @@
 -- Steps of `unpack`, one after another, make a stride.
-use Rattle.std.proofs.Common.{◌≡◌, ℕ, ◌+◌, ◌<◌, true, IsTrue, List, ◌++◌, Option, Ok, Err, ⊎_elim, ap, sym, subst, arith}
+use Rattle.std.proofs.Common.{◌≡◌, ℕ, ◌+◌, ◌<◌, true, IsTrue, List, ◌++◌, Ok, Err, ⊎_elim, sym, subst, arith}
 use Rattle.link_wire.specs.Device.{Input}
 use Rattle.link_wire.specs.Session.{source_of, IsSessionAt}
-use Rattle.link_wire.specs.declared.IoFault.TheVariants as io
 use Rattle.link_wire.specs.declared.session.Session.{Session}
 use Rattle.link_run.specs.Run.{Looks, Devices, WentOn}
-use Rattle.link_run.specs.Stages.{HandsOn, IsMore, AfterStage, AfterStageStride}
+use Rattle.link_run.specs.Stages.{IsMore, AfterStage, AfterStageStride}
 use Rattle.link_run.specs.Writers.{place_of}
 use Rattle.link_run.specs.declared.writers.Writers.{Writers}
-use Rattle.link_run.proofs.Handing.{handed_later}
 use Rattle.link_run.proofs.Strides.{went_with, step_then}
 use Rattle.link_unpack.specs.Unpacking.{unpacking_of, unpack_tool}
-use Rattle.link_unpack.specs.UnpackRun.{most_by, most_given, may_go_on, may_follow, progress_of, stage_after, Unpacks, IsUnpacking, UnpackStands, StandsAt, StandsIf, PassesQuiet, WritesNext, AfterUnpackStep, AfterUnpackStride}
+use Rattle.link_unpack.specs.UnpackRun.{most_by, most_given, may_go_on, may_follow, progress_of, stage_after, Unpacks, IsUnpacking, UnpackStands, StandsAt, StandsIf, PassesQuiet, AfterUnpackStep, AfterUnpackStride}
 use Rattle.link_unpack.specs.declared.unpacking.Next.{Next}
 use Rattle.link_unpack.specs.declared.unpacking.Next.TheVariants as next
 use Rattle.link_unpack.specs.declared.unpacking.Stage.{Stage}
@@ -151,20 +149,3 @@ module _ {R W E : Type 0} (look : Looks R W E) (start : Devices R W E) (wanted :
   )
   stride_kept (next.Ended (Ok status)) far = (far.0, λ some. far.1, far.2)
   stride_kept (next.Ended (Err fault)) far = (far.0, λ some. far.1, far.2)
-
-module _ {R W E : Type 0} (look : Looks R W E) (old mid new : Session R)
-    (before between after : Writers W E) where
-  -- a later step reads nothing, and writes more texts
-  pub handed_more : (result : Next)
-      → HandsOn look old mid before between
-      → WritesNext look.output look.report between after result
-      → (result ≡ next.Ended (Err io.Write) → ⊥)
-      → HandsOn look old new before after
-  handed_more (next.Stage now) handed wrote other =
-      handed_later look (source_of old) (source_of new) before between after
-      {between = source_of mid} wrote.0 handed wrote.1
-  handed_more (next.Ended (Ok status)) handed wrote other =
-      handed_later look (source_of old) (source_of new) before between after
-      {between = source_of mid} wrote.0 handed wrote.1
-  handed_more (next.Ended (Err fault)) handed kind other =
-      absurd (other (ap (λ e. next.Ended (Err e)) kind))

@@ -1,11 +1,10 @@
 -- What `unpack` makes of heads that are taken: the run goes on after a fault of the order, or they
 -- are in order.
 use Rattle.std.proofs.Common.{◌≡◌, ℕ, false, List, [], ◌++◌, refl, ap, sym, ◌∙◌, subst}
-use Rattle.link_wire.specs.Stream.{Entry, End, Clean, Cut, Fault, Reading, reading_of}
+use Rattle.link_wire.specs.Stream.{Entry, End, Clean, Cut, Fault, Reading, reading_of, cut_heads, heads_of}
 use Rattle.link_run.specs.Made.{Made, shows_fault, stop_of}
 use Rattle.link_run.proofs.Ends.{unshown_sofar}
 use Rattle.link_run.proofs.Sessions.{IsUncut, SameTexts}
-use Rattle.link_unpack.specs.Transfers.{cut_heads, heads_of}
 use Rattle.link_unpack.specs.Unpacking.{unpacked_of, going_on_by, unpacking_of, unpack_tool}
 use Rattle.link_unpack.specs.UnpackRun.{AreTaken, texts_of, unpacked_from}
 use Rattle.link_unpack.specs.declared.wanted.Wanted.{Wanted}

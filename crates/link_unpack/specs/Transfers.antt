@@ -3,26 +3,13 @@
 use Rattle.std.specs.Prelude.{ℕ, Bool, ◌&&◌, ◌==◌, List, [], ◌∷◌, ◌++◌, length, Option, Some, None, if◌then◌else◌}
 use Rattle.std.specs.List.{fold}
 use Rattle.link_wire.specs.Codes.{is_start, is_end}
-use Rattle.link_wire.specs.Stream.{Entry, End, Clean, Cut, Fault, Reading}
+use Rattle.link_wire.specs.Stream.{Entry}
 use Rattle.link_wire.specs.declared.message.Message.{Message}
 use Rattle.link_wire.specs.declared.message.Message.TheVariants.{SessInit, Segment, Ack, Refuse, Keepalive, SessTerm, MsgReject}
 use Rattle.link_wire.specs.declared.message.SegmentHead.{SegmentHead}
 use Rattle.link_transfer.specs.Event.{event_of}
 use Rattle.link_transfer.specs.Order.{refusal}
 use Rattle.link_transfer.specs.declared.fault.OrderFault.{OrderFault}
-
--- ---- heads
-
--- the head of a segment whose data is incomplete, with the data so far
-abbrev pub cut_heads : End → List Entry
-cut_heads Clean = []
-cut_heads (Cut offset message content) =
-    record { offset = offset; message = message; content = content } ∷ []
-cut_heads (Fault offset fault) = []
-
--- all whole heads: those of whole messages, and that of a segment whose data is incomplete
-abbrev pub heads_of : Reading → List Entry
-heads_of reading = reading.entries ++ cut_heads reading.end
 
 -- ---- order
 

@@ -7,10 +7,9 @@ use Rattle.link_wire.specs.Message.{data_length}
 use Rattle.link_wire.specs.MessageBuffer.{message_of}
 use Rattle.link_wire.specs.Source.{window_of}
 use Rattle.link_wire.specs.Session.{source_of, left_of, with_message, IsSessionAt, may_open, may_read, is_opened}
-use Rattle.link_wire.specs.Stream.{Entry, End, Clean, Cut, Reading, reading_of}
+use Rattle.link_wire.specs.Stream.{Entry, End, Clean, Cut, Reading, reading_of, heads_of}
 use Rattle.link_wire.specs.Whole.{PassedQuiet}
 use Rattle.link_wire.specs.declared.IoFault.{IoFault}
-use Rattle.link_wire.specs.declared.IoFault.TheVariants as io
 use Rattle.link_wire.specs.declared.message.Message.{Message}
 use Rattle.link_wire.specs.declared.message.Message.TheVariants.{Segment}
 use Rattle.link_wire.specs.declared.message.MessageBuffer.{MessageBuffer}
@@ -21,14 +20,14 @@ use Rattle.link_transfer.specs.Joiner.{IsJoinerAt}
 use Rattle.link_transfer.specs.Order.{open_of, is_stray, refusal, effect_of, with_taken}
 use Rattle.link_transfer.specs.declared.fault.OrderFault.{OrderFault}
 use Rattle.link_transfer.specs.declared.joiner.Turn.{Turn}
-use Rattle.link_run.specs.Run.{Texts, Looks, Devices, devices_at, NoneFailed, HasWritten, WentOn, LastStep, AfterStep, EndedRun, answer_of}
+use Rattle.link_run.specs.Run.{Texts, Looks, Devices, devices_at, NoneFailed, HasWritten, WentOn, LastStep, AfterStep, EndedRun, EndsAtFault, answer_of}
 use Rattle.link_run.specs.Stages.{Stands}
-use Rattle.link_run.specs.Writers.{place_of, on_report, Writes, AfterLastWrite}
+use Rattle.link_run.specs.Writers.{place_of, on_report, AfterLastWrite}
 use Rattle.link_run.specs.declared.run.Progress.{Progress}
 use Rattle.link_run.specs.declared.run.Progress.TheVariants.{More}
 use Rattle.link_run.specs.declared.run.Status.{Status}
 use Rattle.link_run.specs.declared.writers.Writers.{Writers}
-use Rattle.link_unpack.specs.Transfers.{ordered, heads_of, Transfer, settled}
+use Rattle.link_unpack.specs.Transfers.{ordered, Transfer, settled}
 use Rattle.link_unpack.specs.Unpacking.{parts_of, are_good, Unpacked, unpacked_of, order_line, abandoned_line, closed_line, unpacking_of, unpack_tool}
 use Rattle.link_unpack.specs.TransferScan.{IsAtTransfer}
 use Rattle.link_unpack.specs.declared.transfer.TransferScan.{TransferScan}
@@ -223,8 +222,8 @@ module _ {R W E : Type 0} (look : Looks R W E) (start : Devices R W E) where
       StandsAt wanted now session writers unpacker history
   StandsNext wanted session writers unpacker history (next.Ended answer) =
       EndedRun look (unpack_tool wanted) start
-      (devices_at (place_of (source_of session) writers)) history
-      answer
+      (devices_at (place_of (source_of session) writers)) history answer
+      × EndsAtFault (unpack_tool wanted) history
 
   -- what holds after a step at the stage `now`
   abbrev pub AfterUnpackStep : Wanted → (piece : ℕ) → (now : Stage) → (old new : Session R)
@@ -356,11 +355,3 @@ module _ {W E : Type 0} (out_look : W → Output) (report_look : E → Output) w
   EndsWith old new texts status (next.Stage stage) = ⊥
   EndsWith old new texts status (next.Ended answer) =
       AfterLastWrite out_look report_look old new texts status answer
-
-  -- some texts were written, or a writer failed
-  abbrev pub WritesNext : (old new : Writers W E) → Next → Type 0
-  WritesNext old new (next.Stage stage) =
-      (texts : Texts) × Writes out_look report_look old new texts
-  WritesNext old new (next.Ended (Ok status)) =
-      (texts : Texts) × Writes out_look report_look old new texts
-  WritesNext old new (next.Ended (Err fault)) = fault ≡ io.Write

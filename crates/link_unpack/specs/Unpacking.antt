@@ -1,7 +1,7 @@
 -- What `unpack` writes for a recorded stream.
 use Rattle.std.specs.Prelude.{ℕ, Bool, true, false, not, ◌&&◌, ◌==◌, is_some, List, [], ◌∷◌, ◌++◌, length, Option, Some, None, if◌then◌else◌}
 use Rattle.std.specs.List.{fold, list_all}
-use Rattle.link_wire.specs.Stream.{Entry, End, Reading, reading_of}
+use Rattle.link_wire.specs.Stream.{Entry, End, Reading, reading_of, heads_of}
 use Rattle.link_wire.specs.declared.message.Message.{Message}
 use Rattle.link_bundle.specs.Bundle.{verdict, payload_in}
 use Rattle.link_transfer.specs.Announced.{announced_of}
@@ -18,7 +18,7 @@ use Rattle.link_report.specs.declared.judgement.Judgement.TheVariants.{Abandoned
 use Rattle.link_report.specs.declared.transfer.TransferEntry.{TransferEntry}
 use Rattle.link_run.specs.Made.{StreamStop, Made, tool_of, stop_of}
 use Rattle.link_run.specs.Run.{Tool}
-use Rattle.link_unpack.specs.Transfers.{Ordered, ordered, heads_of, Transfer, after_message, transfers_of, settled}
+use Rattle.link_unpack.specs.Transfers.{Ordered, ordered, Transfer, after_message, transfers_of, settled}
 use Rattle.link_unpack.specs.declared.wanted.Wanted.{Wanted}
 
 -- ---- the output

@@ -1,11 +1,10 @@
 //! `unpack`: the data of the transfers of a recorded stream, and a line for each transfer.
 
 ghost use Rattle.std.specs.Prelude.{◌≡◌, ◌+◌, ◌&&◌, ◌<◌, ◌≤◌, true, false, not, [], is_some, if◌then◌else◌, IsTrue, List, length, ℕ, IfSome, Ok, Err, Option, Some, None};
-ghost use Rattle.link_wire.specs.Session.{may_open, may_read, is_opened, left_of, data_in, IsSessionAt};
-ghost use Rattle.link_run.specs.Reading.{inner_of};
+ghost use Rattle.link_wire.specs.Session.{source_of, may_open, may_read, is_opened, left_of, data_in, IsSessionAt};
+ghost use Rattle.link_run.specs.Reading.{inner_of, waits_of, SessionWaits, Unread};
 ghost use Rattle.link_run.specs.Run.{Devices, devices_at, looks, AfterRun};
-ghost use Rattle.link_run.specs.Stages.{HandsOn};
-ghost use Rattle.link_run.specs.Writers.{AfterWrite, WritesSome, on_report};
+ghost use Rattle.link_run.specs.Writers.{AfterWrite, on_report};
 ghost use Rattle.link_report.specs.Fault.{fault_text};
 ghost use Rattle.link_wire.specs.Codes.{is_start};
 ghost use Rattle.link_wire.specs.MessageBuffer.{SegmentHasTotals, message_of};
@@ -18,7 +17,7 @@ ghost use Rattle.link_transfer.specs.declared.fault.OrderFault.{OrderFault};
 ghost use Rattle.link_unpack.specs.Transfers.{Transfer, settled};
 ghost use Rattle.link_unpack.specs.Unpacking.{unpack_tool, parts_of, line_of, is_good, are_good, judgement_of, Unpacked, abandoned_line};
 ghost use Rattle.link_unpack.specs.TransferScan.{IsAtTransfer, begun};
-ghost use Rattle.link_unpack.specs.UnpackRun.{may_go_on, may_follow, next_of, progress_of, stage_after, is_open_after, UnpackStands, IsUnpacking, Begins, Unpacks, HeadHasCome, IsTaken, IsBeginning, IsJoining, IsOpen, AfterUnpackStep, AfterUnpackStride, PassesQuiet, StandsNext, AfterFinish, EndsWith, WritesNext};
+ghost use Rattle.link_unpack.specs.UnpackRun.{may_go_on, may_follow, next_of, progress_of, stage_after, is_open_after, UnpackStands, IsUnpacking, Begins, Unpacks, HeadHasCome, IsTaken, IsBeginning, IsJoining, IsOpen, AfterUnpackStep, AfterUnpackStride, PassesQuiet, StandsNext, AfterFinish, EndsWith};
 
 use self::inner::take_on;
 use crate::transfer::{TransferScan, is_bundle};
@@ -104,7 +103,7 @@ impl<R: InDevice, W: OutDevice, E: OutDevice> Stages<Session<R>, W, E> for Unpac
 
     fn stage(
         &mut self,
-        input: &mut Input<Session<R>>,
+        input: &mut Input<Session<R>, W, E>,
         writers: &mut Writers<W, E>,
     ) -> Result<Progress, IoFault> {
         let next = advance(
@@ -121,7 +120,7 @@ impl<R: InDevice, W: OutDevice, E: OutDevice> Stages<Session<R>, W, E> for Unpac
     #[inline(always)]
     fn stride(
         &mut self,
-        input: &mut Input<Session<R>>,
+        input: &mut Input<Session<R>, W, E>,
         writers: &mut Writers<W, E>,
     ) -> Result<Progress, IoFault> {
         let next = stride_from(
@@ -154,7 +153,7 @@ fn keep(stage: &mut Stage, next: Next) -> Result<Progress, IoFault>
 #[inline(always)]
 fn stride_from<R: InDevice, W: OutDevice, E: OutDevice>(
     stage: Stage,
-    input: &mut Input<Session<R>>,
+    input: &mut Input<Session<R>, W, E>,
     writers: &mut Writers<W, E>,
     message: &mut MessageBuffer,
     unpacker: &mut Unpacker,
@@ -168,11 +167,9 @@ fn stride_from<R: InDevice, W: OutDevice, E: OutDevice>(
         → AfterUnpackStride (looks R.state W.state E.state) start unpacker.old.latest.wanted
         (inner_of input.old) (inner_of input.new) writers.old writers.new unpacker.new history
         result }
-    ensures handed { (history : List ℕ)
+    ensures waits { (history : List ℕ)
         → IsUnpacking R.state stage unpacker.old (inner_of input.old) history
-        → (result ≡ Next.Ended (Err IoFault.Write) → ⊥)
-        → HandsOn (looks R.state W.state E.state) (inner_of input.old)
-        (inner_of input.new) writers.old writers.new }
+        → SessionWaits (looks R.state W.state E.state) input.old input.new writers.old }
     ensures wanted { unpacker.new.latest.wanted ≡ unpacker.old.latest.wanted }
 {
     if let Stage::Message = stage {
@@ -186,7 +183,7 @@ fn stride_from<R: InDevice, W: OutDevice, E: OutDevice>(
 /// data to come.
 #[inline(always)]
 fn stride_message<R: InDevice, W: OutDevice, E: OutDevice>(
-    input: &mut Input<Session<R>>,
+    input: &mut Input<Session<R>, W, E>,
     writers: &mut Writers<W, E>,
     message: &mut MessageBuffer,
     unpacker: &mut Unpacker,
@@ -200,11 +197,9 @@ fn stride_message<R: InDevice, W: OutDevice, E: OutDevice>(
         → AfterUnpackStride (looks R.state W.state E.state) start unpacker.old.latest.wanted
         (inner_of input.old) (inner_of input.new) writers.old writers.new unpacker.new history
         result }
-    ensures handed { (history : List ℕ)
+    ensures waits { (history : List ℕ)
         → Unpacks R.state Stage.Message (inner_of input.old) unpacker.old history
-        → (result ≡ Next.Ended (Err IoFault.Write) → ⊥)
-        → HandsOn (looks R.state W.state E.state) (inner_of input.old)
-        (inner_of input.new) writers.old writers.new }
+        → SessionWaits (looks R.state W.state E.state) input.old input.new writers.old }
     ensures wanted { unpacker.new.latest.wanted ≡ unpacker.old.latest.wanted }
 {
     let next = take_message(input, writers, message, unpacker);
@@ -217,7 +212,10 @@ fn stride_message<R: InDevice, W: OutDevice, E: OutDevice>(
 
 /// Passes over the quiet messages in the window if a message comes next. Returns what comes next.
 #[inline(always)]
-fn pass_quiet<R: InDevice>(next: Next, input: &mut Input<Session<R>>) -> Next
+fn pass_quiet<R: InDevice, W: OutDevice, E: OutDevice>(
+    next: Next,
+    input: &mut Input<Session<R>, W, E>,
+) -> Next
     requires { IsTrue (may_follow next (inner_of input.old)) }
     ensures fits { IsTrue (may_follow result (inner_of input.new)) }
     ensures same { result ≡ next }
@@ -225,6 +223,7 @@ fn pass_quiet<R: InDevice>(next: Next, input: &mut Input<Session<R>>) -> Next
         → inner_of input.new ≡ inner_of input.old }
     ensures passed { (history : List ℕ) → IsSessionAt R.state (inner_of input.old) history
         → PassesQuiet R.state (inner_of input.old) (inner_of input.new) history }
+    ensures unread { Unread R.state source_of input.old input.new }
 {
     if let Next::Stage(Stage::Message) = next {
         input.pass_quiet();
@@ -250,7 +249,7 @@ fn at_hand(next: Next, ready: usize) -> Option<bool>
 fn advance<R: InDevice, W: OutDevice, E: OutDevice>(
     stage: Stage,
     piece: usize,
-    input: &mut Input<Session<R>>,
+    input: &mut Input<Session<R>, W, E>,
     writers: &mut Writers<W, E>,
     message: &mut MessageBuffer,
     unpacker: &mut Unpacker,
@@ -265,11 +264,9 @@ fn advance<R: InDevice, W: OutDevice, E: OutDevice>(
         → AfterUnpackStep (looks R.state W.state E.state) start unpacker.old.latest.wanted piece
         stage
         (inner_of input.old) (inner_of input.new) writers.new unpacker.new history result }
-    ensures handed { (history : List ℕ)
+    ensures waits { (history : List ℕ)
         → IsUnpacking R.state stage unpacker.old (inner_of input.old) history
-        → (result ≡ Next.Ended (Err IoFault.Write) → ⊥)
-        → HandsOn (looks R.state W.state E.state) (inner_of input.old)
-        (inner_of input.new) writers.old writers.new }
+        → SessionWaits (looks R.state W.state E.state) input.old input.new writers.old }
     ensures wanted { unpacker.new.latest.wanted ≡ unpacker.old.latest.wanted }
 {
     match stage {
@@ -282,7 +279,7 @@ fn advance<R: InDevice, W: OutDevice, E: OutDevice>(
 
 /// Reads the contact header.
 fn open<R: InDevice, W: OutDevice, E: OutDevice>(
-    input: &mut Input<Session<R>>,
+    input: &mut Input<Session<R>, W, E>,
     writers: &mut Writers<W, E>,
     unpacker: &Unpacker,
 ) -> Next
@@ -295,9 +292,7 @@ fn open<R: InDevice, W: OutDevice, E: OutDevice>(
         → AfterUnpackStep (looks R.state W.state E.state) start unpacker.now.latest.wanted piece
         Stage.Contact (inner_of input.old) (inner_of input.new) writers.new unpacker.now history
         result }
-    ensures handed { (result ≡ Next.Ended (Err IoFault.Write) → ⊥)
-        → HandsOn (looks R.state W.state E.state) (inner_of input.old)
-        (inner_of input.new) writers.old writers.new }
+    ensures waits { waits_of input.new ≡ waits_of input.old }
 {
     match input.open() {
         Ok(_) => Next::Stage(Stage::Message),
@@ -308,7 +303,7 @@ fn open<R: InDevice, W: OutDevice, E: OutDevice>(
 /// Reads the head of a message, and begins, continues or closes a transfer with it.
 #[inline(always)]
 fn take_message<R: InDevice, W: OutDevice, E: OutDevice>(
-    input: &mut Input<Session<R>>,
+    input: &mut Input<Session<R>, W, E>,
     writers: &mut Writers<W, E>,
     message: &mut MessageBuffer,
     unpacker: &mut Unpacker,
@@ -322,11 +317,9 @@ fn take_message<R: InDevice, W: OutDevice, E: OutDevice>(
         → AfterUnpackStep (looks R.state W.state E.state) start unpacker.old.latest.wanted piece
         Stage.Message (inner_of input.old) (inner_of input.new) writers.new unpacker.new history
         result }
-    ensures handed { (history : List ℕ)
+    ensures waits { (history : List ℕ)
         → Unpacks R.state Stage.Message (inner_of input.old) unpacker.old history
-        → (result ≡ Next.Ended (Err IoFault.Write) → ⊥)
-        → HandsOn (looks R.state W.state E.state) (inner_of input.old)
-        (inner_of input.new) writers.old writers.new }
+        → SessionWaits (looks R.state W.state E.state) input.old input.new writers.old }
     ensures wanted { unpacker.new.latest.wanted ≡ unpacker.old.latest.wanted }
 {
     let offset = match input.next_message(writers, message) {
@@ -348,7 +341,7 @@ fn take_message<R: InDevice, W: OutDevice, E: OutDevice>(
 #[inline(never)]
 fn refuse<R: InDevice, W: OutDevice, E: OutDevice>(
     fault: &Fault,
-    input: &Input<Session<R>>,
+    input: &Input<Session<R>, W, E>,
     writers: &mut Writers<W, E>,
     message: &MessageBuffer,
     unpacker: &mut Unpacker,
@@ -369,7 +362,6 @@ fn refuse<R: InDevice, W: OutDevice, E: OutDevice>(
         → fault.now ≡ Fault.Order offset order
         → StandsNext (looks R.state W.state E.state) start unpacker.old.latest.wanted
         (inner_of input.now) writers.new unpacker.new history result }
-    ensures writes { WritesNext W.state E.state writers.old writers.new result }
     ensures wanted { unpacker.new.latest.wanted ≡ unpacker.old.latest.wanted }
 {
     let reported = writers.report_fault(fault);
@@ -391,7 +383,7 @@ fn refuse<R: InDevice, W: OutDevice, E: OutDevice>(
 #[inline(always)]
 fn follow<R: InDevice, W: OutDevice, E: OutDevice>(
     turn: Turn,
-    input: &Input<Session<R>>,
+    input: &Input<Session<R>, W, E>,
     writers: &mut Writers<W, E>,
     message: &MessageBuffer,
     unpacker: &mut Unpacker,
@@ -406,7 +398,6 @@ fn follow<R: InDevice, W: OutDevice, E: OutDevice>(
         → IsTaken before line (Some turn) unpacker.old (message_of message.now)
         → StandsNext (looks R.state W.state E.state) start unpacker.old.latest.wanted
         (inner_of input.now) writers.new unpacker.new history result }
-    ensures writes { WritesNext W.state E.state writers.old writers.new result }
     ensures wanted { unpacker.new.latest.wanted ≡ unpacker.old.latest.wanted }
 {
     match turn {
@@ -421,7 +412,7 @@ fn follow<R: InDevice, W: OutDevice, E: OutDevice>(
 /// What comes after the head of a message that belongs to no transfer, or after data of it. Only a
 /// stray segment has data.
 #[inline(always)]
-fn after_other<R: InDevice>(input: &Input<Session<R>>) -> Stage
+fn after_other<R: InDevice, W: OutDevice, E: OutDevice>(input: &Input<Session<R>, W, E>) -> Stage
     requires { IsTrue (is_opened (inner_of input.now)) }
     ensures fits { IsTrue (may_go_on result (inner_of input.now)) }
     ensures some { 0 < left_of (inner_of input.now) → result ≡ Stage.Stray }
@@ -439,7 +430,7 @@ fn after_other<R: InDevice>(input: &Input<Session<R>>) -> Stage
 #[inline(never)]
 fn pass_stray<R: InDevice, W: OutDevice, E: OutDevice>(
     piece: usize,
-    input: &mut Input<Session<R>>,
+    input: &mut Input<Session<R>, W, E>,
     writers: &mut Writers<W, E>,
     unpacker: &Unpacker,
 ) -> Next
@@ -453,11 +444,9 @@ fn pass_stray<R: InDevice, W: OutDevice, E: OutDevice>(
         → AfterUnpackStep (looks R.state W.state E.state) start unpacker.now.latest.wanted piece
         Stage.Stray (inner_of input.old) (inner_of input.new) writers.new unpacker.now history
         result }
-    ensures handed { (history : List ℕ)
+    ensures waits { (history : List ℕ)
         → Unpacks R.state Stage.Stray (inner_of input.old) unpacker.now history
-        → (result ≡ Next.Ended (Err IoFault.Write) → ⊥)
-        → HandsOn (looks R.state W.state E.state) (inner_of input.old)
-        (inner_of input.new) writers.old writers.new }
+        → SessionWaits (looks R.state W.state E.state) input.old input.new writers.old }
 {
     let size = match input.load_data(writers) {
         Ok(ready) => ready.min(piece),
@@ -473,7 +462,7 @@ fn pass_stray<R: InDevice, W: OutDevice, E: OutDevice>(
 fn begin<R: InDevice, W: OutDevice, E: OutDevice>(
     abandoned: bool,
     last: bool,
-    input: &Input<Session<R>>,
+    input: &Input<Session<R>, W, E>,
     writers: &mut Writers<W, E>,
     message: &MessageBuffer,
     unpacker: &mut Unpacker,
@@ -486,7 +475,6 @@ fn begin<R: InDevice, W: OutDevice, E: OutDevice>(
         writers.old unpacker.old message.now history
         → StandsNext (looks R.state W.state E.state) start unpacker.old.latest.wanted
         (inner_of input.now) writers.new unpacker.new history (next_of result) }
-    ensures writes { WritesSome W.state E.state writers.old writers.new result }
     ensures wanted { unpacker.new.latest.wanted ≡ unpacker.old.latest.wanted }
 {
     if let Err(fault) = abandon(abandoned, writers, unpacker) {
@@ -516,7 +504,7 @@ fn begin_latest(latest: &mut TransferScan, message: &MessageBuffer)
 fn take_data<R: InDevice, W: OutDevice, E: OutDevice>(
     last: bool,
     piece: usize,
-    input: &mut Input<Session<R>>,
+    input: &mut Input<Session<R>, W, E>,
     writers: &mut Writers<W, E>,
     unpacker: &mut Unpacker,
 ) -> Next
@@ -530,11 +518,9 @@ fn take_data<R: InDevice, W: OutDevice, E: OutDevice>(
         → AfterUnpackStep (looks R.state W.state E.state) start unpacker.old.latest.wanted piece
         (Stage.Data last) (inner_of input.old) (inner_of input.new) writers.new unpacker.new history
         result }
-    ensures handed { (history : List ℕ)
+    ensures waits { (history : List ℕ)
         → Unpacks R.state (Stage.Data last) (inner_of input.old) unpacker.old history
-        → (result ≡ Next.Ended (Err IoFault.Write) → ⊥)
-        → HandsOn (looks R.state W.state E.state) (inner_of input.old)
-        (inner_of input.new) writers.old writers.new }
+        → SessionWaits (looks R.state W.state E.state) input.old input.new writers.old }
     ensures wanted { unpacker.new.latest.wanted ≡ unpacker.old.latest.wanted }
 {
     match input.load_data(writers) {
@@ -549,7 +535,7 @@ fn take_data<R: InDevice, W: OutDevice, E: OutDevice>(
 fn take_loaded<R: InDevice, W: OutDevice, E: OutDevice>(
     last: bool,
     size: usize,
-    input: &mut Input<Session<R>>,
+    input: &mut Input<Session<R>, W, E>,
     writers: &mut Writers<W, E>,
     unpacker: &mut Unpacker,
 ) -> Next
@@ -563,7 +549,7 @@ fn take_loaded<R: InDevice, W: OutDevice, E: OutDevice>(
         → AfterUnpackStep (looks R.state W.state E.state) start unpacker.old.latest.wanted size
         (Stage.Data last) (inner_of input.old) (inner_of input.new) writers.new unpacker.new history
         result }
-    ensures writes { WritesNext W.state E.state writers.old writers.new result }
+    ensures unread { Unread R.state source_of input.old input.new }
     ensures wanted { unpacker.new.latest.wanted ≡ unpacker.old.latest.wanted }
 {
     let part = unpacker.latest.take(&input.loaded()[..size]);
@@ -579,7 +565,7 @@ fn take_loaded<R: InDevice, W: OutDevice, E: OutDevice>(
 /// has come, the transfer's line is written.
 fn go_on<R: InDevice, W: OutDevice, E: OutDevice>(
     last: bool,
-    input: &Input<Session<R>>,
+    input: &Input<Session<R>, W, E>,
     writers: &mut Writers<W, E>,
     unpacker: &mut Unpacker,
 ) -> Result<Stage, IoFault>
@@ -590,7 +576,6 @@ fn go_on<R: InDevice, W: OutDevice, E: OutDevice>(
         unpacker.old history
         → StandsNext (looks R.state W.state E.state) start unpacker.old.latest.wanted
         (inner_of input.now) writers.new unpacker.new history (next_of result) }
-    ensures writes { WritesSome W.state E.state writers.old writers.new result }
     ensures wanted { unpacker.new.latest.wanted ≡ unpacker.old.latest.wanted }
 {
     if input.left() > 0 {
@@ -620,7 +605,6 @@ fn report<W: OutDevice, E: OutDevice>(
         → IsAtTransfer unpacker.old.latest
         transfer earlier → abandoned ≡ not transfer.closed
         → unpacker.new.good ≡ (is_good (judgement_of transfer) && unpacker.old.good) }
-    ensures writes { WritesSome W.state E.state writers.old writers.new result }
     ensures latest { unpacker.new.latest ≡ unpacker.old.latest }
     ensures joiner { unpacker.new.joiner ≡ unpacker.old.joiner }
 {
@@ -644,7 +628,6 @@ fn abandon<W: OutDevice, E: OutDevice>(
         → IsOpen abandoned unpacker.old.latest transfers
         → unpacker.old.good ≡ (are_good (settled transfers) && in_order)
         → unpacker.new.good ≡ (are_good transfers && in_order) }
-    ensures writes { WritesSome W.state E.state writers.old writers.new result }
     ensures latest { unpacker.new.latest ≡ unpacker.old.latest }
     ensures joiner { unpacker.new.joiner ≡ unpacker.old.joiner }
 {
@@ -664,7 +647,6 @@ fn finish<W: OutDevice, E: OutDevice>(
     ensures gives { (unpacked : Unpacked) → IsJoinerAt unpacker.old.joiner unpacked.taken
         → IsOpen (is_open_after unpacked) unpacker.old.latest unpacked.transfers
         → AfterFinish W.state E.state unpacker.old unpacked writers.old writers.new result }
-    ensures writes { WritesSome W.state E.state writers.old writers.new result }
 {
     let is_open = unpacker.joiner.open().is_some();
     match abandon(is_open, writers, unpacker) {
@@ -699,6 +681,7 @@ pub fn unpack_run<R: InDevice, W: OutDevice, E: OutDevice>(
     ensures tool { ⟦<UnpackRun<R, W, E> as Run<R, W, E>>⟧.tool result ≡ unpack_tool wanted }
     ensures devices { devices_at (⟦<UnpackRun<R, W, E> as Run<R, W, E>>⟧.place result)
         ≡ record { reader = reader; output = output; report = report } }
+    ensures waits { ⟦<UnpackRun<R, W, E> as Run<R, W, E>>⟧.waits result ≡ [] }
 {
     let tool = Unpacking {
         stage: Stage::Contact,
@@ -736,7 +719,7 @@ pub fn unpack<R: InDevice, W: OutDevice, E: OutDevice>(
     ensures { AfterRun (looks R.state W.state E.state) (unpack_tool wanted)
         (record { reader = reader; output = output; report = report })
         (record { reader = result.reader; output = result.output; report = result.report })
-        result.answer }
+        result.waits.items result.answer }
 {
     unpack_run(wanted, reader, output, report).run()
 }

@@ -6,7 +6,6 @@ mod Skips
 mod Items
 pub mod Shrinks
 pub mod Within
-mod Heres
 pub mod Steady
 pub mod Contacts
 pub mod Streams

@@ -1,15 +1,13 @@
 -- Whole messages, one after another, are read as one list of messages.
-use Rattle.std.proofs.Common.{◌≡◌, ℕ, zero, suc, ◌+◌, ◌^◌, ◌<◌, ◌≤◌, true, List, [], ◌∷◌, ◌++◌, length, take, drop, slice_index, Some, ◌==◌, refl, ap, sym, ◌∙◌, subst, append_assoc, append-nil, length-append, length-drop, add-zero, get_or-drop, arith}
+use Rattle.std.proofs.Common.{◌≡◌, ℕ, ◌+◌, ◌^◌, ◌<◌, ◌≤◌, true, List, [], ◌∷◌, ◌++◌, length, take, drop, slice_index, ◌==◌, refl, ap, sym, ◌∙◌, subst, append_assoc, append-nil, length-append, length-drop, add-zero, get_or-drop, arith}
 use Rattle.std.proofs.lemmas.Bool.{le-ltb, eqb-true, cond_both}
 use Rattle.std.proofs.lemmas.List.Elements.{All-nil, All-push}
 use Rattle.std.proofs.Math.Seq.{take-add, take-append_seam, drop-append_seam}
 use Rattle.link_wire.specs.Codes.{xfer_ack, xfer_refuse, keepalive, msg_reject}
 use Rattle.link_wire.specs.Getting.{IsPart}
 use Rattle.link_wire.specs.Message.{message_at, data_length}
-use Rattle.link_wire.specs.Session.{IsEnoughFor}
 use Rattle.link_wire.specs.Stream.{Entry, stream_at}
 use Rattle.link_wire.specs.Whole.{followed, AreMessages, is_quiet, IsQuiet, AreQuiet, quiet_size, IsQuietHead}
-use Rattle.link_wire.proofs.Heres.{head_enough}
 use Rattle.link_wire.proofs.Plains.{ack_head, refuse_head, keepalive_head, msg_reject_head}
 use Rattle.link_wire.proofs.Streams.{stream_at-head}
 use Rattle.link_wire.specs.declared.message.Message.{Message}
@@ -77,13 +75,6 @@ quiet_more offset at size window within so_far head =
       are = messages_then offset first last so_far.entries _ so_far.are one;
     })
 
--- if the window begins with a quiet message, no field of its first message is missing
-pub quiet_first : (at size : ℕ) (window : List ℕ)
-    → (0 < at → IsEnoughFor message_at (Some window))
-    → IsQuietHead (drop at window) size → IsEnoughFor message_at (Some window)
-quiet_first zero size window here head = head_enough window size head.message head.is
-quiet_first (suc at) size window here head = here (omega arith)
-
 module _ (window : List ℕ) (size : ℕ) (within : size ≤ length window) where
   quiet_part : (message : Message) → IsPart message_at (take size window) message
       → is_quiet message ≡ true → data_length message ≡ 0 → IsQuietHead window size
@@ -130,13 +121,11 @@ quiet_size-bounds kind =
 pub record BeginQuiet (window : List ℕ) (count : ℕ) : Type 0 where
   pub within : count ≤ length window
   pub quiet : (offset : ℕ) → AreQuiet offset (take count window)
-  pub here : 0 < count → IsEnoughFor message_at (Some window)
 
 pub begin_none : (window : List ℕ) → BeginQuiet window 0
 begin_none window = record {
   within = omega arith;
   quiet = quiet_none;
-  here = λ some. absurd (omega arith);
 }
 
 -- quiet messages, and then another one of the size that the next byte has as a type
@@ -155,5 +144,4 @@ begin_more window at size slice is begun within =
     record {
       within = within;
       quiet = λ offset. quiet_more offset at size window begun.within (begun.quiet offset) head;
-      here = λ some. quiet_first at size window begun.here head;
     }

@@ -1,12 +1,12 @@
 -- The state of a session in the reading of the bytes that it was given.
-use Rattle.std.specs.Prelude.{◌≡◌, ℕ, zero, suc, ◌+◌, ◌<◌, ◌≤◌, Bool, true, false, ◌&&◌, ◌==◌, List, [], ◌++◌, length, take, drop, Option, Some, None, Result, Ok, Err, nat_lt, if◌then◌else◌, IfOk, IfErr, IfSome, IsTrue, ⊤}
-use Rattle.link_io.specs.Device.{Input, HasBytes}
+use Rattle.std.specs.Prelude.{◌≡◌, ℕ, zero, suc, ◌+◌, ◌<◌, ◌≤◌, Bool, true, false, ◌&&◌, ◌==◌, List, [], ◌++◌, length, take, drop, Option, Some, None, Result, Ok, Err, nat_lt, if◌then◌else◌, IfOk, IfErr, IfSome, IsTrue}
+use Rattle.link_io.specs.Device.{Input}
 use Rattle.link_wire.specs.Getting.{MayFollow}
 use Rattle.link_wire.specs.Limits.{longest_head, window_size}
 use Rattle.link_wire.specs.Message.{data_length, contact_at, message_at}
 use Rattle.link_wire.specs.MessageBuffer.{message_of, SegmentHasTotals}
 use Rattle.link_wire.specs.Part.{Part}
-use Rattle.link_io.specs.Source.{IsSourceAt, IsLive, IsOver, HasEnded, Takes, Readies, StopsAfter, is_fresh, window_of, front_of, ahead}
+use Rattle.link_io.specs.Source.{IsSourceAt, IsLive, IsOver, HasEnded, Takes, Readies, StopsAfter, is_fresh, window_of, at_hand, front_of}
 use Rattle.link_wire.specs.Stream.{End, Clean, Cut, Fault, Stream, ended, with_entry, stream_at, Reading, reading_of}
 use Rattle.link_io.specs.declared.fault.IoFault.{IoFault}
 use Rattle.link_wire.specs.declared.fault.Stop.{Stop}
@@ -77,17 +77,15 @@ IsUndecided Clean = Unit {0}
 IsUndecided (Cut offset message content) = ⊥
 IsUndecided (Fault offset fault) = fault ≡ wire.Truncated
 
--- The bytes left, if they are known, are enough for this part: no field of it is missing, or it
--- shows a fault.
-abbrev pub IsEnoughFor : {A : Type 0} → (List ℕ → Part A) → Option (List ℕ) → Type 0
-IsEnoughFor part None = ⊤
-IsEnoughFor part (Some bytes) = part bytes ≡ Err wire.Truncated → ⊥
+-- These bytes are enough for this part: no field of it is missing, or it shows a fault.
+abbrev pub IsEnoughFor : {A : Type 0} → (List ℕ → Part A) → List ℕ → Type 0
+IsEnoughFor part bytes = part bytes ≡ Err wire.Truncated → ⊥
 
--- The bytes left are enough for what comes next. If `left` bytes of data are to come, one of them
+-- These bytes are enough for what comes next. If `left` bytes of data are to come, one of them
 -- comes next. Otherwise the head of a message does.
-abbrev pub IsEnough : (left : ℕ) → Option (List ℕ) → Type 0
-IsEnough zero rest = IsEnoughFor message_at rest
-IsEnough (suc left) rest = HasBytes rest
+abbrev pub IsEnough : (left : ℕ) → List ℕ → Type 0
+IsEnough zero bytes = IsEnoughFor message_at bytes
+IsEnough (suc left) bytes = 0 < length bytes
 
 -- both readings have the same contact header and messages
 pub record SameMessages (first second : Reading) : Type 0 where
@@ -167,13 +165,13 @@ module _ {R : Type 0} where
         ≡ joined (reading_of history)
         (rest_after (length history) session.left (reading_of history).end more)
 
-  -- the input has enough bytes left for the contact header
+  -- the bytes at hand are enough for the contact header
   abbrev pub HasContact : (R → Input) → Session R → Type 0
-  HasContact look session = IsEnoughFor contact_at (ahead look session.source)
+  HasContact look session = IsEnoughFor contact_at (at_hand look session.source)
 
-  -- the input has enough bytes left for what comes next
+  -- the bytes at hand are enough for what comes next
   abbrev pub HasNext : (R → Input) → Session R → Type 0
-  HasNext look session = IsEnough session.left (ahead look session.source)
+  HasNext look session = IsEnough session.left (at_hand look session.source)
 
   -- The whole input is read as `reading`: so are these bytes, with any bytes that may follow them
   -- (`MayFollow`). If the fault is a missing field, no byte of the input is left.
@@ -359,6 +357,8 @@ module _ {R : Type 0} where
     pub gives : (history : List ℕ) → IsSessionAt look old history
         → AfterLoad look old new history result
     pub opened : IsTrue (is_opened old) → IsTrue (is_opened new)
+    -- if data is at hand already, nothing is read
+    pub here : 0 < length (data_in look old) → new ≡ old
     pub none : left_of old ≡ 0 → ((why : Stop) → HasStopped old why → ⊥)
         → (new ≡ old) × (result ≡ Ok 0)
     pub stopped : (why : Stop) → HasStopped old why → (new ≡ old) × (result ≡ Err why)

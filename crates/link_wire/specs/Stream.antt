@@ -1,6 +1,6 @@
 -- The reading of a whole recorded stream (RFC 9174 section 4): a contact header, and then messages
 -- one after another.
-use Rattle.std.specs.Prelude.{ℕ, zero, suc, ◌+◌, ◌-◌, List, [], ◌∷◌, length, take, drop, Option, Some, None, Result, Ok, Err, nat_lt, if◌then◌else◌}
+use Rattle.std.specs.Prelude.{ℕ, zero, suc, ◌+◌, ◌-◌, List, [], ◌∷◌, ◌++◌, length, take, drop, Option, Some, None, Result, Ok, Err, nat_lt, if◌then◌else◌}
 use Rattle.link_wire.specs.Message.{contact_at, message_at, data_length}
 use Rattle.link_wire.specs.declared.fault.WireFault.{WireFault}
 use Rattle.link_wire.specs.declared.message.Contact.{Contact}
@@ -77,3 +77,16 @@ reading_by (Ok (contact, bytes)) =
 
 unfoldable pub reading_of : List ℕ → Reading
 reading_of bytes = reading_by (contact_at bytes)
+
+-- ---- heads
+
+-- the head of a segment whose data is incomplete, with the data so far
+abbrev pub cut_heads : End → List Entry
+cut_heads Clean = []
+cut_heads (Cut offset message content) =
+    record { offset = offset; message = message; content = content } ∷ []
+cut_heads (Fault offset fault) = []
+
+-- all whole heads: those of whole messages, and that of a segment whose data is incomplete
+abbrev pub heads_of : Reading → List Entry
+heads_of reading = reading.entries ++ cut_heads reading.end

@@ -2,7 +2,7 @@
 //!
 //! If they are, a call that reads it need not wait.
 
-ghost use Rattle.std.specs.Prelude.{Some, IsTrue};
+ghost use Rattle.std.specs.Prelude.{IsTrue};
 ghost use Rattle.link_wire.specs.Message.{contact_at, message_at};
 ghost use Rattle.link_wire.specs.Session.{IsEnoughFor};
 
@@ -18,7 +18,7 @@ pub const FRONT: usize = 128;
 ///
 /// They are if the header is whole, or if they show a fault that more bytes do not mend.
 pub fn has_contact(bytes: &[u8]) -> bool
-    ensures { IsTrue result → IsEnoughFor contact_at (Some bytes.now) }
+    ensures { IsTrue result → IsEnoughFor contact_at bytes.now }
 {
     !matches!(contact_in(bytes), Err(WireFault::Truncated))
 }
@@ -27,7 +27,7 @@ pub fn has_contact(bytes: &[u8]) -> bool
 ///
 /// They are if the head is whole, or if they show a fault that more bytes do not mend.
 pub fn has_head(bytes: &[u8]) -> bool
-    ensures { IsTrue result → IsEnoughFor message_at (Some bytes.now) }
+    ensures { IsTrue result → IsEnoughFor message_at bytes.now }
 {
     !matches!(message_in(bytes, 0), Err(WireFault::Truncated))
 }

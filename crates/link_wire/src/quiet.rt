@@ -3,9 +3,7 @@
 //! A quiet message has no data, and it changes neither the order nor the transfers of its sender:
 //! XFER_ACK, XFER_REFUSE, KEEPALIVE and MSG_REJECT (RFC 9174 sections 5.1.1, 5.1.2, 5.2.3, 5.2.4).
 
-ghost use Rattle.std.specs.Prelude.{◌≡◌, ◌<◌, ◌≤◌, ℕ, Some, length, take};
-ghost use Rattle.link_wire.specs.Message.{message_at};
-ghost use Rattle.link_wire.specs.Session.{IsEnoughFor};
+ghost use Rattle.std.specs.Prelude.{◌≡◌, ◌<◌, ◌≤◌, ℕ, length, take};
 ghost use Rattle.link_wire.specs.Whole.{AreQuiet, quiet_size};
 
 /// The entry of a type byte that no quiet message has: more bytes than a slice can have.
@@ -57,7 +55,6 @@ fn quiet_size(kind: u8) -> usize
 pub fn quiet(window: &[u8]) -> usize
     ensures within { result ≤ length window.now }
     ensures quiet { (offset : ℕ) → AreQuiet offset (take result window.now) }
-    ensures here { 0 < result → IsEnoughFor message_at (Some window.now) }
 {
     let mut at = 0;
     let mut next = 0;

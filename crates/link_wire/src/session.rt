@@ -35,7 +35,7 @@ impl<R: InDevice> Session<R> {
     ghost use Rattle.std.specs.Prelude.{◌≡◌, ◌<◌, true, false, [], ℕ, List, length, IfOk, IfErr, IfSome, Some, None, Ok, Err, IsTrue};
     ghost use Rattle.link_wire.specs.Halt.{stop_at};
     ghost use Rattle.link_io.specs.Limits.{window_size};
-    ghost use Rattle.link_io.specs.Source.{is_fresh, reader_of, window_of, front_of};
+    ghost use Rattle.link_io.specs.Source.{is_fresh, reader_of, given_by, window_of, front_of, reach};
     ghost use Rattle.link_wire.specs.Plain.{IsHead};
     ghost use Rattle.link_wire.specs.Message.{MessageHasTotals};
     ghost use Rattle.link_wire.specs.MessageBuffer.{message_of, SegmentHasTotals};
@@ -81,6 +81,22 @@ impl<R: InDevice> Session<R> {
         self.left
     }
 
+    /// The number of bytes given.
+    #[inline(always)]
+    pub fn given(&self) -> u64
+        ensures { result ≡ given_by (source_of self.now) }
+    {
+        self.source.given()
+    }
+
+    /// The number of bytes that were taken from the reader and not given.
+    #[inline(always)]
+    pub fn ahead(&self) -> usize
+        ensures { result ≡ length (window_of (source_of self.now)) }
+    {
+        self.source.window().len()
+    }
+
     /// Whether the next call may have to wait for the reader.
     ///
     /// It returns `false` only if the available bytes are enough for that call, or after a stop.
@@ -89,7 +105,7 @@ impl<R: InDevice> Session<R> {
         ensures few { IsTrue result → length (window_of (source_of self.now)) < window_size }
         ensures data { IsTrue result → 0 < left_of self.now → data_in R.state self.now ≡ [] }
         ensures stopped { (stop : _) → HasStopped self.now stop → result ≡ false }
-        // If it need not wait, the input has enough left for what comes next.
+        // If it need not wait, the bytes at hand are enough for what comes next.
         ensures contact { IsTrue (may_open self.now) → result ≡ false
             → HasContact R.state self.now }
         ensures here { (history : List ℕ) → IsSessionAt R.state self.now history → result ≡ false
@@ -204,8 +220,7 @@ impl<R: InDevice> Session<R> {
         ensures opened { IsTrue (is_opened self.new) }
         ensures again { HasEndedBetween self.old → result ≡ None }
         ensures stopped { (stop : _) → HasStopped self.old stop → result ≡ None }
-        ensures here { (history : List ℕ) → IsSessionAt R.state self.old history
-            → IfSome result (λ offset. HasNext R.state self.old) }
+        ensures unread { reach R.state (source_of self.new) ≡ reach R.state (source_of self.old) }
     {
         if let Phase::Stopped(_) = self.phase {
             return None;
@@ -272,6 +287,7 @@ impl<R: InDevice> Session<R> {
         ensures gives { (history : List ℕ) → IsSessionAt R.state self.old history
             → ReadMessage R.state self.old self.new history result (message_of message.new) }
         ensures totals { SegmentHasTotals message.new }
+        ensures unread { reach R.state self.new.source ≡ reach R.state self.old.source }
     {
         let offset = self.source.given();
         self.source.give(size);
@@ -327,7 +343,7 @@ impl<R: InDevice> Session<R> {
     ghost use Rattle.link_wire.specs.Message.{data_length};
     ghost use Rattle.link_wire.specs.MessageBuffer.{message_of, message_with, SegmentHasTotals};
     ghost use Rattle.link_wire.specs.Plain.{IsHead};
-    ghost use Rattle.link_wire.specs.Session.{source_of, may_read, is_opened, HasEndedBetween, HasNext, HasStopped, IsSessionAt};
+    ghost use Rattle.link_wire.specs.Session.{source_of, may_read, is_opened, HasEndedBetween, HasStopped, IsSessionAt};
     ghost use Rattle.link_wire.specs.Whole.{ReadWhole, PassedQuiet};
 
     /// Gives the next message with its data, if all of it is in the window and its head is
@@ -348,8 +364,6 @@ impl<R: InDevice> Session<R> {
         ensures opened { IsTrue (is_opened self.new) }
         ensures again { HasEndedBetween self.old → result ≡ None }
         ensures stopped { (stop : _) → HasStopped self.old stop → result ≡ None }
-        ensures here { (history : List ℕ) → IsSessionAt R.state self.old history
-            → IfSome result (λ offset. HasNext R.state self.old) }
         ensures shrinks { IfSome result (λ offset.
             length (window_of (source_of self.new)) < length (window_of (source_of self.old))) }
         ensures unread { reach R.state (source_of self.new) ≡ reach R.state (source_of self.old) }
@@ -404,8 +418,6 @@ impl<R: InDevice> Session<R> {
         ensures opened { IsTrue (is_opened self.new) }
         ensures again { HasEndedBetween self.old → result ≡ 0 }
         ensures stopped { (stop : _) → HasStopped self.old stop → result ≡ 0 }
-        ensures here { (history : List ℕ) → IsSessionAt R.state self.old history → 0 < result
-            → HasNext R.state self.old }
         ensures unread { reach R.state (source_of self.new) ≡ reach R.state (source_of self.old) }
     {
         if let Phase::Stopped(_) = self.phase {
@@ -421,7 +433,7 @@ impl<R: InDevice> Session<R> {
 impl<R: InDevice> Session<R> {
     ghost use Rattle.std.specs.Prelude.{◌≡◌, ◌<◌, ◌≤◌, ℕ, List, length, take, drop, IfOk, IfErr, Ok, Err, IsTrue};
     ghost use Rattle.link_io.specs.Source.{reach};
-    ghost use Rattle.link_wire.specs.Session.{source_of, is_opened, IsSessionAt, HasNext, HasStopped, left_of, data_in, PassedBytes, AfterData, LoadsData};
+    ghost use Rattle.link_wire.specs.Session.{source_of, is_opened, IsSessionAt, HasStopped, left_of, data_in, PassedBytes, AfterData, LoadsData};
     ghost use Rattle.link_wire.specs.declared.session.Phase.TheVariants as phase;
 
     /// Copies the next bytes of the segment's data, after at most one read, and returns how many.
@@ -519,7 +531,6 @@ impl<R: InDevice> Session<R> {
     #[inline(always)]
     pub fn loaded(&self) -> &[u8]
         ensures data { result.now ≡ data_in R.state self.now }
-        ensures here { 0 < length result.now → HasNext R.state self.now }
     {
         let front = self.source.front();
         &front[..self.left.min(front.len() as u64) as usize]

@@ -4,7 +4,7 @@ use Rattle.std.specs.Option.{option_map}
 use Rattle.std.specs.Io.KnownBytes.{Keeps}
 use Rattle.link_wire.specs.Device.{Output}
 use Rattle.link_wire.specs.declared.IoFault.{IoFault}
-use Rattle.link_run.specs.Run.{Looks, Devices}
+use Rattle.link_run.specs.Run.{Looks, Devices, Wait}
 use Rattle.link_run.specs.declared.run.Status.{Status}
 use Rattle.link_tools.specs.Options.{AfterJob}
 use Rattle.link_tools.specs.declared.options.Job.{Job}
@@ -24,10 +24,11 @@ module _ {R W E : Type 0} (look : Looks R W E) where
   -- The tool was run over the devices `start`. What it wrote was handed on, and nothing was read
   -- after the run. `run_answer` is the tool's own answer, and `answer` also counts a failed stream.
   pub record AfterBufferedRun (job : Job) (start : Devices R W E) (input : R)
-      (output report : Output) (answer : Result Status IoFault) : Type 0 where
+      (output report : Output) (waits : List (Wait W E)) (answer : Result Status IoFault)
+      : Type 0 where
     pub now : Devices R W E
     pub run_answer : Result Status IoFault
-    pub run : AfterJob look job start now run_answer
+    pub run : AfterJob look job start now waits run_answer
     pub reads : input ≡ now.reader
     pub writes : HandsOver (look.output now.output) output
     pub reports : HandsOver (look.report now.report) report

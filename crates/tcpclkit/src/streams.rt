@@ -7,7 +7,7 @@ ghost use Rattle.link_tools.specs.Options.{IsReady};
 ghost use Rattle.tcpclkit.specs.BufferedEnd.{AfterBufferedRun, HandsOver};
 
 use crate::ending::after_flush;
-use link_tools::{Job, Status, run_tool};
+use link_tools::{Job, Status, Waits, run_tool};
 use link_wire::{BufferedReader, InDevice, IoFault, OutDevice, TextWriter, Writer};
 use std::alloc::Global;
 use std::io;
@@ -34,6 +34,8 @@ pub struct BufferedEnd<R: Read, W: Write, E: Write> {
     pub output: Writer<W>,
     /// The device to which the report was handed on.
     pub report: Writer<E>,
+    /// When the run had to wait for its input. Only proofs read it.
+    pub waits: Waits<TextWriter<Writer<W>>, TextWriter<Writer<E>>>,
 }
 
 /// Puts buffers over an input, an output and a report.
@@ -100,7 +102,7 @@ pub fn run_over<R: Read + Drop, W: Write + Drop, E: Write + Drop>(
         ⟦<TextWriter<Writer<E>> as OutDevice>⟧.state) job
         (record { reader = streams.input; output = streams.output; report = streams.report })
         end.input (⟦<Writer<W> as OutDevice>⟧.state end.output)
-        (⟦<Writer<E> as OutDevice>⟧.state end.report) end.answer)) }
+        (⟦<Writer<E> as OutDevice>⟧.state end.report) end.waits.items end.answer)) }
     ensures lacked { IfErr streams (λ _. result ≡ Err IoFault.Memory) }
 {
     match streams {
@@ -126,7 +128,7 @@ pub fn run_buffered<R: Read + Drop, W: Write + Drop, E: Write + Drop>(
         ⟦<TextWriter<Writer<E>> as OutDevice>⟧.state) job
         (record { reader = streams.input; output = streams.output; report = streams.report })
         result.input (⟦<Writer<W> as OutDevice>⟧.state result.output)
-        (⟦<Writer<E> as OutDevice>⟧.state result.report) result.answer }
+        (⟦<Writer<E> as OutDevice>⟧.state result.report) result.waits.items result.answer }
 {
     let Streams {
         input,
@@ -142,6 +144,7 @@ pub fn run_buffered<R: Read + Drop, W: Write + Drop, E: Write + Drop>(
         input: end.reader,
         output,
         report,
+        waits: end.waits,
     }
 }
 

@@ -40,13 +40,7 @@ pub fn ended<R: InDevice, W: OutDevice, E: OutDevice, T: Run<R, W, E> + Drop>(
             return Err(Fail::new(format_args!("{again:?} after {answer:?}")));
         }
     }
-    let (reader, output, report) = run.into_parts();
-    Ok(RunEnd {
-        reader,
-        output,
-        report,
-        answer,
-    })
+    Ok(run.into_end(answer))
 }
 
 /// Checks what a step of a run returns.

@@ -1,14 +1,14 @@
 //! Inner segments of the session that lie whole in the window.
 
 use super::Input;
-use link_wire::{InDevice, Session};
+use link_wire::{InDevice, OutDevice, Session};
 
-impl<R: InDevice> Input<Session<R>> {
+impl<R: InDevice, W: OutDevice, E: OutDevice> Input<Session<R>, W, E> {
     ghost use Rattle.std.specs.Prelude.{◌≡◌, ◌<◌, ℕ, List, length, IfSome, None, IsTrue};
     ghost use Rattle.link_wire.specs.Inner.{IsInner, inner_bytes, PassedInner};
     ghost use Rattle.link_wire.specs.Session.{source_of, may_read, is_opened, HasStopped, IsSessionAt};
-    ghost use Rattle.link_wire.specs.Source.{window_of, reach};
-    ghost use Rattle.link_run.specs.Reading.{inner_of};
+    ghost use Rattle.link_wire.specs.Source.{window_of};
+    ghost use Rattle.link_run.specs.Reading.{inner_of, Unread};
 
     /// The data of the next message, if this is an inner segment of this transfer that has data,
     /// and all of it is in the window, as [`Session::inner_data`] returns it.
@@ -38,8 +38,7 @@ impl<R: InDevice> Input<Session<R>> {
             (inner_bytes (window_of (source_of (inner_of self.old))) size) }
         ensures shrinks { length (window_of (source_of (inner_of self.new)))
             < length (window_of (source_of (inner_of self.old))) }
-        ensures unread { reach R.state (source_of (inner_of self.new))
-            ≡ reach R.state (source_of (inner_of self.old)) }
+        ensures unread { Unread R.state source_of self.old self.new }
     {
         self.inner.pass_inner(size);
     }

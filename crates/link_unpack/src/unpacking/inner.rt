@@ -4,11 +4,11 @@
 //! message, the event and the stages of a step.
 
 ghost use Rattle.std.specs.Prelude.{◌≡◌, ◌<◌, ◌≤◌, IsTrue, List, length, ℕ};
-ghost use Rattle.link_wire.specs.Session.{may_read, is_opened, data_in};
-ghost use Rattle.link_run.specs.Reading.{inner_of};
+ghost use Rattle.link_wire.specs.Session.{source_of, may_read, is_opened, data_in};
+ghost use Rattle.link_run.specs.Reading.{inner_of, Unread};
 ghost use Rattle.link_run.specs.Run.{Devices, looks};
 ghost use Rattle.link_unpack.specs.InnerRun.{TakesInner};
-ghost use Rattle.link_unpack.specs.UnpackRun.{may_follow, UnpackStands, Unpacks, AfterUnpackStride, WritesNext};
+ghost use Rattle.link_unpack.specs.UnpackRun.{may_follow, UnpackStands, Unpacks, AfterUnpackStride};
 
 use super::{Next, Stage, Unpacker, take_loaded};
 use link_run::{Input, Writers};
@@ -20,7 +20,7 @@ use link_wire::{InDevice, OutDevice, Session};
 pub(super) fn take_on<R: InDevice, W: OutDevice, E: OutDevice>(
     last: bool,
     size: usize,
-    input: &mut Input<Session<R>>,
+    input: &mut Input<Session<R>, W, E>,
     writers: &mut Writers<W, E>,
     unpacker: &mut Unpacker,
 ) -> Next
@@ -34,7 +34,7 @@ pub(super) fn take_on<R: InDevice, W: OutDevice, E: OutDevice>(
         → AfterUnpackStride (looks R.state W.state E.state) start unpacker.old.latest.wanted
         (inner_of input.old) (inner_of input.new) writers.old writers.new unpacker.new history
         result }
-    ensures writes { WritesNext W.state E.state writers.old writers.new result }
+    ensures unread { Unread R.state source_of input.old input.new }
     ensures wanted { unpacker.new.latest.wanted ≡ unpacker.old.latest.wanted }
 {
     let next = take_loaded(last, size, input, writers, unpacker);
@@ -47,7 +47,7 @@ pub(super) fn take_on<R: InDevice, W: OutDevice, E: OutDevice>(
 /// Takes the inner segments of the open transfer that lie whole in the window, one after another.
 #[inline(always)]
 fn take_inner<R: InDevice, W: OutDevice, E: OutDevice>(
-    input: &mut Input<Session<R>>,
+    input: &mut Input<Session<R>, W, E>,
     writers: &mut Writers<W, E>,
     unpacker: &mut Unpacker,
 ) -> Next
@@ -59,7 +59,7 @@ fn take_inner<R: InDevice, W: OutDevice, E: OutDevice>(
         → Unpacks R.state Stage.Message (inner_of input.old) unpacker.old history
         → TakesInner (looks R.state W.state E.state) start unpacker.old.latest.wanted
         (inner_of input.old) (inner_of input.new) writers.new unpacker.new history result }
-    ensures writes { WritesNext W.state E.state writers.old writers.new result }
+    ensures unread { Unread R.state source_of input.old input.new }
     ensures wanted { unpacker.new.latest.wanted ≡ unpacker.old.latest.wanted }
 {
     let Some(id) = unpacker.joiner.continuable() else {

@@ -4,8 +4,8 @@ use Rattle.link_list.proofs.listing.advance.Goals as goal
 pub returns-in-Data-clause-gives : goal.returns-in-Data-clause-gives
 returns-in-Data-clause-gives g c = λ start history. rw c.in-Data.is (c.pass_data.ensures.gives start _ history)
 
-pub returns-in-Data-clause-handed : goal.returns-in-Data-clause-handed
-returns-in-Data-clause-handed g c = λ history. rw c.in-Data.is (c.pass_data.ensures.handed _ history)
+pub returns-in-Data-clause-waits : goal.returns-in-Data-clause-waits
+returns-in-Data-clause-waits g c = λ history. rw c.in-Data.is (c.pass_data.ensures.waits _ history)
 
 pub returns-in_default-clause-gives : goal.returns-in_default-clause-gives
 returns-in_default-clause-gives g c = λ start history.

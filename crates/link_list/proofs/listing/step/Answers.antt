@@ -3,7 +3,7 @@ use Rattle.link_wire.specs.Session.{source_of}
 use Rattle.link_run.specs.Reading.{inner_of}
 use Rattle.link_run.specs.Run.{looks}
 use Rattle.link_run.specs.Writers.{place_of}
-use Rattle.link_run.proofs.Handing.{handed_some}
+use Rattle.link_run.proofs.Waiting.{waits_then}
 use Rattle.link_run.proofs.Stands.{last_step}
 use Rattle.link_run.proofs.Strides.{went_with}
 use Rattle.link_list.specs.Listing.{listing_of}
@@ -63,8 +63,7 @@ returns-in-Whole g c =
           (lines_written old mid new before after due c.args.far _ _
           (λ is. rw (c.write_lines.ensures.near is) refl)
           (c.write_lines.ensures.gives _ _ listed));
-      handed = λ history lists other.
-          handed_some look (source_of old) (source_of new) c.args.writers.now before after _
-          (c.advance.ensures.handed history lists (λ e. absurd (cc)))
-          c.write_lines.ensures.wrote (rw (← c.after.ensures) other);
+      waits = λ history lists.
+          waits_then c.args.writers.now {old = c.args.input.now} (c.advance.ensures.waits history lists)
+          c.write_lines.ensures.unread;
     }

@@ -4,6 +4,7 @@ use Rattle.link_wire.specs.declared.IoFault.{IoFault}
 use Rattle.link_run.specs.Reading.{inner_of}
 use Rattle.link_run.specs.Writers.{on_output, AfterWrite}
 use Rattle.link_run.proofs.Runs.{writes_none, outputs_then}
+use Rattle.link_run.proofs.Waiting.{unread_none, unread_then}
 use Rattle.link_list.specs.ListRun.{latest_line}
 use Rattle.link_list.proofs.Lists.{listed_none, listed_more}
 use Rattle.link_list.proofs.listing.write_lines.Goals as goal
@@ -12,6 +13,7 @@ pub lines-init : goal.lines-init
 lines-init g c = record {
   fits = c.requires;
   near = λ is. refl;
+  unread = unread_none _;
   lines = [];
   writes = writes_none g.W.OutDevice.state g.E.OutDevice.state c.args.writers.now;
   listed = λ first history is. listed_none g.R.InDevice.state first (inner_of c.args.input.now) (latest_line c.args.latest.now) is;
@@ -27,7 +29,7 @@ returns-in-Err g c =
       fits = kept.fits;
       near = kept.near;
       gives = λ first history is. (kept.lines ++ line, part, kept.listed first history is);
-      wrote = part.kind;
+      unread = kept.unread;
     }
 
 pub returns-then-not-far : goal.returns-then-not-far
@@ -40,7 +42,7 @@ returns-then-not-far g c =
       fits = kept.fits;
       near = kept.near;
       gives = λ first history is. (kept.lines ++ line, writes, kept.listed first history is);
-      wrote = (on_output (kept.lines ++ line), writes);
+      unread = kept.unread;
     }
 
 pub returns-in-None : goal.returns-in-None
@@ -53,7 +55,7 @@ returns-in-None g c =
       fits = kept.fits;
       near = kept.near;
       gives = λ first history is. (kept.lines ++ line, writes, kept.listed first history is);
-      wrote = (on_output (kept.lines ++ line), writes);
+      unread = kept.unread;
     })
 
 pub lines-preserved : goal.lines-preserved
@@ -65,6 +67,7 @@ lines-preserved g c =
     record {
       fits = c.in-Some.ensures.may_read;
       near = λ is. absurd (false≢true (sym is ∙ c.if-not-far.false));
+      unread = unread_then kept.unread c.in-Some.ensures.unread;
       lines = kept.lines ++ line;
       writes = writes;
       listed = λ first history is.

@@ -2,7 +2,7 @@ use Rattle.std.proofs.Common.{◌≡◌, List, ℕ, length, ◌++◌}
 use Rattle.std.specs.Prelude.{IsTrue, false}
 use Rattle.link_wire.specs.Session.{source_of, may_read}
 use Rattle.link_wire.specs.Source.{window_of}
-use Rattle.link_run.specs.Reading.{inner_of}
+use Rattle.link_run.specs.Reading.{inner_of, Unread}
 use Rattle.link_run.specs.Run.{Texts}
 use Rattle.link_run.specs.Writers.{on_output, Writes}
 use Rattle.link_list.specs.ListRun.{latest_line, IsListedTo, ListedOn}
@@ -15,6 +15,7 @@ invariant-lines g l =
     record {
       fits : IsTrue (may_read (inner_of l.input));
       near : l.far ≡ false → l.input ≡ l.fn.input;
+      unread : Unread look source_of l.fn.input l.input;
       lines : List ℕ;
       writes : Writes g.W.OutDevice.state g.E.OutDevice.state l.fn.writers l.writers (on_output lines);
       listed : (first : Texts) (history : List ℕ)

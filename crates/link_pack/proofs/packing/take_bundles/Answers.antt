@@ -1,20 +1,17 @@
-use Rattle.std.proofs.Common.{ℕ, List, [], Err, take, length-take, ⊎_elim, append-nil, ap, sym, ◌∙◌, refl, subst, arith}
+use Rattle.std.proofs.Common.{ℕ, List, [], take, length-take, ⊎_elim, append-nil, ap, sym, ◌∙◌, refl, subst, arith}
 use Rattle.std.proofs.lemmas.Bool.Decides.{nat_tests}
 use Rattle.link_wire.specs.Source.{front_of, Takes}
 use Rattle.link_io.proofs.Sources.{Readies-takes, Readies-over}
 use Rattle.link_run.specs.Made.{shows_fault}
 use Rattle.link_run.specs.Reading.{inner_of}
-use Rattle.link_run.specs.Run.{looks}
 use Rattle.link_run.specs.Writers.{place_of}
-use Rattle.link_run.proofs.Handing.{handed_by}
-use Rattle.link_run.proofs.Runs.{writes_none}
 use Rattle.link_run.proofs.Stands.{settled, not_handed_on, read_fails, last_step}
+use Rattle.link_run.proofs.Waiting.{waits_then}
 use Rattle.link_transfer.specs.Cutter.{wanted_by}
 use Rattle.link_pack.specs.Packing.{packing_of}
 use Rattle.link_pack.specs.Packer.{MakesOf}
 use Rattle.link_pack.specs.PackRun.{Packs, WritesFound}
 use Rattle.link_pack.proofs.Founds.{IsRun, came, finished, cut_at, front_bound, front_run}
-use Rattle.link_pack.proofs.Goings.{found_handed, finish_handed}
 use Rattle.link_pack.proofs.packing.take_bundles.Goals as goal
 use Rattle.link_pack.proofs.packing.take_bundles.Goals.{After-give}
 use Rattle.link_pack.proofs.packing.take_bundles.Given.{Over}
@@ -31,13 +28,7 @@ returns-in-Ok-eq0-clause-gives g c = λ start history stood at.
     rw c.ended.ensures
     (last_step (packing_of packer.options) (place_of old before) (place_of new c.finish.new.writers) _ c.finish.result
     (finished c.args.most old writers c.finish.new.writers packer (settled old before writers stood read.0) at new (Readies-over g.R.InDevice.state old new read.1.readies over) over c.finish.result
-    (c.finish.ensures at.begun at.holds.scanned at.holds.goes)))
-
-pub returns-in-Ok-eq0-clause-handed : goal.returns-in-Ok-eq0-clause-handed
-returns-in-Ok-eq0-clause-handed g c = λ history at other.
-    finish_handed (looks g.R.InDevice.state g.W.OutDevice.state g.E.OutDevice.state) (inner_of c.args.input.now) (inner_of c.ready_bytes.new.self) c.args.writers.now c.ready_bytes.new.writers c.finish.new.writers
-    (c.in-Ok-eq0.ensures.gives at.live).0 (c.in-Ok-eq0.ensures.handed (λ e. absurd (cc))) c.args.packer.now at.begun c.finish.result
-    (c.finish.ensures at.begun at.holds.scanned at.holds.goes) (rw (← c.ended.ensures) other)
+    (c.finish.ensures at.begun at.holds.scanned at.holds.opened.goes)))
 
 pub returns-in-Err-clause-gives : goal.returns-in-Err-clause-gives
 returns-in-Err-clause-gives g c = λ start history stood at.
@@ -51,15 +42,6 @@ returns-in-Err-clause-gives g c = λ start history stood at.
     (λ stopped. read_fails c.args.most old new writers (settled old before writers stood stopped.0) [] writers c.in-Err.fault _ stopped.1 (omega arith)
     (ap (λ bytes. (made bytes).texts) same) (ap (λ bytes. shows_fault (made bytes).stop) (append-nil history) ∙ stood.unshown) refl refl)
     (λ lost. rw lost.0 (not_handed_on old before writers stood c.args.most c.in-Err.fault lost.1 lost.2))
-    (c.in-Err.ensures.gives at.live)
-
-pub returns-in-Err-clause-handed : goal.returns-in-Err-clause-handed
-returns-in-Err-clause-handed g c = λ history at other.
-    let look = looks g.R.InDevice.state g.W.OutDevice.state g.E.OutDevice.state in
-    let writers = c.ready_bytes.new.writers in
-    ⊎_elim
-    (λ stopped. handed_by look (inner_of c.args.input.now) (inner_of c.ready_bytes.new.self) c.args.writers.now writers writers _ stopped.0 (c.in-Err.ensures.handed (λ e. other (cc))) (writes_none look.output look.report writers))
-    (λ lost. absurd (other (ap Err lost.2.kind)))
     (c.in-Err.ensures.gives at.live)
 
 -- the bytes that were judged, and that what they make due was written
@@ -129,14 +111,6 @@ returns-clause-gives g c = λ start history stood at.
     c.go_on-progress.new.packer c.go_on-progress.ensures.options c.go_on-progress.result
     c.judge-count.result.1 wrote.took wrote.gave
 
-pub returns-clause-handed : goal.returns-clause-handed
-returns-clause-handed g c = λ history at other.
-    let wrote = written g c at in
-    found_handed (looks g.R.InDevice.state g.W.OutDevice.state g.E.OutDevice.state)
-    (inner_of c.args.input.now) (inner_of c.give.new.self) c.args.writers.now
-    c.ready_bytes.new.writers c.go_on-progress.new.writers (c.in-Ok.ensures.gives at.live).0
-    (c.in-Ok.ensures.handed (λ e. absurd (cc)))
-    c.judge-count.new.self at.bundles at.begun
-    (take c.judge-count.result.0 (take c.min-ready.result c.front.result.now))
-    c.go_on-progress.new.packer c.judge-count.result.1 wrote.took c.go_on-progress.result
-    wrote.gave other
+pub returns-clause-waits : goal.returns-clause-waits
+returns-clause-waits g c =
+    waits_then c.args.writers.now c.in-Ok.ensures.waits c.give.ensures.unread

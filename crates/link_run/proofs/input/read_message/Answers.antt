@@ -1,25 +1,24 @@
-use Rattle.std.proofs.Common.{refl, ◌∙◌, ap, inr, Err}
+use Rattle.std.proofs.Common.{refl, ap, inl, inr}
 use Rattle.std.proofs.lemmas.Bool.{false≢true}
 use Rattle.std.proofs.lemmas.Result.{err_from_is_err_and}
-use Rattle.link_wire.specs.declared.fault.Stop.TheVariants as stop
 use Rattle.link_run.specs.Run.{looks}
-use Rattle.link_run.proofs.Readings.{opened_to_read, message_given}
+use Rattle.link_run.proofs.Readings.{opened_to_read, message_given, input_as}
+use Rattle.link_run.proofs.Waiting.{waits_enough}
 use Rattle.link_run.proofs.input.read_message.Goals as goal
 
 pub returns-in_err-settle_before : goal.returns-in_err-settle_before
 returns-in_err-settle_before g c =
-    let session = c.args.session.now in
+    let session = c.args.input.now.inner in
     let settled = c.in_err-settle_before.ensures in
     let exit = err_from_is_err_and c.from_residual.result c.from_residual.ensures.1 in
     rw (exit.1, exit.2) (record {
       opened = opened_to_read session.phase session.left c.requires;
       gives = λ history at. inr settled.gives;
-      handed = λ other.
-          absurd (other (ap Err (settled.gives.is ∙ ap stop.Io settled.gives.unsettled.kind)));
+      waits = λ history at. inl (ap (λ log. log.items) settled.none, inr refl);
       totals = tt;
       left = refl;
       line = settled.line;
-      stopped = λ why has. absurd (false≢true (settled.stopped why has).1);
+      stopped = λ why has. absurd (false≢true (settled.stopped why has).2);
     })
 
 pub returns : goal.returns
@@ -30,13 +29,14 @@ returns g c =
     record {
       opened = read.opened;
       gives = λ history at.
-          message_given look c.args.session.now c.read_rest.new.self c.args.writers.now
+          message_given look c.args.input.now.inner c.read_rest.new.self c.args.writers.now
           c.settle_before.new.writers history settled.gives _ (read.gives history at);
-      handed = λ other. settled.handed;
+      waits = λ history at. waits_enough (settled.waits history at);
       totals = read.totals;
       left = read.left;
       line = settled.line;
       stopped = λ why has.
           let same = read.stopped why has in
-          (same.0, (settled.stopped why has).0, same.1);
+          let kept = settled.stopped why has in
+          (input_as same.0 kept.1, kept.0, same.1);
     }

@@ -1,5 +1,4 @@
 use Rattle.std.proofs.Common.{Bool, not, ap, sym, subst}
-use Rattle.link_run.specs.Run.{no_texts}
 use Rattle.link_run.proofs.Runs.{writes_none}
 use Rattle.link_unpack.specs.UnpackRun.{IsAtOpen, IsOpen}
 use Rattle.link_unpack.proofs.Begins.{no_abandoned_line, all_good}
@@ -15,6 +14,3 @@ pub returns-else-abandoned-clause-gives : goal.returns-else-abandoned-clause-giv
 returns-else-abandoned-clause-gives g c = λ transfers is_open.
     let P : Bool → Type 0 = λ b. IsOpen b c.args.unpacker.now.latest transfers in
     rw (no_abandoned_line c.args.unpacker.now.latest.wanted transfers (subst P c.if-abandoned.false is_open)) (writes_none g.W.OutDevice.state g.E.OutDevice.state c.args.writers.now)
-
-pub returns-else-abandoned-clause-writes : goal.returns-else-abandoned-clause-writes
-returns-else-abandoned-clause-writes g c = (no_texts, writes_none g.W.OutDevice.state g.E.OutDevice.state c.args.writers.now)

@@ -7,16 +7,12 @@ use Rattle.link_unpack.specs.declared.transfer.TransferScan.{TransferScan}
 use Rattle.link_unpack.specs.declared.unpacking.Unpacker.{Unpacker}
 use Rattle.link_unpack.specs.declared.wanted.Wanted.{Wanted}
 use Rattle.link_unpack.proofs.Begins.{joining, abandon_lost}
-use Rattle.link_unpack.proofs.Writing.{then_some}
 use Rattle.link_unpack.proofs.unpacking.begin.Goals as goal
 
 pub returns-in-Err-clause-gives : goal.returns-in-Err-clause-gives
 returns-in-Err-clause-gives g c = λ start history at.
     abandon_lost (looks g.R.InDevice.state g.W.OutDevice.state g.E.OutDevice.state) start c.args.abandoned c.args.last (inner_of c.args.input.now) c.args.writers.now c.args.unpacker.now c.args.message.now history at
     c.abandon.new.writers c.in-Err.fault (c.in-Err.ensures.gives at.transfers at.before)
-
-pub returns-in-Err-clause-writes : goal.returns-in-Err-clause-writes
-returns-in-Err-clause-writes g c = c.in-Err.ensures.writes
 
 pub returns-clause-gives : goal.returns-clause-gives
 returns-clause-gives g c = λ start history at.
@@ -33,7 +29,3 @@ returns-clause-gives g c = λ start history at.
     (c.begin_latest.ensures.follows at.head _ at.transfers at.is at.begins sum) in
     let P : Wanted → Type 0 = λ w. StandsNext look start w s c.go_on.new.writers c.go_on.new.unpacker history (next_of c.go_on.result) in
     subst P wanted (c.go_on.ensures.gives start history joined)
-
-pub returns-clause-writes : goal.returns-clause-writes
-returns-clause-writes g c =
-    then_some g.W.OutDevice.state g.E.OutDevice.state c.args.writers.now c.abandon.new.writers c.go_on.new.writers c.in_default.ensures.writes.0 c.go_on.result c.in_default.ensures.writes.1 c.go_on.ensures.writes

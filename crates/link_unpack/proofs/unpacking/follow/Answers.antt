@@ -1,10 +1,8 @@
 use Rattle.std.proofs.Common.{Bool, Some, ap, sym, subst}
 use Rattle.link_run.specs.Reading.{inner_of}
-use Rattle.link_run.specs.Run.{looks, no_texts}
-use Rattle.link_run.proofs.Runs.{writes_none}
+use Rattle.link_run.specs.Run.{looks}
 use Rattle.link_unpack.specs.UnpackRun.{IsBeginning}
 use Rattle.link_unpack.proofs.Messages.{begun_by, continued_by, other_by}
-use Rattle.link_unpack.proofs.Writing.{some_next}
 use Rattle.link_unpack.proofs.unpacking.follow.Goals as goal
 
 pub returns-in-Begin-clause-gives : goal.returns-in-Begin-clause-gives
@@ -15,14 +13,6 @@ returns-in-Begin-clause-gives g c = λ start history before offset line come tak
     c.in-Begin.abandoned c.in-Begin.last (ap Some c.in-Begin.is) in
     let P : Bool → Type 0 = λ b. IsBeginning look start b c.in-Begin.last s c.args.writers.now c.args.unpacker.now c.args.message.now history in
     rw c.of.ensures (c.begin.ensures.gives start history (subst P (sym c.is_some.ensures) begun))
-
-pub returns-in-Begin-clause-writes : goal.returns-in-Begin-clause-writes
-returns-in-Begin-clause-writes g c =
-    rw c.of.ensures (some_next g.W.OutDevice.state g.E.OutDevice.state c.args.writers.now c.begin.new.writers c.begin.result c.begin.ensures.writes)
-
-pub returns-in-Continue-clause-writes : goal.returns-in-Continue-clause-writes
-returns-in-Continue-clause-writes g c =
-    rw c.of-in-Continue.ensures (some_next g.W.OutDevice.state g.E.OutDevice.state c.args.writers.now c.go_on.new.writers c.go_on.result c.go_on.ensures.writes)
 
 pub returns-in-Continue-clause-gives : goal.returns-in-Continue-clause-gives
 returns-in-Continue-clause-gives g c = λ start history before offset line come taken.
@@ -35,6 +25,3 @@ returns-in-Other-clause-gives g c = λ start history before offset line come tak
     let passed = other_by (looks g.R.InDevice.state g.W.OutDevice.state g.E.OutDevice.state) start before offset line (inner_of c.args.input.now) c.args.writers.now c.args.unpacker.now c.args.message.now history come (Some c.args.turn) taken
     (ap Some c.in-Other.is) in
     rw (c.after_other.ensures.none passed.0) passed.1
-
-pub returns-in-Other-clause-writes : goal.returns-in-Other-clause-writes
-returns-in-Other-clause-writes g c = (no_texts, writes_none g.W.OutDevice.state g.E.OutDevice.state c.args.writers.now)

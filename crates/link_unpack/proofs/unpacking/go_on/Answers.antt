@@ -1,8 +1,7 @@
 use Rattle.std.proofs.Common.{◌≡◌, not, ap, sym, subst, arith}
 use Rattle.link_wire.specs.Session.{left_of}
 use Rattle.link_run.specs.Reading.{inner_of}
-use Rattle.link_run.specs.Run.{looks, no_texts}
-use Rattle.link_run.proofs.Runs.{writes_none}
+use Rattle.link_run.specs.Run.{looks}
 use Rattle.link_unpack.specs.UnpackRun.{StandsAt}
 use Rattle.link_unpack.specs.declared.transfer.TransferScan.{TransferScan}
 use Rattle.link_unpack.specs.declared.unpacking.Stage.TheVariants as stage
@@ -14,9 +13,6 @@ pub returns-then-left-gt0-clause-gives : goal.returns-then-left-gt0-clause-gives
 returns-then-left-gt0-clause-gives g c = λ start history at.
     data_comes (looks g.R.InDevice.state g.W.OutDevice.state g.E.OutDevice.state) start c.args.last (inner_of c.args.input.now) c.args.writers.now c.args.unpacker.now history at (omega (arith, c.left.ensures.left, c.if-left-gt0.true))
 
-pub returns-then-left-gt0-clause-writes : goal.returns-then-left-gt0-clause-writes
-returns-then-left-gt0-clause-writes g c = (no_texts, writes_none g.W.OutDevice.state g.E.OutDevice.state c.args.writers.now)
-
 pub returns-in-Err-clause-gives : goal.returns-in-Err-clause-gives
 returns-in-Err-clause-gives g c = λ start history at.
     let look = looks g.R.InDevice.state g.W.OutDevice.state g.E.OutDevice.state in
@@ -25,9 +21,6 @@ returns-in-Err-clause-gives g c = λ start history at.
     let is_closed = closed look start c.args.last s c.args.writers.now c.args.unpacker.now history at none c.if-last.true in
     line_lost look start c.args.last s c.args.writers.now c.args.unpacker.now history at none c.if-last.true
     c.report.new.writers c.in-Err.fault (c.in-Err.ensures.gives at.transfer at.earlier at.follows (sym (ap not is_closed)))
-
-pub returns-in-Err-clause-writes : goal.returns-in-Err-clause-writes
-returns-in-Err-clause-writes g c = c.in-Err.ensures.writes
 
 pub returns-in_default-clause-gives : goal.returns-in_default-clause-gives
 returns-in_default-clause-gives g c = λ start history at.
@@ -40,12 +33,6 @@ returns-in_default-clause-gives g c = λ start history at.
     c.report.new.writers c.report.new.unpacker (c.in_default.ensures.gives at.transfer at.earlier at.follows (sym (ap not is_closed)))
     (c.report.ensures.good at.transfer at.earlier at.follows (sym (ap not is_closed))) c.report.ensures.latest c.report.ensures.joiner)
 
-pub returns-in_default-clause-writes : goal.returns-in_default-clause-writes
-returns-in_default-clause-writes g c = c.in_default.ensures.writes
-
 pub returns-else-last-clause-gives : goal.returns-else-last-clause-gives
 returns-else-last-clause-gives g c = λ start history at.
     goes_on (looks g.R.InDevice.state g.W.OutDevice.state g.E.OutDevice.state) start c.args.last (inner_of c.args.input.now) c.args.writers.now c.args.unpacker.now history at (omega (arith, c.left.ensures.left, c.if-left-gt0.false)) c.if-last.false
-
-pub returns-else-last-clause-writes : goal.returns-else-last-clause-writes
-returns-else-last-clause-writes g c = (no_texts, writes_none g.W.OutDevice.state g.E.OutDevice.state c.args.writers.now)

@@ -2,14 +2,13 @@ use Rattle.std.proofs.Common.{◌≡◌, ◌<◌, ◌++◌, ℕ, List, length, t
 use Rattle.link_io.proofs.Sources.{Readies-takes}
 use Rattle.link_wire.specs.Session.{source_of, left_of, data_in}
 use Rattle.link_run.specs.Reading.{inner_of}
-use Rattle.link_run.specs.Run.{looks, no_texts}
-use Rattle.link_run.proofs.Handing.{enough_by, handed_by}
-use Rattle.link_run.proofs.Runs.{writes_none}
+use Rattle.link_run.specs.Run.{looks}
 use Rattle.link_run.proofs.Stands.{settled}
+use Rattle.link_run.proofs.Waiting.{waits_then}
 use Rattle.link_unpack.specs.UnpackRun.{StandsAt}
 use Rattle.link_unpack.specs.declared.unpacking.Next.TheVariants as next
 use Rattle.link_unpack.specs.declared.unpacking.Stage.TheVariants as stage
-use Rattle.link_unpack.proofs.Loads.{load_ended, load_handed}
+use Rattle.link_unpack.proofs.Loads.{load_ended}
 use Rattle.link_unpack.proofs.Messages.{by_left}
 use Rattle.link_unpack.proofs.Steps.{stage_given}
 use Rattle.link_unpack.proofs.Strays.{some_left, data_comes, all_passed}
@@ -53,20 +52,11 @@ returns-clause-gives g c = λ start history at knows.
     gave.takes some)
     some (omega (arith, size, c.min-size.ensures)) tt stands
 
-pub returns-in-Err-clause-handed : goal.returns-in-Err-clause-handed
-returns-in-Err-clause-handed g c = λ history knows other.
-    load_handed (inner_of c.args.input.now) (inner_of c.load_data.new.self) c.args.writers.now
-    c.load_data.new.writers c.end.new.self c.in-Err.stop _ knows.session_at
-    c.in-Err.ensures.gives c.end.ensures other c.in-Err.ensures.handed
+pub returns-in-Err-clause-waits : goal.returns-in-Err-clause-waits
+returns-in-Err-clause-waits g c = λ history knows. c.in-Err.ensures.waits history knows.session_at
 
-pub returns-clause-handed : goal.returns-clause-handed
-returns-clause-handed g c = λ history knows other.
-    let look = looks g.R.InDevice.state g.W.OutDevice.state g.E.OutDevice.state in
-    let old = inner_of c.args.input.now in
-    let mid = c.load_data.new.writers in
-    let got = c.in-Ok.ensures.gives history knows.session_at in
-    handed_by look (source_of old) (source_of (inner_of c.pass.new.self)) c.args.writers.now mid mid
-    no_texts got.0
-    (enough_by look.input old
-    (c.in-Ok.ensures.handed (λ e. absurd (cc)) history knows.session_at))
-    (writes_none look.output look.report mid)
+pub returns-clause-waits : goal.returns-clause-waits
+returns-clause-waits g c = λ history knows.
+    waits_then c.args.writers.now {old = c.args.input.now}
+    (c.in-Ok.ensures.waits history knows.session_at)
+    c.pass.ensures.unread

@@ -11,7 +11,6 @@ use Rattle.link_unpack.specs.UnpackRun.{IsTaken}
 use Rattle.link_unpack.specs.declared.unpacking.Unpacker.{Unpacker}
 use Rattle.link_unpack.proofs.Messages.{stray_by}
 use Rattle.link_unpack.proofs.Refusals.{lined, line_lost}
-use Rattle.link_unpack.proofs.Writing.{then_next}
 use Rattle.link_unpack.proofs.unpacking.refuse.Goals as goal
 
 pub returns-in-Err-clause-gives : goal.returns-in-Err-clause-gives
@@ -37,10 +36,6 @@ returns-in-Some-clause-gives g c = λ start history before offset order come joi
       effect = sym c.in-Some.is ∙ c.take-taken.ensures.turn before.taken joined ∙ ap (effect_of before.taken) happened;
       joiner = c.take-taken.ensures.taken before.taken (message_of buffer) (sym happened) joined;
     })
-
-pub returns-in-Some-clause-writes : goal.returns-in-Some-clause-writes
-returns-in-Some-clause-writes g c =
-    then_next g.W.OutDevice.state g.E.OutDevice.state c.args.writers.now c.report_fault-reported.new.self c.follow.new.writers _ c.follow.result c.in_default.ensures.gives.0 c.follow.ensures.writes
 
 pub returns-in-None-clause-gives : goal.returns-in-None-clause-gives
 returns-in-None-clause-gives g c = λ start history before offset order come joined goes refused is.

@@ -1,14 +1,12 @@
-use Rattle.std.proofs.Common.{◌≡◌, ◌++◌, Err, sym, ◌∙◌, subst, arith}
+use Rattle.std.proofs.Common.{◌++◌, sym, subst, arith}
 use Rattle.link_wire.specs.Limits.{longest_head}
-use Rattle.link_wire.specs.declared.IoFault.TheVariants as io
 use Rattle.link_run.specs.Reading.{inner_of}
-use Rattle.link_run.specs.Run.{looks, no_texts}
-use Rattle.link_run.proofs.Runs.{writes_none}
+use Rattle.link_run.specs.Run.{looks}
+use Rattle.link_run.proofs.Waiting.{waits_then}
 use Rattle.link_unpack.specs.UnpackRun.{AfterUnpackStride, UnpackStands}
-use Rattle.link_unpack.specs.declared.unpacking.Next.TheVariants as next
 use Rattle.link_unpack.specs.declared.unpacking.Stage.TheVariants as stage
 use Rattle.link_unpack.specs.declared.wanted.Wanted.{Wanted}
-use Rattle.link_unpack.proofs.Strides.{far_later, far_quiet, handed_more}
+use Rattle.link_unpack.proofs.Strides.{far_later, far_quiet}
 use Rattle.link_unpack.proofs.unpacking.stride_message.Goals as goal
 
 pub returns-in-Some-clause-gives : goal.returns-in-Some-clause-gives
@@ -33,17 +31,6 @@ returns-in-Some-clause-gives g c = λ start history at knows.
     far_later look start wanted old read new writers between after v _ longest_head history result
     went far
 
-pub returns-in-Some-clause-handed : goal.returns-in-Some-clause-handed
-returns-in-Some-clause-handed g c = λ history knows other.
-    handed_more (looks g.R.InDevice.state g.W.OutDevice.state g.E.OutDevice.state)
-    (inner_of c.args.input.now) (inner_of c.take_message-next.new.input)
-    (inner_of c.take_on.new.input) c.args.writers.now c.take_message-next.new.writers
-    c.take_on.new.writers c.take_on.result
-    (c.take_message-next.ensures.handed history knows (λ e.
-    let no : next.Stage (stage.Data c.in-Some.last) ≡ next.Ended (Err io.Write) = sym c.in-Some.ensures.0 ∙ e in
-    absurd (cc)))
-    c.take_on.ensures.writes other
-
 pub returns-in-None-clause-gives : goal.returns-in-None-clause-gives
 returns-in-None-clause-gives g c = λ start history at knows.
     let look = looks g.R.InDevice.state g.W.OutDevice.state g.E.OutDevice.state in
@@ -55,11 +42,14 @@ returns-in-None-clause-gives g c = λ start history at knows.
     c.take_message-next.ensures.wanted c.pass_quiet.ensures.other c.pass_quiet.ensures.passed
     (c.take_message-next.ensures.gives start 4096 history at knows))
 
-pub returns-in-None-clause-handed : goal.returns-in-None-clause-handed
-returns-in-None-clause-handed g c = λ history knows other.
-    let look = looks g.R.InDevice.state g.W.OutDevice.state g.E.OutDevice.state in
-    let after = c.take_message-next.new.writers in
-    handed_more look (inner_of c.args.input.now) (inner_of c.take_message-next.new.input)
-    (inner_of c.pass_quiet.new.input) c.args.writers.now after after (next.Stage stage.Message)
-    (c.take_message-next.ensures.handed history knows (λ e. other (c.pass_quiet.ensures.same ∙ e)))
-    (no_texts, writes_none look.output look.report after) (λ e. absurd (cc))
+pub returns-in-Some-clause-waits : goal.returns-in-Some-clause-waits
+returns-in-Some-clause-waits g c = λ history knows.
+    waits_then c.args.writers.now {old = c.args.input.now}
+    (c.take_message-next.ensures.waits history knows)
+    c.take_on.ensures.unread
+
+pub returns-in-None-clause-waits : goal.returns-in-None-clause-waits
+returns-in-None-clause-waits g c = λ history knows.
+    waits_then c.args.writers.now {old = c.args.input.now}
+    (c.take_message-next.ensures.waits history knows)
+    c.pass_quiet.ensures.unread

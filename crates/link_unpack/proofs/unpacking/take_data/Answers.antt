@@ -2,12 +2,11 @@ use Rattle.std.proofs.Common.{◌<◌, arith}
 use Rattle.link_wire.specs.Session.{source_of}
 use Rattle.link_run.specs.Reading.{inner_of}
 use Rattle.link_run.specs.Run.{looks}
-use Rattle.link_run.proofs.Handing.{enough_by}
 use Rattle.link_run.proofs.Stands.{settled}
+use Rattle.link_run.proofs.Waiting.{waits_then}
 use Rattle.link_unpack.specs.Unpacking.{unpacking_of}
 use Rattle.link_unpack.proofs.Data.{some_left}
-use Rattle.link_unpack.proofs.Loads.{stands_ready, unpacks_ready, given_ready, load_ended, load_handed}
-use Rattle.link_unpack.proofs.Writing.{handed_next}
+use Rattle.link_unpack.proofs.Loads.{stands_ready, unpacks_ready, given_ready, load_ended}
 use Rattle.link_unpack.proofs.unpacking.take_data.Goals as goal
 
 pub returns-in-Err-clause-gives : goal.returns-in-Err-clause-gives
@@ -35,19 +34,11 @@ returns-in-Ok-clause-gives g c = λ start history at knows.
     c.load_data.new.writers stood)
     (unpacks_ready look start old mid history _ got c.args.last u knows))
 
-pub returns-in-Err-clause-handed : goal.returns-in-Err-clause-handed
-returns-in-Err-clause-handed g c = λ history knows other.
-    load_handed (inner_of c.args.input.now) (inner_of c.load_data.new.self) c.args.writers.now
-    c.load_data.new.writers c.end.new.self c.in-Err.stop _ knows.session_at
-    c.in-Err.ensures.gives c.end.ensures other c.in-Err.ensures.handed
+pub returns-in-Err-clause-waits : goal.returns-in-Err-clause-waits
+returns-in-Err-clause-waits g c = λ history knows. c.in-Err.ensures.waits history knows.session_at
 
-pub returns-in-Ok-clause-handed : goal.returns-in-Ok-clause-handed
-returns-in-Ok-clause-handed g c = λ history knows other.
-    let look = looks g.R.InDevice.state g.W.OutDevice.state g.E.OutDevice.state in
-    let old = inner_of c.args.input.now in
-    let got = c.in-Ok.ensures.gives history knows.session_at in
-    handed_next look old (inner_of c.take_loaded.new.input) c.args.writers.now
-    c.load_data.new.writers c.take_loaded.new.writers c.take_loaded.result got.0
-    (enough_by look.input old
-    (c.in-Ok.ensures.handed (λ e. absurd (cc)) history knows.session_at))
-    c.take_loaded.ensures.writes other
+pub returns-in-Ok-clause-waits : goal.returns-in-Ok-clause-waits
+returns-in-Ok-clause-waits g c = λ history knows.
+    waits_then c.args.writers.now {old = c.args.input.now}
+    (c.in-Ok.ensures.waits history knows.session_at)
+    c.take_loaded.ensures.unread

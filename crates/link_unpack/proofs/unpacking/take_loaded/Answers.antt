@@ -2,13 +2,11 @@ use Rattle.std.proofs.Common.{◌<◌, ◌++◌, ℕ, List, length, take, sym, s
 use Rattle.link_wire.specs.Session.{PassedBytes}
 use Rattle.link_run.specs.Reading.{inner_of}
 use Rattle.link_run.specs.Run.{Devices, looks}
-use Rattle.link_run.specs.Writers.{on_output}
 use Rattle.link_unpack.specs.UnpackRun.{next_of, Unpacks, UnpackStands, StandsNext}
 use Rattle.link_unpack.specs.declared.unpacking.Stage.TheVariants as stage
 use Rattle.link_unpack.specs.declared.wanted.Wanted.{Wanted}
 use Rattle.link_unpack.proofs.Data.{DataTaken, grows, part_lost}
 use Rattle.link_unpack.proofs.Steps.{stage_given}
-use Rattle.link_unpack.proofs.Writing.{then_some, some_next}
 use Rattle.link_unpack.proofs.unpacking.take_loaded.Given.{Over}
 use Rattle.link_unpack.proofs.unpacking.take_loaded.Goals as goal
 use Rattle.link_unpack.proofs.unpacking.take_loaded.Goals.{After-pass}
@@ -65,23 +63,14 @@ returns-in-Ok-clause-gives g c = λ start history more at knows.
     (next_of c.go_on.result) taken.gave.takes taken.some
     (omega (arith, length-take c.args.size c.loaded.result.now)) tt stands)
 
-pub returns-in-Ok-clause-writes : goal.returns-in-Ok-clause-writes
-returns-in-Ok-clause-writes g c =
-    rw c.of.ensures
-    (some_next g.W.OutDevice.state g.E.OutDevice.state c.args.writers.now c.go_on.new.writers
-    c.go_on.result
-    (then_some g.W.OutDevice.state g.E.OutDevice.state c.args.writers.now
-    c.write_output-written.new.self c.go_on.new.writers (on_output c.take-part.result.now)
-    c.go_on.result c.in-Ok.ensures.gives c.go_on.ensures.writes))
-
 pub returns-in-Err-clause-gives : goal.returns-in-Err-clause-gives
 returns-in-Err-clause-gives g c = λ start history more at knows.
     let taken = data_taken g (goal.at.returns-in-Err-clause-gives g c).After-pass more at knows in
+    let ended = part_lost taken c.write_output-written.new.self c.in-Err.fault
+    c.in-Err.ensures.gives in
     record {
       given = take c.args.size c.loaded.result.now;
       size = omega (arith, length-take c.args.size c.loaded.result.now);
-      gave = part_lost taken c.write_output-written.new.self c.in-Err.fault c.in-Err.ensures.gives;
+      gave = ended.0;
+      ends = ended.1;
     }
-
-pub returns-in-Err-clause-writes : goal.returns-in-Err-clause-writes
-returns-in-Err-clause-writes g c = c.in-Err.ensures.gives.kind

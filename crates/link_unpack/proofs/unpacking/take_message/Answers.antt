@@ -2,25 +2,18 @@ use Rattle.std.proofs.Common.{◌≡◌, ◌++◌, ℕ, List, None, Ok, Err, ref
 use Rattle.std.proofs.lemmas.Bool.{cases_Bool}
 use Rattle.link_wire.specs.MessageBuffer.{message_of}
 use Rattle.link_wire.specs.Session.{source_of}
-use Rattle.link_wire.specs.declared.IoFault.TheVariants as io
 use Rattle.link_transfer.specs.Event.{event_of}
 use Rattle.link_transfer.specs.Order.{judged_message}
 use Rattle.link_run.specs.Reading.{inner_of}
 use Rattle.link_run.specs.Run.{Devices, looks}
-use Rattle.link_run.specs.Stages.{HandsOn}
-use Rattle.link_run.specs.declared.writers.Writers.{Writers}
-use Rattle.link_run.proofs.Handing.{enough_by, handed_at_end}
 use Rattle.link_run.proofs.Sessions.{message_ended}
 use Rattle.link_run.proofs.Stands.{settled}
-use Rattle.link_unpack.specs.UnpackRun.{unpacked_from, Unpacks, UnpackStands, WritesNext}
-use Rattle.link_unpack.specs.declared.unpacking.Next.{Next}
-use Rattle.link_unpack.specs.declared.unpacking.Next.TheVariants as next
+use Rattle.link_unpack.specs.UnpackRun.{unpacked_from, Unpacks, UnpackStands}
 use Rattle.link_unpack.specs.declared.unpacking.Stage.TheVariants as stage
 use Rattle.link_unpack.proofs.Messages.{HeadRead, head_given, come}
 use Rattle.link_unpack.proofs.Steps.{finished, no_head, order_ended}
 use Rattle.link_unpack.proofs.Texts.{by_reading, made_is}
 use Rattle.link_unpack.proofs.Turns.{accepted, refused_for}
-use Rattle.link_unpack.proofs.Writing.{handed_some, handed_next}
 use Rattle.link_unpack.proofs.unpacking.take_message.Given.{Over}
 use Rattle.link_unpack.proofs.unpacking.take_message.Goals as goal
 use Rattle.link_unpack.proofs.unpacking.take_message.Goals.{After-event}
@@ -37,18 +30,6 @@ returns-in-Ok-None-clause-gives g c = λ start piece history at knows.
     (c.finish.ensures.gives (unpacked_from c.args.unpacker.now.latest.wanted history) knows.joiner
     knows.waits.1)
 
-pub returns-in-Ok-None-clause-handed : goal.returns-in-Ok-None-clause-handed
-returns-in-Ok-None-clause-handed g c = λ history knows other.
-    let look = looks g.R.InDevice.state g.W.OutDevice.state g.E.OutDevice.state in
-    let old = inner_of c.args.input.now in
-    let got = rw c.in-Ok-None.field-0-is at
-    (c.in-Ok-None.ensures.gives history knows.session_at) in
-    handed_some look old (inner_of c.next_message.new.self) c.args.writers.now
-    c.next_message.new.writers c.finish.new.writers c.finish.result got.0
-    (enough_by look.input old
-    (c.in-Ok-None.ensures.handed (λ e. absurd (cc)) history knows.session_at))
-    c.finish.ensures.writes (λ e. other (ap next.Ended e))
-
 pub returns-in-Err-clause-gives : goal.returns-in-Err-clause-gives
 returns-in-Err-clause-gives g c = λ start piece history at knows.
     let wanted = c.args.unpacker.now.latest.wanted in
@@ -58,15 +39,6 @@ returns-in-Err-clause-gives g c = λ start piece history at knows.
     (no_head old (inner_of c.next_message.new.self) c.args.writers.now c.args.writers.now
     c.args.unpacker.now at knows)
     c.in-Err.stop _ (c.in-Err.ensures.gives history knows.session_at) c.end.ensures
-
-pub returns-in-Err-clause-handed : goal.returns-in-Err-clause-handed
-returns-in-Err-clause-handed g c = λ history knows other.
-    handed_at_end (looks g.R.InDevice.state g.W.OutDevice.state g.E.OutDevice.state)
-    (inner_of c.args.input.now) (inner_of c.next_message.new.self) c.args.writers.now
-    c.next_message.new.writers c.end.new.self c.in-Err.stop _
-    (c.in-Err.ensures.gives history knows.session_at) c.end.ensures (λ e. other (ap next.Ended e))
-    (λ is. enough_by g.R.InDevice.state (inner_of c.args.input.now)
-    (c.in-Err.ensures.handed (λ e. is (cc)) history knows.session_at))
 
 -- the head of a message was read before it was judged
 head_read : (g : Over) (c : After-event g)
@@ -94,26 +66,6 @@ event_is : (g : Over) (c : After-event g)
 event_is g c =
     sym (c.of_fields.ensures c.next_message.new.message.node c.next_message.new.message.items)
 
--- what comes of the head is written after the read
-then_handed : (g : Over) (c : After-event g) {history : List ℕ}
-    → Unpacks g.R.InDevice.state stage.Message (inner_of c.args.input.now) c.args.unpacker.now
-    history
-    → (after : Writers g.row.W.Denot g.row.E.Denot) (result : Next)
-    → WritesNext g.W.OutDevice.state g.E.OutDevice.state c.next_message.new.writers after result
-    → (result ≡ next.Ended (Err io.Write) → ⊥)
-    → HandsOn (looks g.R.InDevice.state g.W.OutDevice.state g.E.OutDevice.state)
-    (inner_of c.args.input.now)
-    (inner_of c.next_message.new.self) c.args.writers.now after
-then_handed g c {history} knows after result wrote other =
-    let got = rw c.in-Ok-Some.field-0-is at
-    (c.in-Ok-Some.ensures.gives history knows.session_at) in
-    handed_next (looks g.R.InDevice.state g.W.OutDevice.state g.E.OutDevice.state)
-    (inner_of c.args.input.now) (inner_of c.next_message.new.self) c.args.writers.now
-    c.next_message.new.writers after result got.0
-    (enough_by g.R.InDevice.state (inner_of c.args.input.now)
-    (c.in-Ok-Some.ensures.handed (λ e. absurd (cc)) history knows.session_at))
-    wrote other
-
 pub returns-in-Ok-clause-gives : goal.returns-in-Ok-clause-gives
 returns-in-Ok-clause-gives g c = λ start piece history at knows.
     let here = (goal.at.returns-in-Ok-clause-gives g c).After-event in
@@ -134,11 +86,6 @@ returns-in-Ok-clause-gives g c = λ start piece history at knows.
       effect = sym may.1;
       joiner = rw may.2 joins;
     }))
-
-pub returns-in-Ok-clause-handed : goal.returns-in-Ok-clause-handed
-returns-in-Ok-clause-handed g c = λ history knows other.
-    then_handed g (goal.at.returns-in-Ok-clause-handed g c).After-event knows
-    c.follow.new.writers c.follow.result c.follow.ensures.writes other
 
 pub returns-in-Err-event-clause-gives : goal.returns-in-Err-event-clause-gives
 returns-in-Err-event-clause-gives g c = λ start piece history at knows.
@@ -163,7 +110,17 @@ returns-in-Err-event-clause-gives g c = λ start piece history at knows.
     (c.refuse.ensures.stops stops))
     (cases_Bool u.latest.wanted.keep_going)
 
-pub returns-in-Err-event-clause-handed : goal.returns-in-Err-event-clause-handed
-returns-in-Err-event-clause-handed g c = λ history knows other.
-    then_handed g (goal.at.returns-in-Err-event-clause-handed g c).After-event knows
-    c.refuse.new.writers c.refuse.result c.refuse.ensures.writes other
+pub returns-in-Ok-None-clause-waits : goal.returns-in-Ok-None-clause-waits
+returns-in-Ok-None-clause-waits g c = λ history knows.
+    c.in-Ok-None.ensures.waits history knows.session_at
+
+pub returns-in-Err-clause-waits : goal.returns-in-Err-clause-waits
+returns-in-Err-clause-waits g c = λ history knows. c.in-Err.ensures.waits history knows.session_at
+
+pub returns-in-Ok-clause-waits : goal.returns-in-Ok-clause-waits
+returns-in-Ok-clause-waits g c = λ history knows.
+    c.in-Ok-Some.ensures.waits history knows.session_at
+
+pub returns-in-Err-event-clause-waits : goal.returns-in-Err-event-clause-waits
+returns-in-Err-event-clause-waits g c = λ history knows.
+    c.in-Ok-Some.ensures.waits history knows.session_at

@@ -19,9 +19,9 @@ loop-next-preserved c =
 pub returns-then-next-window : goal.returns-then-next-window
 returns-then-next-window c =
     let begun = c.loop-next.invariant.next (omega arith) in
-    record { within = begun.within; quiet = begun.quiet; here = begun.here }
+    record { within = begun.within; quiet = begun.quiet }
 
 pub returns-else-next-window : goal.returns-else-next-window
 returns-else-next-window c =
     let begun = c.loop-next.invariant.at in
-    record { within = begun.within; quiet = begun.quiet; here = begun.here }
+    record { within = begun.within; quiet = begun.quiet }

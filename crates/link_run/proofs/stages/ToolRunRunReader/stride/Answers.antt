@@ -5,6 +5,7 @@ use Rattle.link_run.specs.Stages.{most_unless_ended}
 use Rattle.link_run.specs.Writers.{place_of}
 use Rattle.link_run.specs.declared.run.Status.{Status}
 use Rattle.link_run.proofs.Strides.{stage_kept}
+use Rattle.link_run.proofs.Waiting.{prompt_once}
 use Rattle.link_run.proofs.stages.ToolRunRunReader.stride.Goals as goal
 
 pub returns-clause-gives : goal.returns-clause-gives
@@ -19,3 +20,8 @@ returns-clause-gives g c = λ start history at.
           (place_of (S (inner_of next.input)) next.writers) (g.T.Stages.knows next.self (inner_of next.input))
           strode.0 history _ _ c.stride-progress.ensures.made (λ more. c.keep.ensures.more more ∙ at.0) strode.2,
     )
+
+pub returns-clause-waits : goal.returns-clause-waits
+returns-clause-waits g c = λ start history at.
+    prompt_once _ at.1.0 c.stride-progress.ensures.begins
+    (c.stride-progress.ensures.waits history at.1.1)

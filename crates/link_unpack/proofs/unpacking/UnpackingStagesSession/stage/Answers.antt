@@ -1,7 +1,5 @@
-use Rattle.std.proofs.Common.{ap, ◌∙◌}
 use Rattle.link_run.specs.Reading.{inner_of}
 use Rattle.link_run.specs.Run.{looks}
-use Rattle.link_unpack.specs.UnpackRun.{progress_of}
 use Rattle.link_unpack.proofs.Strides.{never_none, fits_kept, step_kept}
 use Rattle.link_unpack.proofs.unpacking.UnpackingStagesSession.stage.Goals as goal
 
@@ -22,8 +20,3 @@ returns-clause-gives g c = λ start history at knows.
 
 pub returns-clause-goes_on : goal.returns-clause-goes_on
 returns-clause-goes_on g c = never_none c.keep.new.stage
-
-pub returns-clause-handed : goal.returns-clause-handed
-returns-clause-handed g c = λ history knows some other.
-    c.advance-next.ensures.handed history knows
-    (λ e. other (c.keep.ensures.progress ∙ ap progress_of e))

@@ -2,9 +2,8 @@ use Rattle.std.proofs.Common.{List, ℕ, refl, sym, ◌∙◌, subst}
 use Rattle.link_wire.specs.Inner.{PassedInner}
 use Rattle.link_wire.specs.Session.{IsSessionAt}
 use Rattle.link_run.specs.Reading.{inner_of}
-use Rattle.link_run.specs.Run.{◌then◌, no_texts, looks}
-use Rattle.link_run.specs.Writers.{on_output}
-use Rattle.link_run.proofs.Runs.{writes_none, writes_then}
+use Rattle.link_run.specs.Run.{looks}
+use Rattle.link_run.proofs.Waiting.{unread_none, unread_then}
 use Rattle.link_unpack.proofs.Data.{TakesPart}
 use Rattle.link_unpack.proofs.Inners.{none_taken, turn_taken, turn_lost}
 use Rattle.link_unpack.proofs.unpacking.inner.take_inner.Given.{Over}
@@ -16,17 +15,12 @@ returns-in_default-clause-gives g c =
     none_taken (looks g.R.InDevice.state g.W.OutDevice.state g.E.OutDevice.state)
     (inner_of c.args.input.now) c.args.writers.now c.args.unpacker.now
 
-pub returns-in_default-clause-writes : goal.returns-in_default-clause-writes
-returns-in_default-clause-writes g c =
-    (no_texts, writes_none g.W.OutDevice.state g.E.OutDevice.state c.args.writers.now)
-
 pub segments-init : goal.segments-init
 segments-init g c = record {
   fits = c.requires;
   wanted = refl;
   joiner = refl;
-  texts = no_texts;
-  writes = writes_none g.W.OutDevice.state g.E.OutDevice.state c.args.writers.now;
+  unread = unread_none c.args.input.now;
   taken = none_taken (looks g.R.InDevice.state g.W.OutDevice.state g.E.OutDevice.state)
       (inner_of c.args.input.now) c.args.writers.now c.args.unpacker.now;
 }
@@ -71,10 +65,7 @@ segments-preserved g c =
       fits = c.pass_inner.ensures.may_read;
       wanted = c.take-part.ensures.wanted ∙ kept.wanted;
       joiner = kept.joiner;
-      texts = kept.texts then on_output part;
-      writes = writes_then look.output look.report c.args.writers.now c.segments.writers
-          c.write_output-written.new.self kept.texts (on_output part) kept.writes
-          c.in-Ok.ensures.gives;
+      unread = unread_then kept.unread c.pass_inner.ensures.unread;
       taken = turn_taken look (inner_of c.args.input.now) (inner_of c.segments.input)
           (inner_of c.pass_inner.new.self) c.args.writers.now c.segments.writers
           c.write_output-written.new.self c.args.unpacker.now c.segments.unpacker kept.taken
@@ -93,11 +84,5 @@ returns-in-Err-clause-gives g c =
     c.in-Some-inner_data.content.now passed.passes c.take-part.new.self c.take-part.result.now
     passed.taken c.in-Err.fault c.in-Err.ensures.gives
 
-pub returns-in-Err-clause-writes : goal.returns-in-Err-clause-writes
-returns-in-Err-clause-writes g c = c.in-Err.ensures.gives.kind
-
 pub returns-clause-gives : goal.returns-clause-gives
 returns-clause-gives g c = c.segments.invariant.taken
-
-pub returns-clause-writes : goal.returns-clause-writes
-returns-clause-writes g c = (c.segments.invariant.texts, c.segments.invariant.writes)

@@ -8,7 +8,6 @@ use Rattle.link_unpack.specs.declared.unpacking.Stage.TheVariants as stage
 use Rattle.link_unpack.specs.declared.wanted.Wanted.{Wanted}
 use Rattle.link_unpack.proofs.Inners.{far_inner}
 use Rattle.link_unpack.proofs.Strides.{far_step}
-use Rattle.link_unpack.proofs.Writing.{then_next}
 use Rattle.link_unpack.proofs.unpacking.inner.take_on.Goals as goal
 
 pub returns-in-Stage-Message-clause-gives : goal.returns-in-Stage-Message-clause-gives
@@ -29,15 +28,6 @@ returns-in-Stage-Message-clause-gives g c = λ start history some at knows.
     far_inner look start c.args.unpacker.now.latest.wanted (inner_of c.args.input.now) mid
     (inner_of c.take_inner.new.input) c.args.writers.now c.take_inner.new.writers
     c.take_inner.new.unpacker _ c.args.size history c.take_inner.result some went taken
-
-pub returns-in-Stage-Message-clause-writes : goal.returns-in-Stage-Message-clause-writes
-returns-in-Stage-Message-clause-writes g c =
-    let comes = rw c.in-Stage-Message.is at c.in-Stage-Message.field-0-is in
-    let is = c.in-Stage-Message.is ∙ ap next.Stage comes in
-    let wrote = rw is at c.take_loaded-next.ensures.writes in
-    then_next g.W.OutDevice.state g.E.OutDevice.state c.args.writers.now
-    c.take_loaded-next.new.writers c.take_inner.new.writers wrote.0 c.take_inner.result wrote.1
-    c.take_inner.ensures.writes
 
 pub returns-in_default-clause-gives : goal.returns-in_default-clause-gives
 returns-in_default-clause-gives g c = λ start history some at knows.

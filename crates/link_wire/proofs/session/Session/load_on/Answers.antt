@@ -25,6 +25,7 @@ returns-in-Ok g c =
                 omega (arith, c.min.ensures);
           };
       opened = search rules;
+      here = λ some. search rules;
       none = λ nothing going. absurd (omega (arith, nothing, c.if-self-eq0.false));
       stopped = search rules;
     }
@@ -42,6 +43,7 @@ returns-in-Ok-eq0 g c = record {
       ready.readies (ready.over (grind (arith, nat_tests))) (omega (arith, c.if-self-eq0.false))
       (ap (λ s. s.source) state) (ap (λ s. s.phase) state) c.stop_at.ensures.stop;
   opened = search rules;
+  here = λ some. search rules;
   none = λ nothing going. absurd (omega (arith, nothing, c.if-self-eq0.false));
   stopped = search rules;
 }

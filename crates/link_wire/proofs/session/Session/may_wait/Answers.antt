@@ -26,7 +26,7 @@ returns-else-not-has_contact g c =
       «data» = λ is. absurd (false≢true (sym no ∙ is));
       stopped = λ stop is. no;
       contact = λ may waits. contact_next g.R.InDevice.state c.args.self.now _
-          c.peek-count.ensures.next (c.has_contact.ensures c.if-not-has_contact.false);
+          c.peek-count.ensures.here (c.has_contact.ensures c.if-not-has_contact.false);
       here = λ history at waits. let never = sym at.going ∙ c.in-Unopened.is in absurd (cc);
     }
 
@@ -43,6 +43,6 @@ returns-else-not-has_head g c =
       here = λ history at waits.
           let s = c.args.self.now in
           let between : s.left ≡ 0 = omega (arith, c.if-self-gt0.false) in
-          head_next g.R.InDevice.state s between _ c.peek-count.ensures.next
+          head_next g.R.InDevice.state s between _ c.peek-count.ensures.here
           (c.has_head.ensures c.if-not-has_head.false);
     }

@@ -3,7 +3,6 @@ use Rattle.link_io.proofs.Sources.{ended_window}
 use Rattle.link_io.specs.Source.{window_of}
 use Rattle.link_wire.specs.Whole.{AreQuiet}
 use Rattle.link_wire.proofs.Sessions.{none_left, passed}
-use Rattle.link_wire.proofs.Steady.{window_has_head}
 use Rattle.link_wire.proofs.session.Session.pass_quiet.Goals as goal
 
 pub returns-clause-gives : goal.returns-clause-gives
@@ -30,9 +29,3 @@ pub returns-clause-again : goal.returns-clause-again
 returns-clause-again g c = λ ended.
     let none = ended_window c.args.self.now.source ended.1 in
     omega (arith, c.quiet-count.ensures.within, none, ap length c.window.ensures.window)
-
-pub returns-clause-here : goal.returns-clause-here
-returns-clause-here g c = λ history at some.
-    let s = c.args.self.now in
-    window_has_head g.R.InDevice.state s (none_left s at.going c.requires) _
-    c.window.ensures.window (c.quiet-count.ensures.here some)

@@ -1,6 +1,6 @@
-use Rattle.std.proofs.Common.{refl, sym, inr}
+use Rattle.std.proofs.Common.{refl, sym, inl, inr}
 use Rattle.link_run.proofs.Runs.{writes_none}
-use Rattle.link_run.proofs.input.Input+Session+R.next_message.Goals as goal
+use Rattle.link_run.proofs.input.Input+Session+R+W+E.next_message.Goals as goal
 
 pub returns-in-Some : goal.returns-in-Some
 returns-in-Some g c =
@@ -10,7 +10,7 @@ returns-in-Some g c =
       gives = λ history at.
           let none = writes_none g.W.OutDevice.state g.E.OutDevice.state c.args.writers.now in
           (none, here.gives history at);
-      handed = λ other history at. inr (here.here history at);
+      waits = λ history at. inl (refl, inr here.unread);
       totals = here.totals;
       left = tt;
       line = refl;

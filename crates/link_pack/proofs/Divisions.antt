@@ -1,5 +1,5 @@
 -- The parts of an input, whatever bytes follow it.
-use Rattle.std.proofs.Common.{◌≡◌, ℕ, zero, suc, ◌<◌, ◌≤◌, ◌⊎◌, inl, inr, Bool, true, false, if◌then◌else◌, List, [], ◌∷◌, ◌++◌, length, take, drop, Some, Result, Ok, Err, refl, ap, sym, ◌∙◌, ⊎_elim, append_assoc, length-append, length-drop, arith}
+use Rattle.std.proofs.Common.{◌≡◌, ℕ, zero, suc, ◌<◌, ◌≤◌, ◌⊎◌, inl, inr, Bool, true, false, if◌then◌else◌, List, [], ◌∷◌, ◌++◌, length, take, drop, Result, Ok, Err, refl, ap, sym, ◌∙◌, ⊎_elim, append_assoc, length-append, length-drop, arith}
 use Rattle.std.proofs.lemmas.Bool.{cases_Bool, cases_lt, false≢true}
 use Rattle.std.proofs.lemmas.List.{take-append-drop, take-append-le}
 use Rattle.link_cbor.specs.PieceLaws.{joins_pieces, takes_shortest}
@@ -9,24 +9,14 @@ use Rattle.link_bundle_types.specs.declared.fault.BundleFault.{BundleFault}
 use Rattle.link_bundle_types.specs.declared.info.BundleInfo.{BundleInfo}
 use Rattle.link_bundle_types.specs.declared.fault.State.TheVariants as state
 use Rattle.link_bundle.specs.Bundle.{verdict, state_of, is_going, bundle_goes}
-use Rattle.link_pack.specs.Bundles.{Packed, Refusal, Longer, Faulty, Divided, bundle_prefix, with_bundle, divided_by, divided, with_bundles}
-use Rattle.link_pack.proofs.Dividing.{taken_again, none_front, none_goes, some_stopped, beyond_limit, divided_front, divided_whole, divided_faulty}
-
-abbrev pub refused_so : Refusal → (accepted : List ℕ) → Divided
-refused_so refusal accepted =
-    record { bundles = []; rest = Some (record { accepted = accepted; refusal = refusal }) }
+use Rattle.link_pack.specs.Bundles.{Packed, Refusal, Longer, Faulty, IsOpen, bundle_prefix, with_bundle, divided_by, divided, with_bundles}
+use Rattle.link_pack.proofs.Dividing.{taken_again, none_open, some_stopped, beyond_limit, refused_so, divided_front, divided_whole, divided_faulty}
 
 -- the bytes show why they begin with no bundle that the peer takes
 pub record IsRefused (limit : ℕ) (bytes : List ℕ) : Type 0 where
   pub accepted : List ℕ
   pub refusal : Refusal
-  pub divides : (more : List ℕ) → divided limit (bytes ++ more) ≡ refused_so refusal accepted
-
--- the bytes begin a bundle that goes on
-pub record IsOpen (limit : ℕ) (begun : List ℕ) : Type 0 where
-  pub front : bundle_prefix begun ≡ begun
-  pub goes : bundle_goes begun ≡ true
-  pub within : length begun ≤ limit
+  pub divides : (more : List ℕ) → divided limit (bytes ++ more) ≡ refused_so [] accepted refusal
 
 -- some bundles, and then bytes that are refused or begin another bundle, whatever bytes follow
 pub record StaysDivided (limit : ℕ) (bytes : List ℕ) : Type 0 where
@@ -41,13 +31,16 @@ pub record StaysDivided (limit : ℕ) (bytes : List ℕ) : Type 0 where
 is_shortest : (bytes : List ℕ) → IsShortestFront bundle_goes [] bytes (bundle_prefix bytes)
 is_shortest bytes = (takes_shortest bundle_goes [] bytes (bundle_prefix bytes)).1 refl
 
-follows : (bytes : List ℕ) → bytes ≡ bundle_prefix bytes ++ drop (length (bundle_prefix bytes)) bytes
+follows : (bytes : List ℕ)
+    → bytes ≡ bundle_prefix bytes ++ drop (length (bundle_prefix bytes)) bytes
 follows bytes =
     sym (take-append-drop (length (bundle_prefix bytes)) bytes)
-    ∙ ap (λ (xs : List ℕ). xs ++ drop (length (bundle_prefix bytes)) bytes) (sym (is_shortest bytes).is_front)
+    ∙ ap (λ (xs : List ℕ). xs ++ drop (length (bundle_prefix bytes)) bytes)
+    (sym (is_shortest bytes).is_front)
 
 -- if more bytes are needed after the prefix, it is all of the bytes
-all_taken : (bytes : List ℕ) → bundle_goes (bundle_prefix bytes) ≡ true → bundle_prefix bytes ≡ bytes
+all_taken : (bytes : List ℕ) → bundle_goes (bundle_prefix bytes) ≡ true
+    → bundle_prefix bytes ≡ bytes
 all_taken bytes goes =
     ⊎_elim (λ stops. absurd (false≢true (sym stops ∙ goes))) (λ all. all) (is_shortest bytes).stops
 
@@ -81,7 +74,8 @@ faulty_first : (limit : ℕ) (front rest : List ℕ) (fault : BundleFault) (plac
 faulty_first limit front rest fault place is said stays within = record {
   accepted = _;
   refusal = Faulty fault place;
-  divides = λ more. ap (divided limit) (append_assoc front rest more) ∙ divided_faulty limit front (rest ++ more) fault place is said stays within;
+  divides = λ more. ap (divided limit) (append_assoc front rest more)
+      ∙ divided_faulty limit front (rest ++ more) fault place is said stays within;
 }
 
 -- more bytes than the peer takes
@@ -100,7 +94,8 @@ longer_first limit bytes beyond = record {
       divided_front limit (front ++ run) (bytes ++ more) some joins
       ∙ ap (divided_by (divided limit) (front ++ run) (bytes ++ more))
       (beyond_limit limit (front ++ run) (omega arith))
-      ∙ ap (refused_so (Longer limit)) (take-append-le limit front run (omega arith));
+      ∙ ap (λ (accepted : List ℕ). refused_so [] accepted (Longer limit))
+      (take-append-le limit front run (omega arith));
 }
 
 -- ---- the whole input
@@ -142,13 +137,14 @@ module _ (count limit : ℕ)
       (λ stops.
       let some = some_stopped front stops in
       rw (follows bytes)
-      (judged_so front (drop (length front) bytes) (verdict front) refl stops (taken_again bundle_goes [] bytes) within (omega (arith, length-drop (length front) bytes))))
+      (judged_so front (drop (length front) bytes) (verdict front) refl stops
+      (taken_again bundle_goes [] bytes) within (omega (arith, length-drop (length front) bytes))))
       (cases_Bool (bundle_goes front))
 
 divided_upto : (count limit : ℕ) (bytes : List ℕ) → length bytes ≤ count → StaysDivided limit bytes
 divided_upto zero limit [] fewer =
     none_first limit []
-    (inr (record { front = none_front; goes = none_goes; within = omega arith }))
+    (inr (none_open limit))
 divided_upto zero limit (byte ∷ bytes) fewer = absurd (omega arith)
 divided_upto (suc count) limit bytes fewer =
     ⊎_elim

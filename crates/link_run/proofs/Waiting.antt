@@ -1,0 +1,180 @@
+-- When a call waits for its input, and when a step of a run does.
+use Rattle.std.proofs.Common.{◌≡◌, ◌⊎◌, inl, inr, ℕ, Bool, true, false, List, [], ◌∷◌, ◌++◌, length, Result, ⊎_elim, refl, ap, sym, ◌∙◌, subst, append-nil, append_assoc, length-append, arith}
+use Rattle.std.specs.Prelude.{All}
+use Rattle.std.specs.Io.KnownBytes.{Appends}
+use Rattle.std.proofs.KnownBytes.{Appends-trans}
+use Rattle.std.proofs.lemmas.List.Elements.{All-nil, All-push, All-weaker}
+use Rattle.link_wire.specs.Device.{Input as Seen, Output}
+use Rattle.link_wire.specs.declared.IoFault.{IoFault}
+use Rattle.link_wire.specs.declared.Source.{Source}
+use Rattle.link_run.specs.Made.{Made, tool_of}
+use Rattle.link_run.specs.Reading.{Unread, CallWaits}
+use Rattle.link_run.specs.Run.{Texts, Tool, Looks, Devices, Place, Wait, HasShown, IsWaitAt, IsPrompt, WasPrompt, WaitsOnce, LastStep, AfterRunFrom}
+use Rattle.link_run.specs.Stages.{Stands}
+use Rattle.link_run.specs.declared.input.Input.{Input}
+use Rattle.link_run.specs.declared.run.Status.{Status}
+use Rattle.link_run.specs.declared.writers.Writers.{Writers}
+use Rattle.link_run.proofs.Ends.{unshown_sofar}
+
+module _ {S R W E : Type 0} {look : R → Seen} {source : S → Source R} where
+  pub unread_none : (same : Input S W E) → Unread look source same same
+  unread_none same = record { reach = refl; waits = refl }
+
+  pub unread_then : {old mid new : Input S W E} → Unread look source old mid
+      → Unread look source mid new → Unread look source old new
+  unread_then first later = record {
+    reach = later.reach ∙ first.reach;
+    waits = later.waits ∙ first.waits;
+  }
+
+-- enough bytes at hand spare a wait
+pub waits_enough : {W E : Type 0} {enough other : Type 0} {before after : List (Wait W E)}
+    {is : Wait W E → Type 0} → WaitsOnce enough before after is
+    → WaitsOnce (enough ⊎ other) before after is
+waits_enough waits = ⊎_elim (λ none. inl (none.0, inl none.1)) (λ waited. inr waited) waits
+
+module _ {S R W E : Type 0} {look : Looks R W E} {source : S → Source R} {enough : Type 0}
+    (before : Writers W E) where
+  -- a call that reads nothing does not wait
+  pub unread_waits : {old new : Input S W E} → Unread look.input source old new
+      → CallWaits look source enough old new before
+  unread_waits unread = inl (unread.waits, inr unread.reach)
+
+  -- after a call, others read nothing
+  pub waits_then : {old mid new : Input S W E} → CallWaits look source enough old mid before
+      → Unread look.input source mid new → CallWaits look source enough old new before
+  waits_then first later =
+      ⊎_elim
+      (λ none. inl (later.waits ∙ none.0, ⊎_elim (λ some. inl some) (λ same. inr (later.reach ∙ same)) none.1))
+      (λ waited. inr (waited.0, later.waits ∙ waited.1, waited.2))
+      first
+
+-- no list is one longer than itself
+never_longer : {A : Type 0} (before after : List A) (last : A) → after ≡ before
+    → after ≡ before ++ last ∷ [] → ⊥
+never_longer before after last same more =
+    omega (arith, ap length (sym same ∙ more), length-append before (last ∷ []))
+
+-- a text was written, and later all was handed on
+shown_after : {start now later : Output} (text due : List ℕ)
+    → Appends start.written now.written text → HasShown now later [] → text ≡ due
+    → HasShown start later due
+shown_after {start} {now} {later} text due wrote shown is =
+    let P : List ℕ → Type 0 = λ all. Appends start.written later.written all in
+    record {
+      written = subst P (append-nil text ∙ is)
+          (Appends-trans start.written now.written later.written text [] wrote shown.written);
+      handed = shown.handed;
+    }
+
+module _ {R W E : Type 0} {look : Looks R W E} {made : List ℕ → Made} {start : Devices R W E} where
+  -- a run waits with nothing in hand
+  prompt_at : {place : Place R W E} {history : List ℕ} {wait : Wait W E}
+      → Stands look made start true place history → IsWaitAt look place wait
+      → IsPrompt look (tool_of made) start history wait
+  prompt_at {history} stands is =
+      let texts = made history in
+      let due = sym (unshown_sofar texts.stop texts.texts stands.unshown) in
+      record {
+        count = is.given ∙ stands.written.count;
+        few = is.few;
+        unshown = stands.unshown;
+        output = shown_after texts.texts.output _ stands.written.writes is.output
+            (ap (λ (t : Texts). t.output) due);
+        report = shown_after texts.texts.report _ stands.written.reports is.report
+            (ap (λ (t : Texts). t.report) due);
+        output_sound = is.output_kept ∙ stands.sound.output;
+        report_sound = is.report_kept ∙ stands.sound.report;
+      }
+
+  -- a stage waits before it is given a byte and before it writes, so its run has nothing in hand
+  pub prompt_once : (begun : Bool) {place : Place R W E} {history : List ℕ} {spared : Type 0}
+      {before after : List (Wait W E)} → Stands look made start begun place history
+      → (begun ≡ false → after ≡ before)
+      → WaitsOnce spared before after (IsWaitAt look place)
+      → WaitsOnce spared before after
+      (λ wait. IsWaitAt look place wait × IsPrompt look (tool_of made) start history wait)
+  prompt_once true stands begins waits =
+      ⊎_elim (λ none. inl none)
+      (λ waited. inr (waited.0, waited.1, (waited.2, prompt_at stands waited.2))) waits
+  prompt_once false {before} {after} stands begins waits =
+      ⊎_elim (λ none. inl none)
+      (λ waited. absurd (never_longer before after waited.0 (begins refl) waited.1)) waits
+
+module _ {R W E : Type 0} (look : Looks R W E) (tool : Tool) (start : Devices R W E) where
+  abbrev ArePrompt : List ℕ → List (Wait W E) → Type 0
+  ArePrompt given = All (WasPrompt look tool start given)
+
+  -- more bytes were given since
+  still_prompt : (given more : List ℕ) (waits : List (Wait W E)) → ArePrompt given waits
+      → ArePrompt (given ++ more) waits
+  still_prompt given more waits were =
+      All-weaker (WasPrompt look tool start given) (WasPrompt look tool start (given ++ more))
+      (λ wait was. record {
+        front = was.front;
+        rest = was.rest ++ more;
+        parts = ap (λ (bytes : List ℕ). bytes ++ more) was.parts
+            ∙ append_assoc was.front was.rest more;
+        prompt = was.prompt;
+      }) waits were
+
+  -- the waits of a run since it began: those before a stride, and the one in it
+  pub record Waited (given : List ℕ) (before now : List (Wait W E)) : Type 0 where
+    pub since : List (Wait W E)
+    pub are : now ≡ before ++ since
+    pub prompt : ArePrompt given since
+
+  pub waited_none : (before : List (Wait W E)) → Waited [] before before
+  waited_none before = record {
+    since = [];
+    are = sym (append-nil before);
+    prompt = All-nil (WasPrompt look tool start []);
+  }
+
+  pub waited_more : {spared : Type 0} {place : Place R W E} (given more : List ℕ)
+      (before now later : List (Wait W E)) → Waited given before now
+      → WaitsOnce spared now later
+      (λ wait. IsWaitAt look place wait × IsPrompt look tool start given wait)
+      → Waited (given ++ more) before later
+  waited_more given more before now later waited waits =
+      let still = still_prompt given more waited.since waited.prompt in
+      ⊎_elim
+      (λ none. record { since = waited.since; are = none.0 ∙ waited.are; prompt = still })
+      (λ once. record {
+        since = waited.since ++ once.0 ∷ [];
+        are = once.1 ∙ ap (λ all. all ++ once.0 ∷ []) waited.are
+            ∙ append_assoc before waited.since (once.0 ∷ []);
+        prompt = All-push (WasPrompt look tool start (given ++ more)) waited.since once.0 still
+            (record { front = given; rest = more; parts = refl; prompt = once.2.1 });
+      })
+      waits
+
+-- The last stride of a run: what it gave, and all waits since the run began.
+pub ran_on : {R W E : Type 0} (look : Looks R W E) (tool other : Tool) (start now devices : Devices R W E)
+    {most : ℕ} {spared : Type 0} {place : Place R W E} {before between after later : List (Wait W E)}
+    (history : List ℕ)
+    {answer result : Result Status IoFault}
+    (last : LastStep look tool start now most history answer) → tool ≡ other
+    → Waited look other start history before between
+    → WaitsOnce spared between later
+    (λ wait. IsWaitAt look place wait × IsPrompt look tool start history wait)
+    → devices ≡ now → result ≡ answer → after ≡ later
+    → AfterRunFrom look other start devices before after result
+ran_on {R} {W} {E} look tool other start now devices {most} {spared} {place} {before} {between} {after} {later} history {answer} {result} last same waited waits back is ends =
+    let P : Tool → Type 0 = λ t. LastStep look t start now most history answer in
+    let Q : Tool → Type 0 = λ t. WaitsOnce spared between later
+    (λ wait. IsWaitAt look place wait × IsPrompt look t start history wait) in
+    let D : Devices R W E → Type 0 = λ d. AfterRunFrom look other start d before after result in
+    let S : Result Status IoFault → Type 0 = λ r. AfterRunFrom look other start now before after r in
+    let gave = subst P same last in
+    let all = waited_more look other start history gave.given before between later waited (subst Q same waits) in
+    subst D (sym back) (subst S (sym is) (record {
+      waits = all.since;
+      are = ends ∙ all.are;
+      ran = record {
+        given = history ++ gave.given;
+        gave = gave.gave;
+        ends = gave.ends;
+        prompt = all.prompt;
+      };
+    }))

@@ -1,0 +1,43 @@
+use Rattle.std.proofs.Common.{length, inl, inr, refl, ap, arith}
+use Rattle.std.proofs.lemmas.Bool.{false≢true}
+use Rattle.std.proofs.lemmas.Result.{err_from_is_err_and}
+use Rattle.link_run.specs.Run.{looks}
+use Rattle.link_run.proofs.Readings.{data_given, input_as}
+use Rattle.link_run.proofs.Waiting.{waits_enough}
+use Rattle.link_run.proofs.input.load_on.Goals as goal
+
+pub returns-in_err-settle_before : goal.returns-in_err-settle_before
+returns-in_err-settle_before g c =
+    let settled = c.in_err-settle_before.ensures in
+    let exit = err_from_is_err_and c.from_residual.result c.from_residual.ensures.1 in
+    rw (exit.1, exit.2) (record {
+      size = tt;
+      here = λ some. absurd (omega (arith, some, ap length c.requires));
+      opened = λ is. is;
+      gives = λ history at. inr settled.gives;
+      waits = λ history at. inl (ap (λ log. log.items) settled.none, inr refl);
+      left = refl;
+      line = settled.line;
+      stopped = λ why has. absurd (false≢true (settled.stopped why has).2);
+    })
+
+pub returns : goal.returns
+returns g c =
+    let look = looks g.R.InDevice.state g.W.OutDevice.state g.E.OutDevice.state in
+    let settled = c.in_ok-settle_before.ensures in
+    let load = c.load.ensures in
+    record {
+      size = load.size;
+      here = λ some. absurd (omega (arith, some, ap length c.requires));
+      opened = load.opened;
+      gives = λ history at.
+          data_given look c.args.input.now.inner c.load.new.self c.args.writers.now
+          c.settle_before.new.writers history settled.gives _ (load.gives history at);
+      waits = λ history at. waits_enough (settled.waits history at);
+      left = load.left;
+      line = settled.line;
+      stopped = λ why has.
+          let same = load.stopped why has in
+          let kept = settled.stopped why has in
+          (input_as same.0 kept.1, kept.0, same.1);
+    }
