@@ -72,10 +72,11 @@ module _ {R : Type 0} where
       else held_from source.flow (longest_input - source.given) (look source.reader).held
 
   -- How far the input is at hand: the offset after the bytes of the window and those that the
-  -- reader holds. Only a read changes it.
-  abbrev pub reach : (R → Input) → Source R → ℕ
+  -- reader holds, and whether more may come. Nothing but a read changes it, and each read that
+  -- brings more bytes, the end or a fault does.
+  abbrev pub reach : (R → Input) → Source R → ℕ × Flow
   reach look source =
-      source.given + (length (window_of source) + length (look source.reader).held)
+      (source.given + (length (window_of source) + length (look source.reader).held), source.flow)
 
   -- the source has given exactly these bytes since it was made
   pub record IsSourceAt (source : Source R) (history : List ℕ) : Type 0 where

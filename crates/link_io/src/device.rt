@@ -177,7 +177,8 @@ impl<R: Read> InDevice for Reader<R> {
     }
 }
 
-/// A device made of a buffered reader of std, as [`Reader`] makes it. While the buffer has bytes, a read does not wait.
+/// A device made of a buffered reader of std, as [`Reader`] makes it. While the buffer has bytes, a
+/// read does not wait.
 #[derive(Drop)]
 pub struct BufferedReader<R: Read> {
     buffered: Reader<BufReader<R>>,

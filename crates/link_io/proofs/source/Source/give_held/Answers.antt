@@ -1,4 +1,4 @@
-use Rattle.std.proofs.Common.{◌≡◌, ◌-◌, [], take, refl, arith, ap, ◌∙◌, length-drop, length-take}
+use Rattle.std.proofs.Common.{◌≡◌, ℕ, ◌-◌, [], take, refl, arith, ap, ◌∙◌, length-drop, length-take}
 use Rattle.std.proofs.lemmas.List.Elements.{All-take}
 use Rattle.link_io.specs.Bytes.{IsByte}
 use Rattle.link_io.specs.Limits.{longest_input}
@@ -55,4 +55,4 @@ returns-clause-unread g c =
     let held = (g.R.InDevice.state s.reader).held in
     let whole = front_held g.R.InDevice.state s (omega (arith, c.requires.empty)) in
     let here = (held_part s.flow (longest_input - s.given) held c.args.size c.requires.some (rw whole at c.requires.held)).here in
-    rw c.pass_held.ensures.rest (omega (arith, here, length-drop c.args.size held))
+    rw c.pass_held.ensures.rest (ap (λ (n : ℕ). (n, s.flow)) (omega (arith, here, length-drop c.args.size held)))
