@@ -1,8 +1,9 @@
 """Edits: files that replace texts of a crate, so that a function has a wrong body.
 
 An edit has a line `file: PATH` and then pairs of lines, `old: TEXT` and `new: TEXT`. Each old text
-has to occur exactly once in the file. A pair is applied to what the pairs before it made. Lines
-`# promise: NAME` name the promises that the wrong body breaks.
+has to occur exactly once in the file. A line `after: TEXT` before a pair lifts that: TEXT has to
+occur exactly once, and the first old text after it is replaced. A pair is applied to what the pairs
+before it made. Lines `# promise: NAME` name the promises that the wrong body breaks.
 """
 
 import os
@@ -11,12 +12,21 @@ import re
 from . import source
 
 NAME = re.compile(r"\w[\w.-]*\.edit", re.ASCII)
-LINE = re.compile(r"(file|old|new|# promise):(?: (.*))?")
+LINE = re.compile(r"(file|after|old|new|# promise):(?: (.*))?")
 PARTS = ("src/", "specs/", "proofs/")
 
 
 class Unfit(Exception):
     """An edit that cannot be applied, with the reason."""
+
+
+def split_after(part, text, file, first=False):
+    """Splits a text after this part, which it has once, or after the first one."""
+    count = text.count(part)
+    if count == 0 or (count > 1 and not first):
+        raise Unfit(f"{file} has this text {count} times: {part}")
+    end = text.index(part) + len(part)
+    return text[:end], text[end:]
 
 
 def read(path):
@@ -47,21 +57,23 @@ class Edit:
 
     def _take(self, text):
         """Takes the lines of the edit."""
-        file, old = None, None
+        file, after, old = None, "", None
         for line in filter(None, text.split("\n")):
             found = LINE.fullmatch(line)
             if not found:
-                raise Unfit(f"a line begins with none of file:, old:, new: and # promise:: {line}")
+                raise Unfit(f"a line begins with none of file:, after:, old:, new:, # promise:: {line}")
             word, rest = found[1], found[2] or ""
             if word == "file":
                 file = rest
+            elif word == "after":
+                after = rest
             elif word == "old":
                 old = rest
             elif word != "new":
                 self.promises.append(rest)
             elif file and old:
-                self.pairs.append((file, old, rest))
-                old = None
+                self.pairs.append((file, after, old, rest))
+                after, old = "", None
             else:
                 raise Unfit("a line new: has no line file: or old: before it")
         if old or not self.pairs:
@@ -70,15 +82,15 @@ class Edit:
     def apply(self, read_file):
         """Returns the texts of the files that the edit changes, by their paths in the crate."""
         texts = {}
-        for file, old, new in self.pairs:
+        for file, after, old, new in self.pairs:
             if os.path.normpath(file) != file or not file.startswith(PARTS):
                 raise Unfit(f"{file} is no file of src, specs or proofs")
             text = texts[file] if file in texts else read_file(file)
-            if text.count(old) != 1:
-                raise Unfit(f"{file} has this text {text.count(old)} times: {old}")
             if old == new:
                 raise Unfit(f"it does not change {file}")
-            texts[file] = text.replace(old, new)
+            before, rest = split_after(after, text, file) if after else ("", text)
+            head, tail = split_after(old, rest, file, first=after)
+            texts[file] = before + head[:-len(old)] + new + tail
         return texts
 
     def place(self, folder):
