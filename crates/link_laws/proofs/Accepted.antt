@@ -6,8 +6,7 @@ use Rattle.link_transfer.specs.Event.{event_of}
 use Rattle.link_transfer.specs.Order.{refusal}
 use Rattle.link_transfer.specs.declared.fault.OrderFault.{OrderFault}
 use Rattle.link_unpack.specs.Transfers.{Ordered, ordered_by, ordered_after, ordered}
-use Rattle.link_unpack.specs.UnpackRun.{AreInOrder}
-use Rattle.link_unpack.proofs.Orders.{all}
+use Rattle.link_unpack.proofs.Orders.{AreInOrder, all}
 
 -- ---- they are in order
 

@@ -9,11 +9,11 @@ use Rattle.link_wire.specs.declared.message.Message.TheVariants.{SessTerm}
 use Rattle.link_wire.proofs.Spellings.{contact_spelled, sess_init_spelled, sess_term_spelled}
 use Rattle.link_transfer.specs.Cutting.{due}
 use Rattle.link_unpack.proofs.Heads.{entry}
-use Rattle.link_pack.specs.Bundles.{Packed, Rest, Divided}
+use Rattle.link_bundle_walk.specs.Bundles.{Packed, Rest, Divided}
 use Rattle.link_pack.specs.Packing.{prelude_bytes, sending, transfer_bytes, rest_segments, end_bytes, bundles_output, packing_by}
 use Rattle.link_pack.specs.Segments.{Sending, cutting_of, segments_of}
 use Rattle.link_pack.specs.declared.options.PackOptions.{PackOptions}
-use Rattle.link_pack.proofs.Outcomes.{whole_of}
+use Rattle.link_bundle_walk.proofs.Outcomes.{whole_of}
 use Rattle.link_laws.specs.Ranges.{OptionsFit}
 use Rattle.link_laws.proofs.Divided.{AreBundles, IsRest}
 use Rattle.link_laws.proofs.Segments.{SendingFits, segment_entries, segments_stream}

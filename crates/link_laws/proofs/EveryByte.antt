@@ -16,11 +16,10 @@ use Rattle.link_transfer.specs.Order.{is_segment, is_stray, refusal, with_taken}
 use Rattle.link_transfer.specs.declared.fault.OrderFault.{OrderFault}
 use Rattle.link_unpack.specs.Transfers.{Ordered, ordered_by, ordered_after, ordered, Transfer, closes, continued, after_segment, after_message, transfers_of}
 use Rattle.link_unpack.specs.Unpacking.{parts_of, Unpacked, none_unpacked, transfers_with, with_head, unpacked_of, unpacking_of}
-use Rattle.link_unpack.specs.UnpackRun.{AreInOrder}
 use Rattle.link_unpack.specs.declared.wanted.Wanted.{Wanted}
 use Rattle.link_unpack.proofs.GoingOn.{kind_of, not_stray, taken_more, LatestIsOpen, KnowsOpen, knows_none, open_before, knows_head, unpacked_in_order}
 use Rattle.link_unpack.proofs.Heads.{entry, transfers_same}
-use Rattle.link_unpack.proofs.Orders.{all as in_order, first_may}
+use Rattle.link_unpack.proofs.Orders.{AreInOrder, all as in_order, first_may}
 use Rattle.link_unpack.proofs.Texts.{parts_more}
 use Rattle.link_laws.specs.Cuts.{data_of, going_on, prepended_unless, taken_after, HasEveryByte, HasEveryTakenByte}
 use Rattle.link_laws.specs.RoundTrip.{all}

@@ -17,11 +17,11 @@ use Rattle.link_transfer.specs.declared.announcement.Announced.TheVariants.{Abse
 use Rattle.link_unpack.specs.Transfers.{Ordered, Transfer}
 use Rattle.link_unpack.specs.Unpacking.{parts_of, line_of, lines_of, judgement_of, is_good, are_good, unpacking_of, unpacking_by, unpack_tool}
 use Rattle.link_unpack.proofs.Texts.{parts_more, lines_more, good_more}
-use Rattle.link_pack.specs.Bundles.{Packed, divided}
+use Rattle.link_bundle_walk.specs.Bundles.{Packed, divided}
 use Rattle.link_pack.specs.Packing.{sending}
 use Rattle.link_pack.specs.Segments.{cutting_of}
 use Rattle.link_pack.specs.declared.options.PackOptions.{PackOptions}
-use Rattle.link_pack.proofs.Outcomes.{whole_of}
+use Rattle.link_bundle_walk.proofs.Outcomes.{whole_of}
 use Rattle.link_laws.specs.RoundTrip.{all, good_lines, GivesBack}
 use Rattle.link_laws.proofs.Carried.{onto, rest_onto, transfer_of}
 use Rattle.link_laws.proofs.Divided.{AreBundles, contents}

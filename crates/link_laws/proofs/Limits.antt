@@ -11,11 +11,11 @@ use Rattle.link_transfer.specs.Chunks.{chunk_count}
 use Rattle.link_transfer.specs.Cutting.{Cutting, announcement, due, due_of}
 use Rattle.link_transfer.specs.declared.announcement.Announced.TheVariants.{Absent, Total}
 use Rattle.link_unpack.specs.Transfers.{Transfer}
-use Rattle.link_pack.specs.Bundles.{Packed, Rest, Divided}
+use Rattle.link_bundle_walk.specs.Bundles.{Packed, Rest, Divided}
 use Rattle.link_pack.specs.Packing.{segment_size, sending}
 use Rattle.link_pack.specs.Segments.{cutting_of, segments_of}
 use Rattle.link_pack.specs.declared.options.PackOptions.{PackOptions}
-use Rattle.link_pack.proofs.Outcomes.{whole_of}
+use Rattle.link_bundle_walk.proofs.Outcomes.{whole_of}
 use Rattle.link_laws.specs.PackedStream.{SegmentFits, TransferFits, KeepsLimits}
 use Rattle.link_laws.proofs.Carried.{onto, rest_onto, partly, transfer_of, due_within}
 use Rattle.link_laws.proofs.Divided.{AreBundles, IsRest}

@@ -7,13 +7,13 @@ use Rattle.link_bundle_types.specs.declared.fault.BundleFault.{BundleFault}
 use Rattle.link_bundle_types.specs.declared.info.BundleInfo.{BundleInfo}
 use Rattle.link_bundle.specs.Bundle.{verdict, bundle_goes}
 use Rattle.link_run.specs.Made.{Made}
-use Rattle.link_pack.specs.Bundles.{Packed, Refusal, Longer, Faulty, Divided, IsOpen, bundle_prefix, refused_by, with_bundle, divided_by, divided, with_bundles}
+use Rattle.link_bundle_walk.specs.Bundles.{Packed, Refusal, Longer, Faulty, Divided, IsOpen, bundle_prefix, refused_by, with_bundle, divided_by, divided, with_bundles}
 use Rattle.link_pack.specs.Packing.{prelude_bytes, segment_size, sending, transfer_bytes, rest_segments, bundles_output, report_lines, report_line, packing_of, pack_tool}
 use Rattle.link_pack.specs.PackRun.{texts_of}
 use Rattle.link_pack.specs.Segments.{segments_of}
 use Rattle.link_pack.specs.declared.options.PackOptions.{PackOptions}
-use Rattle.link_pack.proofs.Dividing.{front_more, whole_stops, faulty_stops, within_limit, beyond_limit, refused_so, divided_front}
-use Rattle.link_pack.proofs.Divisions.{IsRefused, StaysDivided, stays_divided}
+use Rattle.link_bundle_walk.proofs.Dividing.{front_more, whole_stops, faulty_stops, within_limit, beyond_limit, refused_so, divided_front}
+use Rattle.link_bundle_walk.proofs.Divisions.{IsRefused, StaysDivided, stays_divided}
 use Rattle.link_pack.proofs.Outcomes.{made_as, texts_going, unshown_going, refused_same}
 use Rattle.link_pack.proofs.Sending.{segments_grow, segments_none}
 use Rattle.link_laws.specs.Prefix.{IsFrontOf, IsPrefixed}

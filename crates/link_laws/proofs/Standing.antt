@@ -9,9 +9,8 @@ use Rattle.link_transfer.specs.declared.event.Event.{Event}
 use Rattle.link_transfer.specs.declared.joiner.Joiner.{Joiner}
 use Rattle.link_transfer.proofs.Joining.{IsJoinerAt-none, IsJoinerAt-then}
 use Rattle.link_unpack.specs.Transfers.{Transfer, after_message, transfers_of}
-use Rattle.link_unpack.specs.UnpackRun.{messages_of, AreInOrder}
 use Rattle.link_unpack.proofs.Heads.{messages_push, no_transfers, transfers_push}
-use Rattle.link_unpack.proofs.Orders.{in_order_none, in_order_more}
+use Rattle.link_unpack.proofs.Orders.{messages_of, AreInOrder, in_order_none, in_order_more}
 
 -- These heads are in order, and these are their transfers. A joiner that accepted their messages
 -- has this value.

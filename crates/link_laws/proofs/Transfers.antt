@@ -15,11 +15,10 @@ use Rattle.link_run.specs.Run.{Texts}
 use Rattle.link_unpack.specs.Transfers.{Transfer, continued, after_segment, after_message}
 use Rattle.link_unpack.specs.TransferScan.{grown}
 use Rattle.link_unpack.specs.Unpacking.{is_selected, parts_of, Unpacked, order_line, abandoned_line, closed_line, transfers_with, transfer_lines, with_head}
-use Rattle.link_unpack.specs.UnpackRun.{texts_of}
 use Rattle.link_unpack.specs.declared.wanted.Wanted.{Wanted}
 use Rattle.link_unpack.proofs.GoingOn.{kind_of, LatestIsOpen, KnowsOpen, open_before, segment_open, knows_head}
 use Rattle.link_unpack.proofs.Heads.{entry, transfers_same, transfer_begins, transfer_continues, transfer_grows}
-use Rattle.link_unpack.proofs.Texts.{parts_more}
+use Rattle.link_unpack.proofs.Texts.{texts_of, parts_more}
 use Rattle.link_laws.specs.Prefix.{IsFrontOf}
 use Rattle.link_laws.proofs.Fronts.{front_same, front_first, front_then, front_after, front_none, front_empty, AreFronts, fronts_same, fronts_trans}
 use Rattle.link_laws.proofs.Payloads.{payload_front}

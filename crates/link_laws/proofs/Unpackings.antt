@@ -4,7 +4,6 @@ use Rattle.link_wire.specs.Stream.{Entry, End, Reading, reading_of, heads_of}
 use Rattle.link_transfer.specs.declared.fault.OrderFault.{OrderFault}
 use Rattle.link_unpack.specs.Transfers.{Ordered, ordered}
 use Rattle.link_unpack.specs.Unpacking.{unpacking_by, unpacked_of, made_of, unpacking_of, unpack_tool}
-use Rattle.link_unpack.specs.UnpackRun.{texts_of}
 use Rattle.link_unpack.specs.declared.wanted.Wanted.{Wanted}
 use Rattle.link_unpack.proofs.GoingOn.{unpacked_in_order, lines_abandoned}
 use Rattle.link_laws.specs.Prefix.{IsPrefixed}
@@ -12,6 +11,7 @@ use Rattle.link_laws.proofs.Accepted.{accepted_in_order}
 use Rattle.link_run.proofs.Continued.{ReadingGoesOn, reading_on}
 use Rattle.link_laws.proofs.Fronts.{front_same, front_first, AreFronts, fronts_same, fronts_trans}
 use Rattle.link_unpack.proofs.Lasting.{heads_on, orders, stays}
+use Rattle.link_unpack.proofs.Texts.{texts_of}
 use Rattle.link_laws.proofs.Heads.{unpacked_on}
 use Rattle.link_laws.proofs.Prefixes.{MadeOn, prefixed}
 

@@ -3,7 +3,7 @@ use Rattle.std.proofs.Common.{◌≡◌, ℕ, ◌+◌, ◌<◌, Bool, true, fals
 use Rattle.link_run.specs.Writers.{on_output, on_report}
 use Rattle.link_run.specs.Run.{◌then◌}
 use Rattle.link_run.proofs.Runs.{texts_as}
-use Rattle.link_pack.specs.Bundles.{Packed}
+use Rattle.link_bundle_walk.specs.Bundles.{Packed}
 use Rattle.link_pack.specs.Packing.{prelude_bytes, segment_size, sending, transfer_bytes, report_line, report_lines}
 use Rattle.link_pack.specs.PackRun.{texts_of, run_segments}
 use Rattle.link_pack.specs.Segments.{segments_of}

@@ -1,5 +1,5 @@
 -- The segments of a bundle that is still incomplete.
-use Rattle.std.proofs.Common.{◌≡◌, ℕ, zero, suc, ◌+◌, ◌-◌, ◌*◌, ◌<◌, ◌≤◌, Bool, true, false, ltb, leb, eqb, cond, ◌&&◌, List, [], ◌∷◌, ◌++◌, length, take, drop, Option, Some, None, refl, ap, ap₂, sym, ◌∙◌, append_assoc, length-append, arith}
+use Rattle.std.proofs.Common.{◌≡◌, ℕ, zero, suc, ◌+◌, ◌-◌, ◌*◌, ◌<◌, ◌≤◌, Bool, true, false, ltb, leb, eqb, cond, ◌&&◌, List, [], ◌∷◌, ◌++◌, length, take, drop, Option, Some, None, refl, ap, ap₂, sym, ◌∙◌, append-nil, append_assoc, length-append, arith}
 use Rattle.std.proofs.lemmas.Bool.{le-ltb}
 use Rattle.std.proofs.lemmas.Bool.Decides.{nat_tests}
 use Rattle.std.proofs.lemmas.List.{take-append-le, drop-append-le, length-drop, length_push}
@@ -168,12 +168,12 @@ segments_grow id segment hold bundle (byte ∷ bytes) last some next =
 
 -- ---- once all due chunks were given
 
-pub all_given_open : (segment hold : ℕ) (bundle run : List ℕ) → 0 < length run
+pub all_given_open : (segment hold : ℕ) (bundle run : List ℕ)
     → all_given (with_bytes run false (going segment hold bundle))
     ≡ going segment hold (bundle ++ run)
 unfolding due
-all_given_open segment hold bundle [] next = absurd (omega arith)
-all_given_open segment hold bundle (byte ∷ bytes) next = refl
+all_given_open segment hold bundle [] = ap (going segment hold) (sym (append-nil bundle))
+all_given_open segment hold bundle (byte ∷ bytes) = refl
 
 pub all_given_ended : (segment hold : ℕ) (bundle run : List ℕ) → 0 < length run
     → all_given (with_bytes run true (going segment hold bundle)) ≡ beginning segment hold

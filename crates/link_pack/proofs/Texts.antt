@@ -1,6 +1,6 @@
 -- What is written for the bundles so far and one more.
 use Rattle.std.proofs.Common.{◌≡◌, ℕ, suc, ◌+◌, true, List, [], ◌∷◌, ◌++◌, length, ap, sym, ◌∙◌, append-nil, append_assoc, arith}
-use Rattle.link_pack.specs.Bundles.{Packed}
+use Rattle.link_bundle_walk.specs.Bundles.{Packed}
 use Rattle.link_pack.specs.Packing.{sending, transfer_bytes, report_line, report_lines}
 use Rattle.link_pack.specs.Segments.{segments_of}
 use Rattle.link_pack.specs.declared.options.PackOptions.{PackOptions}

@@ -1,4 +1,3 @@
-pub mod Bundles
 pub mod Segments
 pub mod Packing
 pub mod Packer

@@ -1,14 +1,12 @@
 -- What `pack` writes for an input: the stream of a sender (RFC 9174) that carries its bundles.
 use Rattle.std.specs.Prelude.{ℕ, suc, min, Bool, true, false, List, [], ◌∷◌, ◌++◌, length, Option, Some, None, if◌then◌else◌}
-use Rattle.link_bundle_types.specs.Faults.{lasts}
 use Rattle.link_wire.specs.Spelling.{contact_bytes, sess_init_bytes, sess_term_bytes}
 use Rattle.link_transfer.specs.Chunks.{chunk_count}
-use Rattle.link_report.specs.declared.fault.Fault.{Fault}
-use Rattle.link_report.specs.declared.fault.Fault.TheVariants.{Bundle, TooLong}
 use Rattle.link_report.specs.Packed.{packed_text}
-use Rattle.link_run.specs.Made.{StreamStop, Made, tool_of}
+use Rattle.link_run.specs.Made.{Made, tool_of}
 use Rattle.link_run.specs.Run.{Tool}
-use Rattle.link_pack.specs.Bundles.{Packed, Refusal, Longer, Faulty, Rest, Divided, divided}
+use Rattle.link_bundle_walk.specs.Bundles.{Packed, Rest, Divided, divided}
+use Rattle.link_bundle_walk.specs.Telling.{stop_by}
 use Rattle.link_pack.specs.Segments.{Sending, segments_of}
 use Rattle.link_pack.specs.declared.options.PackOptions.{PackOptions}
 
@@ -66,23 +64,6 @@ unfoldable pub report_lines : PackOptions → (number : ℕ) → List Packed →
 report_lines options number [] = []
 report_lines options number (bundle ∷ more) =
     report_line options number bundle ++ report_lines options (suc number) more
-
--- ---- where an input stops
-
-abbrev pub refusal_fault : (number : ℕ) → Refusal → Fault
-refusal_fault number (Longer limit) = TooLong number limit
-refusal_fault number (Faulty fault offset) = Bundle number offset fault
-
--- Whether the refusal stays, whatever bytes follow. Only that of bytes that end inside a bundle
--- does not.
-abbrev pub lasting : Refusal → Bool
-lasting (Longer limit) = true
-lasting (Faulty fault offset) = lasts fault
-
-abbrev pub stop_by : (number : ℕ) → Option Rest → Option StreamStop
-stop_by number None = None
-stop_by number (Some rest) =
-    Some (record { fault = refusal_fault number rest.refusal; lasts = lasting rest.refusal })
 
 -- ---- the whole input
 

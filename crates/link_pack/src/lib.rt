@@ -16,5 +16,5 @@ mod segment_text;
 mod segments;
 
 pub use options::PackOptions;
-pub use packer::cutter_for;
-pub use packing::{PackRun, Packing, pack, pack_run};
+pub use packer::{Packer, cutter_for};
+pub use packing::{PackRun, pack, pack_run};

@@ -2,10 +2,10 @@
 -- all heads are in order, it makes no difference whether such a fault ends the run.
 use Rattle.std.proofs.Common.{◌≡◌, ℕ, ◌⊎◌, inl, inr, Bool, true, false, ◌&&◌, ◌==◌, is_some, List, [], ◌∷◌, ◌++◌, length, Option, Some, None, if◌then◌else◌, refl, ap, sym, ◌∙◌, ⊎_elim, append-nil, append_assoc}
 use Rattle.std.specs.List.{fold}
+use Rattle.std.proofs.Math.Bool.{and-true}
 use Rattle.std.proofs.lemmas.Bool.{false≢true}
-use Rattle.std.proofs.lemmas.Grind.{fold-append}
 use Rattle.link_wire.specs.Codes.{is_start, is_end}
-use Rattle.link_wire.specs.Stream.{Entry, End, Reading, heads_of}
+use Rattle.link_wire.specs.Stream.{Entry, End}
 use Rattle.link_wire.specs.declared.message.Message.{Message}
 use Rattle.link_wire.specs.declared.message.Message.TheVariants as message
 use Rattle.link_wire.specs.declared.message.SegmentHead.{SegmentHead}
@@ -16,12 +16,11 @@ use Rattle.link_transfer.specs.declared.event.Event.TheVariants as event
 use Rattle.link_transfer.proofs.Joining.{after-segment, after-other, not_stray as never_stray}
 use Rattle.link_run.specs.Made.{Made, stop_of}
 use Rattle.link_unpack.specs.Transfers.{ordered_after, ordered, Transfer, closes, continued, after_segment, after_message, transfers_of, settled}
-use Rattle.link_unpack.specs.Unpacking.{parts_of, line_of, lines_of, are_good, unpacking_by, Unpacked, none_unpacked, abandoned_line, closed_line, transfers_with, transfer_lines, with_head, unpacked_of, going_on_by, made_of}
+use Rattle.link_unpack.specs.Unpacking.{parts_of, line_of, lines_of, are_good, unpacking_by, Unpacked, abandoned_line, closed_line, transfers_with, transfer_lines, with_head, unpacked_of, going_on_by}
 use Rattle.link_unpack.specs.TransferScan.{grown}
-use Rattle.link_unpack.specs.UnpackRun.{messages_of, AreInOrder, AreTaken}
 use Rattle.link_unpack.specs.declared.wanted.Wanted.{Wanted}
 use Rattle.link_unpack.proofs.Heads.{transfers_same, transfer_begins, transfer_continues}
-use Rattle.link_unpack.proofs.Orders.{all, first_may, messages_then}
+use Rattle.link_unpack.proofs.Orders.{messages_of, AreInOrder, all, first_may, messages_then}
 use Rattle.link_unpack.proofs.Texts.{lines_more}
 
 -- ---- kinds of messages
@@ -37,7 +36,7 @@ kind_of message.Keepalive = inr refl
 kind_of (message.SessTerm flags reason) = inr refl
 kind_of (message.MsgReject reason header) = inr refl
 
-begins_none : (happened : Event) → is_segment happened ≡ false → begins happened ≡ false
+pub begins_none : (happened : Event) → is_segment happened ≡ false → begins happened ≡ false
 begins_none event.SessInit other = refl
 begins_none event.SessTerm other = refl
 begins_none (event.Segment flags id) other = absurd (cc)
@@ -268,16 +267,6 @@ module _ (wanted : Wanted) where
 -- ---- heads from the front
 
 module _ (wanted : Wanted) where
-  pub unpacked_none : unpacked_of wanted [] ≡ none_unpacked
-  unfolding unpacked_of
-  unpacked_none = refl
-
-  pub unpacked_push : (heads : List Entry) (head : Entry)
-      → unpacked_of wanted (heads ++ head ∷ [])
-      ≡ with_head wanted (unpacked_of wanted heads) head
-  unfolding unpacked_of
-  unpacked_push heads head = fold-append (with_head wanted) none_unpacked heads (head ∷ [])
-
   -- ---- heads that are in order
 
   abbrev in_order_with : List Message → List Transfer → Unpacked
@@ -345,10 +334,6 @@ module _ (wanted : Wanted) where
 
   -- ---- what is made of the stream
 
-  and_true : (test : Bool) → (test && true) ≡ test
-  and_true true = refl
-  and_true false = refl
-
   made_as : (end : End) (output report lines last : List ℕ) (good all_good : Bool)
       → lines ≡ last → good ≡ all_good
       → ◌≡◌ {A = Made}
@@ -373,18 +358,5 @@ module _ (wanted : Wanted) where
       let transfers = transfers_of heads in
       ap (unpacking_by wanted end) are
       ∙ made_as end (parts_of wanted transfers) (lines_of wanted (settled transfers)) _ _ _ _
-      (lines_abandoned wanted transfers) (sym (and_true (are_good transfers)))
+      (lines_abandoned wanted transfers) (sym (and-true (are_good transfers)))
       ∙ ap (going_on_by wanted end) (sym (unpacked_in_order heads are))
-
-  made_by : (keep_going : Bool) (reading : Reading)
-      → (keep_going ≡ false → AreInOrder (heads_of reading))
-      → made_of keep_going wanted reading
-      ≡ going_on_by wanted reading.end (unpacked_of wanted (heads_of reading))
-  made_by true reading are = refl
-  made_by false reading are = made_in_order reading.end (heads_of reading) (are refl)
-
-  -- both options make the same of these heads
-  pub made_going : (reading : Reading) → AreTaken wanted (heads_of reading)
-      → made_of wanted.keep_going wanted reading
-      ≡ going_on_by wanted reading.end (unpacked_of wanted (heads_of reading))
-  made_going reading are = made_by wanted.keep_going reading are

@@ -1,15 +1,15 @@
 -- A fault at which a run stops stays the same when more bytes follow.
 use Rattle.std.proofs.Common.{◌≡◌, ℕ, ◌<◌, Bool, true, false, List, [], ◌∷◌, ◌++◌, length, Option, Some, None, refl, ap, ◌∙◌, append_assoc}
 use Rattle.link_wire.specs.Message.{data_length}
-use Rattle.link_wire.specs.Stream.{Entry, Stream, Reading, reading_of, cut_heads, heads_of}
+use Rattle.link_wire.specs.Stream.{Entry, Stream, Reading, cut_heads, heads_of}
 use Rattle.link_wire.specs.declared.message.Message.{Message}
 use Rattle.link_transfer.specs.Event.{event_of}
 use Rattle.link_transfer.specs.Order.{refusal}
 use Rattle.link_transfer.specs.declared.fault.OrderFault.{OrderFault}
-use Rattle.link_run.specs.Made.{Made, IsLasting, shows_fault}
-use Rattle.link_run.proofs.Continued.{entry, LastGoesOn, ReadingGoesOn, reading_on}
+use Rattle.link_run.specs.Made.{shows_fault}
+use Rattle.link_run.proofs.Continued.{entry, LastGoesOn, ReadingGoesOn}
 use Rattle.link_unpack.specs.Transfers.{Ordered, ordered_by, ordered_after, ordered}
-use Rattle.link_unpack.specs.Unpacking.{stop_by, unpacking_by, made_of, unpacking_of}
+use Rattle.link_unpack.specs.Unpacking.{stop_by, unpacking_by, made_of}
 use Rattle.link_unpack.specs.declared.wanted.Wanted.{Wanted}
 
 -- ---- heads, and more heads
@@ -141,16 +141,3 @@ module _ (before after : Reading) (on : ReadingGoesOn before after) where
       → made_of keep_going wanted after ≡ made_of keep_going wanted before
   stays true wanted shown = ap (made_of true wanted) (on.stays shown)
   stays false wanted shown = stays_by wanted order.refused refl shown
-
-module _ (wanted : Wanted) where
-  pub unpacking_stays : (bytes more : List ℕ)
-      → shows_fault (unpacking_of wanted bytes).stop ≡ true
-      → unpacking_of wanted (bytes ++ more) ≡ unpacking_of wanted bytes
-  unfolding unpacking_of
-  unpacking_stays bytes more shown =
-      stays (reading_of bytes) (reading_of (bytes ++ more)) (reading_on bytes more)
-      wanted.keep_going wanted shown
-
-  pub unpacking_lasts : IsLasting (unpacking_of wanted)
-  unpacking_lasts bytes more shown =
-      ap (λ (m : Made). shows_fault m.stop) (unpacking_stays bytes more shown) ∙ shown

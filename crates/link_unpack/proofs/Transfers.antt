@@ -1,6 +1,7 @@
 -- What is written and reported for the latest transfer.
-use Rattle.std.proofs.Common.{◌≡◌, ℕ, Bool, true, false, not, List, [], ◌++◌, length, Result, refl, ap, ◌∙◌}
+use Rattle.std.proofs.Common.{◌≡◌, ℕ, Bool, true, false, not, List, [], ◌∷◌, ◌++◌, length, Result, refl, ap, sym, ◌∙◌, append-nil}
 use Rattle.std.specs.Prelude.{if◌then◌else◌}
+use Rattle.arrayvec.specs.ArrayVec.{ArrayVec}
 use Rattle.link_bundle_types.specs.declared.fault.BundleFault.{BundleFault}
 use Rattle.link_bundle_types.specs.declared.info.BundleInfo.{BundleInfo}
 use Rattle.link_bundle.specs.Bundle.{judged_bundle as judged_bytes, bundle_at, opening_at, verdict, payload_in}
@@ -12,12 +13,19 @@ use Rattle.link_report.specs.declared.judgement.Judgement.{Judgement}
 use Rattle.link_report.specs.declared.judgement.JudgementView.{JudgementView}
 use Rattle.link_report.specs.declared.transfer.TransferEntry.{TransferEntry}
 use Rattle.link_transfer.specs.Announced.{announced_of}
+use Rattle.link_wire.specs.Codes.{is_start}
+use Rattle.link_wire.specs.MessageBuffer.{message_of, message_with, segment_items}
+use Rattle.link_wire.specs.declared.message.Item.{Item}
+use Rattle.link_wire.specs.declared.message.Fields.TheVariants as fields
+use Rattle.link_wire.specs.declared.message.Message.TheVariants.{Segment}
+use Rattle.link_wire.specs.declared.message.MessageBuffer.{MessageBuffer}
 use Rattle.link_wire.specs.declared.message.SegmentHead.{SegmentHead}
 use Rattle.link_unpack.specs.Transfers.{Transfer}
 use Rattle.link_unpack.specs.TransferScan.{IsAtTransfer, begun, grown}
 use Rattle.link_unpack.specs.Unpacking.{is_selected, part_of, parts_of, judgement_of, entry_of}
 use Rattle.link_unpack.specs.declared.transfer.TransferScan.{TransferScan}
 use Rattle.link_unpack.specs.declared.wanted.Wanted.{Wanted}
+use Rattle.link_unpack.proofs.Texts.{parts_more}
 
 -- ---- a transfer begins
 
@@ -54,8 +62,8 @@ same_entry : (id start written size : ℕ) (judgement : Judgement)
     (record { id = id'; start = start'; written = written'; length = size'; judgement = judgement' })
 same_entry id start written size judgement id' start' written' size' judgement' a b c d e = cc
 
-module _ (now : TransferScan) (transfer : Transfer) (earlier : List Transfer)
-    (follows : IsAtTransfer now transfer earlier)
+module _ (wanted : Wanted) (now : TransferScan) (transfer : Transfer) (earlier : List Transfer)
+    (follows : IsAtTransfer wanted now transfer earlier)
     (abandoned : Bool) (over : abandoned ≡ not transfer.closed)
     (outcome : Result BundleInfo (BundleFault × ℕ)) (seen : (seen : List ℕ) → HasScanned now.scan seen → outcome ≡ verdict seen)
     (shown : JudgementView) (judges : viewed_judgement shown ≡ judged_transfer abandoned now.announced now.size outcome) where
@@ -77,6 +85,58 @@ module _ (now : TransferScan) (transfer : Transfer) (earlier : List Transfer)
         length = now.size;
         judgement = viewed_judgement shown;
       })
-      ≡ transfer_text (entry_of now.wanted transfer (length (parts_of now.wanted earlier)))
+      ≡ transfer_text (entry_of wanted transfer (length (parts_of wanted earlier)))
   line_is = ap transfer_text
       (same_entry _ _ _ _ _ _ _ _ _ _ follows.id follows.start follows.written follows.size judgement_is)
+
+-- ---- more of a transfer, without data
+
+-- if no data is added, the written bytes stay the same
+same_part : (wanted : Wanted) (transfer : Transfer) (closed : Bool)
+    → part_of wanted (grown transfer [] closed) ≡ part_of wanted transfer
+same_part wanted transfer closed =
+    ap (λ (xs : List ℕ). if is_selected wanted.only transfer.first.id
+    then (if wanted.payload then payload_in xs else xs) else [])
+    (append-nil transfer.content)
+
+pub follows_same : (wanted : Wanted) (now : TransferScan) (transfer : Transfer) (closed : Bool)
+    (earlier : List Transfer) → IsAtTransfer wanted now transfer earlier
+    → IsAtTransfer wanted now (grown transfer [] closed) earlier
+follows_same wanted now transfer closed earlier follows = record {
+  id = follows.id;
+  announced = follows.announced;
+  start = follows.start;
+  written = follows.written ∙ ap length (sym (same_part wanted transfer closed));
+  size = follows.size ∙ ap length (sym (append-nil transfer.content));
+  judged = rw append-nil follows.judged;
+}
+
+pub same_parts : (wanted : Wanted) (transfer : Transfer) (closed : Bool) (earlier : List Transfer)
+    → parts_of wanted (transfer ∷ earlier) ≡ parts_of wanted (grown transfer [] closed ∷ earlier)
+same_parts wanted transfer closed earlier =
+    parts_more wanted transfer earlier
+    ∙ ap (λ (xs : List ℕ). parts_of wanted earlier ++ xs) (sym (same_part wanted transfer closed))
+    ∙ sym (parts_more wanted (grown transfer [] closed) earlier)
+
+-- ---- the head of a first segment
+
+record HeadOf (flags id : ℕ) (items : ArrayVec Item) (head : SegmentHead) : Type 0 where
+  pub has_flags : head.flags ≡ flags
+  pub has_id : head.id ≡ id
+  pub has_items : head.items ≡ segment_items flags items
+
+head_by : (flags id size : ℕ) (node : ArrayVec ℕ) (items : ArrayVec Item) (head : SegmentHead)
+    → message_with (fields.Segment flags id size) node items ≡ Segment head
+    → HeadOf flags id items head
+head_by flags id size node items head is =
+    let whole : SegmentHead = record { flags = flags; id = id; items = segment_items flags items; length = size } in
+    let same : head ≡ whole = cc in
+    record { has_flags = ap (λ (h : SegmentHead). h.flags) same; has_id = ap (λ (h : SegmentHead). h.id) same; has_items = ap (λ (h : SegmentHead). h.items) same }
+
+pub first_head : (buffer : MessageBuffer) (flags id size : ℕ) (head : SegmentHead)
+    → buffer.fields ≡ fields.Segment flags id size → message_of buffer ≡ Segment head
+    → is_start head.flags ≡ true → (head.id ≡ id) × (head.items ≡ buffer.items)
+first_head buffer flags id size head kind is starts =
+    let parts = head_by flags id size buffer.node buffer.items head (ap (λ f. message_with f buffer.node buffer.items) (sym kind) ∙ is) in
+    let start : is_start flags ≡ true = ap is_start (sym parts.has_flags) ∙ starts in
+    (parts.has_id, parts.has_items ∙ ap (λ b. if b then buffer.items else record { items = [] }) start)

@@ -1,6 +1,7 @@
 pub mod Transfers
 pub mod Unpacking
+pub mod Telling
 pub mod Pieces
 pub mod TransferScan
-pub mod UnpackRun
-pub mod InnerRun
+pub mod Unpacker
+pub mod Continuing

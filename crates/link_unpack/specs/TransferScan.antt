@@ -6,6 +6,7 @@ use Rattle.link_wire.specs.declared.message.SegmentHead.{SegmentHead}
 use Rattle.link_unpack.specs.Transfers.{Transfer}
 use Rattle.link_unpack.specs.Unpacking.{part_of, parts_of}
 use Rattle.link_unpack.specs.declared.transfer.TransferScan.{TransferScan}
+use Rattle.link_unpack.specs.declared.wanted.Wanted.{Wanted}
 
 -- a transfer before any of its data has come
 abbrev pub begun : SegmentHead → Bool → Transfer
@@ -17,11 +18,11 @@ grown transfer content closed =
     record { first = transfer.first; content = transfer.content ++ content; closed = closed }
 
 -- the scan is at the transfer `transfer`, which comes after those of `earlier`
-pub record IsAtTransfer (now : TransferScan) (transfer : Transfer)
+pub record IsAtTransfer (wanted : Wanted) (now : TransferScan) (transfer : Transfer)
     (earlier : List Transfer) : Type 0 where
   pub id : now.id ≡ transfer.first.id
   pub announced : now.announced ≡ announced_of transfer.first.items.items
-  pub start : now.start ≡ length (parts_of now.wanted earlier)
-  pub written : now.written ≡ length (part_of now.wanted transfer)
+  pub start : now.start ≡ length (parts_of wanted earlier)
+  pub written : now.written ≡ length (part_of wanted transfer)
   pub size : now.size ≡ length transfer.content
   pub judged : HasJudged now.scan transfer.content

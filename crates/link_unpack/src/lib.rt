@@ -10,8 +10,10 @@
 #![tactic(auto)]
 
 mod transfer;
+mod unpacker;
 mod unpacking;
 mod wanted;
 
-pub use unpacking::{UnpackRun, Unpacking, unpack, unpack_run};
+pub use unpacker::Unpacker;
+pub use unpacking::{UnpackRun, unpack, unpack_run};
 pub use wanted::Wanted;

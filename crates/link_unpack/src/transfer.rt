@@ -15,7 +15,6 @@ use link_wire::INPUT_LIMIT;
 /// Scans one transfer after another. It keeps the values for a transfer's line, but no data.
 #[derive(Drop)]
 pub struct TransferScan {
-    wanted: Wanted,
     /// The transfer ID.
     id: u64,
     /// The length that its extension items announce.
@@ -66,18 +65,17 @@ impl TransferScan {
     ghost use Rattle.link_wire.specs.declared.message.SegmentHead.{SegmentHead};
     ghost use Rattle.link_bundle.specs.Scan.{HasJudged};
     ghost use Rattle.link_unpack.specs.Transfers.{Transfer};
-    ghost use Rattle.link_unpack.specs.Unpacking.{is_selected, parts_of, part_of, entry_of, judgement_of, is_good};
+    ghost use Rattle.link_unpack.specs.Unpacking.{is_selected, parts_of, part_of, line_of, judgement_of, is_good};
     ghost use Rattle.link_unpack.specs.TransferScan.{IsAtTransfer, begun, grown};
+    ghost use Rattle.link_unpack.specs.declared.wanted.Wanted.{Wanted};
 
     /// Makes a scan for the first transfer of a stream.
-    pub fn new(wanted: Wanted) -> TransferScan
-        ensures wanted { result.wanted ≡ wanted }
+    pub fn new() -> TransferScan
         ensures start { result.start ≡ 0 }
         ensures written { result.written ≡ 0 }
         ensures total { result.total ≡ 0 }
     {
         TransferScan {
-            wanted,
             id: 0,
             announced: Announced::Absent,
             start: 0,
@@ -88,20 +86,12 @@ impl TransferScan {
         }
     }
 
-    /// Whether the run goes on after a fault of the order.
-    pub fn keeps_going(&self) -> bool
-        ensures { result ≡ self.now.wanted.keep_going }
-    {
-        self.wanted.keep_going
-    }
-
     /// Begins a transfer. Its bytes in the output come after those of the transfer before it.
     pub fn begin(&mut self, id: u64, announced: Announced)
-        ensures follows { (head : SegmentHead) (closed : _) (earlier : List Transfer) → head.id ≡
-            id → announced_of head.items.items ≡ announced
-            → self.old.start + self.old.written ≡ length (parts_of self.old.wanted earlier)
-            → IsAtTransfer self.new (begun head closed) earlier }
-        ensures wanted { self.new.wanted ≡ self.old.wanted }
+        ensures follows { (wanted : Wanted) (head : SegmentHead) (closed : _)
+            (earlier : List Transfer) → head.id ≡ id → announced_of head.items.items ≡ announced
+            → self.old.start + self.old.written ≡ length (parts_of wanted earlier)
+            → IsAtTransfer wanted self.new (begun head closed) earlier }
         ensures total { self.new.total ≡ self.old.total }
     {
         self.id = id;
@@ -117,18 +107,16 @@ impl TransferScan {
     /// If all data together would be longer than any input, it takes nothing. This never happens in
     /// a run, since the data is part of its input.
     #[inline(always)]
-    pub fn take<'a>(&mut self, piece: &'a [u8]) -> &'a [u8]
+    pub fn take<'a>(&mut self, wanted: &Wanted, piece: &'a [u8]) -> &'a [u8]
         ensures follows { (transfer : Transfer) (closed : _) (earlier : List Transfer)
             → self.old.total + length piece.now < 2 ^ 63
-            → IsAtTransfer self.old transfer earlier
-            → IsAtTransfer self.new (grown transfer piece.now
-            closed) earlier }
+            → IsAtTransfer wanted.now self.old transfer earlier
+            → IsAtTransfer wanted.now self.new (grown transfer piece.now closed) earlier }
         ensures part { (transfer : Transfer) (closed : _) (earlier : List Transfer)
             → self.old.total + length piece.now < 2 ^ 63
-            → IsAtTransfer self.old transfer earlier
-            → part_of self.old.wanted (grown transfer piece.now closed) ≡ part_of self.old.wanted
+            → IsAtTransfer wanted.now self.old transfer earlier
+            → part_of wanted.now (grown transfer piece.now closed) ≡ part_of wanted.now
             transfer ++ result.now }
-        ensures wanted { self.new.wanted ≡ self.old.wanted }
         ensures total { self.new.total ≤ self.old.total + length piece.now }
     {
         if piece.len() as u64 > INPUT_LIMIT - self.total {
@@ -137,16 +125,16 @@ impl TransferScan {
         self.size += piece.len() as u64;
         self.total += piece.len() as u64;
         self.scan.judge_piece(piece);
-        let part = self.part(piece);
+        let part = self.part(wanted, piece);
         self.written += part.len() as u64;
         part
     }
 
     /// Whether the transfer is selected.
-    fn is_selected(&self) -> bool
-        ensures { result ≡ is_selected self.now.wanted.only self.now.id }
+    fn is_selected(&self, wanted: &Wanted) -> bool
+        ensures { result ≡ is_selected wanted.now.only self.now.id }
     {
-        match self.wanted.only {
+        match wanted.only {
             Some(only) => only == self.id,
             None => true,
         }
@@ -154,19 +142,19 @@ impl TransferScan {
 
     /// Returns the bytes of the latest piece to be written. The scan has seen the piece, and `size`
     /// includes it.
-    fn part<'a>(&self, piece: &'a [u8]) -> &'a [u8]
+    fn part<'a>(&self, wanted: &Wanted, piece: &'a [u8]) -> &'a [u8]
         requires { length piece.now ≤ self.now.size }
         ensures part { (transfer : Transfer) (closed : _) → self.now.id ≡ transfer.first.id
             → self.now.size ≡ length transfer.content + length piece.now
             → HasJudged self.now.scan (transfer.content ++ piece.now)
-            → part_of self.now.wanted (grown transfer piece.now closed) ≡ part_of self.now.wanted
+            → part_of wanted.now (grown transfer piece.now closed) ≡ part_of wanted.now
             transfer ++ result.now }
         ensures size { length result.now ≤ length piece.now }
     {
-        if !self.is_selected() {
+        if !self.is_selected(wanted) {
             return &[];
         }
-        if !self.wanted.payload {
+        if !wanted.payload {
             return piece;
         }
         match self.scan.payload_seen() {
@@ -180,14 +168,11 @@ impl TransferScan {
     /// The line of the transfer. A transfer that was not abandoned is closed.
     #[inline(always)]
     pub fn line(&self, abandoned: bool) -> TransferText<'_>
-        ensures text { (transfer : Transfer) (earlier : List Transfer)
-            → IsAtTransfer self.now transfer
-            earlier → abandoned ≡ not transfer.closed
-            → transfer_text (viewed_transfer result.entry) ≡ transfer_text (entry_of self.now.wanted
-            transfer (length (parts_of self.now.wanted earlier))) }
-        ensures good { (transfer : Transfer) (earlier : List Transfer)
-            → IsAtTransfer self.now transfer
-            earlier → abandoned ≡ not transfer.closed
+        ensures text { (wanted : Wanted) (transfer : Transfer) (earlier : List Transfer)
+            → IsAtTransfer wanted self.now transfer earlier → abandoned ≡ not transfer.closed
+            → transfer_text (viewed_transfer result.entry) ≡ line_of wanted transfer earlier }
+        ensures good { (wanted : Wanted) (transfer : Transfer) (earlier : List Transfer)
+            → IsAtTransfer wanted self.now transfer earlier → abandoned ≡ not transfer.closed
             → is_good (viewed_judgement result.entry.judgement) ≡ is_good (judgement_of transfer) }
     {
         let judgement = judge_view(abandoned, self.announced, self.size, self.scan.view());

@@ -1,5 +1,6 @@
-use Rattle.link_pack.proofs.Outcomes.{may_begin}
+use Rattle.std.proofs.Common.{◌∙◌}
+use Rattle.link_pack.proofs.Outcomes.{same_tool}
 use Rattle.link_pack.proofs.packing.pack_run.Goals as goal
 
-pub new-requires-4-clause-begins : goal.new-requires-4-clause-begins
-new-requires-4-clause-begins g c = may_begin _
+pub returns-clause-tool : goal.returns-clause-tool
+returns-clause-tool g c = c.bundle_walk_run.ensures.tool ∙ same_tool c.args.options

@@ -1,0 +1,91 @@
+use Rattle.std.proofs.Common.{◌+◌, ◌<◌, ℕ, List, [], length, take, length-take, length-append, ⊎_elim, append-nil, ap, sym, ◌∙◌, refl, subst, arith}
+use Rattle.std.proofs.lemmas.Bool.Decides.{nat_tests}
+use Rattle.link_wire.specs.Source.{front_of, Takes}
+use Rattle.link_io.proofs.Sources.{Readies-takes, Readies-over}
+use Rattle.link_run.specs.Made.{shows_fault}
+use Rattle.link_run.specs.Reading.{inner_of}
+use Rattle.link_run.specs.Writers.{place_of}
+use Rattle.link_run.proofs.Stands.{settled, not_handed_on, read_fails, last_step}
+use Rattle.link_run.proofs.Waiting.{waits_then}
+use Rattle.link_bundle_walk.specs.BundleRun.{IsReading, MakesOf}
+use Rattle.link_bundle_walk.specs.Telling.{told_of}
+use Rattle.link_bundle_walk.proofs.Founds.{came, finished, front_bound, front_run}
+use Rattle.link_bundle_walk.proofs.walk.take_bytes.Goals as goal
+
+pub returns-in-Ok-eq0-clause-gives : goal.returns-in-Ok-eq0-clause-gives
+returns-in-Ok-eq0-clause-gives g c = λ start history stood at.
+    let old = inner_of c.args.input.now in
+    let new = inner_of c.ready_bytes.new.self in
+    let before = c.args.writers.now in
+    let writers = c.ready_bytes.new.writers in
+    let walker = c.args.walker.now in
+    let telling = g.C.BundleConsumer.telling c.args.options.now in
+    let knows = g.C.BundleConsumer.knows c.args.options.now walker.consumer in
+    let read = c.in-Ok-eq0.ensures.gives at.live in
+    let over = read.1.over (grind (arith, nat_tests)) in
+    rw c.ended.ensures
+    (last_step (told_of telling) (place_of old before) (place_of new c.finish.new.writers) _ c.finish.result
+    (finished telling knows knows c.args.most old writers c.finish.new.writers walker.current (settled old before writers stood read.0) at new (Readies-over g.R.InDevice.state old new read.1.readies over) over c.finish.result
+    (c.finish.ensures at.so_far at.holds)))
+
+pub returns-in-Err-clause-gives : goal.returns-in-Err-clause-gives
+returns-in-Err-clause-gives g c = λ start history stood at.
+    let old = inner_of c.args.input.now in
+    let new = inner_of c.ready_bytes.new.self in
+    let before = c.args.writers.now in
+    let writers = c.ready_bytes.new.writers in
+    let made = told_of (g.C.BundleConsumer.telling c.args.options.now) in
+    let same = sym (append-nil history) in
+    ⊎_elim
+    (λ stopped. read_fails c.args.most old new writers (settled old before writers stood stopped.0) [] writers c.in-Err.fault _ stopped.1 (omega arith)
+    (ap (λ bytes. (made bytes).texts) same) (ap (λ bytes. shows_fault (made bytes).stop) (append-nil history) ∙ stood.unshown) refl refl)
+    (λ lost. rw lost.0 (not_handed_on old before writers stood c.args.most c.in-Err.fault lost.1 lost.2))
+    (c.in-Err.ensures.gives at.live)
+
+pub returns-clause-gives : goal.returns-clause-gives
+returns-clause-gives g c = λ start history stood at.
+    let look = g.R.InDevice.state in
+    let telling = g.C.BundleConsumer.telling c.args.options.now in
+    let old = inner_of c.args.input.now in
+    let mid = inner_of c.ready_bytes.new.self in
+    let new = inner_of c.give.new.self in
+    let writers = c.ready_bytes.new.writers in
+    let current = c.args.walker.now.current in
+    let read = c.in-Ok.ensures.gives at.live in
+    let count = c.judge-count.result.0 in
+    let shown = c.front.result.now in
+    let ready = c.min-ready.result in
+    let run = take count (take ready shown) in
+    let bound = front_bound current old mid at read.1.readies shown ready c.front.ensures.front in
+    let short : length at.so_far.begun + length (take ready shown) < 9223372036854775808 = omega (arith, bound) in
+    let P : ℕ → Type 0 = λ limit. IsReading limit current at.so_far.begun in
+    let reading = subst P (sym c.limit.ensures) at.holds.reading in
+    let taken = front_run c.args.most (front_of look mid) shown ready count c.front.ensures.front
+    (omega (arith, c.min-ready.ensures)) c.judge-count.ensures.within
+    (c.judge-count.ensures.some at.so_far.begun reading short) in
+    let Q : ℕ → Type 0 = λ limit. MakesOf limit c.judge-count.new.self at.so_far.begun run c.judge-count.result.1 in
+    let took = subst Q c.limit.ensures (c.judge-count.ensures.took at.so_far.begun reading short) in
+    came telling (g.C.BundleConsumer.knows c.args.options.now c.args.walker.now.consumer)
+    (g.C.BundleConsumer.knows c.args.options.now c.go_on-progress.new.consumer)
+    c.args.most old writers c.go_on-progress.new.writers current
+    (settled old c.args.writers.now writers stood read.0) at new run
+    (Readies-takes look old mid new run read.1.readies
+    (subst (λ (bytes : List ℕ). Takes look mid new bytes) taken.same c.give.ensures.takes) taken.some)
+    (c.give.ensures.live read.1.live) taken.some taken.size
+    c.judge-count.new.self c.go_on-progress.new.current c.judge-count.ensures.number
+    c.go_on-progress.result c.judge-count.result.1 took
+    (c.go_on-progress.ensures.gives at.so_far at.holds.known (record {
+      numbered = c.judge-count.ensures.number ∙ at.holds.number;
+      opened = at.holds.reading.opened;
+      some = taken.some;
+      few = omega (
+        arith,
+        bound,
+        length-append at.so_far.begun run,
+        length-take count (take ready shown),
+      );
+    }) took)
+
+pub returns-clause-waits : goal.returns-clause-waits
+returns-clause-waits g c =
+    waits_then c.args.writers.now c.in-Ok.ensures.waits c.give.ensures.unread

@@ -1,0 +1,25 @@
+use Rattle.std.proofs.Common.{arith}
+use Rattle.link_run.specs.Reading.{inner_of}
+use Rattle.link_run.proofs.Sessions.{contact_ended}
+use Rattle.link_walk.specs.declared.walk.Stage.TheVariants as stage
+use Rattle.link_walk.proofs.Steps.{contact_grows, told_step}
+use Rattle.link_walk.proofs.Texts.{by_reading, made_is, before_all}
+use Rattle.link_walk.proofs.walk.open.Goals as goal
+
+pub returns-in-Ok-clause-gives : goal.returns-in-Ok-clause-gives
+returns-in-Ok-clause-gives g c = λ start history at begins.
+    let got = c.in-Ok.ensures.gives in
+    let size = got.size in
+    rw (begins.nothing, c.of.ensures)
+    (told_step (g.C.Consumer.knows c.args.options.now) (inner_of c.args.input.now)
+    c.args.writers.now (rw (← begins.nothing) at) got.takes (omega arith)
+    (contact_grows begins.judges got) c.contact.new.writers c.contact.new.self 4096 stage.Contact
+    (omega arith) tt c.contact.result (c.contact.ensures begins.known))
+
+pub returns-in-Err-clause-gives : goal.returns-in-Err-clause-gives
+returns-in-Err-clause-gives g c = λ start history at begins.
+    let telling = g.C.Consumer.telling c.args.options.now in
+    rw begins.nothing
+    (contact_ended (by_reading telling) (made_is telling) (inner_of c.args.input.now)
+    (inner_of c.open.new.self) c.args.writers.now c.end.new.self (rw (← begins.nothing) at)
+    (before_all telling) c.in-Err.stop _ c.in-Err.ensures.gives c.end.ensures)

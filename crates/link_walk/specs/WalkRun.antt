@@ -1,0 +1,296 @@
+-- The state of a walk over the transfers of a stream.
+use Rattle.std.specs.Prelude.{◌≡◌, ℕ, ◌<◌, ◌≤◌, ◌⊎◌, Bool, true, is_some, if◌then◌else◌, zero, suc, List, [], ◌++◌, length, Option, Some, None, Result, Ok, Err}
+use Rattle.link_wire.specs.Device.{Input as Seen, Output}
+use Rattle.link_wire.specs.Limits.{longest_head}
+use Rattle.link_wire.specs.Session.{source_of, IsSessionAt, may_open, may_read, is_opened}
+use Rattle.link_wire.specs.Source.{Takes}
+use Rattle.link_wire.specs.Stream.{End, Clean, Cut, Fault, Reading, reading_of}
+use Rattle.link_wire.specs.Whole.{PassedQuiet}
+use Rattle.link_wire.specs.declared.IoFault.{IoFault}
+use Rattle.link_wire.specs.declared.message.Message.{Message}
+use Rattle.link_wire.specs.declared.session.Session.{Session}
+use Rattle.link_transfer.specs.Event.{event_of}
+use Rattle.link_transfer.specs.Joiner.{IsJoinerAt}
+use Rattle.link_transfer.specs.Order.{open_of, effect_of}
+use Rattle.link_transfer.specs.declared.fault.OrderFault.{OrderFault}
+use Rattle.link_transfer.specs.declared.joiner.Joiner.{Joiner}
+use Rattle.link_transfer.specs.declared.joiner.Turn.{Turn}
+use Rattle.link_report.specs.Fault.{fault_text}
+use Rattle.link_report.specs.declared.fault.Fault.TheVariants.{Order}
+use Rattle.link_run.specs.Made.{tool_of}
+use Rattle.link_run.specs.Run.{Texts, ◌then◌, Looks, Devices, devices_at, EndedRun, EndsAtFault, WentOn, LastStep, AfterStep, answer_of}
+use Rattle.link_run.specs.Reading.{inner_of, SessionWaits}
+use Rattle.link_run.specs.Stages.{Stands}
+use Rattle.link_run.specs.Writers.{place_of, on_report, AfterLastWrite}
+use Rattle.link_run.specs.declared.input.Input.{Input}
+use Rattle.link_run.specs.declared.run.Progress.{Progress}
+use Rattle.link_run.specs.declared.run.Progress.TheVariants.{More}
+use Rattle.link_run.specs.declared.run.Status.{Status}
+use Rattle.link_run.specs.declared.writers.Writers.{Writers}
+use Rattle.link_walk.specs.Walk.{Head, is_last, WalkEvent, data_size, has_open, Walked, walked, walked_of, Telling, Manner, told_of, end_events, head_events}
+use Rattle.link_walk.specs.Telling.{Tells}
+use Rattle.link_walk.specs.declared.walk.Next.{Next}
+use Rattle.link_walk.specs.declared.walk.Next.TheVariants as next
+use Rattle.link_walk.specs.declared.walk.Stage.{Stage}
+use Rattle.link_walk.specs.declared.walk.Stage.TheVariants as stage
+use Rattle.link_walk.specs.declared.walk.Walker.{Walker}
+
+-- ---- the stages
+
+-- the most bytes that a step is given: a contact header, the head of a message, or a piece of data
+-- of at most `piece` bytes
+abbrev pub most_by : (piece : ℕ) → Stage → ℕ
+most_by piece stage.Contact = 6
+most_by piece stage.Message = longest_head
+most_by piece (stage.Data last) = piece
+most_by piece stage.Stray = piece
+
+abbrev pub most_given : Stage → ℕ
+most_given now = most_by 4096 now
+
+-- whether the session permits the call of a step at this stage
+abbrev pub may_go_on : {R : Type 0} → Stage → Session R → Bool
+may_go_on stage.Contact session = may_open session
+may_go_on stage.Message session = may_read session
+may_go_on (stage.Data last) session = is_opened session
+may_go_on stage.Stray session = is_opened session
+
+-- what comes after a step, from the stage that comes next if all was written
+abbrev pub next_of : Stage → Result (Unit {0}) IoFault → Next
+next_of now (Ok done) = next.Stage now
+next_of now (Err fault) = next.Ended (Err fault)
+
+-- the result of a step, from what comes next
+abbrev pub progress_of : Next → Result Progress IoFault
+progress_of (next.Stage now) = Ok More
+progress_of (next.Ended answer) = answer_of answer
+
+-- the stage after a step at the stage `now`; it stays the same if the run has ended
+abbrev pub stage_after : (now : Stage) → Next → Stage
+stage_after now (next.Stage later) = later
+stage_after now (next.Ended answer) = now
+
+-- whether the session permits the call that comes next
+abbrev pub may_follow : {R : Type 0} → Next → Session R → Bool
+may_follow (next.Stage now) session = may_go_on now session
+may_follow (next.Ended answer) session = true
+
+-- the stage in the data of a segment with this effect
+abbrev pub stage_in : Option Turn → Stage
+stage_in None = stage.Stray
+stage_in (Some turn) = stage.Data (is_last (Some turn))
+
+-- the stage after a head or after data, with `left` bytes of data to come
+abbrev pub stage_by : Option Turn → (left : ℕ) → Stage
+stage_by turn zero = stage.Message
+stage_by turn (suc left) = stage_in turn
+
+-- ---- the head of a message, and the end of a stream
+
+-- The consumer was told of a head, and a stage comes next; or a writer failed in what is said of
+-- the head.
+abbrev pub TellsHead : {W E : Type 0} → (W → Output) → (E → Output) → Telling
+    → (knows : List WalkEvent → Type 0) → (before : List WalkEvent) → Head → (left : ℕ)
+    → (old new : Writers W E) → Next → Type 0
+TellsHead out_look report_look telling knows before head left old new result =
+    (told : Result (Unit {0}) IoFault) × (result ≡ next_of (stage_by head.turn left) told)
+    × Tells out_look report_look telling knows before (head_events telling.manner.all_heads head)
+    old new told
+
+-- the run has ended at a head that is not in order, with the line of its fault
+abbrev pub EndsAtHead : {W E : Type 0} → (W → Output) → (E → Output) → (offset : ℕ) → OrderFault
+    → (old new : Writers W E) → Next → Type 0
+EndsAtHead out_look report_look offset fault old new result =
+    (answer : Result Status IoFault) × (result ≡ next.Ended answer)
+    × AfterLastWrite out_look report_look old new (on_report (fault_text (Order offset fault))) 3
+    answer
+
+-- A stream has ended between two messages: what is said of its end was written, and the status is
+-- 0 if everything is good, and else 1.
+abbrev pub Finishes : {W E : Type 0} → (W → Output) → (E → Output) → Telling
+    → (taken : List Message) → (events : List WalkEvent) → (old new : Writers W E)
+    → Result Status IoFault → Type 0
+Finishes out_look report_look telling taken events old new answer =
+    (texts : Texts)
+    × (telling.texts events then texts ≡ telling.texts (events ++ end_events taken))
+    × AfterLastWrite out_look report_look old new texts
+    (if telling.good (events ++ end_events taken) then 0 else 1) answer
+
+-- ---- the state
+
+-- the stage, by how the reading of the bytes so far ends; `before` is what its whole messages tell
+abbrev pub IsWaiting : Stage → (before : Walked) → End → Type 0
+IsWaiting now before Clean = now ≡ stage.Message
+IsWaiting now before (Cut offset sent content) =
+    now ≡ stage_in (effect_of before.taken (event_of sent))
+IsWaiting now before (Fault offset fault) = ⊥
+
+-- Whether a transfer is open. One whose last segment is being read is open until all of its data
+-- has come.
+abbrev pub is_open_at : Stage → List Message → Bool
+is_open_at stage.Contact taken = is_some (open_of taken)
+is_open_at stage.Message taken = is_some (open_of taken)
+is_open_at (stage.Data last) taken = true
+is_open_at stage.Stray taken = is_some (open_of taken)
+
+-- How the reading ends if data is to come after a step. A step that reads a head is given none of
+-- the data.
+abbrev pub IsWaitingAfter : Stage → End → Type 0
+IsWaitingAfter stage.Message (Cut offset message content) = content ≡ []
+IsWaitingAfter now end = Unit {0}
+
+-- what the whole messages of a reading tell
+abbrev pub walked_before : Manner → Reading → Walked
+walked_before manner reading = walked_of manner reading.contact reading.entries
+
+-- the state of a walk whose bytes so far have this reading
+pub record IsAt (telling : Telling) (knows : List WalkEvent → Type 0) (now : Stage) (joiner : Joiner)
+    (reading : Reading) : Type 0 where
+  pub unrefused : (walked telling.manner reading).refused ≡ None
+  pub judges : IsJoinerAt joiner (walked telling.manner reading).taken
+  pub known : knows (walked telling.manner reading).events
+  pub opened : has_open (walked telling.manner reading).events
+      ≡ is_open_at now (walked telling.manner reading).taken
+  pub waits : IsWaiting now (walked_before telling.manner reading) reading.end
+
+module _ {R C : Type 0} (look : R → Seen) (telling : Telling) (knows : C → List WalkEvent → Type 0) where
+  -- a walk that begins was given nothing
+  pub record Begins (session : Session R) (joiner : Joiner) (consumer : C) (history : List ℕ)
+      : Type 0 where
+    pub nothing : history ≡ []
+    pub opens : may_open session ≡ true
+    pub judges : IsJoinerAt joiner []
+    pub known : knows consumer []
+
+  -- the state of a walk that was given these bytes
+  pub record Walks (now : Stage) (session : Session R) (joiner : Joiner) (consumer : C)
+      (history : List ℕ) : Type 0 where
+    pub session_at : IsSessionAt look session history
+    pub at : IsAt telling (knows consumer) now joiner (reading_of history)
+    pub size : data_size (walked telling.manner (reading_of history)).events ≤ length history
+
+  abbrev pub IsWalking : Stage → Joiner → C → Session R → (history : List ℕ) → Type 0
+  IsWalking stage.Contact joiner consumer session history = Begins session joiner consumer history
+  IsWalking stage.Message joiner consumer session history =
+      Walks stage.Message session joiner consumer history
+  IsWalking (stage.Data last) joiner consumer session history =
+      Walks (stage.Data last) session joiner consumer history
+  IsWalking stage.Stray joiner consumer session history =
+      Walks stage.Stray session joiner consumer history
+
+-- `Stands` for a walk
+abbrev pub WalkStands : {R W E : Type 0} → Looks R W E → Devices R W E → Telling → Session R
+    → Writers W E → (history : List ℕ) → Type 0
+WalkStands look start telling session writers history =
+    Stands look (told_of telling) start true (place_of (source_of session) writers) history
+
+module _ {R W E C : Type 0} (look : Looks R W E) (start : Devices R W E) (telling : Telling)
+    (knows : C → List WalkEvent → Type 0) where
+  -- `WalkStands` and `Walks` hold
+  abbrev pub StandsAt : Stage → Session R → Writers W E → Joiner → C → List ℕ → Type 0
+  StandsAt now session writers joiner consumer history =
+      WalkStands look start telling session writers history
+      × Walks look.input telling knows now session joiner consumer history
+
+  -- what holds after a step at the stage `now`
+  abbrev pub AfterWalkStep : (piece : ℕ) → (now : Stage) → (old new : Session R)
+      → Writers W E → Joiner → C → (history : List ℕ) → Next → Type 0
+  AfterWalkStep piece now old new after joiner consumer history (next.Stage later) =
+      WentOn (source_of old) (source_of new)
+      (λ bytes. StandsAt later new after joiner consumer bytes
+      × IsWaitingAfter now (reading_of bytes).end) (most_by piece now) history
+  AfterWalkStep piece now old new after joiner consumer history (next.Ended answer) =
+      LastStep look (tool_of (told_of telling)) start
+      (devices_at (place_of (source_of new) after)) (most_by piece now) history answer
+
+  -- the state of the walk if a stage comes next
+  abbrev pub StandsIf : Session R → Writers W E → Joiner → C → Next → (history : List ℕ) → Type 0
+  StandsIf session writers joiner consumer (next.Stage now) history =
+      StandsAt now session writers joiner consumer history
+  StandsIf session writers joiner consumer (next.Ended answer) history = Unit {0}
+
+  -- what holds after a stride, which was given at most some number of bytes
+  abbrev pub AfterWalkStride : (old new : Session R) → (before after : Writers W E)
+      → Joiner → C → (history : List ℕ) → Next → Type 0
+  AfterWalkStride old new before after joiner consumer history next =
+      (size : ℕ) × (0 < size)
+      × AfterStep look (tool_of (told_of telling)) start (place_of (source_of old) before)
+      (place_of (source_of new) after) (StandsIf new after joiner consumer next) size history
+      (progress_of next)
+
+-- ---- inner segments
+
+module _ {R W E C : Type 0} (look : Looks R W E) (start : Devices R W E) (telling : Telling)
+    (knows : C → List WalkEvent → Type 0) where
+  -- what holds after these bytes were given: a stage comes next, or the run has ended
+  abbrev pub StandsNext : Session R → Writers W E → Joiner → C → (history : List ℕ) → Next → Type 0
+  StandsNext session writers joiner consumer history (next.Stage now) =
+      StandsAt look start telling knows now session writers joiner consumer history
+  StandsNext session writers joiner consumer history (next.Ended answer) =
+      EndedRun look (tool_of (told_of telling)) start
+      (devices_at (place_of (source_of session) writers)) history answer
+      × EndsAtFault (tool_of (told_of telling)) history
+
+  -- some bytes were given, or none; then a stage comes next, or the run has ended
+  pub record TakesInner (old new : Session R) (after : Writers W E) (joiner : Joiner) (consumer : C)
+      (history : List ℕ) (result : Next) : Type 0 where
+    pub given : List ℕ
+    pub takes : Takes look.input (source_of old) (source_of new) given
+    pub stands : StandsNext new after joiner consumer (history ++ given) result
+
+-- ---- what the functions of the walk do
+
+-- what a function of the walk is given and returns: the input, the writers and the walker
+pub record At (R W E C : Type 0) : Type 0 where
+  pub input : Input (Session R) W E
+  pub writers : Writers W E
+  pub walker : Walker C
+
+abbrev pub at : {R W E C : Type 0} → Input (Session R) W E → Writers W E → Walker C → At R W E C
+at input writers walker = record { input = input; writers = writers; walker = walker }
+
+module _ {R W E C : Type 0} (look : Looks R W E) (telling : Telling)
+    (knows : C → List WalkEvent → Type 0) where
+  -- the walk was given these bytes, and comes to the stage `now`
+  abbrev pub ComesTo : (start : Devices R W E) → (now : Stage) → At R W E C → (history : List ℕ)
+      → (after : Type 0) → Type 0
+  ComesTo start now old history after =
+      WalkStands look start telling (inner_of old.input) old.writers history
+      → IsWalking look.input telling knows now old.walker.joiner old.walker.consumer
+      (inner_of old.input) history
+      → after
+
+  -- a step at the stage `now`
+  abbrev pub Steps : (piece : ℕ) → (now : Stage) → (old new : At R W E C) → Next → Type 0
+  Steps piece now old new result =
+      (start : Devices R W E) (history : List ℕ) → ComesTo start now old history
+      (AfterWalkStep look start telling knows piece now (inner_of old.input) (inner_of new.input)
+      new.writers new.walker.joiner new.walker.consumer history result)
+
+  -- a stride that begins at the stage `now`
+  abbrev pub Strides : (now : Stage) → (old new : At R W E C) → Next → Type 0
+  Strides now old new result =
+      (start : Devices R W E) (history : List ℕ) → ComesTo start now old history
+      (AfterWalkStride look start telling knows (inner_of old.input) (inner_of new.input)
+      old.writers new.writers new.walker.joiner new.walker.consumer history result)
+
+  -- inner segments are taken
+  abbrev pub TakesAll : (old new : At R W E C) → Next → Type 0
+  TakesAll old new result =
+      (start : Devices R W E) (history : List ℕ) → ComesTo start stage.Message old history
+      (TakesInner look start telling knows (inner_of old.input) (inner_of new.input) new.writers
+      new.walker.joiner new.walker.consumer history result)
+
+  -- a step or a stride waits at most once
+  abbrev pub WalkWaits : (now : Stage) → (old new : At R W E C) → Type 0
+  WalkWaits now old new =
+      (history : List ℕ)
+      → IsWalking look.input telling knows now old.walker.joiner old.walker.consumer
+      (inner_of old.input) history
+      → SessionWaits look old.input new.input old.writers
+
+-- quiet messages were passed over, or nothing was given
+abbrev pub PassesQuiet : {R : Type 0} → (R → Seen) → (old new : Session R) → (history : List ℕ)
+    → Type 0
+PassesQuiet look old new history =
+    (new ≡ old) ⊎ ((count : ℕ) × (0 < count) × PassedQuiet look old new history count)

@@ -1,0 +1,605 @@
+//! The stages of a walk over the transfers of a recorded stream.
+
+ghost use Rattle.std.specs.Prelude.{◌≡◌, ◌+◌, ◌^◌, ◌&&◌, ◌==◌, ◌<◌, ◌≤◌, true, false, not, [], ◌∷◌, is_some, ◌++◌, IfSome, IsTrue, List, length, ℕ, if◌then◌else◌, Option, Some, None};
+ghost use Rattle.link_wire.specs.MessageBuffer.{SegmentHasTotals, message_of};
+ghost use Rattle.link_wire.specs.Session.{source_of, may_open, may_read, is_opened, left_of, data_in, IsSessionAt};
+ghost use Rattle.link_transfer.specs.Event.{event_of};
+ghost use Rattle.link_transfer.specs.Joiner.{IsJoinerAt};
+ghost use Rattle.link_transfer.specs.Order.{refusal, open_of, with_taken};
+ghost use Rattle.link_run.specs.Reading.{inner_of, waits_of, SessionWaits, Unread};
+ghost use Rattle.link_run.specs.Made.{tool_of};
+ghost use Rattle.link_run.specs.Run.{Devices, no_texts, devices_at, looks};
+ghost use Rattle.link_wire.specs.declared.message.Message.{Message};
+ghost use Rattle.link_walk.specs.Walk.{WalkEvent, Whole, told_of, data_events, data_size, has_open, head_at, head_events};
+ghost use Rattle.link_walk.specs.Telling.{ComesAfter, Tells, viewed_head};
+ghost use Rattle.link_walk.specs.WalkRun.{Steps, Strides, WalkWaits, at, PassesQuiet, EndsAtHead, TellsHead, Finishes, may_go_on, may_follow, progress_of, stage_after, stage_by};
+
+use self::inner::take_on;
+use crate::consumer::Consumer;
+use crate::head::{HeadView, is_last};
+use link_report::Fault;
+use link_run::{Input, PIECE, Progress, Run, Stages, Status, ToolRun, Writers};
+use link_transfer::{Event, Joiner, OrderFault, Turn};
+use link_wire::{InDevice, IoFault, MessageBuffer, OutDevice, Session, Source};
+
+/// What a step reads.
+#[derive(Clone, Copy, Debug, PartialEq, Eq)]
+enum Stage {
+    /// The contact header.
+    Contact,
+    /// The head of a message.
+    Message,
+    /// Data of a segment. `last` is whether the segment is the last of its transfer.
+    Data { last: bool },
+    /// Data of a stray segment, which is passed over.
+    Stray,
+}
+
+/// What comes after a step.
+#[derive(Clone, Copy, Debug, PartialEq, Eq)]
+enum Next {
+    /// A step at this stage.
+    Stage(Stage),
+    /// Nothing: the run has ended.
+    Ended(Result<Status, IoFault>),
+}
+
+/// What is known of the transfers so far.
+#[derive(Drop)]
+struct Walker<C> {
+    /// Judges the order of the messages.
+    joiner: Joiner,
+    consumer: C,
+}
+
+/// The stages of a walk.
+#[derive(Drop)]
+pub struct Walk<C: Consumer> {
+    options: C::Options,
+    stage: Stage,
+    /// The message whose head was read last.
+    message: MessageBuffer,
+    walker: Walker<C>,
+}
+
+/// A run of a tool over transfers, step by step.
+pub type WalkRun<R, W, E, C> = ToolRun<Session<R>, W, E, Walk<C>>;
+
+impl Next {
+    ghost use Rattle.link_walk.specs.WalkRun.{next_of};
+
+    /// What comes after a write: a stage, or the end of the run if a writer failed.
+    #[inline(always)]
+    fn of(later: Stage, written: Result<(), IoFault>) -> Next
+        ensures { result ≡ next_of later written }
+    {
+        match written {
+            Ok(()) => Next::Stage(later),
+            Err(fault) => Next::Ended(Err(fault)),
+        }
+    }
+}
+
+impl<R: InDevice, W: OutDevice, E: OutDevice, C: Consumer> Stages<Session<R>, W, E> for Walk<C> {
+    ghost use Rattle.std.specs.Prelude.{true};
+    ghost use Rattle.link_walk.specs.Walk.{told_of};
+    ghost use Rattle.link_walk.specs.WalkRun.{may_go_on, most_given, IsWalking};
+
+    ghost made = { λ tool. told_of (C.telling tool.options) };
+
+    ghost begun = { λ tool. true };
+
+    ghost fits = { λ tool. may_go_on tool.stage };
+
+    ghost knows = { λ tool. IsWalking R.state (C.telling tool.options) (C.knows tool.options)
+        tool.stage tool.walker.joiner tool.walker.consumer };
+
+    ghost most = { λ tool. most_given tool.stage };
+
+    fn stage(
+        &mut self,
+        input: &mut Input<Session<R>, W, E>,
+        writers: &mut Writers<W, E>,
+    ) -> Result<Progress, IoFault> {
+        let next = advance(
+            self.stage,
+            PIECE,
+            &self.options,
+            input,
+            writers,
+            &mut self.message,
+            &mut self.walker,
+        );
+        keep(&mut self.stage, next)
+    }
+
+    #[inline(always)]
+    fn stride(
+        &mut self,
+        input: &mut Input<Session<R>, W, E>,
+        writers: &mut Writers<W, E>,
+    ) -> Result<Progress, IoFault> {
+        let next = stride_from(
+            self.stage,
+            &self.options,
+            input,
+            writers,
+            &mut self.message,
+            &mut self.walker,
+        );
+        keep(&mut self.stage, next)
+    }
+}
+
+/// Keeps the stage that comes next, unless the run has ended. Returns the result of the step.
+#[inline(always)]
+fn keep(stage: &mut Stage, next: Next) -> Result<Progress, IoFault>
+    ensures progress { result ≡ progress_of next }
+    ensures kept { stage.new ≡ stage_after stage.old next }
+{
+    match next {
+        Next::Stage(later) => {
+            *stage = later;
+            Ok(Progress::More)
+        }
+        Next::Ended(answer) => Progress::ended(answer),
+    }
+}
+
+/// Takes a stride that begins at this stage, and returns what comes next.
+#[inline(always)]
+fn stride_from<R: InDevice, W: OutDevice, E: OutDevice, C: Consumer>(
+    stage: Stage,
+    options: &C::Options,
+    input: &mut Input<Session<R>, W, E>,
+    writers: &mut Writers<W, E>,
+    message: &mut MessageBuffer,
+    walker: &mut Walker<C>,
+) -> Next
+    requires { IsTrue (may_go_on stage (inner_of input.old)) }
+    ensures fits { IsTrue (may_follow result (inner_of input.new)) }
+    ensures gives { Strides (looks R.state W.state E.state) (C.telling options.now)
+        (C.knows options.now) stage
+        (at input.old writers.old walker.old) (at input.new writers.new walker.new) result }
+    ensures waits { WalkWaits (looks R.state W.state E.state) (C.telling options.now)
+        (C.knows options.now) stage
+        (at input.old writers.old walker.old) (at input.new writers.new walker.new) }
+{
+    if let Stage::Message = stage {
+        return stride_message(options, input, writers, message, walker);
+    }
+    advance(stage, usize::MAX, options, input, writers, message, walker)
+}
+
+/// Takes a message. If it is a segment with data at hand, this data is taken too, and so are the
+/// inner segments after it. Otherwise the quiet messages after it are passed over, if it has no
+/// data to come.
+#[inline(always)]
+fn stride_message<R: InDevice, W: OutDevice, E: OutDevice, C: Consumer>(
+    options: &C::Options,
+    input: &mut Input<Session<R>, W, E>,
+    writers: &mut Writers<W, E>,
+    message: &mut MessageBuffer,
+    walker: &mut Walker<C>,
+) -> Next
+    requires { IsTrue (may_read (inner_of input.old)) }
+    ensures fits { IsTrue (may_follow result (inner_of input.new)) }
+    ensures gives { Strides (looks R.state W.state E.state) (C.telling options.now)
+        (C.knows options.now) Stage.Message
+        (at input.old writers.old walker.old) (at input.new writers.new walker.new) result }
+    ensures waits { WalkWaits (looks R.state W.state E.state) (C.telling options.now)
+        (C.knows options.now) Stage.Message
+        (at input.old writers.old walker.old) (at input.new writers.new walker.new) }
+{
+    let next = take_message(options, input, writers, message, walker);
+    let ready = input.loaded().len();
+    match at_hand(next, ready) {
+        Some(last) => take_on(last, ready, options, input, writers, walker),
+        None if C::all_heads(options) => next,
+        None => pass_quiet(next, input),
+    }
+}
+
+/// Passes over the quiet messages in the window if a message comes next. Returns what comes next.
+#[inline(always)]
+fn pass_quiet<R: InDevice, W: OutDevice, E: OutDevice>(
+    next: Next,
+    input: &mut Input<Session<R>, W, E>,
+) -> Next
+    requires { IsTrue (may_follow next (inner_of input.old)) }
+    ensures fits { IsTrue (may_follow result (inner_of input.new)) }
+    ensures same { result ≡ next }
+    ensures other { (next ≡ Next.Stage Stage.Message → ⊥)
+        → inner_of input.new ≡ inner_of input.old }
+    ensures passed { (history : List ℕ) → IsSessionAt R.state (inner_of input.old) history
+        → PassesQuiet R.state (inner_of input.old) (inner_of input.new) history }
+    ensures unread { Unread R.state source_of input.old input.new }
+{
+    if let Next::Stage(Stage::Message) = next {
+        input.pass_quiet();
+    }
+    next
+}
+
+/// Whether data of a transfer comes next, with `ready` bytes of it at hand. If so, the result says
+/// whether its segment is the last of the transfer.
+#[inline(always)]
+fn at_hand(next: Next, ready: usize) -> Option<bool>
+    ensures { IfSome result (λ last. (next ≡ Next.Stage (Stage.Data last)) × (0 < ready)) }
+{
+    match next {
+        Next::Stage(Stage::Data { last }) if ready > 0 => Some(last),
+        _ => None,
+    }
+}
+
+/// Takes the step of this stage, and returns what comes next. Of data it takes at most `piece`
+/// bytes.
+#[inline(always)]
+fn advance<R: InDevice, W: OutDevice, E: OutDevice, C: Consumer>(
+    stage: Stage,
+    piece: usize,
+    options: &C::Options,
+    input: &mut Input<Session<R>, W, E>,
+    writers: &mut Writers<W, E>,
+    message: &mut MessageBuffer,
+    walker: &mut Walker<C>,
+) -> Next
+    requires fits { IsTrue (may_go_on stage (inner_of input.old)) }
+    requires piece { 0 < piece }
+    ensures fits { IsTrue (may_follow result (inner_of input.new)) }
+    ensures gives { Steps (looks R.state W.state E.state) (C.telling options.now)
+        (C.knows options.now) piece stage
+        (at input.old writers.old walker.old) (at input.new writers.new walker.new) result }
+    ensures waits { WalkWaits (looks R.state W.state E.state) (C.telling options.now)
+        (C.knows options.now) stage
+        (at input.old writers.old walker.old) (at input.new writers.new walker.new) }
+{
+    match stage {
+        Stage::Contact => open(options, input, writers, walker),
+        Stage::Message => take_message(options, input, writers, message, walker),
+        Stage::Data { last } => take_data(last, piece, options, input, writers, walker),
+        Stage::Stray => pass_stray::<R, W, E, C>(piece, input, writers),
+    }
+}
+
+/// Reads the contact header.
+fn open<R: InDevice, W: OutDevice, E: OutDevice, C: Consumer>(
+    options: &C::Options,
+    input: &mut Input<Session<R>, W, E>,
+    writers: &mut Writers<W, E>,
+    walker: &mut Walker<C>,
+) -> Next
+    requires { IsTrue (may_open (inner_of input.old)) }
+    ensures fits { IsTrue (may_follow result (inner_of input.new)) }
+    ensures gives { Steps (looks R.state W.state E.state) (C.telling options.now)
+        (C.knows options.now) 4096 Stage.Contact
+        (at input.old writers.old walker.old) (at input.new writers.new walker.new) result }
+    ensures waits { waits_of input.new ≡ waits_of input.old }
+{
+    match input.open() {
+        Ok(contact) => Next::of(
+            Stage::Message,
+            walker.consumer.contact(options, &contact, writers),
+        ),
+        Err(stop) => Next::Ended(writers.end(stop)),
+    }
+}
+
+/// Reads the head of a message, and tells the consumer of it.
+#[inline(always)]
+fn take_message<R: InDevice, W: OutDevice, E: OutDevice, C: Consumer>(
+    options: &C::Options,
+    input: &mut Input<Session<R>, W, E>,
+    writers: &mut Writers<W, E>,
+    message: &mut MessageBuffer,
+    walker: &mut Walker<C>,
+) -> Next
+    requires { IsTrue (may_read (inner_of input.old)) }
+    ensures fits { IsTrue (may_follow result (inner_of input.new)) }
+    ensures gives { Steps (looks R.state W.state E.state) (C.telling options.now)
+        (C.knows options.now) 4096 Stage.Message
+        (at input.old writers.old walker.old) (at input.new writers.new walker.new) result }
+    ensures waits { WalkWaits (looks R.state W.state E.state) (C.telling options.now)
+        (C.knows options.now) Stage.Message
+        (at input.old writers.old walker.old) (at input.new writers.new walker.new) }
+{
+    let offset = match input.next_message(writers, message) {
+        Ok(Some(offset)) => offset,
+        Ok(None) => return Next::Ended(finish(options, walker, writers)),
+        Err(stop) => return Next::Ended(writers.end(stop)),
+    };
+    match walker.joiner.event(Event::of_fields(message.fields)) {
+        Ok(turn) => {
+            let head = HeadView {
+                offset,
+                message,
+                fault: None,
+                turn: Some(turn),
+            };
+            tell_head(options, &head, input, writers, &mut walker.consumer)
+        }
+        Err(fault) => take_refused(offset, fault, options, input, writers, message, walker),
+    }
+}
+
+/// Takes a message that is not in order, or ends the run there.
+#[cold]
+#[inline(never)]
+fn take_refused<R: InDevice, W: OutDevice, E: OutDevice, C: Consumer>(
+    offset: u64,
+    fault: OrderFault,
+    options: &C::Options,
+    input: &Input<Session<R>, W, E>,
+    writers: &mut Writers<W, E>,
+    message: &MessageBuffer,
+    walker: &mut Walker<C>,
+) -> Next
+    requires totals { SegmentHasTotals message.now }
+    requires opened { IsTrue (is_opened (inner_of input.now)) }
+    ensures fits { IsTrue (may_follow result (inner_of input.now)) }
+    ensures stops { (C.telling options.now).manner.goes_on ≡ false
+        → EndsAtHead W.state E.state offset fault writers.old writers.new result }
+    ensures goes_on { (taken : List Message) (events : List WalkEvent)
+        → (C.telling options.now).manner.goes_on ≡ true → IsJoinerAt walker.old.joiner taken
+        → refusal taken (event_of (message_of message.now)) ≡ Some fault
+        → C.knows options.now walker.old.consumer events
+        → has_open events ≡ is_some (open_of taken)
+        → IsJoinerAt walker.new.joiner (with_taken taken (message_of message.now))
+        × TellsHead W.state E.state (C.telling options.now)
+        (C.knows options.now walker.new.consumer) events
+        (head_at taken offset (message_of message.now)) (left_of (inner_of input.now)) writers.old
+        writers.new result }
+{
+    if !C::goes_on(options) {
+        return Next::Ended(writers.report_fault(&Fault::Order(offset, fault)));
+    }
+    let taken = walker.joiner.take(Event::of_fields(message.fields));
+    let head = HeadView {
+        offset,
+        message,
+        fault: Some(fault),
+        turn: taken.turn,
+    };
+    tell_head(options, &head, input, writers, &mut walker.consumer)
+}
+
+/// Tells the consumer of a head, and returns what comes next.
+#[inline(always)]
+fn tell_head<R: InDevice, W: OutDevice, E: OutDevice, C: Consumer>(
+    options: &C::Options,
+    head: &HeadView<'_>,
+    input: &Input<Session<R>, W, E>,
+    writers: &mut Writers<W, E>,
+    consumer: &mut C,
+) -> Next
+    requires totals { SegmentHasTotals head.now.message.now }
+    requires opened { IsTrue (is_opened (inner_of input.now)) }
+    ensures fits { IsTrue (may_follow result (inner_of input.now)) }
+    ensures gives { (before : List WalkEvent) → C.knows options.now consumer.old before
+        → ComesAfter before (viewed_head head.now)
+        → TellsHead W.state E.state (C.telling options.now) (C.knows options.now consumer.new)
+        before (viewed_head head.now) (left_of (inner_of input.now)) writers.old writers.new result }
+{
+    let later = stage_by(head.turn, input.left());
+    Next::of(later, tell(options, head, writers, consumer))
+}
+
+/// Tells the consumer of a head, if it wants to know of it.
+#[inline(always)]
+fn tell<W: OutDevice, E: OutDevice, C: Consumer>(
+    options: &C::Options,
+    head: &HeadView<'_>,
+    writers: &mut Writers<W, E>,
+    consumer: &mut C,
+) -> Result<(), IoFault>
+    requires { SegmentHasTotals head.now.message.now }
+    ensures { (before : List WalkEvent) → C.knows options.now consumer.old before
+        → ComesAfter before (viewed_head head.now)
+        → Tells W.state E.state (C.telling options.now) (C.knows options.now consumer.new) before
+        (head_events (C.telling options.now).manner.all_heads (viewed_head head.now))
+        writers.old writers.new result }
+{
+    if !C::all_heads(options) && head.is_plain() {
+        return Ok(());
+    }
+    consumer.head(options, head, writers)
+}
+
+/// The stage after a head or after data, with `left` bytes of data to come.
+#[inline(always)]
+fn stage_by(turn: Option<Turn>, left: u64) -> Stage
+    ensures { result ≡ stage_by turn left }
+{
+    if left == 0 {
+        return Stage::Message;
+    }
+    if turn.is_none() {
+        return Stage::Stray;
+    }
+    Stage::Data {
+        last: is_last(turn),
+    }
+}
+
+/// Passes over a piece of a stray segment's data, of at most `piece` bytes.
+#[cold]
+#[inline(never)]
+fn pass_stray<R: InDevice, W: OutDevice, E: OutDevice, C: Consumer>(
+    piece: usize,
+    input: &mut Input<Session<R>, W, E>,
+    writers: &mut Writers<W, E>,
+) -> Next
+    requires opened { IsTrue (is_opened (inner_of input.old)) }
+    requires piece { 0 < piece }
+    ensures fits { IsTrue (may_follow result (inner_of input.new)) }
+    ensures gives { (options : C.Options) (walker : Walker C)
+        → Steps (looks R.state W.state E.state) (C.telling options) (C.knows options) piece
+        Stage.Stray (at input.old writers.old walker) (at input.new writers.new walker) result }
+    ensures waits { (history : List ℕ) → IsSessionAt R.state (inner_of input.old) history
+        → SessionWaits (looks R.state W.state E.state) input.old input.new writers.old }
+{
+    let size = match input.load_data(writers) {
+        Ok(ready) => ready.min(piece),
+        Err(stop) => return Next::Ended(writers.end(stop)),
+    };
+    input.pass(size);
+    Next::Stage(stage_by(None, input.left()))
+}
+
+/// Reads a piece of the open transfer's data, of at most `piece` bytes.
+#[inline(always)]
+fn take_data<R: InDevice, W: OutDevice, E: OutDevice, C: Consumer>(
+    last: bool,
+    piece: usize,
+    options: &C::Options,
+    input: &mut Input<Session<R>, W, E>,
+    writers: &mut Writers<W, E>,
+    walker: &mut Walker<C>,
+) -> Next
+    requires opened { IsTrue (is_opened (inner_of input.old)) }
+    requires piece { 0 < piece }
+    ensures fits { IsTrue (may_follow result (inner_of input.new)) }
+    ensures gives { Steps (looks R.state W.state E.state) (C.telling options.now)
+        (C.knows options.now) piece (Stage.Data last)
+        (at input.old writers.old walker.old) (at input.new writers.new walker.new) result }
+    ensures waits { WalkWaits (looks R.state W.state E.state) (C.telling options.now)
+        (C.knows options.now) (Stage.Data last)
+        (at input.old writers.old walker.old) (at input.new writers.new walker.new) }
+{
+    match input.load_data(writers) {
+        Ok(ready) => take_loaded(last, ready.min(piece), options, input, writers, walker),
+        Err(stop) => Next::Ended(writers.end(stop)),
+    }
+}
+
+/// Takes the next `size` bytes of the open transfer's data, which are at hand.
+#[inline(always)]
+fn take_loaded<R: InDevice, W: OutDevice, E: OutDevice, C: Consumer>(
+    last: bool,
+    size: usize,
+    options: &C::Options,
+    input: &mut Input<Session<R>, W, E>,
+    writers: &mut Writers<W, E>,
+    walker: &mut Walker<C>,
+) -> Next
+    requires opened { IsTrue (is_opened (inner_of input.old)) }
+    requires size { size ≤ length (data_in R.state (inner_of input.old)) }
+    ensures fits { IsTrue (may_follow result (inner_of input.new)) }
+    ensures gives { 0 < size → Steps (looks R.state W.state E.state) (C.telling options.now)
+        (C.knows options.now) size (Stage.Data last)
+        (at input.old writers.old walker.old) (at input.new writers.new walker.new) result }
+    ensures unread { Unread R.state source_of input.old input.new }
+{
+    let is_whole = is_last_data(last, size, input.left());
+    let told = tell_data(
+        is_whole,
+        options,
+        &input.loaded()[..size],
+        writers,
+        &mut walker.consumer,
+    );
+    input.pass(size);
+    Next::of(data_stage(last, input.left()), told)
+}
+
+/// Whether `size` bytes of data are the last of the open transfer, if `left` bytes of the segment's
+/// data are to come.
+#[inline(always)]
+fn is_last_data(last: bool, size: usize, left: u64) -> bool
+    ensures { result ≡ (last && (size == left)) }
+{
+    last && size as u64 == left
+}
+
+/// The stage after data of the open transfer, with `left` bytes of the segment's data to come.
+#[inline(always)]
+fn data_stage(last: bool, left: u64) -> Stage
+    ensures some { 0 < left → result ≡ Stage.Data last }
+    ensures none { left ≡ 0 → result ≡ Stage.Message }
+{
+    if left > 0 {
+        return Stage::Data { last };
+    }
+    Stage::Message
+}
+
+/// Tells the consumer of data, and of the end of the transfer if it is whole now.
+#[inline(always)]
+fn tell_data<W: OutDevice, E: OutDevice, C: Consumer>(
+    is_whole: bool,
+    options: &C::Options,
+    bytes: &[u8],
+    writers: &mut Writers<W, E>,
+    consumer: &mut C,
+) -> Result<(), IoFault>
+    ensures { (before : List WalkEvent) → C.knows options.now consumer.old before
+        → has_open before ≡ true → data_size before + length bytes.now < 2 ^ 63
+        → Tells W.state E.state (C.telling options.now) (C.knows options.now consumer.new) before
+        (data_events bytes.now ++ (if is_whole then Whole ∷ [] else [])) writers.old writers.new
+        result }
+{
+    consumer.data(options, bytes, writers)?;
+    if !is_whole {
+        return Ok(());
+    }
+    consumer.whole(options, writers)
+}
+
+/// Ends the run after a stream that ends between two messages.
+#[inline(never)]
+fn finish<W: OutDevice, E: OutDevice, C: Consumer>(
+    options: &C::Options,
+    walker: &mut Walker<C>,
+    writers: &mut Writers<W, E>,
+) -> Result<Status, IoFault>
+    ensures gives { (taken : List Message) (events : List WalkEvent)
+        → IsJoinerAt walker.old.joiner taken → C.knows options.now walker.old.consumer events
+        → has_open events ≡ is_some (open_of taken)
+        → Finishes W.state E.state (C.telling options.now) taken events writers.old writers.new
+        result }
+{
+    if walker.joiner.open().is_some() {
+        walker.consumer.left_open(options, writers)?;
+    }
+    if walker.consumer.is_good(options) {
+        Ok(Status::CLEAN)
+    } else {
+        Ok(Status::NOT_GOOD)
+    }
+}
+
+/// Makes a run of a tool over transfers that has read and written nothing.
+pub fn walk_run<R: InDevice, W: OutDevice, E: OutDevice, C: Consumer + Drop>(
+    options: C::Options,
+    consumer: C,
+    reader: R,
+    output: W,
+    report: E,
+) -> WalkRun<R, W, E, C>
+    requires knows { C.knows options consumer [] }
+    requires silent { (C.telling options).texts [] ≡ no_texts }
+    requires reader { (R.state reader).failed ≡ false }
+    requires output { (W.state output).failed ≡ false }
+    requires report { (E.state report).failed ≡ false }
+    ensures stands { ⟦<WalkRun<R, W, E, C> as Run<R, W, E>>⟧.stands result
+        (record { reader = reader; output = output; report = report }) [] }
+    ensures tool { ⟦<WalkRun<R, W, E, C> as Run<R, W, E>>⟧.tool result
+        ≡ tool_of (told_of (C.telling options)) }
+    ensures devices { devices_at (⟦<WalkRun<R, W, E, C> as Run<R, W, E>>⟧.place result)
+        ≡ record { reader = reader; output = output; report = report } }
+    ensures waits { ⟦<WalkRun<R, W, E, C> as Run<R, W, E>>⟧.waits result ≡ [] }
+{
+    let walk = Walk {
+        options,
+        stage: Stage::Contact,
+        message: MessageBuffer::new(),
+        walker: Walker {
+            joiner: Joiner::new(),
+            consumer,
+        },
+    };
+    ToolRun::new(walk, Session::new(Source::new(reader)), output, report)
+}
+
+mod inner;
