@@ -1,12 +1,14 @@
 //! Tests of the examples on worked bytes: those of examples/README.md, and rows of docs/FORMATS.md.
 
+use crate::counting::count_transfers;
 use crate::cutting::put_transfer;
 use crate::reading::copy_data;
 use crate::scanning::{Found, scan_piece};
 use link_bundle::{BundleFault, BundleScan};
+use link_run::Status;
 use link_transfer::Cutter;
-use link_wire::{Stop, WireFault};
-use std::io::Read;
+use link_wire::{IoFault, Reader, Stop, WireFault, Writer};
+use std::io::{Read, Write};
 use std::process::Abort;
 use std::test::Fail;
 
@@ -146,4 +148,66 @@ fn bundles_as_segments(rt: HostRuntime) -> Result<(), Fail> {
         assert_eq!(rt; stream.as_slice(), *segments);
     }
     Ok(())
+}
+
+/// A stream, what `count_transfers` writes to the output and to the report, and the exit status.
+type Counted = (&'static [u8], &'static str, &'static str, Status);
+
+const COUNTED: [Counted; 4] = [
+    // Four transfers. The first has two segments, of 5 and 2 bytes. The second has 3 bytes, and the
+    // START of the third abandons it. The third has no data. The last is still open after 1 byte.
+    (
+        b"dtn!\x04\x00\x07\x00\x3c\x00\x00\x00\x00\x00\x01\x00\x00\x00\x00\x00\x00\x00\x10\x00\x00\x00\x07ipn:1.0\x00\x00\x00\x00\x01\x02\x00\x00\x00\x00\x00\x00\x00\x00\x00\x00\x00\x00\x00\x00\x00\x00\x00\x00\x00\x05hello\x04\x01\x01\x00\x00\x00\x00\x00\x00\x00\x00\x00\x00\x00\x00\x00\x00\x00\x02yo\x01\x02\x00\x00\x00\x00\x00\x00\x00\x01\x00\x00\x00\x00\x00\x00\x00\x00\x00\x00\x00\x03abc\x01\x03\x00\x00\x00\x00\x00\x00\x00\x02\x00\x00\x00\x00\x00\x00\x00\x00\x00\x00\x00\x00\x01\x02\x00\x00\x00\x00\x00\x00\x00\x03\x00\x00\x00\x00\x00\x00\x00\x00\x00\x00\x00\x01z",
+        "7\n3\n0\n1\n",
+        "",
+        Status::CLEAN,
+    ),
+    // A stray segment, whose byte is of no transfer, and a transfer of one byte.
+    (
+        b"dtn!\x04\x00\x01\x00\x00\x00\x00\x00\x00\x00\x00\x09\x00\x00\x00\x00\x00\x00\x00\x01x\x01\x03\x00\x00\x00\x00\x00\x00\x00\x01\x00\x00\x00\x00\x00\x00\x00\x00\x00\x00\x00\x01z",
+        "1\n",
+        "",
+        Status::CLEAN,
+    ),
+    // The stream ends inside the data of a segment.
+    (
+        b"dtn!\x04\x00\x01\x03\x00\x00\x00\x00\x00\x00\x00\x01\x00\x00\x00\x00\x00\x00\x00\x00\x00\x00\x00\x02z",
+        "",
+        "tcpclkit: byte 6: truncated\n",
+        Status::FAULT,
+    ),
+    (b"dtn!\x04\x00", "", "", Status::CLEAN),
+];
+
+/// Counts the transfers of an input. Returns the output, the report and the answer.
+fn counts<R: Read + Drop, W: Write + Drop>(
+    input: R,
+    output: W,
+    report: W,
+) -> (W, W, Result<Status, IoFault>) {
+    let end = count_transfers(Reader::new(input), Writer::new(output), Writer::new(report));
+    (end.output.into_inner(), end.report.into_inner(), end.answer)
+}
+
+/// Reads a stream in two pieces, cut at every offset.
+fn expect_counted(rt: &(impl Abort + AllocGlobal), counted: Counted) {
+    let (stream, sizes, faults, status) = counted;
+    for cut in 0..=stream.len() {
+        let (front, back) = stream.split_at(cut);
+        let (output, report, answer) = counts(
+            front.chain(back),
+            Vec::new(rt.alloc()),
+            Vec::new(rt.alloc()),
+        );
+        assert_eq!(rt; output.as_slice(), sizes.as_bytes(), "cut at {cut}");
+        assert_eq!(rt; report.as_slice(), faults.as_bytes(), "cut at {cut}");
+        assert_eq!(rt; answer, Ok(status), "cut at {cut}");
+    }
+}
+
+#[test]
+fn transfers_in_two_pieces(rt: HostRuntime) {
+    for counted in COUNTED {
+        expect_counted(&rt, counted);
+    }
 }

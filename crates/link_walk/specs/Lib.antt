@@ -1,3 +1,4 @@
 pub mod Walk
 pub mod Telling
 pub mod WalkRun
+pub mod Saying
