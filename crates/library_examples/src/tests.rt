@@ -1,12 +1,13 @@
 //! Tests of the examples on worked bytes: those of examples/README.md, and rows of docs/FORMATS.md.
 
-use crate::counting::count_transfers;
+use crate::counting::Counting;
 use crate::cutting::put_transfer;
 use crate::reading::copy_data;
 use crate::scanning::{Found, scan_piece};
 use link_bundle::{BundleFault, BundleScan};
-use link_run::Status;
+use link_run::{Run, Status};
 use link_transfer::Cutter;
+use link_walk::walk_run;
 use link_wire::{IoFault, Reader, Stop, WireFault, Writer};
 use std::io::{Read, Write};
 use std::process::Abort;
@@ -150,7 +151,7 @@ fn bundles_as_segments(rt: HostRuntime) -> Result<(), Fail> {
     Ok(())
 }
 
-/// A stream, what `count_transfers` writes to the output and to the report, and the exit status.
+/// A stream, what `Counting` writes to the output and to the report, and the exit status.
 type Counted = (&'static [u8], &'static str, &'static str, Status);
 
 const COUNTED: [Counted; 4] = [
@@ -158,7 +159,7 @@ const COUNTED: [Counted; 4] = [
     // START of the third abandons it. The third has no data. The last is still open after 1 byte.
     (
         b"dtn!\x04\x00\x07\x00\x3c\x00\x00\x00\x00\x00\x01\x00\x00\x00\x00\x00\x00\x00\x10\x00\x00\x00\x07ipn:1.0\x00\x00\x00\x00\x01\x02\x00\x00\x00\x00\x00\x00\x00\x00\x00\x00\x00\x00\x00\x00\x00\x00\x00\x00\x00\x05hello\x04\x01\x01\x00\x00\x00\x00\x00\x00\x00\x00\x00\x00\x00\x00\x00\x00\x00\x02yo\x01\x02\x00\x00\x00\x00\x00\x00\x00\x01\x00\x00\x00\x00\x00\x00\x00\x00\x00\x00\x00\x03abc\x01\x03\x00\x00\x00\x00\x00\x00\x00\x02\x00\x00\x00\x00\x00\x00\x00\x00\x00\x00\x00\x00\x01\x02\x00\x00\x00\x00\x00\x00\x00\x03\x00\x00\x00\x00\x00\x00\x00\x00\x00\x00\x00\x01z",
-        "7\n3\n0\n1\n",
+        "7\n0\n",
         "",
         Status::CLEAN,
     ),
@@ -185,7 +186,14 @@ fn counts<R: Read + Drop, W: Write + Drop>(
     output: W,
     report: W,
 ) -> (W, W, Result<Status, IoFault>) {
-    let end = count_transfers(Reader::new(input), Writer::new(output), Writer::new(report));
+    let end = walk_run(
+        (),
+        Counting { size: 0 },
+        Reader::new(input),
+        Writer::new(output),
+        Writer::new(report),
+    )
+    .run();
     (end.output.into_inner(), end.report.into_inner(), end.answer)
 }
 

@@ -8,8 +8,9 @@ use Rattle.link_transfer.specs.Chunks.{chunk_count}
 use Rattle.link_transfer.specs.Cutting.{due, due_of}
 use Rattle.link_transfer.specs.declared.event.Event.TheVariants.{SessInit, SessTerm}
 use Rattle.link_transfer.proofs.Due.{chunk_left, given_within, fits_back}
-use Rattle.link_unpack.specs.Transfers.{Transfer, transfers_of}
-use Rattle.link_unpack.proofs.Orders.{AreInOrder}
+use Rattle.link_unpack.specs.Transfers.{Transfer}
+use Rattle.link_laws.specs.Transfers.{transfers_of}
+use Rattle.link_laws.proofs.Orders.{AreInOrder}
 use Rattle.link_bundle_walk.specs.Bundles.{Packed, Rest, Divided}
 use Rattle.link_pack.specs.Packing.{segment_size, sending}
 use Rattle.link_pack.specs.Segments.{Sending, cutting_of, segments_of}

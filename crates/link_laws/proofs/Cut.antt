@@ -1,16 +1,17 @@
 -- The report of `unpack` cuts its output.
-use Rattle.std.proofs.Common.{◌≡◌, ℕ, ◌+◌, ◌≤◌, Bool, true, false, List, [], ◌∷◌, ◌++◌, length, Option, Some, None, if◌then◌else◌, refl, ap, sym, ◌∙◌, append-nil, length-append, arith}
-use Rattle.std.specs.List.{flat_map}
-use Rattle.std.proofs.lemmas.List.{flat_map_more}
+use Rattle.std.proofs.Common.{◌≡◌, ℕ, ◌+◌, ◌≤◌, Bool, true, false, List, [], ◌∷◌, ◌++◌, length, Option, Some, None, if◌then◌else◌, refl, ap, sym, subst, ◌∙◌, append-nil, length-append, arith}
 use Rattle.link_wire.specs.Stream.{End, reading_of}
-use Rattle.link_report.specs.Transfer.{transfer_text}
 use Rattle.link_report.specs.declared.transfer.TransferEntry.{TransferEntry}
 use Rattle.link_run.specs.Made.{StreamStop, Made, whole_by}
-use Rattle.link_unpack.specs.Transfers.{Ordered, Transfer, transfers_of, settled}
-use Rattle.link_unpack.specs.Unpacking.{part_of, parts_of, entry_of, line_of, lines_of, unpacking_of, unpacking_by}
+use Rattle.link_run.specs.Run.{Outcome}
+use Rattle.link_laws.specs.Transfers.{Ordered, transfers_of, settled, lines_of, unpacking_by, by_transfers}
+use Rattle.link_unpack.specs.Transfers.{Transfer}
+use Rattle.link_unpack.specs.Unpacking.{part_of, parts_of, entry_of}
 use Rattle.link_unpack.specs.declared.wanted.Wanted.{Wanted}
 use Rattle.link_laws.specs.Cuts.{order_of, entries_of, Follow, total_written, stream_stop, lined, reported, stop_line, Divides, CutsOutput, stopping}
 use Rattle.link_laws.proofs.Prefixes.{whole_output}
+use Rattle.link_laws.proofs.Due.{lines_are}
+use Rattle.link_laws.proofs.Same.{whole_is}
 
 -- ---- one more entry
 
@@ -28,16 +29,6 @@ follow_push start [] last follow is = (omega arith, tt)
 follow_push start (entry ∷ more) last follow is = (follow.0, follow_push (start + entry.written) more last follow.1 (omega arith))
 
 module _ (wanted : Wanted) where
-  -- ---- the entries of transfers
-
-  lines_are : (transfers : List Transfer)
-      → lines_of wanted transfers ≡ flat_map transfer_text (entries_of wanted transfers)
-  unfolding lines_of entries_of
-  lines_are [] = refl
-  lines_are (latest ∷ earlier) =
-      ap (λ (lines : List ℕ). lines ++ line_of wanted latest earlier) (lines_are earlier)
-      ∙ flat_map_more transfer_text [] (entries_of wanted earlier) (entry_of wanted latest (length (parts_of wanted earlier)))
-
   all_written : (transfers : List Transfer)
       → length (parts_of wanted transfers) ≡ total_written (entries_of wanted transfers)
   unfolding parts_of entries_of total_written
@@ -97,14 +88,17 @@ report_is wanted (Some stop) end order = refl
 
 -- the report cuts the output, for any stream
 pub cuts : (wanted : Wanted) (bytes : List ℕ) → CutsOutput (stopping wanted) bytes
-unfolding unpacking_of
+unfolding by_transfers
 cuts wanted bytes =
     let now = stopping wanted in
     let order = order_of bytes in
     let stop = stream_stop bytes in
+    let whole = whole_is now bytes in
     record {
-      lines = report_is now stop (reading_of bytes).end order
+      lines = ap (λ (o : Outcome). o.texts.report) whole
+          ∙ report_is now stop (reading_of bytes).end order
           ∙ ap (λ (lines : List ℕ). lines ++ stop_line stop) (lines_are now (reported bytes));
       divides =
-          cut_by_lines now stop (unpacking_of now bytes) (transfers_of order.heads) refl refl;
+          subst (λ (o : Outcome). Divides now o.texts.output (reported bytes)) (sym whole)
+          (cut_by_lines now stop (by_transfers now bytes) (transfers_of order.heads) refl refl);
     }

@@ -8,7 +8,7 @@ use Rattle.link_wire.specs.Stream.{Entry, Clean, Reading}
 use Rattle.link_wire.specs.declared.message.Message.TheVariants.{SessTerm}
 use Rattle.link_wire.proofs.Spellings.{contact_spelled, sess_init_spelled, sess_term_spelled}
 use Rattle.link_transfer.specs.Cutting.{due}
-use Rattle.link_unpack.proofs.Heads.{entry}
+use Rattle.link_run.proofs.Continued.{entry}
 use Rattle.link_bundle_walk.specs.Bundles.{Packed, Rest, Divided}
 use Rattle.link_pack.specs.Packing.{prelude_bytes, sending, transfer_bytes, rest_segments, end_bytes, bundles_output, packing_by}
 use Rattle.link_pack.specs.Segments.{Sending, cutting_of, segments_of}

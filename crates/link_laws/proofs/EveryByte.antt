@@ -1,86 +1,33 @@
 -- The output of `unpack` for all data is the data of the heads that are in order or, if a fault of
 -- the order does not end the run, of those that are not stray.
-use Rattle.std.proofs.Common.{◌≡◌, ℕ, zero, suc, Bool, true, false, List, [], ◌∷◌, ◌++◌, length, take, Option, Some, None, Result, Ok, Err, nat_lt, if◌then◌else◌, refl, ap, sym, ◌∙◌, ⊎_elim, append-nil, append_assoc, arith}
-use Rattle.std.specs.List.{AllByRecursion, flat_map, fold}
-use Rattle.std.proofs.lemmas.Bool.{ltb-true}
-use Rattle.link_wire.specs.Codes.{is_start}
-use Rattle.link_wire.specs.Message.{data_length, contact_at, message_at}
-use Rattle.link_wire.specs.Stream.{Entry, Cut, Stream, ended, with_entry, stream_by, messages_at, stream_at, reading_by, reading_of, cut_heads, heads_of}
-use Rattle.link_wire.specs.declared.fault.WireFault.{WireFault}
-use Rattle.link_wire.specs.declared.message.Contact.{Contact}
+use Rattle.std.proofs.Common.{◌≡◌, ℕ, Bool, true, false, not, is_some, List, [], ◌∷◌, ◌++◌, Option, Some, None, refl, ap, sym, ◌∙◌, append-nil, append_assoc}
+use Rattle.std.specs.List.{flat_map}
+use Rattle.link_wire.specs.Stream.{Entry, reading_of, heads_of}
 use Rattle.link_wire.specs.declared.message.Message.{Message}
-use Rattle.link_wire.specs.declared.message.Message.TheVariants as message
-use Rattle.link_wire.specs.declared.message.SegmentHead.{SegmentHead}
 use Rattle.link_transfer.specs.Event.{event_of}
-use Rattle.link_transfer.specs.Order.{is_segment, is_stray, refusal, with_taken}
-use Rattle.link_transfer.specs.declared.fault.OrderFault.{OrderFault}
-use Rattle.link_unpack.specs.Transfers.{Ordered, ordered_by, ordered_after, ordered, Transfer, closes, continued, after_segment, after_message, transfers_of}
-use Rattle.link_unpack.specs.Unpacking.{parts_of, Unpacked, none_unpacked, transfers_with, with_head, unpacked_of, unpacking_of}
+use Rattle.link_transfer.specs.Order.{is_stray, effect_of, with_taken}
+use Rattle.link_transfer.specs.declared.joiner.Turn.{Turn}
+use Rattle.link_transfer.specs.declared.joiner.Turn.TheVariants as turn
+use Rattle.link_run.specs.Run.{Outcome}
+use Rattle.link_walk.proofs.Heads.{other_has_none}
+use Rattle.link_unpack.specs.Transfers.{Transfer, closes}
+use Rattle.link_unpack.specs.TransferScan.{grown}
+use Rattle.link_unpack.specs.Unpacking.{parts_of}
 use Rattle.link_unpack.specs.declared.wanted.Wanted.{Wanted}
-use Rattle.link_unpack.proofs.GoingOn.{kind_of, not_stray, taken_more, LatestIsOpen, KnowsOpen, knows_none, open_before, knows_head, unpacked_in_order}
-use Rattle.link_unpack.proofs.Heads.{entry, transfers_same}
-use Rattle.link_unpack.proofs.Orders.{AreInOrder, all as in_order, first_may}
+use Rattle.link_unpack.proofs.Effects.{Does, Strays, Passes, Begins, Continues}
+use Rattle.link_unpack.proofs.Heads.{transfers_same, transfer_begins, transfer_continues}
 use Rattle.link_unpack.proofs.Texts.{parts_more}
 use Rattle.link_laws.specs.Cuts.{data_of, going_on, prepended_unless, taken_after, HasEveryByte, HasEveryTakenByte}
 use Rattle.link_laws.specs.RoundTrip.{all}
-use Rattle.link_laws.proofs.Accepted.{accepted_in_order}
+use Rattle.link_laws.specs.Transfers.{ordered_after, ordered, transfers_of, Unpacked, transfers_with, with_head, unpacked_of, by_transfers}
+use Rattle.link_laws.proofs.Accepted.{accepted_read, accepted_in_order}
+use Rattle.link_laws.proofs.Due.{latest_open}
+use Rattle.link_laws.proofs.InOrder.{not_stray, taken_more, unpacked_in_order}
+use Rattle.link_laws.proofs.OneHead.{KnowsWhole, stray_is, does, through}
+use Rattle.link_laws.proofs.Orders.{AreInOrder, all as in_order, first_may}
 use Rattle.link_laws.proofs.Prefixes.{whole_output}
-
--- ---- the data that is read
-
--- a message that is no segment has no data
-abbrev OwnsData : Entry → Type 0
-OwnsData head = is_segment (event_of head.message) ≡ false → head.content ≡ []
-
-abbrev HeadsOwn : List Entry → Type 0
-HeadsOwn heads = AllByRecursion OwnsData heads
-
-abbrev StreamOwns : Stream → Type 0
-StreamOwns stream = HeadsOwn (stream.entries ++ cut_heads stream.end)
-
-no_data : (sent : Message) → is_segment (event_of sent) ≡ false → data_length sent ≡ 0
-no_data (message.SessInit keepalive segment_mru transfer_mru node items) other = refl
-no_data (message.Segment head) other = absurd (cc)
-no_data (message.Ack flags id size) other = refl
-no_data (message.Refuse reason id) other = refl
-no_data message.Keepalive other = refl
-no_data (message.SessTerm flags reason) other = refl
-no_data (message.MsgReject reason header) other = refl
-
--- data of size 0 is never cut, so data that is cut belongs to a segment
-never_cut : (bytes : List ℕ) (size : ℕ) → nat_lt (length bytes) size ≡ true → size ≡ 0 → ⊥
-never_cut bytes size cut none = let short = ltb-true (length bytes) size cut in omega arith
-
-data_by : (test : Bool) (offset : ℕ) (sent : Message) (bytes : List ℕ) (rest : Stream)
-    → nat_lt (length bytes) (data_length sent) ≡ test → StreamOwns rest
-    → StreamOwns (if test then ended (Cut offset sent bytes)
-    else with_entry (entry offset sent (take (data_length sent) bytes)) rest)
-data_by true offset sent bytes rest is own = ((λ other. absurd (never_cut bytes (data_length sent) is (no_data sent other))), tt)
-data_by false offset sent bytes rest is own = ((λ other. ap (λ size. take size bytes) (no_data sent other)), own)
-
-read_by : (next : ℕ → List ℕ → Stream) (offset size : ℕ)
-    (read : Result (Message × List ℕ) WireFault)
-    → ((later : ℕ) (bytes : List ℕ) → StreamOwns (next later bytes))
-    → StreamOwns (stream_by next offset size read)
-read_by next offset size (Err fault) own = tt
-read_by next offset size (Ok (sent, bytes)) own = data_by (nat_lt (length bytes) (data_length sent)) offset sent bytes _ refl (own _ _)
-
-messages_own : (count offset : ℕ) (bytes : List ℕ) → StreamOwns (messages_at count offset bytes)
-unfolding messages_at
-messages_own count offset [] = tt
-messages_own zero offset (byte ∷ bytes) = tt
-messages_own (suc count) offset (byte ∷ bytes) = read_by (messages_at count) offset (length (byte ∷ bytes)) (message_at (byte ∷ bytes)) (messages_own count)
-
-contact_own : (read : Result (Contact × List ℕ) WireFault) → HeadsOwn (heads_of (reading_by read))
-unfolding stream_at
-contact_own (Err fault) = tt
-contact_own (Ok (contact, bytes)) = messages_own (length bytes) 6 bytes
-
-reading_own : (bytes : List ℕ) → HeadsOwn (heads_of (reading_of bytes))
-unfolding reading_of
-reading_own bytes = contact_own (contact_at bytes)
-
--- ---- one more head
+use Rattle.link_laws.proofs.Same.{whole_is}
+use Rattle.link_laws.proofs.Whole.{FitsData, AreRead, reading_read}
 
 -- the data is added at the end of the output
 module _ (keep_going : Bool) where
@@ -88,87 +35,64 @@ module _ (keep_going : Bool) where
   abbrev everything : Wanted
   everything = record { only = None; payload = false; keep_going = keep_going }
 
-  abbrev Adds : (transfers after : List Transfer) (content : List ℕ) → Type 0
-  Adds transfers after content =
-      parts_of everything after ≡ parts_of everything transfers ++ content
+  abbrev parts : List Transfer → List ℕ
+  parts transfers = parts_of everything transfers
 
-  continued_adds : (transfers : List Transfer) (content : List ℕ) (closed : Bool)
-      → LatestIsOpen transfers → Adds transfers (continued transfers content closed) content
-  continued_adds [] content closed opened = absurd opened
-  continued_adds (latest ∷ earlier) content closed opened =
-      parts_more everything _ earlier
-      ∙ sym (append_assoc (parts_of everything earlier) latest.content content)
-      ∙ ap (λ (parts : List ℕ). parts ++ content) (sym (parts_more everything latest earlier))
+  head_added : (effect : Option Turn) (stray : Bool) (head : Entry) (rest : List Entry)
+      (transfers : List Transfer) → (effect ≡ Some turn.Other → head.content ≡ [])
+      → stray ≡ not (is_some effect)
+      → Does effect head.message (latest_open transfers)
+      → parts (transfers_with stray transfers head) ++ flat_map data_of rest
+      ≡ parts transfers ++ flat_map data_of (prepended_unless stray head rest)
+  head_added effect stray head rest transfers none same (Strays is) = rw (same, is) refl
+  head_added effect stray head rest transfers none same (Passes is other) =
+      rw (same, is, transfers_same transfers head.message head.content other)
+      (ap (λ (xs : List ℕ). parts transfers ++ (xs ++ flat_map data_of rest))
+      (sym (none is)))
+  head_added effect stray head rest transfers none same
+      (Begins first abandoned is starts does also) =
+      rw (same, does, is, transfer_begins transfers first head.content starts, parts_more)
+      (append_assoc (parts transfers) head.content (flat_map data_of rest))
+  head_added effect stray head rest [] none same (Continues first is starts does also) = absurd (cc)
+  head_added effect stray head rest (latest ∷ earlier) none same
+      (Continues first is starts does also) =
+      let new : Transfer = grown latest head.content (closes first head.content) in
+      rw (
+        same,
+        does,
+        is,
+        transfer_continues (latest ∷ earlier) first head.content starts,
+        parts_more everything new earlier,
+        parts_more everything latest earlier,
+      )
+      (ap (λ (xs : List ℕ). xs ++ flat_map data_of rest)
+      (sym (append_assoc (parts earlier) latest.content head.content))
+      ∙ append_assoc (parts earlier ++ latest.content) head.content (flat_map data_of rest))
 
-  module _ (transfers : List Transfer) (before : List Message) (content : List ℕ)
-      (knows : KnowsOpen transfers before) where
-    segment_added : (starts : Bool) (head : SegmentHead) → is_start head.flags ≡ starts
-        → is_stray before (event_of (message.Segment head)) ≡ false
-        → Adds transfers (after_segment transfers head content) content
-    segment_added true head is taken = rw is (parts_more everything _ transfers)
-    segment_added false head is taken =
-        let opened = open_before transfers before knows head taken is in
-        rw is (continued_adds transfers content (closes head content) opened)
+  -- the bytes so far, and then those of the heads to come
+  abbrev HasBytes : List ℕ → Unpacked → List Entry → Type 0
+  HasBytes bytes u more = parts u.transfers ++ flat_map data_of (taken_after u.taken more) ≡ bytes
 
-    -- a head that is not stray adds its data
-    message_added : (sent : Message) → (is_segment (event_of sent) ≡ false → content ≡ [])
-        → is_stray before (event_of sent) ≡ false
-        → Adds transfers (after_message transfers sent content) content
-    message_added sent own taken =
-        ⊎_elim
-        (λ segment. rw segment.1
-        (segment_added (is_start segment.0.flags) segment.0 refl (rw segment.1 at taken)))
-        (λ other. ap (parts_of everything) (transfers_same transfers sent content other)
-        ∙ sym (append-nil _)
-        ∙ ap (λ (last : List ℕ). parts_of everything transfers ++ last) (sym (own other)))
-        (kind_of sent)
-
-  -- ---- all heads
-
-  head_added : (stray : Bool) (transfers : List Transfer) (before : List Message) (head : Entry)
-      (rest : List Entry) → is_stray before (event_of head.message) ≡ stray → OwnsData head
-      → KnowsOpen transfers before
-      → parts_of everything (transfers_with stray transfers head) ++ flat_map data_of rest
-      ≡ parts_of everything transfers ++ flat_map data_of (prepended_unless stray head rest)
-  head_added true transfers before head rest is own knows = refl
-  head_added false transfers before head rest is own knows =
-      ap (λ (parts : List ℕ). parts ++ flat_map data_of rest)
-      (message_added transfers before head.content knows head.message own is)
-      ∙ append_assoc (parts_of everything transfers) head.content (flat_map data_of rest)
-
-  heads_added : (heads : List Entry) (un : Unpacked) → HeadsOwn heads
-      → KnowsOpen un.transfers un.taken
-      → parts_of everything (fold (with_head everything) un heads).transfers
-      ≡ parts_of everything un.transfers ++ flat_map data_of (taken_after un.taken heads)
+  bytes_step : (bytes : List ℕ) (u : Unpacked) (head : Entry) (more : List Entry) → KnowsWhole u
+      → FitsData head → HasBytes bytes u (head ∷ more)
+      → HasBytes bytes (with_head everything u head) more
   unfolding taken_after
-  heads_added [] un own knows = sym (append-nil _)
-  heads_added (head ∷ more) un own knows =
-      heads_added more (with_head everything un head) own.1
-      (knows_head un.transfers un.taken knows head)
-      ∙ head_added (is_stray un.taken (event_of head.message)) un.transfers un.taken head
-      (taken_after (with_taken un.taken head.message) more) refl own.0 knows
+  bytes_step bytes u head more whole fits so =
+      let happened = event_of head.message in
+      head_added (effect_of u.taken happened) (is_stray u.taken happened) head
+      (taken_after (with_taken u.taken head.message) more) u.transfers
+      (λ is. fits (other_has_none u.taken head.message is))
+      (stray_is u.taken happened) (does everything u head whole fits)
+      ∙ so
 
-  unpacked_bytes : (heads : List Entry) → HeadsOwn heads
-      → parts_of everything (unpacked_of everything heads).transfers
-      ≡ flat_map data_of (taken_after [] heads)
-  unfolding unpacked_of parts_of
-  unpacked_bytes heads own = heads_added heads none_unpacked own knows_none
+  unpacked_bytes : (heads : List Entry) → AreRead heads
+      → parts (unpacked_of everything heads).transfers ≡ flat_map data_of (taken_after [] heads)
+  unfolding parts_of taken_after
+  unpacked_bytes heads read =
+      let bytes = flat_map data_of (taken_after [] heads) in
+      sym (append-nil _) ∙ through everything (HasBytes bytes) (bytes_step bytes) heads read refl
 
 -- ---- heads that are in order
-
-accepted_own_by : (refused : Option OrderFault) (head : Entry) (rest : Ordered) → OwnsData head
-    → HeadsOwn rest.heads → HeadsOwn (ordered_by refused head rest).heads
-accepted_own_by (Some fault) head rest own later = tt
-accepted_own_by None head rest own later = (own, later)
-
-accepted_own : (heads : List Entry) (before : List Message) → HeadsOwn heads
-    → HeadsOwn (ordered_after before heads).heads
-unfolding ordered_after
-accepted_own [] before own = tt
-accepted_own (head ∷ more) before own =
-    let seen = before ++ head.message ∷ [] in
-    accepted_own_by (refusal before (event_of head.message)) head (ordered_after seen more) own.0
-    (accepted_own more seen own.1)
 
 -- none of them is stray
 taken_in_order : (heads : List Entry) (before : List Message)
@@ -181,28 +105,30 @@ taken_in_order (head ∷ more) before are =
     rw (taken, taken_more before head.message taken)
     (ap (λ hs. head ∷ hs) (taken_in_order more (before ++ head.message ∷ []) first.1))
 
-accepted_bytes : (heads : List Entry) → HeadsOwn heads → AreInOrder (ordered heads).heads
-    → parts_of all (transfers_of (ordered heads).heads) ≡ flat_map data_of (ordered heads).heads
+accepted_bytes : (heads : List Entry) → AreRead heads → AreInOrder heads
+    → parts_of all (transfers_of heads) ≡ flat_map data_of heads
 unfolding ordered
-accepted_bytes heads own are =
-    let accepted = (ordered heads).heads in
-    ap (λ (un : Unpacked). parts_of all un.transfers) (sym (unpacked_in_order all accepted are))
-    ∙ unpacked_bytes false accepted (accepted_own heads [] own)
-    ∙ ap (flat_map data_of) (taken_in_order accepted [] are)
+accepted_bytes heads read are =
+    ap (parts_of all) (sym (unpacked_in_order all heads read are).made)
+    ∙ unpacked_bytes false heads read
+    ∙ ap (flat_map data_of) (taken_in_order heads [] are)
 
 -- ---- the output for any stream
 
 pub every_byte : (bytes : List ℕ) → HasEveryByte bytes
-unfolding unpacking_of
+unfolding by_transfers
 every_byte bytes =
-    let made = unpacking_of all bytes in
+    let made = by_transfers all bytes in
     let heads = heads_of (reading_of bytes) in
-    whole_output made.stop made refl
-    ∙ accepted_bytes heads (reading_own bytes) (accepted_in_order heads)
+    ap (λ (o : Outcome). o.texts.output) (whole_is all bytes)
+    ∙ whole_output made.stop made refl
+    ∙ accepted_bytes (ordered heads).heads (accepted_read heads (reading_read bytes).heads)
+    (accepted_in_order heads)
 
 pub every_taken_byte : (bytes : List ℕ) → HasEveryTakenByte bytes
-unfolding unpacking_of
+unfolding by_transfers
 every_taken_byte bytes =
-    let made = unpacking_of (going_on all) bytes in
-    whole_output made.stop made refl
-    ∙ unpacked_bytes true (heads_of (reading_of bytes)) (reading_own bytes)
+    let made = by_transfers (going_on all) bytes in
+    ap (λ (o : Outcome). o.texts.output) (whole_is (going_on all) bytes)
+    ∙ whole_output made.stop made refl
+    ∙ unpacked_bytes true (heads_of (reading_of bytes)) (reading_read bytes).heads

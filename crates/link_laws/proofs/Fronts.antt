@@ -1,33 +1,35 @@
 -- Texts that are prefixes of others.
-use Rattle.std.proofs.Common.{◌≡◌, ℕ, List, [], ◌++◌, refl, ap, sym, ◌∙◌, append-nil, append_assoc}
+use Rattle.std.proofs.Common.{◌≡◌, List, [], ◌++◌, refl, ap, sym, ◌∙◌, append-nil, append_assoc}
 use Rattle.link_run.specs.Run.{Texts}
 use Rattle.link_laws.specs.Prefix.{IsFrontOf}
 
-pub front_same : (text whole : List ℕ) → text ≡ whole → IsFrontOf text whole
+-- as `IsFrontOf`, of any lists
+abbrev pub IsFront : {A : Type 0} → List A → List A → Type 0
+IsFront {A} front whole = (rest : List A) × (whole ≡ front ++ rest)
+
+pub front_same : {A : Type 0} (text whole : List A) → text ≡ whole → IsFront text whole
 front_same text whole same = ([], sym same ∙ sym (append-nil text))
 
 -- a prefix of the whole is a prefix of the whole and more
-pub front_then : (text whole more : List ℕ) → IsFrontOf text whole → IsFrontOf text (whole ++ more)
-front_then text whole more front = (front.0 ++ more, ap (λ (xs : List ℕ). xs ++ more) front.1 ∙ append_assoc text front.0 more)
+pub front_then : {A : Type 0} (text whole more : List A) → IsFront text whole
+    → IsFront text (whole ++ more)
+front_then {A} text whole more front = (front.0 ++ more, ap (λ (xs : List A). xs ++ more) front.1 ∙ append_assoc text front.0 more)
 
 -- the same text is put before both
-pub front_after : (before text whole : List ℕ) → IsFrontOf text whole
-    → IsFrontOf (before ++ text) (before ++ whole)
-front_after before text whole front = (front.0, ap (λ (xs : List ℕ). before ++ xs) front.1 ∙ sym (append_assoc before text front.0))
+pub front_after : {A : Type 0} (before text whole : List A) → IsFront text whole
+    → IsFront (before ++ text) (before ++ whole)
+front_after {A} before text whole front = (front.0, ap (λ (xs : List A). before ++ xs) front.1 ∙ sym (append_assoc before text front.0))
 
-pub front_first : (text more : List ℕ) → IsFrontOf text (text ++ more)
+pub front_first : {A : Type 0} (text more : List A) → IsFront text (text ++ more)
 front_first text more = (more, refl)
 
-pub front_none : (whole : List ℕ) → IsFrontOf [] whole
+pub front_none : {A : Type 0} (whole : List A) → IsFront [] whole
 front_none whole = (whole, refl)
 
-pub front_empty : (text whole : List ℕ) → text ≡ [] → IsFrontOf text whole
-front_empty text whole is = (whole, ap (λ (xs : List ℕ). xs ++ whole) (sym is))
-
-pub front_trans : (text mid whole : List ℕ) → IsFrontOf text mid
-    → IsFrontOf mid whole → IsFrontOf text whole
-front_trans text mid whole first second =
-    (first.0 ++ second.0, second.1 ∙ ap (λ (xs : List ℕ). xs ++ second.0) first.1 ∙ append_assoc text first.0 second.0)
+pub front_trans : {A : Type 0} (text mid whole : List A) → IsFront text mid
+    → IsFront mid whole → IsFront text whole
+front_trans {A} text mid whole first second =
+    (first.0 ++ second.0, second.1 ∙ ap (λ (xs : List A). xs ++ second.0) first.1 ∙ append_assoc text first.0 second.0)
 
 -- the same of output and report
 pub record AreFronts (texts whole : Texts) : Type 0 where

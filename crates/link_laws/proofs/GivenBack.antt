@@ -14,9 +14,10 @@ use Rattle.link_transfer.specs.Announced.{announced_of}
 use Rattle.link_transfer.specs.Cutting.{announcement}
 use Rattle.link_transfer.specs.declared.announcement.Announced.{Announced}
 use Rattle.link_transfer.specs.declared.announcement.Announced.TheVariants.{Absent, Total}
-use Rattle.link_unpack.specs.Transfers.{Ordered, Transfer}
-use Rattle.link_unpack.specs.Unpacking.{parts_of, line_of, lines_of, judgement_of, is_good, are_good, unpacking_of, unpacking_by, unpack_tool}
-use Rattle.link_unpack.proofs.Texts.{parts_more, lines_more, good_more}
+use Rattle.link_laws.specs.Transfers.{Ordered, lines_of, are_good, unpacking_by, by_transfers}
+use Rattle.link_unpack.specs.Transfers.{Transfer}
+use Rattle.link_unpack.specs.Unpacking.{parts_of, line_of, judgement_of, is_good, unpack_tool}
+use Rattle.link_unpack.proofs.Texts.{parts_more}
 use Rattle.link_bundle_walk.specs.Bundles.{Packed, divided}
 use Rattle.link_pack.specs.Packing.{sending}
 use Rattle.link_pack.specs.Segments.{cutting_of}
@@ -26,6 +27,7 @@ use Rattle.link_laws.specs.RoundTrip.{all, good_lines, GivesBack}
 use Rattle.link_laws.proofs.Carried.{onto, rest_onto, transfer_of}
 use Rattle.link_laws.proofs.Divided.{AreBundles, contents}
 use Rattle.link_laws.proofs.Limits.{announces}
+use Rattle.link_laws.proofs.Same.{whole_is}
 use Rattle.link_laws.proofs.Readings.{packed, nothing_left, IsPacked}
 
 -- ---- a bundle
@@ -65,7 +67,7 @@ module _ (options : PackOptions) where
       → AreBundles options.peer_transfer bundles
       → lines_of all (onto options number bundles earlier) ≡ lines_of all earlier
       ++ good_lines number (length (parts_of all earlier)) bundles
-  unfolding onto good_lines
+  unfolding onto good_lines lines_of
   lines_onto number [] earlier are = sym (append-nil (lines_of all earlier))
   lines_onto number (bundle ∷ more) earlier are =
       let latest = transfer_of options number bundle in
@@ -74,19 +76,20 @@ module _ (options : PackOptions) where
       let good = judged_good number bundle are.0.is in
       let rest = good_lines (suc number) (start + size) more in
       lines_onto (suc number) more (latest ∷ earlier) are.1
-      ∙ ap₂ (λ (lines : List ℕ) (n : ℕ). lines ++ good_lines (suc number) n more) (lines_more all latest earlier) (parts_length number bundle earlier)
+      ∙ ap (λ (n : ℕ). (lines_of all earlier ++ line_of all latest earlier)
+      ++ good_lines (suc number) n more) (parts_length number bundle earlier)
       ∙ append_assoc (lines_of all earlier) (line_of all latest earlier) rest
       ∙ ap (λ j. lines_of all earlier ++ (transfer_text (record { id = number; start = start; written = size; length = size; judgement = j }) ++ rest)) good
 
   good_onto : (number : ℕ) (bundles : List Packed) (earlier : List Transfer)
       → AreBundles options.peer_transfer bundles → are_good earlier ≡ true
       → are_good (onto options number bundles earlier) ≡ true
-  unfolding onto
+  unfolding onto are_good
   good_onto number [] earlier are good = good
   good_onto number (bundle ∷ more) earlier are good =
       let latest = transfer_of options number bundle in
       let one : is_good (judgement_of latest) ≡ true = ap is_good (judged_good number bundle are.0.is) in
-      good_onto (suc number) more (latest ∷ earlier) are.1 (good_more latest earlier ∙ ap₂ (λ a b. a && b) one good)
+      good_onto (suc number) more (latest ∷ earlier) are.1 (ap₂ (λ a b. a && b) one good)
 
 -- ---- a stream
 
@@ -105,9 +108,10 @@ module _ (options : PackOptions) (bytes : List ℕ) (is_packed : IsPacked option
   bundles = (divided options.peer_transfer bytes).bundles
 
   unpacked : (unpack_tool all).whole stream ≡ over_clean (onto options 0 bundles [])
-  unfolding unpacking_of
+  unfolding by_transfers
   unpacked =
-      ap₂ (λ (end : End) (order : Ordered). whole_of (unpacking_by all end order))
+      whole_is all stream
+      ∙ ap₂ (λ (end : End) (order : Ordered). whole_of (unpacking_by all end order))
       (ap (λ (r : Reading). r.end) is_packed.reads) is_packed.carries.in_order
       ∙ ap over_clean is_packed.carries.makes
       ∙ ap (λ r. over_clean (rest_onto options (length bundles) r (onto options 0 bundles [])))

@@ -4,7 +4,7 @@ use Rattle.link_wire.specs.SpelledStream.{IsReading}
 use Rattle.link_wire.specs.Stream.{Entry, Reading, reading_of, heads_of}
 use Rattle.link_run.specs.Made.{Made, whole_by}
 use Rattle.link_run.specs.Run.{Outcome}
-use Rattle.link_unpack.proofs.Heads.{heads_clean}
+use Rattle.link_walk.proofs.Heads.{heads_clean}
 use Rattle.link_bundle_walk.specs.Bundles.{Rest, Divided, divided}
 use Rattle.link_pack.specs.Packing.{packing_by, packing_of, pack_tool}
 use Rattle.link_bundle_walk.specs.Telling.{stop_by}

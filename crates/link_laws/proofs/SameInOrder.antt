@@ -1,13 +1,16 @@
 -- If no head is refused, `unpack` makes the same, whether or not a fault of the order ends the run.
-use Rattle.std.proofs.Common.{◌≡◌, ℕ, List, [], ◌∷◌, ◌++◌, length, refl, ap, ap₂, sym, ◌∙◌}
-use Rattle.link_wire.specs.Stream.{End, reading_of, heads_of}
+use Rattle.std.proofs.Common.{◌≡◌, ℕ, Bool, true, false, List, [], ◌∷◌, ◌++◌, length, refl, ap, sym, ◌∙◌}
+use Rattle.std.proofs.Math.Path.{fun_ext}
+use Rattle.std.specs.List.{fold}
+use Rattle.link_wire.specs.Stream.{End, reading_of}
 use Rattle.link_report.specs.Transfer.{transfer_text}
-use Rattle.link_unpack.specs.Transfers.{Ordered, ordered, Transfer, transfers_of, settled}
-use Rattle.link_unpack.specs.Unpacking.{part_of, parts_of, entry_of, lines_of, unpacking_by, unpacking_of}
+use Rattle.link_walk.specs.Walk.{WalkEvent, ContactHeader, MessageHead, Data, Whole, LeftOpen, Walked, told_by, told_of}
+use Rattle.link_unpack.specs.Transfers.{Transfer}
+use Rattle.link_unpack.specs.Unpacking.{part_of, parts_of, entry_of, line_due, Told, none_told, told_event, told_after, unpack_telling}
 use Rattle.link_unpack.specs.declared.wanted.Wanted.{Wanted}
-use Rattle.link_unpack.proofs.GoingOn.{made_in_order}
 use Rattle.link_laws.specs.Cuts.{going_on, stopping, IsSameInOrder}
-use Rattle.link_laws.proofs.Accepted.{all_in_order}
+use Rattle.link_laws.proofs.Same.{walked_same}
+use Rattle.link_laws.proofs.Whole.{reading_read}
 
 module _ (wanted : Wanted) where
   parts_same : (transfers : List Transfer)
@@ -17,24 +20,37 @@ module _ (wanted : Wanted) where
   parts_same (latest ∷ earlier) =
       ap (λ (parts : List ℕ). parts ++ part_of wanted latest) (parts_same earlier)
 
-  lines_same : (transfers : List Transfer)
-      → lines_of (going_on wanted) transfers ≡ lines_of (stopping wanted) transfers
-  unfolding lines_of
-  lines_same [] = refl
-  lines_same (latest ∷ earlier) =
-      ap₂ (λ (lines : List ℕ) (start : ℕ). lines ++ transfer_text (entry_of wanted latest start))
-      (lines_same earlier) (ap length (parts_same earlier))
+  line_same : (due : Bool) (transfers : List Transfer)
+      → line_due (going_on wanted) due transfers ≡ line_due (stopping wanted) due transfers
+  line_same false transfers = refl
+  line_same true [] = refl
+  line_same true (latest ∷ earlier) =
+      ap (λ (parts : List ℕ). transfer_text (entry_of wanted latest (length parts)))
+      (parts_same earlier)
 
-  made_same : (end : End) (order : Ordered)
-      → unpacking_by (going_on wanted) end order ≡ unpacking_by (stopping wanted) end order
-  made_same end order =
-      let transfers = transfers_of order.heads in
-      rw (parts_same transfers, lines_same (settled transfers), lines_same transfers) refl
+  event_same : (told : Told) (event : WalkEvent)
+      → told_event (going_on wanted) told event ≡ told_event (stopping wanted) told event
+  event_same told (ContactHeader contact) = refl
+  event_same told (MessageHead head) = rw (line_same, line_same) refl
+  event_same told (Data byte) = refl
+  event_same told Whole = rw line_same refl
+  event_same told LeftOpen = rw line_same refl
+
+  told_same : (events : List WalkEvent)
+      → told_after (going_on wanted) events ≡ told_after (stopping wanted) events
+  unfolding told_after
+  told_same events =
+      ap (λ (next : Told → WalkEvent → Told). fold next none_told events)
+      (fun_ext (λ told. fun_ext (event_same told)))
+
+  made_same : (end : End) (walked : Walked) → told_by (unpack_telling (going_on wanted)) end walked
+      ≡ told_by (unpack_telling (stopping wanted)) end walked
+  made_same end walked = rw (told_same, told_same, parts_same, parts_same) refl
 
   pub same : (bytes : List ℕ) → IsSameInOrder wanted bytes
-  unfolding unpacking_of
+  unfolding told_of
   same bytes none =
       let reading = reading_of bytes in
-      let heads = heads_of reading in
-      sym (made_in_order (going_on wanted) reading.end heads (all_in_order heads none))
-      ∙ made_same reading.end (ordered heads)
+      ap (told_by (unpack_telling (going_on wanted)) reading.end)
+      (sym (walked_same wanted reading (reading_read bytes) none))
+      ∙ made_same reading.end _

@@ -13,7 +13,7 @@ use Rattle.link_wire.proofs.Spellings.{segment_spelled}
 use Rattle.link_transfer.specs.Chunks.{chunk_at}
 use Rattle.link_transfer.specs.Cutting.{Cutting, announcement}
 use Rattle.link_pack.specs.Segments.{Sending, cutting_of, cut_at, flags_of, segment_bytes, segments_from}
-use Rattle.link_unpack.proofs.Heads.{entry}
+use Rattle.link_run.proofs.Continued.{entry}
 use Rattle.link_laws.proofs.Streams.{stream_then, stream_one}
 
 -- chunk number `k`, and the message whose data it is

@@ -11,7 +11,8 @@ use Rattle.link_transfer.specs.Chunks.{chunk_at}
 use Rattle.link_transfer.specs.Order.{refusal_by, open_after}
 use Rattle.link_transfer.specs.declared.event.Event.TheVariants.{Segment}
 use Rattle.link_unpack.specs.Transfers.{Transfer, closes, after_message}
-use Rattle.link_unpack.proofs.Heads.{entry, transfer_begins, transfer_continues}
+use Rattle.link_run.proofs.Continued.{entry}
+use Rattle.link_unpack.proofs.Heads.{transfer_begins, transfer_continues}
 use Rattle.link_pack.specs.Segments.{Sending, cut_at, flags_of}
 use Rattle.link_laws.proofs.Segments.{chunk_of, message_of}
 use Rattle.link_laws.proofs.Standing.{Stands, carrying, stands_more}

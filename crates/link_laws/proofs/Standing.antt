@@ -1,16 +1,17 @@
 -- Heads that are in order and their transfers, with one more head.
-use Rattle.std.proofs.Common.{◌≡◌, ℕ, true, false, List, [], ◌∷◌, ◌++◌, Option, None, ap, sym, ◌∙◌, subst}
+use Rattle.std.proofs.Common.{◌≡◌, ℕ, true, false, List, [], ◌∷◌, ◌++◌, Option, None, refl, ap, sym, ◌∙◌, subst}
+use Rattle.std.proofs.lemmas.Grind.{fold-append}
+use Rattle.std.proofs.lemmas.List.{map_push}
 use Rattle.link_wire.specs.Stream.{Entry}
-use Rattle.link_wire.specs.declared.message.Message.{Message}
 use Rattle.link_transfer.specs.Event.{event_of}
 use Rattle.link_transfer.specs.Joiner.{IsJoinerAt, joiner_after}
 use Rattle.link_transfer.specs.Order.{refusal, refusal_by}
 use Rattle.link_transfer.specs.declared.event.Event.{Event}
 use Rattle.link_transfer.specs.declared.joiner.Joiner.{Joiner}
-use Rattle.link_transfer.proofs.Joining.{IsJoinerAt-none, IsJoinerAt-then}
-use Rattle.link_unpack.specs.Transfers.{Transfer, after_message, transfers_of}
-use Rattle.link_unpack.proofs.Heads.{messages_push, no_transfers, transfers_push}
-use Rattle.link_unpack.proofs.Orders.{messages_of, AreInOrder, in_order_none, in_order_more}
+use Rattle.link_transfer.proofs.Joining.{refusal-at, IsJoinerAt-none, IsJoinerAt-then}
+use Rattle.link_unpack.specs.Transfers.{Transfer, after_message}
+use Rattle.link_laws.specs.Transfers.{transfers_of}
+use Rattle.link_laws.proofs.Orders.{messages_of, AreInOrder, in_order_none, in_order_more}
 
 -- These heads are in order, and these are their transfers. A joiner that accepted their messages
 -- has this value.
@@ -28,13 +29,8 @@ abbrev pub carrying : Option ℕ → Joiner
 carrying transfer = record { initiated = true; terminated = false; transfer = transfer }
 
 pub stands_none : Stands [] fresh []
-stands_none = record { in_order = in_order_none; joins = IsJoinerAt-none; makes = no_transfers }
-
-may_come : (joiner : Joiner) (before : List Message) (event : Event) → IsJoinerAt joiner before
-    → refusal_by joiner.initiated joiner.terminated joiner.transfer event ≡ None
-    → refusal before event ≡ None
-unfolding refusal
-may_come joiner before event at may = rw (sym at.initiated, sym at.terminated, sym at.transfer) may
+unfolding transfers_of
+stands_none = record { in_order = in_order_none; joins = IsJoinerAt-none; makes = refl }
 
 -- one more head, which may come here
 pub stands_more : (heads : List Entry) (joiner : Joiner) (transfers : List Transfer) (head : Entry)
@@ -43,8 +39,15 @@ pub stands_more : (heads : List Entry) (joiner : Joiner) (transfers : List Trans
     → Stands heads joiner transfers
     → Stands (heads ++ head ∷ []) (joiner_after joiner event)
     (after_message transfers head.message head.content)
-stands_more heads joiner transfers head event is may at = record {
-  in_order = in_order_more heads head at.in_order (ap (refusal (messages_of heads)) is ∙ may_come joiner (messages_of heads) event at.joins may);
-  joins = subst (IsJoinerAt (joiner_after joiner event)) (sym (messages_push heads head)) (IsJoinerAt-then joiner (messages_of heads) head.message event is at.joins);
-  makes = transfers_push heads head ∙ ap (λ ts. after_message ts head.message head.content) at.makes;
-}
+unfolding transfers_of
+stands_more heads joiner transfers head event is may at =
+    let after = λ (ts : List Transfer) (h : Entry). after_message ts h.message h.content in
+    record {
+      in_order = in_order_more heads head at.in_order
+          (ap (refusal (messages_of heads)) is
+          ∙ sym (refusal-at joiner (messages_of heads) event at.joins) ∙ may);
+      joins = subst (IsJoinerAt (joiner_after joiner event))
+          (sym (map_push (λ (h : Entry). h.message) heads head))
+          (IsJoinerAt-then joiner (messages_of heads) head.message event is at.joins);
+      makes = fold-append after [] heads (head ∷ []) ∙ ap (λ ts. after ts head) at.makes;
+    }

@@ -7,7 +7,7 @@ use Rattle.link_wire.specs.Spelled.{HeadSpelled}
 use Rattle.link_wire.specs.SpelledStream.{IsStream}
 use Rattle.link_wire.specs.Stream.{Entry, End, Clean}
 use Rattle.link_wire.specs.declared.message.Message.{Message}
-use Rattle.link_unpack.proofs.Heads.{entry}
+use Rattle.link_run.proofs.Continued.{entry}
 
 -- messages, and then the rest of the stream
 pub stream_then : (entries more : List Entry) (end : End) (offset : ℕ) (front back : List ℕ)

@@ -1,70 +1,97 @@
 -- The texts of `unpack` that some bytes determine are prefixes of its texts for longer inputs.
-use Rattle.std.proofs.Common.{◌≡◌, ℕ, Bool, true, false, List, ◌++◌, Option, Some, None, refl, ap, sym}
-use Rattle.link_wire.specs.Stream.{Entry, End, Reading, reading_of, heads_of}
-use Rattle.link_transfer.specs.declared.fault.OrderFault.{OrderFault}
-use Rattle.link_unpack.specs.Transfers.{Ordered, ordered}
-use Rattle.link_unpack.specs.Unpacking.{unpacking_by, unpacked_of, made_of, unpacking_of, unpack_tool}
+use Rattle.std.proofs.Common.{ℕ, Bool, true, false, List, [], ◌∷◌, ◌++◌, Option, Some, None, if◌then◌else◌, refl, ⊎_elim}
+use Rattle.std.proofs.lemmas.Bool.{cases_Bool}
+use Rattle.link_wire.specs.Codes.{is_start}
+use Rattle.link_wire.specs.declared.message.Message.{Message}
+use Rattle.link_bundle.specs.Bundle.{payload_in}
+use Rattle.link_transfer.specs.declared.joiner.Turn.{Turn}
+use Rattle.link_run.specs.Run.{Texts}
+use Rattle.link_walk.specs.Walk.{WalkEvent, ContactHeader, MessageHead, Data, Whole, LeftOpen}
+use Rattle.link_unpack.specs.TransferScan.{grown}
+use Rattle.link_unpack.specs.Transfers.{Transfer, continued, after_message}
+use Rattle.link_unpack.specs.Unpacking.{is_selected, parts_of, Told, transfers_at, told_event, told_after, unpack_telling, unpack_tool}
 use Rattle.link_unpack.specs.declared.wanted.Wanted.{Wanted}
-use Rattle.link_unpack.proofs.GoingOn.{unpacked_in_order, lines_abandoned}
-use Rattle.link_laws.specs.Prefix.{IsPrefixed}
-use Rattle.link_laws.proofs.Accepted.{accepted_in_order}
-use Rattle.link_run.proofs.Continued.{ReadingGoesOn, reading_on}
-use Rattle.link_laws.proofs.Fronts.{front_same, front_first, AreFronts, fronts_same, fronts_trans}
-use Rattle.link_unpack.proofs.Lasting.{heads_on, orders, stays}
-use Rattle.link_unpack.proofs.Texts.{texts_of}
-use Rattle.link_laws.proofs.Heads.{unpacked_on}
-use Rattle.link_laws.proofs.Prefixes.{MadeOn, prefixed}
+use Rattle.link_unpack.proofs.Events.{told_then, told_push}
+use Rattle.link_unpack.proofs.Heads.{kind_of, transfers_same, transfer_begins, transfer_continues}
+use Rattle.link_unpack.proofs.Texts.{parts_more}
+use Rattle.link_laws.specs.Prefix.{IsFrontOf, IsPrefixed}
+use Rattle.link_laws.proofs.Fronts.{IsFront, front_same, front_first, front_then, front_after, front_none, AreFronts, fronts_same, fronts_trans}
+use Rattle.link_laws.proofs.Payloads.{payload_front}
+use Rattle.link_laws.proofs.Walks.{told_prefix}
+
+chosen_front : (selected payload : Bool) (content piece : List ℕ)
+    → IsFrontOf (if selected then (if payload then payload_in content else content) else [])
+    (if selected then (if payload then payload_in (content ++ piece) else content ++ piece) else [])
+chosen_front false payload content piece = front_none _
+chosen_front true false content piece = front_first content piece
+chosen_front true true content piece = payload_front content piece
 
 module _ (wanted : Wanted) where
-  -- the texts up to the first head that is refused are those of the heads before it
-  accepted_texts : (end : End) (heads : List Entry)
-      → (unpacking_by wanted end (ordered heads)).texts
-      ≡ texts_of wanted (unpacked_of wanted (ordered heads).heads)
-  accepted_texts end heads =
-      sym (ap (texts_of wanted)
-      (unpacked_in_order wanted (ordered heads).heads (accepted_in_order heads)))
+  -- ---- the output
 
-  -- ---- what is made of a reading that goes on
+  -- the output for the first transfers is a prefix of that for the second
+  abbrev Extends : (first second : List Transfer) → Type 0
+  Extends first second = IsFrontOf (parts_of wanted first) (parts_of wanted second)
 
-  module _ (before after : Reading) (on : ReadingGoesOn before after) where
-    abbrev order : Ordered
-    order = ordered (heads_of before)
+  continued_front : (transfers : List Transfer) (piece : List ℕ) (closed : Bool)
+      → Extends transfers (continued transfers piece closed)
+  continued_front [] piece closed = front_same _ _ refl
+  continued_front (latest ∷ earlier) piece closed =
+      rw (parts_more wanted latest earlier, parts_more wanted (grown latest piece closed) earlier)
+      (front_after (parts_of wanted earlier) _ _
+      (chosen_front (is_selected wanted.only latest.first.id) wanted.payload latest.content piece))
 
-    abbrev later : Ordered
-    later = ordered (heads_of after)
+  message_front : (transfers : List Transfer) (sent : Message)
+      → Extends transfers (after_message transfers sent [])
+  message_front transfers sent =
+      ⊎_elim
+      (λ segment. rw segment.1
+      (⊎_elim
+      (λ starts. rw (transfer_begins transfers segment.0 [] starts, parts_more) (front_first _ _))
+      (λ continues. rw (transfer_continues transfers segment.0 [] continues)
+      (continued_front transfers [] _))
+      (cases_Bool (is_start segment.0.flags))))
+      (λ other. rw (transfers_same transfers sent [] other) (front_same _ _ refl))
+      (kind_of sent)
 
-    -- ---- a fault of the order ends the run
+  turn_front : (transfers : List Transfer) (effect : Option Turn) (sent : Message)
+      → Extends transfers (transfers_at effect transfers sent)
+  turn_front transfers None sent = front_same _ _ refl
+  turn_front transfers (Some turn) sent = message_front transfers sent
 
-    texts_by : (refused : Option (ℕ × OrderFault)) → order.refused ≡ refused
-        → AreFronts (unpacking_by wanted before.end order).texts
-        (unpacking_by wanted after.end later).texts
-    texts_by (Some stop) is =
-        fronts_same _ _
-        (sym (ap (λ (o : Ordered). (unpacking_by wanted before.end o).texts) ((orders before after on).stays stop is)))
-    texts_by None is =
-        fronts_trans _ _ _
-        (fronts_same _ _ (accepted_texts before.end (heads_of before)))
-        (fronts_trans _ _ _ (unpacked_on wanted order.heads later.heads ((orders before after on).goes is))
-        (fronts_same _ _ (sym (accepted_texts after.end (heads_of after)))))
+  -- ---- output and report
 
-    -- ---- with each option
+  abbrev text_of : Told → Texts
+  text_of told = record { output = parts_of wanted told.transfers; report = told.report }
 
-    made_on : (keep_going : Bool)
-        → MadeOn (made_of keep_going wanted before) (made_of keep_going wanted after)
-    made_on true = record {
-      texts = unpacked_on wanted (heads_of before) (heads_of after) (heads_on before after on);
-      ended = record { output = front_same _ _ refl; report = front_first _ _ };
-      stays = stays before after on true wanted;
-    }
-    made_on false = record {
-      texts = texts_by order.refused refl;
-      ended = record { output = front_same _ _ refl; report = (_, lines_abandoned wanted _) };
-      stays = stays before after on false wanted;
-    }
+  event_front : (told : Told) (event : WalkEvent)
+      → AreFronts (text_of told) (text_of (told_event wanted told event))
+  event_front told (ContactHeader contact) = fronts_same _ _ refl
+  event_front told (MessageHead head) = record {
+    output = turn_front told.transfers head.turn head.message;
+    report = front_then _ _ _ (front_then _ _ _ (front_first told.report _));
+  }
+  event_front told (Data byte) = record {
+    output = continued_front told.transfers (byte ∷ []) false;
+    report = front_same _ _ refl;
+  }
+  event_front told Whole = record {
+    output = continued_front told.transfers [] true;
+    report = front_first _ _;
+  }
+  event_front told LeftOpen = record { output = front_same _ _ refl; report = front_first _ _ }
+
+  events_front : (events : List WalkEvent) (told : Told)
+      → AreFronts (text_of told) (text_of (told_then wanted told events))
+  events_front [] told = fronts_same _ _ refl
+  events_front (event ∷ more) told =
+      fronts_trans _ _ _ (event_front told event) (events_front more (told_event wanted told event))
+
+  -- what is said of some events begins what is said of more
+  said_front : (first more : List WalkEvent) → IsFront first more
+      → AreFronts (text_of (told_after wanted first)) (text_of (told_after wanted more))
+  said_front first more front =
+      rw (front.1, told_push wanted first front.0) (events_front front.0 (told_after wanted first))
 
   pub unpack_prefix : (bytes more : List ℕ) → IsPrefixed (unpack_tool wanted) bytes more
-  unfolding unpacking_of
-  unpack_prefix bytes more =
-      prefixed (unpacking_of wanted) bytes more
-      (made_on (reading_of bytes) (reading_of (bytes ++ more)) (reading_on bytes more)
-      wanted.keep_going)
+  unpack_prefix bytes more = told_prefix (unpack_telling wanted) said_front bytes more

@@ -7,7 +7,8 @@ use Rattle.link_wire.specs.declared.message.Message.TheVariants.{Segment}
 use Rattle.link_transfer.specs.Announced.{announced_of}
 use Rattle.link_transfer.specs.declared.announcement.Announced.TheVariants.{Absent, Total}
 use Rattle.link_list.specs.Listing.{list_tool}
-use Rattle.link_unpack.specs.Transfers.{Transfer, ordered, transfers_of}
+use Rattle.link_unpack.specs.Transfers.{Transfer}
+use Rattle.link_laws.specs.Transfers.{ordered, transfers_of}
 use Rattle.link_pack.specs.declared.options.PackOptions.{PackOptions}
 
 -- A segment has some data. It has no more than the peer takes (RFC 9174 section 4.6), and no more

@@ -6,6 +6,7 @@
 ghost use Rattle.std.specs.Prelude.{◌≡◌, ◌<◌, ◌≤◌, ◌^◌, List, ℕ, length};
 ghost use Rattle.link_wire.specs.Bytes.{AreBytes};
 ghost use Rattle.link_list.specs.Listing.{list_tool};
+ghost use Rattle.link_run.specs.Made.{tool_of};
 ghost use Rattle.link_unpack.specs.Unpacking.{unpack_tool};
 ghost use Rattle.link_unpack.specs.declared.wanted.Wanted.{Wanted};
 ghost use Rattle.link_pack.specs.Packing.{pack_tool};
@@ -16,6 +17,7 @@ ghost use Rattle.link_laws.specs.PackedStream.{KeepsLimits};
 ghost use Rattle.link_laws.specs.Prefix.{IsPrefixed};
 ghost use Rattle.link_laws.specs.Ranges.{OptionsFit, InputFits};
 ghost use Rattle.link_laws.specs.RoundTrip.{GivesBack};
+ghost use Rattle.link_laws.specs.Transfers.{by_transfers};
 
 use link_pack::PackOptions;
 use link_wire::NodeId;
@@ -101,6 +103,15 @@ pub fn report_cuts_output()
 /// order would end the run.
 pub fn same_in_order()
     ensures { (wanted : Wanted) (bytes : List ℕ) → IsSameInOrder wanted bytes }
+{}
+
+/// `unpack` makes of a stream what the transfers of the whole stream make.
+///
+/// Its definition goes event by event, as the stream is walked. `by_transfers` goes by the list of
+/// all heads: it joins their data into transfers, and then gives each transfer its line. Both are
+/// the same tool.
+pub fn unpack_by_transfers()
+    ensures { (wanted : Wanted) → unpack_tool wanted ≡ tool_of (by_transfers wanted) }
 {}
 
 // ---- bounds that the types imply

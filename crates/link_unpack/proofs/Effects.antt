@@ -1,5 +1,5 @@
 -- What a head does to the transfers.
-use Rattle.std.proofs.Common.{◌≡◌, ℕ, zero, suc, Bool, true, false, not, ◌==◌, is_some, List, Option, Some, None, refl, ap, sym, ◌∙◌, ⊎_elim, arith, if◌then◌else◌}
+use Rattle.std.proofs.Common.{◌≡◌, ℕ, zero, suc, Bool, true, false, ◌==◌, is_some, List, Option, Some, None, refl, ap, sym, ◌∙◌, ⊎_elim, arith, if◌then◌else◌}
 use Rattle.std.proofs.lemmas.Bool.{ne_eqb}
 use Rattle.link_wire.specs.Codes.{is_start, is_end}
 use Rattle.link_wire.specs.declared.message.Message.{Message}
@@ -11,11 +11,10 @@ use Rattle.link_transfer.specs.declared.event.Event.{Event}
 use Rattle.link_transfer.specs.declared.event.Event.TheVariants as event
 use Rattle.link_transfer.specs.declared.joiner.Turn.{Turn}
 use Rattle.link_transfer.specs.declared.joiner.Turn.TheVariants as turn
-use Rattle.link_run.specs.Run.{◌then◌}
-use Rattle.link_walk.specs.Walk.{Head, WalkEvent, has_open}
+use Rattle.link_walk.specs.Walk.{Head, WalkEvent, has_open, abandons}
 use Rattle.link_walk.specs.Telling.{ComesAfter}
-use Rattle.link_unpack.specs.Telling.{abandons}
-use Rattle.link_unpack.proofs.GoingOn.{kind_of, open_where_taken}
+use Rattle.link_walk.proofs.Heads.{continues_some}
+use Rattle.link_unpack.proofs.Heads.{kind_of}
 
 -- ---- the effect of a head
 
@@ -36,16 +35,10 @@ other_turn taken event.SessTerm is = refl
 other_turn taken (event.Segment flags id) is = absurd (cc)
 other_turn taken event.Other is = refl
 
--- ---- sizes and tests
-
 pub zero_eq : (size : ℕ) → (0 == size) ≡ (size == 0)
 zero_eq zero = refl
 zero_eq (suc more) =
     ne_eqb 0 (suc more) (λ is. absurd (omega arith)) ∙ sym (ne_eqb (suc more) 0 (λ is. absurd (omega arith)))
-
-pub not_true : (test : Bool) → not test ≡ true → test ≡ false
-not_true true is = absurd (cc)
-not_true false is = refl
 
 -- ---- what a head does
 
@@ -66,7 +59,11 @@ module _ (taken : List Message) (opened : Bool) (is : opened ≡ is_some (open_o
       else turn.Continue (is_end first.flags))) (message.Segment first) opened
   segment_does first true starts belongs = Begins first (open_of taken) refl starts refl (sym is)
   segment_does first false starts belongs =
-      Continues first refl starts refl (is ∙ open_where_taken taken first.flags first.id starts belongs)
+      let effect = effect_taken taken (event_of (message.Segment first)) belongs
+      ∙ ap (λ b. Some (if b then turn.Begin (open_of taken) (is_end first.flags)
+      else turn.Continue (is_end first.flags))) starts in
+      Continues first refl starts refl
+      (is ∙ continues_some taken (event_of (message.Segment first)) (is_end first.flags) effect)
 
   taken_does : (sent : Message) → is_stray taken (event_of sent) ≡ false
       → Does (Some (turn_by (open_of taken) (event_of sent))) sent opened

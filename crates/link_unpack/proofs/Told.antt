@@ -1,6 +1,7 @@
 -- What is kept after one more event, and what is written for it.
-use Rattle.std.proofs.Common.{◌≡◌, ℕ, ◌+◌, ◌≤◌, Bool, true, false, not, ◌&&◌, ◌==◌, is_some, List, [], ◌∷◌, ◌++◌, length, Option, Result, Ok, Err, OnOk, refl, ap, sym, ◌∙◌, append-nil, append_assoc, arith}
+use Rattle.std.proofs.Common.{◌≡◌, ℕ, ◌+◌, ◌≤◌, Bool, true, false, not, ◌&&◌, ◌==◌, is_some, List, [], ◌∷◌, ◌++◌, length, Option, Result, Ok, Err, OnOk, if◌then◌else◌, refl, ap, sym, ◌∙◌, append-nil, append_assoc, arith}
 use Rattle.std.specs.List.{fold}
+use Rattle.std.proofs.Math.Bool.{and-true}
 use Rattle.std.proofs.lemmas.Grind.{fold-append}
 use Rattle.link_wire.specs.Codes.{is_start, is_end}
 use Rattle.link_wire.specs.Device.{Output}
@@ -10,22 +11,20 @@ use Rattle.link_wire.specs.declared.message.Message.{Message}
 use Rattle.link_wire.specs.declared.message.Message.TheVariants as message
 use Rattle.link_wire.specs.declared.message.SegmentHead.{SegmentHead}
 use Rattle.link_transfer.specs.declared.joiner.Turn.{Turn}
-use Rattle.link_run.specs.Run.{no_texts}
+use Rattle.link_run.specs.Run.{no_texts, ◌then◌}
 use Rattle.link_run.specs.Writers.{on_output, on_report, AfterWrite}
 use Rattle.link_run.specs.declared.writers.Writers.{Writers}
 use Rattle.link_run.proofs.Runs.{texts_as}
-use Rattle.link_walk.specs.Walk.{Head, WalkEvent, MessageHead, closes as closes_head, is_last, is_beginning, open_with, open_after_event, data_events, data_size_of, data_size, has_open}
-use Rattle.link_walk.specs.Telling.{ComesAfter, Tells, TellsOutput}
+use Rattle.link_walk.specs.Walk.{Head, WalkEvent, MessageHead, Whole, closes as closes_head, is_last, is_beginning, open_with, open_after_event, data_events, data_size_of, data_size, has_open, abandons}
+use Rattle.link_walk.specs.Telling.{ComesAfter, Tells, data_ends}
 use Rattle.link_unpack.specs.Transfers.{Transfer, closes, continued}
-use Rattle.link_unpack.specs.Unpacking.{part_of, parts_of, order_line}
-use Rattle.link_unpack.specs.Telling.{Told, line_due, good_due, abandons, transfers_at, told_event, told_after, unpack_telling}
+use Rattle.link_unpack.specs.Unpacking.{part_of, parts_of, order_line, Told, line_due, good_due, transfers_at, told_event, told_after, unpack_telling}
 use Rattle.link_unpack.specs.TransferScan.{IsAtTransfer, begun, grown}
 use Rattle.link_unpack.specs.Unpacker.{IsAtLatest, KnowsTold}
 use Rattle.link_unpack.specs.declared.transfer.TransferScan.{TransferScan}
 use Rattle.link_unpack.specs.declared.unpacker.Unpacker.{Unpacker}
 use Rattle.link_unpack.specs.declared.wanted.Wanted.{Wanted}
-use Rattle.link_unpack.proofs.Events.{told_push, data_told}
-use Rattle.link_unpack.proofs.GoingOn.{LatestIsOpen}
+use Rattle.link_unpack.proofs.Events.{LatestIsOpen, told_then, told_both, told_push, data_told, whole_if, whole_told}
 use Rattle.link_unpack.proofs.Heads.{transfers_same, transfer_begins, transfer_continues}
 use Rattle.link_unpack.proofs.Effects.{zero_eq, Does, Strays, Passes, Begins, Continues, comes_does}
 use Rattle.link_unpack.proofs.Texts.{parts_more, parts_sum}
@@ -48,27 +47,30 @@ module _ (before : List WalkEvent) where
   unfolding has_open
   open_then event = fold-append open_after_event false before (event ∷ [])
 
-size_of_data : (bytes : List ℕ) (size : ℕ)
-    → fold (λ total e. total + data_size_of e) size (data_events bytes) ≡ size + length bytes
-size_of_data [] size = omega arith
-size_of_data (byte ∷ bytes) size = size_of_data bytes (size + 1) ∙ omega arith
+size_of_data : (bytes : List ℕ) (whole : Bool) (size : ℕ)
+    → fold (λ total e. total + data_size_of e) size (data_ends bytes whole) ≡ size + length bytes
+size_of_data [] true size = omega arith
+size_of_data [] false size = omega arith
+size_of_data (byte ∷ bytes) whole size = size_of_data bytes whole (size + 1) ∙ omega arith
 
-open_of_data : (bytes : List ℕ) (opened : Bool)
-    → fold open_after_event opened (data_events bytes) ≡ opened
-open_of_data [] opened = refl
-open_of_data (byte ∷ bytes) opened = open_of_data bytes opened
+open_of_data : (bytes : List ℕ) (whole opened : Bool)
+    → fold open_after_event opened (data_ends bytes whole) ≡ (not whole && opened)
+open_of_data [] true opened = refl
+open_of_data [] false opened = refl
+open_of_data (byte ∷ bytes) whole opened = open_of_data bytes whole opened
 
-module _ (before : List WalkEvent) (bytes : List ℕ) where
-  pub size_with_data : data_size (before ++ data_events bytes) ≡ data_size before + length bytes
+module _ (before : List WalkEvent) (bytes : List ℕ) (whole : Bool) where
+  size_with_data : data_size (before ++ data_ends bytes whole) ≡ data_size before + length bytes
   unfolding data_size
   size_with_data =
-      fold-append (λ size e. size + data_size_of e) 0 before (data_events bytes)
-      ∙ size_of_data bytes _
+      fold-append (λ size e. size + data_size_of e) 0 before (data_ends bytes whole)
+      ∙ size_of_data bytes whole _
 
-  pub open_with_data : has_open (before ++ data_events bytes) ≡ has_open before
+  open_with_data : has_open (before ++ data_ends bytes whole) ≡ (not whole && has_open before)
   unfolding has_open
   open_with_data =
-      fold-append open_after_event false before (data_events bytes) ∙ open_of_data bytes _
+      fold-append open_after_event false before (data_ends bytes whole)
+      ∙ open_of_data bytes whole _
 
 -- ---- the latest transfer
 
@@ -147,17 +149,17 @@ module _ (wanted : Wanted) where
       known = knows;
     }
 
-  -- ---- data of the open transfer
+  -- ---- data of the open transfer, which may be the last of it
 
-  module _ (before : List WalkEvent) (bytes part : List ℕ) (old now : Unpacker)
-      (knows : KnowsTold wanted old before) (opened : has_open before ≡ true)
-      (total : now.latest.total ≤ old.latest.total + length bytes) (good : now.good ≡ old.good)
-      (follows : (transfer : Transfer) (closed : Bool) (earlier : List Transfer)
-      → IsAtTransfer wanted old.latest transfer earlier
-      → IsAtTransfer wanted now.latest (grown transfer bytes closed) earlier)
-      (has_part : (transfer : Transfer) (closed : Bool) (earlier : List Transfer)
-      → IsAtTransfer wanted old.latest transfer earlier
-      → part_of wanted (grown transfer bytes closed) ≡ part_of wanted transfer ++ part) where
+  -- the scan follows a transfer that has these further bytes, whichever it is
+  abbrev pub Follows : (old now : TransferScan) → (bytes : List ℕ) → Type 0
+  Follows old now bytes =
+      (transfer : Transfer) (closed : Bool) (earlier : List Transfer)
+      → IsAtTransfer wanted old transfer earlier
+      → IsAtTransfer wanted now (grown transfer bytes closed) earlier
+
+  module _ (before : List WalkEvent) (bytes : List ℕ) (whole : Bool) (old : Unpacker)
+      (knows : KnowsTold wanted old before) (opened : has_open before ≡ true) where
     abbrev was : Told
     was = told_after wanted before
 
@@ -165,50 +167,74 @@ module _ (wanted : Wanted) where
     at = knows.at_open opened
 
     abbrev new : Transfer
-    new = grown at.transfer bytes false
+    new = grown at.transfer bytes whole
 
-    data_next : told_after wanted (before ++ data_events bytes)
-        ≡ record { transfers = new ∷ at.earlier; report = was.report; good = was.good }
+    abbrev pub data_transfers : List Transfer
+    data_transfers = new ∷ at.earlier
+
+    pub data_latest : (now : TransferScan) → Follows old.latest now bytes → {is_open : Bool} → is_open ≡ not whole
+        → IsAtLatest wanted now is_open data_transfers
+    data_latest now follows is = record {
+      transfer = new;
+      earlier = at.earlier;
+      are = refl;
+      opened = is;
+      follows = follows at.transfer whole at.earlier at.follows;
+    }
+
+    data_next : told_after wanted (before ++ data_ends bytes whole)
+        ≡ whole_if wanted at.transfer.first (at.transfer.content ++ bytes) at.earlier was.report
+        was.good whole
     data_next =
-        told_push wanted before (data_events bytes)
-        ∙ data_told wanted bytes was.transfers was.report was.good (latest_is_open old.latest was.transfers at)
-        ∙ ap (λ ts. record { transfers = continued ts bytes false; report = was.report; good = was.good }) at.are
+        told_push wanted before (data_ends bytes whole)
+        ∙ told_both wanted was (data_events bytes) (if whole then Whole ∷ [] else [])
+        ∙ ap (λ told. told_then wanted told (if whole then Whole ∷ [] else []))
+        (data_told wanted bytes was.transfers was.report was.good
+        (latest_is_open old.latest was.transfers at)
+        ∙ ap (λ ts. record { transfers = continued ts bytes false; report = was.report; good = was.good }) at.are)
+        ∙ whole_told wanted at.transfer.first (at.transfer.content ++ bytes) at.earlier was.report
+        was.good whole
 
-    data_follows : IsAtTransfer wanted now.latest new at.earlier
-    data_follows = follows at.transfer false at.earlier at.follows
-
-    data_parts : parts_of wanted (new ∷ at.earlier) ≡ parts_of wanted was.transfers ++ part
-    data_parts =
-        parts_more wanted new at.earlier
-        ∙ ap (λ (xs : List ℕ). parts_of wanted at.earlier ++ xs) (has_part at.transfer false at.earlier at.follows)
-        ∙ sym (append_assoc _ _ part)
-        ∙ ap (λ (xs : List ℕ). xs ++ part) (sym (ap (parts_of wanted) at.are ∙ parts_more wanted at.transfer at.earlier))
-
-    data_known : KnowsTold wanted now (before ++ data_events bytes)
-    data_known = record {
-      sum = rw data_next (sum_at now.latest new at.earlier data_follows);
-      total = omega (arith, size_with_data before bytes, knows.total);
-      good = rw data_next (good ∙ knows.good);
-      at_open = λ some. rw data_next (record {
-        transfer = new;
-        earlier = at.earlier;
-        are = refl;
-        opened = refl;
-        follows = data_follows;
-      });
+    pub data_known : (now : Unpacker) → now.latest.total ≤ old.latest.total + length bytes
+        → now.good ≡ (old.good && good_due whole data_transfers) → Follows old.latest now.latest bytes
+        → KnowsTold wanted now (before ++ data_ends bytes whole)
+    data_known now total good follows = record {
+      sum = rw data_next (sum_at now.latest new at.earlier (follows at.transfer whole at.earlier at.follows));
+      total = omega (arith, size_with_data before bytes whole, knows.total);
+      good = rw data_next (good ∙ ap (λ g. g && good_due whole data_transfers) knows.good);
+      at_open = λ some. rw data_next (data_latest now.latest follows
+          (sym some ∙ open_with_data before bytes whole ∙ ap (λ b. not whole && b) opened
+          ∙ and-true (not whole)));
     }
 
-    pub data_tells : {W E : Type 0} (out_look : W → Output) (report_look : E → Output)
-        (from to : Writers W E) (result : Result (Unit {0}) IoFault)
-        → AfterWrite out_look report_look from to (on_output part) result
-        → TellsOutput out_look report_look (unpack_telling wanted) (KnowsTold wanted now) before
-        (data_events bytes) from to result
-    data_tells out_look report_look from to result wrote = record {
-      text = part;
-      said = rw data_next (texts_as (sym data_parts) (append-nil was.report));
-      wrote = wrote;
-      known = on_ok result data_known;
-    }
+    -- these bytes of the data are to be written
+    module _ (part : List ℕ) (has_part : (transfer : Transfer) (closed : Bool)
+        (earlier : List Transfer) → IsAtTransfer wanted old.latest transfer earlier
+        → part_of wanted (grown transfer bytes closed) ≡ part_of wanted transfer ++ part) where
+      data_parts : parts_of wanted data_transfers ≡ parts_of wanted was.transfers ++ part
+      data_parts =
+          parts_more wanted new at.earlier
+          ∙ ap (λ (xs : List ℕ). parts_of wanted at.earlier ++ xs)
+          (has_part at.transfer whole at.earlier at.follows)
+          ∙ sym (append_assoc _ _ part)
+          ∙ ap (λ (xs : List ℕ). xs ++ part)
+          (sym (ap (parts_of wanted) at.are ∙ parts_more wanted at.transfer at.earlier))
+
+      pub data_tells : {W E : Type 0} (out_look : W → Output) (report_look : E → Output)
+          (from to : Writers W E) (result : Result (Unit {0}) IoFault) (now : Unpacker)
+          → AfterWrite out_look report_look from to
+          (on_output part then on_report (line_due wanted whole data_transfers)) result
+          → OnOk result (KnowsTold wanted now (before ++ data_ends bytes whole))
+          → Tells out_look report_look (unpack_telling wanted) (KnowsTold wanted now) before
+          (data_ends bytes whole) from to result
+      data_tells out_look report_look from to result now wrote known = record {
+        texts = on_output part then on_report (line_due wanted whole data_transfers);
+        said = rw data_next (texts_as
+            (ap (λ (xs : List ℕ). parts_of wanted was.transfers ++ xs) (append-nil part)
+            ∙ sym data_parts) refl);
+        wrote = wrote;
+        known = known;
+      }
 
 -- ---- a head
 

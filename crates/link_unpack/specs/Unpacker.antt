@@ -2,8 +2,7 @@
 use Rattle.std.specs.Prelude.{◌≡◌, ◌+◌, ◌≤◌, Bool, true, not, List, ◌∷◌, length}
 use Rattle.link_walk.specs.Walk.{WalkEvent, data_size, has_open}
 use Rattle.link_unpack.specs.Transfers.{Transfer}
-use Rattle.link_unpack.specs.Unpacking.{parts_of}
-use Rattle.link_unpack.specs.Telling.{told_after}
+use Rattle.link_unpack.specs.Unpacking.{parts_of, told_after}
 use Rattle.link_unpack.specs.TransferScan.{IsAtTransfer}
 use Rattle.link_unpack.specs.declared.transfer.TransferScan.{TransferScan}
 use Rattle.link_unpack.specs.declared.unpacker.Unpacker.{Unpacker}

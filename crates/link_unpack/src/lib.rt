@@ -11,9 +11,7 @@
 
 mod transfer;
 mod unpacker;
-mod unpacking;
 mod wanted;
 
-pub use unpacker::Unpacker;
-pub use unpacking::{UnpackRun, unpack, unpack_run};
+pub use unpacker::{UnpackRun, Unpacker, unpack, unpack_run};
 pub use wanted::Wanted;

@@ -6,11 +6,10 @@ ghost use Rattle.link_wire.specs.MessageBuffer.{SegmentHasTotals, message_of};
 ghost use Rattle.link_wire.specs.declared.message.Message.{Message};
 ghost use Rattle.link_wire.specs.declared.message.SegmentHead.{SegmentHead};
 ghost use Rattle.link_report.specs.Fault.{fault_text};
+ghost use Rattle.link_run.specs.Run.{AfterRun, devices_at, looks};
 ghost use Rattle.link_run.specs.Writers.{AfterWrite, on_report};
-ghost use Rattle.link_walk.specs.Walk.{is_beginning};
 ghost use Rattle.link_unpack.specs.Transfers.{Transfer};
-ghost use Rattle.link_unpack.specs.Unpacking.{parts_of, order_line, line_of, is_good, judgement_of};
-ghost use Rattle.link_unpack.specs.Telling.{unpack_telling, line_due, good_due, abandons};
+ghost use Rattle.link_unpack.specs.Unpacking.{parts_of, order_line, line_of, is_good, judgement_of, unpack_telling, unpack_tool, line_due, good_due};
 ghost use Rattle.link_unpack.specs.TransferScan.{IsAtTransfer, begun};
 ghost use Rattle.link_unpack.specs.Unpacker.{IsAtLatest, KnowsTold};
 ghost use Rattle.link_unpack.specs.declared.wanted.Wanted.{Wanted};
@@ -18,10 +17,10 @@ ghost use Rattle.link_unpack.specs.declared.wanted.Wanted.{Wanted};
 use crate::transfer::{TransferScan, is_bundle};
 use crate::wanted::Wanted;
 use link_report::Fault;
-use link_run::Writers;
-use link_transfer::{OrderFault, Turn, announced};
-use link_walk::{Consumer, HeadView};
-use link_wire::{Contact, Fields, IoFault, MessageBuffer, OutDevice};
+use link_run::{Run, RunEnd, Writers};
+use link_transfer::{OrderFault, announced};
+use link_walk::{Consumer, EventView, Manner, WalkRun, walk_run};
+use link_wire::{Fields, InDevice, IoFault, MessageBuffer, OutDevice};
 
 /// What is known about the transfers so far.
 #[derive(Drop)]
@@ -46,83 +45,54 @@ impl Unpacker {
 impl Consumer for Unpacker {
     type Options = Wanted;
 
-    ghost use Rattle.link_unpack.specs.Continuing.{unpack_continues};
-
     ghost telling = { unpack_telling };
 
     ghost knows = { KnowsTold };
 
     #[inline(always)]
-    fn goes_on(options: &Wanted) -> bool {
-        options.keep_going
-    }
-
-    #[inline(always)]
-    fn all_heads(_options: &Wanted) -> bool {
-        false
-    }
-
-    #[inline(always)]
-    fn contact<W: OutDevice, E: OutDevice>(
-        &mut self,
-        _options: &Wanted,
-        _contact: &Contact,
-        _writers: &mut Writers<W, E>,
-    ) -> Result<(), IoFault> {
-        Ok(())
-    }
-
-    #[inline(always)]
-    fn head<W: OutDevice, E: OutDevice>(
-        &mut self,
-        options: &Wanted,
-        head: &HeadView<'_>,
-        writers: &mut Writers<W, E>,
-    ) -> Result<(), IoFault> {
-        if let Err(fault) = tell_order(head.offset, head.fault, writers, &mut self.good) {
-            return Err(fault);
+    fn manner(options: &Wanted) -> Manner {
+        Manner {
+            goes_on: options.keep_going,
+            all_heads: false,
         }
-        if let Err(fault) = begin(options, head, writers, self) {
-            return Err(fault);
+    }
+
+    #[inline(always)]
+    fn event<W: OutDevice, E: OutDevice>(
+        &mut self,
+        options: &Wanted,
+        event: EventView<'_>,
+        writers: &mut Writers<W, E>,
+    ) -> Result<(), IoFault> {
+        match event {
+            EventView::Contact(_) => Ok(()),
+            EventView::Head(head) => {
+                if let Err(fault) = tell_order(head.offset, head.fault, writers, &mut self.good) {
+                    return Err(fault);
+                }
+                if let Err(fault) = report(options, head.abandons(), true, writers, self) {
+                    return Err(fault);
+                }
+                if head.begins() {
+                    begin_latest(&mut self.latest, head.message);
+                }
+                report(options, head.closes(), false, writers, self)
+            }
+            EventView::Data { bytes, whole } => {
+                let part = self.latest.take(options, bytes);
+                if let Err(fault) = writers.write_output(part) {
+                    return Err(fault);
+                }
+                report(options, whole, false, writers, self)
+            }
+            EventView::LeftOpen => report(options, true, true, writers, self),
         }
-        report(options, head.closes(), false, writers, self)
-    }
-
-    #[inline(always)]
-    fn data<W: OutDevice, E: OutDevice>(
-        &mut self,
-        options: &Wanted,
-        bytes: &[u8],
-        writers: &mut Writers<W, E>,
-    ) -> Result<(), IoFault> {
-        let part = self.latest.take(options, bytes);
-        writers.write_output(part)
-    }
-
-    #[inline(always)]
-    fn whole<W: OutDevice, E: OutDevice>(
-        &mut self,
-        options: &Wanted,
-        writers: &mut Writers<W, E>,
-    ) -> Result<(), IoFault> {
-        report(options, true, false, writers, self)
-    }
-
-    #[inline(always)]
-    fn left_open<W: OutDevice, E: OutDevice>(
-        &mut self,
-        options: &Wanted,
-        writers: &mut Writers<W, E>,
-    ) -> Result<(), IoFault> {
-        report(options, true, true, writers, self)
     }
 
     #[inline(always)]
     fn is_good(&self, _options: &Wanted) -> bool {
         self.good
     }
-
-    ghost continues = { unpack_continues };
 }
 
 /// Writes the line of a head's fault, if it has one.
@@ -159,44 +129,6 @@ fn report_order<W: OutDevice, E: OutDevice>(
     match writers.report_fault(fault) {
         Ok(_) => Ok(()),
         Err(fault) => Err(fault),
-    }
-}
-
-/// Begins a transfer if the head is that of a first segment. A transfer that is still open is
-/// abandoned, and its line is written first.
-#[inline(always)]
-fn begin<W: OutDevice, E: OutDevice>(
-    wanted: &Wanted,
-    head: &HeadView<'_>,
-    writers: &mut Writers<W, E>,
-    unpacker: &mut Unpacker,
-) -> Result<(), IoFault>
-    requires { SegmentHasTotals head.now.message.now }
-    ensures gives { (transfers : List Transfer) → (abandons head.now.turn ≡ true
-        → IsAtLatest wanted.now unpacker.old.latest true transfers)
-        → AfterWrite W.state E.state writers.old writers.new (on_report (line_due wanted.now
-        (abandons head.now.turn) transfers)) result }
-    ensures good { (transfers : List Transfer) → (abandons head.now.turn ≡ true
-        → IsAtLatest wanted.now unpacker.old.latest true transfers)
-        → unpacker.new.good ≡ (unpacker.old.good && good_due (abandons head.now.turn) transfers) }
-    ensures begins { (first : SegmentHead) (closed : _) (earlier : List Transfer)
-        → is_beginning head.now.turn ≡ true
-        → message_of head.now.message.now ≡ Message.Segment first → is_start first.flags ≡ true
-        → unpacker.old.latest.start + unpacker.old.latest.written
-        ≡ length (parts_of wanted.now earlier)
-        → OnOk result (IsAtTransfer wanted.now unpacker.new.latest (begun first closed) earlier) }
-    ensures same { is_beginning head.now.turn ≡ false → unpacker.new.latest ≡ unpacker.old.latest }
-    ensures total { unpacker.new.latest.total ≡ unpacker.old.latest.total }
-{
-    match head.turn {
-        Some(Turn::Begin { abandoned, last: _ }) => {
-            if let Err(fault) = report(wanted, abandoned.is_some(), true, writers, unpacker) {
-                return Err(fault);
-            }
-            begin_latest(&mut unpacker.latest, head.message);
-            Ok(())
-        }
-        _ => Ok(()),
     }
 }
 
@@ -262,4 +194,56 @@ fn report_line<W: OutDevice, E: OutDevice>(
     let written = writers.report_text(&line);
     unpacker.good = unpacker.good && good;
     written
+}
+
+/// A run of `unpack`, step by step.
+pub type UnpackRun<R, W, E> = WalkRun<R, W, E, Unpacker>;
+
+/// Makes a run of `unpack` that has read and written nothing.
+pub fn unpack_run<R: InDevice, W: OutDevice, E: OutDevice>(
+    wanted: Wanted,
+    reader: R,
+    output: W,
+    report: E,
+) -> UnpackRun<R, W, E>
+    requires reader { (R.state reader).failed ≡ false }
+    requires output { (W.state output).failed ≡ false }
+    requires report { (E.state report).failed ≡ false }
+    ensures stands { ⟦<UnpackRun<R, W, E> as Run<R, W, E>>⟧.stands result
+        (record { reader = reader; output = output; report = report }) [] }
+    ensures tool { ⟦<UnpackRun<R, W, E> as Run<R, W, E>>⟧.tool result ≡ unpack_tool wanted }
+    ensures devices { devices_at (⟦<UnpackRun<R, W, E> as Run<R, W, E>>⟧.place result)
+        ≡ record { reader = reader; output = output; report = report } }
+    ensures waits { ⟦<UnpackRun<R, W, E> as Run<R, W, E>>⟧.waits result ≡ [] }
+{
+    walk_run(wanted, Unpacker::new(), reader, output, report)
+}
+
+/// Unpacks a recorded stream, to the end of the run.
+///
+/// The output has the selected data of the transfers, one after another. The report has a line for
+/// each transfer. If a fault stops the stream, a transfer that is still open has no line. Then the
+/// report ends with the line of the fault, and the status is 3. Otherwise the status is 1 if a
+/// transfer is not good or a message was not in order, and else 0.
+///
+/// A message that is not in order stops the stream, unless [`Wanted::keep_going`] is set. Then the
+/// report has its line before the lines of the transfers that it abandons or closes.
+///
+/// The answer is an error if a device failed, or the input has more than 2^63 - 1 bytes.
+#[inline(never)]
+pub fn unpack<R: InDevice, W: OutDevice, E: OutDevice>(
+    wanted: Wanted,
+    reader: R,
+    output: W,
+    report: E,
+) -> RunEnd<R, W, E>
+    requires reader { (R.state reader).failed ≡ false }
+    requires output { (W.state output).failed ≡ false }
+    requires report { (E.state report).failed ≡ false }
+    ensures { AfterRun (looks R.state W.state E.state) (unpack_tool wanted)
+        (record { reader = reader; output = output; report = report })
+        (record { reader = result.reader; output = result.output; report = result.report })
+        result.waits.items result.answer }
+{
+    unpack_run(wanted, reader, output, report).run()
 }

@@ -33,7 +33,7 @@ use Rattle.link_run.proofs.Ends.{ends_unshown, made_reports, unshown_sofar}
 use Rattle.link_run.proofs.Runs.{few_over, sound_given, writer_lost, written_given}
 use Rattle.link_run.proofs.Sessions.{then_fault, part_unshown}
 use Rattle.link_run.proofs.Stands.{ends, stands_on}
-use Rattle.link_walk.specs.Telling.{Tells, TellsOutput}
+use Rattle.link_walk.specs.Telling.{Tells}
 use Rattle.link_walk.specs.Walk.{head_at, is_plain, WalkEvent, ContactHeader, MessageHead, Whole, data_events, data_size, data_size_of, has_open, Walked, walked, head_events, Telling, told_by, told_of}
 use Rattle.link_walk.specs.WalkRun.{Walks, WalkStands, StandsAt, StandsNext, AfterWalkStep, IsWaitingAfter, Finishes, TakesInner, most_by, next_of, stage_by}
 use Rattle.link_walk.specs.declared.walk.Next.{Next}
@@ -42,7 +42,7 @@ use Rattle.link_walk.specs.declared.walk.Stage.{Stage}
 use Rattle.link_walk.specs.declared.walk.Stage.TheVariants as stage
 use Rattle.link_walk.proofs.Comes.{Comes, MayTake, told_at, knows_at, told_in, contact_comes, head_comes, data_comes, quiet_comes, inner_comes}
 use Rattle.link_walk.proofs.Heads.{continues_some, data_size-append, data_size-data}
-use Rattle.link_walk.proofs.Tellings.{tells_none, tells_output}
+use Rattle.link_walk.proofs.Tellings.{tells_none}
 use Rattle.link_walk.proofs.Texts.{by_reading, made_is, texts_are, stop_is, same_texts, at_unshown, nothing_told}
 
 abbrev pub events_at : Telling → List ℕ → List WalkEvent
@@ -482,7 +482,7 @@ module _ {R W E C : Type 0} (look : Looks R W E) (telling : Telling)
       → (result : Result (Unit {0}) IoFault)
       → ((events : List WalkEvent) → knows consumer events → has_open events ≡ true
       → data_size events + length content < 2 ^ 63
-      → TellsOutput look.output look.report telling (knows later) events (data_events content) before
+      → Tells look.output look.report telling (knows later) events (data_events content) before
       after result)
       → HasTaken new after later (next_of stage.Message result)
   turn_taken unwanted old new before after consumer later id content kept opened passes result tells =
@@ -512,8 +512,6 @@ module _ {R W E C : Type 0} (look : Looks R W E) (telling : Telling)
             (told_next knows old before so_far.stands.0 takes
             (omega (arith, length-append got.read.given content))
             (inner_grows walks unwanted id content is_open got) after later result
-            (tells_output look.output look.report telling (knows later) had.events
-            (data_events content) before after result
             (tells had.events walks.at.known
             (walks.at.opened
             ∙ continues_some had.taken (Segment 0 id) false (continues_open had.taken id is_open))
@@ -524,5 +522,5 @@ module _ {R W E C : Type 0} (look : Looks R W E) (telling : Telling)
               given,
               length-append (here ++ got.read.given) content,
               length-append here got.read.given,
-            )))));
+            ))));
       }

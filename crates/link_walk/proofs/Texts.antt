@@ -18,7 +18,8 @@ use Rattle.link_transfer.specs.declared.joiner.Joiner.{Joiner}
 use Rattle.link_run.specs.Made.{Made, IsLasting, shows_fault, stop_of}
 use Rattle.link_run.proofs.Continued.{LastGoesOn, ReadingGoesOn, reading_on}
 use Rattle.link_run.proofs.Sessions.{IsUncut, SameTexts}
-use Rattle.link_walk.specs.Walk.{WalkEvent, Manner, Walked, with_judged, with_entry_unless, with_next, none_walked, walked_of, walked, Telling, stop_by, told_by, told_of}
+use Rattle.link_walk.specs.Walk.{WalkEvent, Walked, with_judged, with_entry_unless, with_next, none_walked, walked_of, walked, Telling, stop_by, told_by, told_of}
+use Rattle.link_walk.specs.declared.consumer.Manner.{Manner}
 use Rattle.link_walk.specs.WalkRun.{IsWaiting, Walks, walked_before}
 use Rattle.link_walk.specs.declared.walk.Stage.{Stage}
 use Rattle.link_walk.specs.declared.walk.Stage.TheVariants as stage
@@ -195,7 +196,7 @@ unread_by : (read : Result (Contact × List ℕ) WireFault) → (reading_by read
 unread_by (Ok (contact, rest)) is = absurd (cc)
 unread_by (Err fault) is = refl
 
-unread : (bytes : List ℕ) → (reading_of bytes).contact ≡ None
+pub unread : (bytes : List ℕ) → (reading_of bytes).contact ≡ None
     → cut_heads (reading_of bytes).end ≡ []
 unfolding reading_of
 unread bytes is = unread_by (contact_at bytes) is
@@ -216,17 +217,20 @@ module _ (telling : Telling) (bytes more : List ℕ) where
   stays_by : (refused : Option (ℕ × OrderFault))
       → (walked telling.manner (reading_of bytes)).refused ≡ refused
       → shows_fault (told_of telling bytes).stop ≡ true
-      → (told_of telling (bytes ++ more)).stop ≡ (told_of telling bytes).stop
+      → told_of telling (bytes ++ more) ≡ told_of telling bytes
   unfolding told_of
-  stays_by (Some (offset, fault)) is shown = ap (λ (m : Made). m.stop) (told_stays offset fault is)
+  stays_by (Some (offset, fault)) is shown = told_stays offset fault is
   stays_by None is shown =
-      ap (λ (r : Reading). (by_reading telling r).stop)
+      ap (by_reading telling)
       ((reading_on bytes more).stays
       (sym (ap shows_fault (stop_is telling (reading_of bytes) is)) ∙ shown))
+
+  -- where a fault is shown, more bytes change nothing
+  pub made_stays : shows_fault (told_of telling bytes).stop ≡ true
+      → told_of telling (bytes ++ more) ≡ told_of telling bytes
+  made_stays shown = stays_by (walked telling.manner (reading_of bytes)).refused refl shown
 
 -- a fault that is shown stays the same
 pub told_lasts : (telling : Telling) → IsLasting (told_of telling)
 told_lasts telling bytes more shown =
-    ap shows_fault
-    (stays_by telling bytes more (walked telling.manner (reading_of bytes)).refused refl shown)
-    ∙ shown
+    ap (λ (m : Made). shows_fault m.stop) (made_stays telling bytes more shown) ∙ shown

@@ -14,6 +14,7 @@ use Rattle.link_transfer.specs.declared.joiner.Turn.TheVariants as turn
 use Rattle.link_report.specs.declared.fault.Fault.TheVariants.{Order}
 use Rattle.link_run.specs.Made.{StreamStop, Made, stop_of}
 use Rattle.link_run.specs.Run.{Texts}
+use Rattle.link_walk.specs.declared.consumer.Manner.{Manner}
 
 -- ---- heads
 
@@ -46,6 +47,13 @@ is_beginning None = false
 is_beginning (Some turn.Other) = false
 is_beginning (Some (turn.Begin abandoned last)) = true
 is_beginning (Some (turn.Continue last)) = false
+
+-- whether the message abandons the transfer that is open
+abbrev pub abandons : Option Turn → Bool
+abandons None = false
+abandons (Some turn.Other) = false
+abandons (Some (turn.Begin abandoned last)) = is_some abandoned
+abandons (Some (turn.Continue last)) = false
 
 -- Whether the transfer is over with the head of its last segment, which has no data.
 abbrev pub closes : Head → Bool
@@ -101,12 +109,6 @@ unfoldable pub has_open : List WalkEvent → Bool
 has_open events = fold open_after_event false events
 
 -- ---- the events of a stream
-
--- How a tool goes about it. A tool that goes on does so after a fault of the order; any other ends
--- its run there. A tool may want all heads, or only those that are not plain.
-pub record Manner : Type 0 where
-  pub goes_on : Bool
-  pub all_heads : Bool
 
 -- what the heads so far have told
 pub record Walked : Type 0 where

@@ -27,7 +27,8 @@ use Rattle.link_run.specs.declared.run.Progress.{Progress}
 use Rattle.link_run.specs.declared.run.Progress.TheVariants.{More}
 use Rattle.link_run.specs.declared.run.Status.{Status}
 use Rattle.link_run.specs.declared.writers.Writers.{Writers}
-use Rattle.link_walk.specs.Walk.{Head, is_last, WalkEvent, data_size, has_open, Walked, walked, walked_of, Telling, Manner, told_of, end_events, head_events}
+use Rattle.link_walk.specs.Walk.{Head, is_last, WalkEvent, data_size, has_open, Walked, walked, walked_of, Telling, told_of, end_events, head_events}
+use Rattle.link_walk.specs.declared.consumer.Manner.{Manner}
 use Rattle.link_walk.specs.Telling.{Tells}
 use Rattle.link_walk.specs.declared.walk.Next.{Next}
 use Rattle.link_walk.specs.declared.walk.Next.TheVariants as next

@@ -1,7 +1,7 @@
 //! The head of a message, as a walk shows it.
 
 ghost use Rattle.std.specs.Prelude.{◌≡◌};
-ghost use Rattle.link_walk.specs.Walk.{closes, is_beginning, is_last, is_plain};
+ghost use Rattle.link_walk.specs.Walk.{abandons, closes, is_beginning, is_last, is_plain};
 ghost use Rattle.link_walk.specs.Telling.{viewed_head};
 
 use link_transfer::{OrderFault, Turn};
@@ -20,6 +20,25 @@ pub struct HeadView<'a> {
 }
 
 impl HeadView<'_> {
+    /// Whether the message begins a transfer.
+    #[inline(always)]
+    pub fn begins(&self) -> bool
+        ensures { result ≡ is_beginning self.now.turn }
+    {
+        matches!(self.turn, Some(Turn::Begin { .. }))
+    }
+
+    /// Whether the message abandons the transfer that was open before it.
+    #[inline(always)]
+    pub fn abandons(&self) -> bool
+        ensures { result ≡ abandons self.now.turn }
+    {
+        match self.turn {
+            Some(Turn::Begin { abandoned, last: _ }) => abandoned.is_some(),
+            _ => false,
+        }
+    }
+
     /// Whether the transfer is over with this head: its last segment has no data.
     #[inline(always)]
     pub fn closes(&self) -> bool
@@ -33,16 +52,8 @@ impl HeadView<'_> {
     pub fn is_plain(&self) -> bool
         ensures { result ≡ is_plain (viewed_head self.now) }
     {
-        self.fault.is_none() && !is_beginning(self.turn) && !self.closes()
+        self.fault.is_none() && !self.begins() && !self.closes()
     }
-}
-
-/// Whether a message with this effect is the first segment of its transfer.
-#[inline(always)]
-fn is_beginning(turn: Option<Turn>) -> bool
-    ensures { result ≡ is_beginning turn }
-{
-    matches!(turn, Some(Turn::Begin { .. }))
 }
 
 /// Whether a message with this effect is the last segment of its transfer.

@@ -13,6 +13,6 @@ mod consumer;
 mod head;
 mod walk;
 
-pub use consumer::Consumer;
+pub use consumer::{Consumer, EventView, Manner};
 pub use head::HeadView;
 pub use walk::{Walk, WalkRun, walk_run};

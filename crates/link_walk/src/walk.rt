@@ -15,7 +15,7 @@ ghost use Rattle.link_walk.specs.Telling.{ComesAfter, Tells, viewed_head};
 ghost use Rattle.link_walk.specs.WalkRun.{Steps, Strides, WalkWaits, at, PassesQuiet, EndsAtHead, TellsHead, Finishes, may_go_on, may_follow, progress_of, stage_after, stage_by};
 
 use self::inner::take_on;
-use crate::consumer::Consumer;
+use crate::consumer::{Consumer, EventView};
 use crate::head::{HeadView, is_last};
 use link_report::Fault;
 use link_run::{Input, PIECE, Progress, Run, Stages, Status, ToolRun, Writers};
@@ -192,12 +192,17 @@ fn stride_message<R: InDevice, W: OutDevice, E: OutDevice, C: Consumer>(
         (at input.old writers.old walker.old) (at input.new writers.new walker.new) }
 {
     let next = take_message(options, input, writers, message, walker);
+    let Next::Stage(Stage::Data { last }) = next else {
+        if C::manner(options).all_heads {
+            return next;
+        }
+        return pass_quiet(next, input);
+    };
     let ready = input.loaded().len();
-    match at_hand(next, ready) {
-        Some(last) => take_on(last, ready, options, input, writers, walker),
-        None if C::all_heads(options) => next,
-        None => pass_quiet(next, input),
+    if ready == 0 {
+        return next;
     }
+    take_on(last, ready, options, input, writers, walker)
 }
 
 /// Passes over the quiet messages in the window if a message comes next. Returns what comes next.
@@ -219,18 +224,6 @@ fn pass_quiet<R: InDevice, W: OutDevice, E: OutDevice>(
         input.pass_quiet();
     }
     next
-}
-
-/// Whether data of a transfer comes next, with `ready` bytes of it at hand. If so, the result says
-/// whether its segment is the last of the transfer.
-#[inline(always)]
-fn at_hand(next: Next, ready: usize) -> Option<bool>
-    ensures { IfSome result (λ last. (next ≡ Next.Stage (Stage.Data last)) × (0 < ready)) }
-{
-    match next {
-        Next::Stage(Stage::Data { last }) if ready > 0 => Some(last),
-        _ => None,
-    }
 }
 
 /// Takes the step of this stage, and returns what comes next. Of data it takes at most `piece`
@@ -280,7 +273,9 @@ fn open<R: InDevice, W: OutDevice, E: OutDevice, C: Consumer>(
     match input.open() {
         Ok(contact) => Next::of(
             Stage::Message,
-            walker.consumer.contact(options, &contact, writers),
+            walker
+                .consumer
+                .event(options, EventView::Contact(&contact), writers),
         ),
         Err(stop) => Next::Ended(writers.end(stop)),
     }
@@ -351,7 +346,7 @@ fn take_refused<R: InDevice, W: OutDevice, E: OutDevice, C: Consumer>(
         (head_at taken offset (message_of message.now)) (left_of (inner_of input.now)) writers.old
         writers.new result }
 {
-    if !C::goes_on(options) {
+    if !C::manner(options).goes_on {
         return Next::Ended(writers.report_fault(&Fault::Order(offset, fault)));
     }
     let taken = walker.joiner.take(Event::of_fields(message.fields));
@@ -381,8 +376,10 @@ fn tell_head<R: InDevice, W: OutDevice, E: OutDevice, C: Consumer>(
         → TellsHead W.state E.state (C.telling options.now) (C.knows options.now consumer.new)
         before (viewed_head head.now) (left_of (inner_of input.now)) writers.old writers.new result }
 {
-    let later = stage_by(head.turn, input.left());
-    Next::of(later, tell(options, head, writers, consumer))
+    match tell(options, head, writers, consumer) {
+        Ok(()) => Next::Stage(stage_by(head.turn, input.left())),
+        Err(fault) => Next::Ended(Err(fault)),
+    }
 }
 
 /// Tells the consumer of a head, if it wants to know of it.
@@ -400,10 +397,10 @@ fn tell<W: OutDevice, E: OutDevice, C: Consumer>(
         (head_events (C.telling options.now).manner.all_heads (viewed_head head.now))
         writers.old writers.new result }
 {
-    if !C::all_heads(options) && head.is_plain() {
+    if !C::manner(options).all_heads && head.is_plain() {
         return Ok(());
     }
-    consumer.head(options, head, writers)
+    consumer.event(options, EventView::Head(*head), writers)
 }
 
 /// The stage after a head or after data, with `left` bytes of data to come.
@@ -491,16 +488,15 @@ fn take_loaded<R: InDevice, W: OutDevice, E: OutDevice, C: Consumer>(
         (at input.old writers.old walker.old) (at input.new writers.new walker.new) result }
     ensures unread { Unread R.state source_of input.old input.new }
 {
-    let is_whole = is_last_data(last, size, input.left());
-    let told = tell_data(
-        is_whole,
-        options,
-        &input.loaded()[..size],
-        writers,
-        &mut walker.consumer,
-    );
+    let whole = is_last_data(last, size, input.left());
+    let bytes = &input.loaded()[..size];
+    let data = EventView::Data { bytes, whole };
+    if let Err(fault) = walker.consumer.event(options, data, writers) {
+        input.pass(size);
+        return Next::Ended(Err(fault));
+    }
     input.pass(size);
-    Next::of(data_stage(last, input.left()), told)
+    Next::Stage(stage_by(Some(Turn::Continue { last }), input.left()))
 }
 
 /// Whether `size` bytes of data are the last of the open transfer, if `left` bytes of the segment's
@@ -510,40 +506,6 @@ fn is_last_data(last: bool, size: usize, left: u64) -> bool
     ensures { result ≡ (last && (size == left)) }
 {
     last && size as u64 == left
-}
-
-/// The stage after data of the open transfer, with `left` bytes of the segment's data to come.
-#[inline(always)]
-fn data_stage(last: bool, left: u64) -> Stage
-    ensures some { 0 < left → result ≡ Stage.Data last }
-    ensures none { left ≡ 0 → result ≡ Stage.Message }
-{
-    if left > 0 {
-        return Stage::Data { last };
-    }
-    Stage::Message
-}
-
-/// Tells the consumer of data, and of the end of the transfer if it is whole now.
-#[inline(always)]
-fn tell_data<W: OutDevice, E: OutDevice, C: Consumer>(
-    is_whole: bool,
-    options: &C::Options,
-    bytes: &[u8],
-    writers: &mut Writers<W, E>,
-    consumer: &mut C,
-) -> Result<(), IoFault>
-    ensures { (before : List WalkEvent) → C.knows options.now consumer.old before
-        → has_open before ≡ true → data_size before + length bytes.now < 2 ^ 63
-        → Tells W.state E.state (C.telling options.now) (C.knows options.now consumer.new) before
-        (data_events bytes.now ++ (if is_whole then Whole ∷ [] else [])) writers.old writers.new
-        result }
-{
-    consumer.data(options, bytes, writers)?;
-    if !is_whole {
-        return Ok(());
-    }
-    consumer.whole(options, writers)
 }
 
 /// Ends the run after a stream that ends between two messages.
@@ -560,7 +522,9 @@ fn finish<W: OutDevice, E: OutDevice, C: Consumer>(
         result }
 {
     if walker.joiner.open().is_some() {
-        walker.consumer.left_open(options, writers)?;
+        walker
+            .consumer
+            .event(options, EventView::LeftOpen, writers)?;
     }
     if walker.consumer.is_good(options) {
         Ok(Status::CLEAN)

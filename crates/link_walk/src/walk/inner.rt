@@ -10,7 +10,7 @@ ghost use Rattle.link_run.specs.Run.{looks};
 ghost use Rattle.link_walk.specs.WalkRun.{Strides, TakesAll, at, may_follow};
 
 use super::{Next, Stage, Walker, take_loaded};
-use crate::consumer::Consumer;
+use crate::consumer::{Consumer, EventView};
 use link_run::{Input, Writers};
 use link_wire::{InDevice, OutDevice, Session};
 
@@ -55,7 +55,7 @@ fn take_inner<R: InDevice, W: OutDevice, E: OutDevice, C: Consumer>(
         (at input.old writers.old walker.old) (at input.new writers.new walker.new) result }
     ensures unread { Unread R.state source_of input.old input.new }
 {
-    if C::all_heads(options) {
+    if C::manner(options).all_heads {
         return Next::Stage(Stage::Message);
     }
     let Some(id) = walker.joiner.continuable() else {
@@ -63,7 +63,11 @@ fn take_inner<R: InDevice, W: OutDevice, E: OutDevice, C: Consumer>(
     };
     'segments: while let Some(content) = input.inner_data(id) {
         let size = content.len();
-        match walker.consumer.data(options, content, writers) {
+        let data = EventView::Data {
+            bytes: content,
+            whole: false,
+        };
+        match walker.consumer.event(options, data, writers) {
             Ok(()) => input.pass_inner(size),
             Err(fault) => {
                 input.pass_inner(size);

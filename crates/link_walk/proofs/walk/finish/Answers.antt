@@ -9,7 +9,7 @@ use Rattle.link_walk.specs.WalkRun.{Finishes}
 use Rattle.link_walk.proofs.Tellings.{tells_none}
 use Rattle.link_walk.proofs.walk.finish.Given.{Over}
 use Rattle.link_walk.proofs.walk.finish.Goals as goal
-use Rattle.link_walk.proofs.walk.finish.Goals.{After-is_good, then-is_some+in_ok-left_open, else-is_some}
+use Rattle.link_walk.proofs.walk.finish.Goals.{After-is_good, then-is_some+in_ok-event, else-is_some}
 
 -- whatever is to be said of the end was said, and the status is that of the tool
 ended : (g : Over) (c : After-is_good g) (good : Bool) (status : Status)
@@ -31,9 +31,9 @@ ended g c good status good_is ends taken events at known opened =
     let told : Tells out_look report_look telling (knows c.if-is_some.walker.consumer) events
     (end_events taken) old c.if-is_some.writers (Ok tt) =
     elim c.if-is_some.branch [
-      | then-is_some+in_ok-left_open w ↦
+      | then-is_some+in_ok-event w ↦
           rw (w.walker-is, w.writers-is, is ∙ w.if-is_some.true)
-          (w.in_ok-left_open.ensures events known (opened ∙ is ∙ w.if-is_some.true))
+          (w.in_ok-event.ensures events known (opened ∙ is ∙ w.if-is_some.true))
       | else-is_some w ↦
           rw (w.walker-is, w.writers-is, is ∙ w.if-is_some.false)
           (tells_none out_look report_look telling (knows c.args.walker.now.consumer) events [] old

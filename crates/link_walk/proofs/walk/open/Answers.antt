@@ -1,4 +1,4 @@
-use Rattle.std.proofs.Common.{arith}
+use Rattle.std.proofs.Common.{[], refl, arith}
 use Rattle.link_run.specs.Reading.{inner_of}
 use Rattle.link_run.proofs.Sessions.{contact_ended}
 use Rattle.link_walk.specs.declared.walk.Stage.TheVariants as stage
@@ -13,8 +13,8 @@ returns-in-Ok-clause-gives g c = λ start history at begins.
     rw (begins.nothing, c.of.ensures)
     (told_step (g.C.Consumer.knows c.args.options.now) (inner_of c.args.input.now)
     c.args.writers.now (rw (← begins.nothing) at) got.takes (omega arith)
-    (contact_grows begins.judges got) c.contact.new.writers c.contact.new.self 4096 stage.Contact
-    (omega arith) tt c.contact.result (c.contact.ensures begins.known))
+    (contact_grows begins.judges got) c.event.new.writers c.event.new.self 4096 stage.Contact
+    (omega arith) tt c.event.result (c.event.ensures [] begins.known refl))
 
 pub returns-in-Err-clause-gives : goal.returns-in-Err-clause-gives
 returns-in-Err-clause-gives g c = λ start history at begins.

@@ -1,52 +1,94 @@
-use Rattle.std.proofs.Common.{◌≡◌, ◌+◌, ◌<◌, ◌&&◌, ◌==◌, List, ℕ, length, take, ap, ◌∙◌, arith, length-take, length-append}
-use Rattle.link_wire.specs.Session.{source_of, left_of, data_in}
+use Rattle.std.proofs.Common.{◌≡◌, ◌+◌, ◌<◌, ◌&&◌, ◌==◌, Bool, List, ℕ, zero, suc, Some, length, take, refl, ap, ◌∙◌, arith, length-take, length-append}
+use Rattle.link_wire.specs.Session.{source_of, left_of, data_in, IsSessionAt, PassedBytes}
 use Rattle.link_wire.specs.Stream.{reading_of}
+use Rattle.link_wire.specs.declared.session.Session.{Session}
+use Rattle.link_transfer.specs.declared.joiner.Turn.TheVariants as turn
 use Rattle.link_run.specs.Reading.{inner_of}
+use Rattle.link_run.specs.declared.input.Input.{Input}
+use Rattle.link_run.specs.Run.{looks}
 use Rattle.link_walk.specs.Walk.{WalkEvent, walked}
+use Rattle.link_walk.specs.WalkRun.{Steps, at, next_of, stage_by}
+use Rattle.link_walk.specs.declared.walk.Stage.{Stage}
 use Rattle.link_walk.specs.declared.walk.Stage.TheVariants as stage
 use Rattle.link_walk.proofs.Heads.{is_whole}
 use Rattle.link_walk.proofs.Steps.{data_grows, told_step}
+use Rattle.link_walk.proofs.walk.take_loaded.Given.{Over}
 use Rattle.link_walk.proofs.walk.take_loaded.Goals as goal
+use Rattle.link_walk.proofs.walk.take_loaded.Goals.{After-event}
 
-pub returns-clause-gives : goal.returns-clause-gives
-returns-clause-gives g c = λ some start history at walks.
+-- the stage after data of a transfer
+abbrev later : ℕ → Bool → Stage
+later left last = stage_by (Some (turn.Continue last)) left
+
+more_to_come : (left : ℕ) (last : Bool) → 0 < left → later left last ≡ stage.Data last
+more_to_come zero last some = absurd (omega arith)
+more_to_come (suc left) last some = refl
+
+-- the data was told, and then given
+gave_data : (g : Over) (c : After-event g) (given : Input (Session g.row.R.Denot) g.row.W.Denot g.row.E.Denot)
+    → ((history : List ℕ) → IsSessionAt g.R.InDevice.state (inner_of c.args.input.now) history
+    → PassedBytes g.R.InDevice.state (inner_of c.args.input.now) (inner_of given) history
+    (take c.args.size (data_in g.R.InDevice.state (inner_of c.args.input.now))))
+    → 0 < c.args.size
+    → Steps (looks g.R.InDevice.state g.W.OutDevice.state g.E.OutDevice.state)
+    (g.C.Consumer.telling c.args.options.now) (g.C.Consumer.knows c.args.options.now) c.args.size
+    (stage.Data c.args.last)
+    (at c.args.input.now c.args.writers.now c.args.walker.now)
+    (at given c.event.new.writers
+    (record { joiner = c.args.walker.now.joiner; consumer = c.event.new.self }))
+    (next_of (later (left_of (inner_of given)) c.args.last) c.event.result)
+gave_data g c given passed = λ some start history at walks.
     let look = g.R.InDevice.state in
     let telling = g.C.Consumer.telling c.args.options.now in
     let knows = g.C.Consumer.knows c.args.options.now in
     let old = inner_of c.args.input.now in
-    let new = inner_of c.pass.new.self in
+    let new = inner_of given in
     let bytes : List ℕ = take c.args.size (data_in look old) in
     let size : length bytes ≡ c.args.size =
     omega (arith, c.requires.size, length-take c.args.size (data_in look old)) in
-    let gave = c.pass.ensures.gives history walks.session_at in
+    let gave = passed history walks.session_at in
     let before : List WalkEvent = (walked telling.manner (reading_of history)).events in
     let told_size = walks.size in
     let within = (source_of new).within in
-    let given = gave.at.at.given in
-    let over : c.is_last_data-is_whole.result ≡ (c.args.last && (left_of new == 0)) =
-    c.is_last_data-is_whole.ensures
+    let had = gave.at.at.given in
+    let over : c.is_last_data-whole.result ≡ (c.args.last && (left_of new == 0)) =
+    c.is_last_data-whole.ensures
     ∙ ap (λ n. c.args.last && (c.args.size == n)) c.left.ensures.left
     ∙ ap (λ b. c.args.last && b)
     (is_whole c.args.size (left_of new) (left_of old)
     (gave.left ∙ ap (λ n. n + left_of new) size)) in
     let one : 0 < length bytes = omega (arith, some, size) in
-    rw c.of.ensures
-    (told_step knows old c.args.writers.now at gave.takes one
-    (data_grows walks gave one (λ e. cc) c.data_stage.result
-    (λ more. c.data_stage.ensures.some (rw c.left-2.ensures.left more))
-    (λ none. c.data_stage.ensures.none (c.left-2.ensures.left ∙ none)))
-    c.tell_data-told.new.writers c.tell_data-told.new.consumer c.args.size (stage.Data c.args.last)
-    (omega (arith, size)) tt c.tell_data-told.result
+    told_step knows old c.args.writers.now at gave.takes one
+    (data_grows walks gave one (λ e. cc) (later (left_of new) c.args.last)
+    (more_to_come (left_of new) c.args.last)
+    (λ none. ap (λ left. later left c.args.last) none))
+    c.event.new.writers c.event.new.self c.args.size (stage.Data c.args.last)
+    (omega (arith, size)) tt c.event.result
     (rw (c.loaded.ensures, over) at
-    (c.tell_data-told.ensures before walks.at.known walks.at.opened
-    (omega (
-      arith,
-      told_size,
-      within,
-      given,
-      size,
-      length-append history bytes,
-      ap length c.loaded.ensures,
-      c.requires.size,
-      length-take c.args.size c.loaded.result.now,
-    )))))
+    (c.event.ensures before walks.at.known (
+      walks.at.opened,
+      omega (
+        arith,
+        told_size,
+        within,
+        had,
+        size,
+        length-append history bytes,
+        ap length c.loaded.ensures,
+        c.requires.size,
+        length-take c.args.size c.loaded.result.now,
+      ),
+    )))
+
+pub returns-clause-gives : goal.returns-clause-gives
+returns-clause-gives g c = λ some start history at walks.
+    rw (c.stage_by.ensures, c.left-2.ensures.left)
+    (rw c.in_default.is at
+    (gave_data g (goal.at-returns-clause-gives g c).After-event c.pass-2.new.self
+    c.pass-2.ensures.gives some start history at walks))
+
+pub returns-in-Err-clause-gives : goal.returns-in-Err-clause-gives
+returns-in-Err-clause-gives g c = λ some start history at walks.
+    rw c.in-Err.is at
+    (gave_data g (goal.at-returns-in-Err-clause-gives g c).After-event c.pass.new.self
+    c.pass.ensures.gives some start history at walks)

@@ -1,5 +1,5 @@
 use Rattle.std.proofs.Common.{◌≡◌, Some, refl, ap, sym, ◌∙◌, subst}
-use Rattle.std.proofs.lemmas.Bool.{false≢true}
+use Rattle.std.proofs.lemmas.Bool.{false≢true, not-false, not-true}
 use Rattle.link_wire.specs.MessageBuffer.{message_of}
 use Rattle.link_wire.specs.Session.{left_of}
 use Rattle.link_transfer.specs.Event.{event_of}
@@ -7,19 +7,22 @@ use Rattle.link_transfer.specs.Order.{effect_of}
 use Rattle.link_run.specs.Reading.{inner_of}
 use Rattle.link_walk.specs.Walk.{Head, head_at}
 use Rattle.link_walk.specs.WalkRun.{TellsHead}
+use Rattle.link_walk.specs.declared.consumer.Manner.{Manner}
 use Rattle.link_walk.proofs.walk.take_refused.Goals as goal
 
-pub returns-then-not-goes_on : goal.returns-then-not-goes_on
-returns-then-not-goes_on g c = record {
+pub returns-then-not-manner : goal.returns-then-not-manner
+returns-then-not-manner g c = record {
   fits = refl;
   stops = λ stops. (c.report_fault.result, refl, c.report_fault.ensures.gives);
   goes_on = λ taken events goes.
-      absurd (false≢true (sym (sym c.goes_on.ensures ∙ c.if-not-goes_on.true) ∙ goes));
+      absurd (false≢true (sym (ap (λ (m : Manner). m.goes_on) (sym c.manner.ensures)
+      ∙ not-true _ c.if-not-manner.true) ∙ goes));
 }
 
 pub returns-clause-stops : goal.returns-clause-stops
 returns-clause-stops g c = λ stops.
-    absurd (false≢true (sym stops ∙ (sym c.goes_on.ensures ∙ c.if-not-goes_on.false)))
+    absurd (false≢true (sym stops ∙ ap (λ (m : Manner). m.goes_on) (sym c.manner.ensures)
+    ∙ not-false _ c.if-not-manner.false))
 
 pub returns-clause-goes_on : goal.returns-clause-goes_on
 returns-clause-goes_on g c = λ taken events goes at why known opened.

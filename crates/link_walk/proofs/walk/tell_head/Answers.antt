@@ -1,9 +1,13 @@
-use Rattle.std.proofs.Common.{refl}
+use Rattle.std.proofs.Common.{Ok, Err, refl}
 use Rattle.link_walk.proofs.walk.tell_head.Goals as goal
 
-pub returns-clause-gives : goal.returns-clause-gives
-returns-clause-gives g c = λ before known comes. (
-  c.tell.result,
-  rw (c.of.ensures, c.stage_by-later.ensures, c.left.ensures.left) refl,
-  c.tell.ensures before known comes,
+pub returns-in-Ok-clause-gives : goal.returns-in-Ok-clause-gives
+returns-in-Ok-clause-gives g c = λ before known comes. (
+  Ok tt,
+  rw (c.stage_by.ensures, c.left.ensures.left) refl,
+  c.in-Ok.ensures before known comes,
 )
+
+pub returns-in-Err-clause-gives : goal.returns-in-Err-clause-gives
+returns-in-Err-clause-gives g c = λ before known comes.
+    (Err c.in-Err.fault, refl, c.in-Err.ensures before known comes)

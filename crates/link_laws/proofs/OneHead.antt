@@ -1,0 +1,312 @@
+-- What one head does: to the transfers, to what is said of its events, and to the lines.
+use Rattle.std.proofs.Common.{◌≡◌, ℕ, Bool, true, false, not, ◌&&◌, ◌==◌, is_some, List, [], ◌∷◌, ◌++◌, length, Option, Some, None, refl, ap, ap₂, sym, ◌∙◌, subst, ⊎_elim, append-nil, append_assoc}
+use Rattle.std.specs.List.{flat_map, fold}
+use Rattle.std.proofs.Math.Bool.{and-true, and_assoc}
+use Rattle.std.proofs.lemmas.Bool.{eq-eqb}
+use Rattle.std.proofs.lemmas.List.Concat.{flat_map-append}
+use Rattle.std.proofs.lemmas.List.Folds.{list_all-append}
+use Rattle.link_wire.specs.Codes.{is_start, is_end}
+use Rattle.link_wire.specs.Message.{data_length}
+use Rattle.link_wire.specs.Stream.{Entry}
+use Rattle.link_wire.specs.declared.message.Message.{Message}
+use Rattle.link_wire.specs.declared.message.Message.TheVariants as message
+use Rattle.link_wire.specs.declared.message.SegmentHead.{SegmentHead}
+use Rattle.link_transfer.specs.Event.{event_of}
+use Rattle.link_transfer.specs.Order.{begins, is_segment, is_stray, refusal, effect_of, effect_by, turn_of, open_of}
+use Rattle.link_transfer.specs.declared.event.Event.{Event}
+use Rattle.link_transfer.specs.declared.event.Event.TheVariants as event
+use Rattle.link_transfer.specs.declared.fault.OrderFault.{OrderFault}
+use Rattle.link_transfer.specs.declared.joiner.Turn.{Turn}
+use Rattle.link_transfer.specs.declared.joiner.Turn.TheVariants as turn
+use Rattle.link_report.specs.Transfer.{transfer_text}
+use Rattle.link_report.specs.declared.transfer.TransferEntry.{TransferEntry}
+use Rattle.link_walk.specs.Walk.{is_last, is_plain, open_with}
+use Rattle.link_walk.proofs.Heads.{open_then}
+use Rattle.link_unpack.specs.Transfers.{Transfer, closes, after_segment}
+use Rattle.link_unpack.specs.TransferScan.{grown}
+use Rattle.link_unpack.specs.Unpacking.{order_line, line_due, good_due}
+use Rattle.link_unpack.specs.declared.wanted.Wanted.{Wanted}
+use Rattle.link_unpack.proofs.Effects.{zero_eq, Does, Strays, Passes, Begins, Continues, what_does}
+use Rattle.link_unpack.proofs.Heads.{transfers_same, transfer_begins, transfer_continues}
+use Rattle.link_laws.specs.Cuts.{entries_of}
+use Rattle.link_laws.specs.Transfers.{settled, Unpacked, none_unpacked, transfers_with, transfer_lines, with_head, unpacked_of}
+use Rattle.link_laws.proofs.Due.{latest_open, all_good, entries_due, lines_due, goods_due, abandoned_due, closed_due, settled_all, closed_last}
+use Rattle.link_laws.proofs.Whole.{FitsData, AreWhole, AreRead, no_content}
+use Rattle.link_laws.proofs.Telling.{closed_not, told_as, content_told, head_of, said_of, head_told}
+
+begins_none : (happened : Event) → is_segment happened ≡ false → begins happened ≡ false
+begins_none event.SessInit other = refl
+begins_none event.SessTerm other = refl
+begins_none (event.Segment flags id) other = absurd (cc)
+begins_none event.Other other = refl
+
+pub stray_is : (taken : List Message) (happened : Event)
+    → is_stray taken happened ≡ not (is_some (effect_of taken happened))
+unfolding effect_of
+stray_is taken happened = by_stray (is_stray taken happened)
+  where
+    by_stray : (stray : Bool) → stray ≡ not (is_some (effect_by stray (turn_of taken happened)))
+    by_stray true = refl
+    by_stray false = refl
+
+-- The head of this message, with the data `content`, changes the transfers. These entries are those
+-- of the transfers that are over now, and were not before.
+pub record Adds (wanted : Wanted) (offset : ℕ) (fault : Option OrderFault) (effect : Option Turn)
+    (sent : Message) (content : List ℕ) (stray : Bool) (transfers after : List Transfer)
+    : Type 0 where
+  pub entries : List TransferEntry
+  pub told : (report : List ℕ) (good : Bool)
+      → said_of wanted offset fault effect sent content
+      (record { transfers = transfers; report = report; good = good })
+      ≡ record {
+        transfers = after;
+        report = (report ++ order_line offset fault) ++ flat_map transfer_text entries;
+        good = (good && not (is_some fault)) && all_good entries;
+      }
+  pub lines : transfer_lines stray wanted (event_of sent) transfers after
+      ≡ flat_map transfer_text entries
+  pub settles : entries_of wanted (settled after) ≡ entries_of wanted (settled transfers) ++ entries
+  -- if all of its data has come
+  pub opened : length content ≡ data_length sent
+      → latest_open after ≡ open_with effect (is_last effect) (latest_open transfers)
+
+module _ (wanted : Wanted) (offset : ℕ) (fault : Option OrderFault) (content : List ℕ) where
+  -- ---- lines of two transfers
+
+  module _ (effect : Option Turn) (sent : Message) (stray : Bool) (transfers after : List Transfer)
+      (abandoning closing : Bool) where
+    abbrev due : List TransferEntry
+    due = entries_due wanted abandoning transfers ++ entries_due wanted closing after
+
+    texts_due : line_due wanted abandoning transfers ++ line_due wanted closing after
+        ≡ flat_map transfer_text due
+    texts_due =
+        ap₂ (λ (xs ys : List ℕ). xs ++ ys) (lines_due wanted abandoning transfers)
+        (lines_due wanted closing after)
+        ∙ sym (flat_map-append transfer_text (entries_due wanted abandoning transfers) _)
+
+    all_due : (good_due abandoning transfers && good_due closing after) ≡ all_good due
+    all_due =
+        ap₂ (λ (a b : Bool). a && b) (goods_due wanted abandoning transfers)
+        (goods_due wanted closing after)
+        ∙ sym (list_all-append _ (entries_due wanted abandoning transfers) _)
+
+    adds : ((report : List ℕ) (good : Bool)
+        → said_of wanted offset fault effect sent content
+        (record { transfers = transfers; report = report; good = good })
+        ≡ record {
+          transfers = after;
+          report = ((report ++ order_line offset fault) ++ line_due wanted abandoning transfers)
+              ++ line_due wanted closing after;
+          good = ((good && not (is_some fault)) && good_due abandoning transfers)
+              && good_due closing after;
+        })
+        → transfer_lines stray wanted (event_of sent) transfers after
+        ≡ line_due wanted abandoning transfers ++ line_due wanted closing after
+        → entries_of wanted (settled after) ≡ entries_of wanted (settled transfers) ++ due
+        → (length content ≡ data_length sent
+        → latest_open after ≡ open_with effect (is_last effect) (latest_open transfers))
+        → Adds wanted offset fault effect sent content stray transfers after
+    adds told lines settles opened = record {
+      entries = due;
+      told = λ report good.
+          told report good
+          ∙ told_as after _ _ _ _
+          (append_assoc (report ++ order_line offset fault) (line_due wanted abandoning transfers) _
+          ∙ ap (λ (xs : List ℕ). (report ++ order_line offset fault) ++ xs) texts_due)
+          (and_assoc (good && not (is_some fault)) (good_due abandoning transfers) _
+          ∙ ap (λ (b : Bool). (good && not (is_some fault)) && b) all_due);
+      lines = lines ∙ texts_due;
+      settles = settles;
+      opened = opened;
+    }
+
+  -- ---- the kinds of heads
+
+  strays : (sent : Message) (transfers : List Transfer)
+      → Adds wanted offset fault None sent content true transfers transfers
+  strays sent transfers =
+      adds None sent true transfers transfers false false
+      (λ report good.
+      head_told wanted offset sent transfers report good fault None content (λ plain. refl))
+      refl (sym (append-nil _)) (λ all. refl)
+
+  passes : (sent : Message) (transfers : List Transfer) → is_segment (event_of sent) ≡ false
+      → Adds wanted offset fault (Some turn.Other) sent content false transfers transfers
+  passes sent transfers other =
+      adds (Some turn.Other) sent false transfers transfers false false
+      (λ report good.
+      head_told wanted offset sent transfers report good fault (Some turn.Other) content
+      (λ plain. transfers_same transfers sent [] other)
+      ∙ rw (transfers_same transfers sent [] other) refl)
+      (rw (begins_none (event_of sent) other, other) refl) (sym (append-nil _)) (λ all. refl)
+
+  module _ (head : SegmentHead) (fits : head.length ≡ 0 → content ≡ []) where
+    abbrev last : Bool
+    last = is_end head.flags
+
+    -- no data has come of it yet
+    closes_none : closes head [] ≡ (last && (head.length == 0))
+    closes_none = ap (λ b. last && b) (zero_eq head.length)
+
+    not_closed : length content ≡ head.length → not (closes head content) ≡ not last
+    not_closed all =
+        ap (λ b. not (last && b)) (eq-eqb (length content) head.length all) ∙ ap not (and-true last)
+
+    begins_one : (transfers : List Transfer) (abandoned : Option ℕ) → is_start head.flags ≡ true
+        → is_some abandoned ≡ latest_open transfers
+        → Adds wanted offset fault (Some (turn.Begin abandoned last)) (message.Segment head) content
+        false transfers
+        (record { first = head; content = content; closed = closes head content } ∷ transfers)
+    begins_one transfers abandoned starts is =
+        let new : Transfer =
+        record { first = head; content = content; closed = closes head content } in
+        adds (Some (turn.Begin abandoned last)) (message.Segment head) false transfers
+        (new ∷ transfers) (is_some abandoned) (closes head content)
+        (λ report good.
+        head_told wanted offset (message.Segment head) transfers report good fault
+        (Some (turn.Begin abandoned last)) content
+        (λ plain. absurd (never_plain fault plain))
+        ∙ rw (transfer_begins transfers head [] starts, closes_none)
+        (content_told wanted head transfers _ _ [] last head.length content fits))
+        (rw (
+          starts,
+          is,
+          abandoned_due wanted transfers,
+          closed_due wanted (closes head content) new transfers,
+        ) refl)
+        (rw is (sym (closed_last wanted (closes head content) new transfers)
+        ∙ ap (λ (es : List TransferEntry).
+        es ++ entries_due wanted (closes head content) (new ∷ transfers))
+        (sym (settled_all wanted transfers))
+        ∙ append_assoc (entries_of wanted (settled transfers))
+        (entries_due wanted (latest_open transfers) transfers) _))
+        not_closed
+      where
+        never_plain : (refused : Option OrderFault)
+            → is_plain (head_of wanted offset (message.Segment head) refused
+            (Some (turn.Begin abandoned last))) ≡ true → ⊥
+        never_plain (Some refused) plain = absurd (cc)
+        never_plain None plain = absurd (cc)
+
+    continues_one : (latest : Transfer) (earlier : List Transfer) → is_start head.flags ≡ false
+        → latest.closed ≡ false
+        → Adds wanted offset fault (Some (turn.Continue last)) (message.Segment head) content false
+        (latest ∷ earlier) (grown latest content (closes head content) ∷ earlier)
+    continues_one latest earlier starts is_open =
+        let new : Transfer = grown latest content (closes head content) in
+        adds (Some (turn.Continue last)) (message.Segment head) false (latest ∷ earlier)
+        (new ∷ earlier) false (closes head content)
+        (λ report good.
+        head_told wanted offset (message.Segment head) (latest ∷ earlier) report good fault
+        (Some (turn.Continue last)) content
+        (λ plain. still fault plain)
+        ∙ rw (transfer_continues (latest ∷ earlier) head [] starts, append-nil, closes_none)
+        (content_told wanted latest.first earlier _ _ latest.content last head.length content fits))
+        (rw (starts, closed_due wanted (closes head content) new earlier) refl)
+        (rw is_open (sym (closed_last wanted (closes head content) new earlier)))
+        not_closed
+      where
+        still : (refused : Option OrderFault)
+            → is_plain (head_of wanted offset (message.Segment head) refused
+            (Some (turn.Continue last))) ≡ true
+            → after_segment (latest ∷ earlier) head [] ≡ latest ∷ earlier
+        still (Some refused) plain = absurd (cc)
+        still None plain =
+            rw (transfer_continues (latest ∷ earlier) head [] starts, append-nil, closes_none)
+            (ap (λ c.
+            record { first = latest.first; content = latest.content; closed = c } ∷ earlier)
+            (closed_not (last && (head.length == 0)) plain ∙ sym is_open))
+
+-- ---- any head
+
+head_adds : (wanted : Wanted) (fault : Option OrderFault) (effect : Option Turn) (stray : Bool)
+    (head : Entry) (transfers : List Transfer) → FitsData head → stray ≡ not (is_some effect)
+    → Does effect head.message (latest_open transfers)
+    → Adds wanted head.offset fault effect head.message head.content stray transfers
+    (transfers_with stray transfers head)
+head_adds wanted fault effect stray head transfers fits same (Strays is) =
+    rw (same, is) (strays wanted head.offset fault head.content head.message transfers)
+head_adds wanted fault effect stray head transfers fits same (Passes is other) =
+    rw (same, is, transfers_same transfers head.message head.content other)
+    (passes wanted head.offset fault head.content head.message transfers other)
+head_adds wanted fault effect stray head transfers fits same
+    (Begins first abandoned is starts does also) =
+    let own = rw is at fits in
+    rw (same, does, is, transfer_begins transfers first head.content starts)
+    (begins_one wanted head.offset fault head.content first own transfers abandoned starts also)
+head_adds wanted fault effect stray head [] fits same (Continues first is starts does also) =
+    absurd (cc)
+head_adds wanted fault effect stray head (latest ∷ earlier) fits same
+    (Continues first is starts does also) =
+    let own = rw is at fits in
+    rw (same, does, is, transfer_continues (latest ∷ earlier) first head.content starts)
+    (continues_one wanted head.offset fault head.content first own latest earlier starts
+    (closed_not latest.closed also))
+
+-- all data of the heads so far has come, so the latest transfer is open if one is open
+abbrev pub KnowsWhole : Unpacked → Type 0
+KnowsWhole u = latest_open u.transfers ≡ is_some (open_of u.taken)
+
+module _ (wanted : Wanted) (u : Unpacked) (head : Entry) (whole : KnowsWhole u)
+    (fits : FitsData head) where
+  abbrev happened : Event
+  happened = event_of head.message
+
+  pub does : Does (effect_of u.taken happened) head.message (latest_open u.transfers)
+  does = what_does u.taken (latest_open u.transfers) whole head.message
+
+  -- what the head does after those that have made this
+  pub added : Adds wanted head.offset (refusal u.taken happened) (effect_of u.taken happened)
+      head.message head.content (is_stray u.taken happened) u.transfers
+      (with_head wanted u head).transfers
+  added =
+      head_adds wanted (refusal u.taken happened) (effect_of u.taken happened)
+      (is_stray u.taken happened) head u.transfers fits (stray_is u.taken happened) does
+
+  pub whole_after : length head.content ≡ data_length head.message
+      → KnowsWhole (with_head wanted u head)
+  whole_after all =
+      added.opened all
+      ∙ ap (open_with (effect_of u.taken happened) (is_last (effect_of u.taken happened))) whole
+      ∙ sym (open_then u.taken head.message)
+
+-- ---- heads, one by one
+
+none_whole : KnowsWhole none_unpacked
+unfolding open_of
+none_whole = refl
+
+-- What holds of the heads so far and of those to come holds of all heads, if each head keeps it.
+module _ (wanted : Wanted) (P : Unpacked → List Entry → Type 0)
+    (step : (u : Unpacked) (head : Entry) (more : List Entry) → KnowsWhole u → FitsData head
+    → P u (head ∷ more) → P (with_head wanted u head) more) where
+  through_from : (heads : List Entry) (u : Unpacked) → AreRead heads → KnowsWhole u → P u heads
+      → P (fold (with_head wanted) u heads) []
+  through_from [] u read whole so = so
+  through_from (head ∷ more) u read whole so =
+      let next = with_head wanted u head in
+      let then_so = step u head more whole read.0 so in
+      ⊎_elim
+      (λ all. through_from more next read.2 (whole_after wanted u head whole read.0 all) then_so)
+      (λ none.
+      subst (λ es. P (fold (with_head wanted) next es) []) (sym none)
+      (subst (P next) none then_so))
+      read.1
+
+  pub through : (heads : List Entry) → AreRead heads → P none_unpacked heads
+      → P (unpacked_of wanted heads) []
+  unfolding unpacked_of
+  through heads read so = through_from heads none_unpacked read none_whole so
+
+module _ (wanted : Wanted) where
+  whole_from : (heads : List Entry) (u : Unpacked) → AreWhole heads → KnowsWhole u
+      → KnowsWhole (fold (with_head wanted) u heads)
+  whole_from [] u are whole = whole
+  whole_from (head ∷ more) u are whole =
+      whole_from more (with_head wanted u head) are.1
+      (whole_after wanted u head whole (no_content head.content _ are.0) are.0)
+
+  pub heads_whole : (heads : List Entry) → AreWhole heads → KnowsWhole (unpacked_of wanted heads)
+  unfolding unpacked_of
+  heads_whole heads are = whole_from heads none_unpacked are none_whole

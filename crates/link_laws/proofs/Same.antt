@@ -1,0 +1,335 @@
+-- What `unpack` says of the events of a stream is what the transfers of the stream make.
+use Rattle.std.proofs.Common.{◌≡◌, ℕ, Bool, true, false, not, ◌&&◌, is_some, List, [], ◌∷◌, ◌++◌, Option, Some, None, if◌then◌else◌, refl, ap, sym, ◌∙◌, append-nil}
+use Rattle.std.specs.List.{fold}
+use Rattle.std.proofs.Math.Bool.{and-true, and-false, and_assoc}
+use Rattle.std.proofs.lemmas.List.Folds.{list_all-append}
+use Rattle.std.proofs.Math.Path.{fun_ext}
+use Rattle.link_wire.specs.Message.{data_length}
+use Rattle.link_wire.specs.Stream.{Entry, End, Clean, Cut, Fault, Reading, reading_of, cut_heads, heads_of}
+use Rattle.link_wire.specs.declared.message.Contact.{Contact}
+use Rattle.link_wire.specs.declared.message.Message.{Message}
+use Rattle.link_transfer.specs.Event.{event_of}
+use Rattle.link_transfer.specs.Order.{refusal, with_taken}
+use Rattle.link_transfer.specs.declared.fault.OrderFault.{OrderFault}
+use Rattle.link_run.specs.Made.{StreamStop, Made, whole_by, so_far_by, shows_fault, stop_of, tool_of}
+use Rattle.link_run.specs.Run.{Texts, Outcome, Tool}
+use Rattle.link_walk.specs.Walk.{head_at, WalkEvent, LeftOpen, head_events, content_events, Walked, taken_with, with_judged, with_next, contact_events, walked_of, end_events, told_by, told_of, stop_by}
+use Rattle.link_walk.specs.declared.consumer.Manner.{Manner}
+use Rattle.link_laws.specs.Transfers.{Ordered, ordered_by, ordered_after, ordered, settled, are_good, abandoned_line, unpacking_by, Unpacked, none_unpacked, with_head, unpacked_of, going_on_by, made_of, by_transfers}
+use Rattle.link_unpack.specs.Transfers.{Transfer}
+use Rattle.link_unpack.specs.Unpacking.{parts_of, unpacking_of, unpack_tool, Told, told_after, unpack_telling, with_line, order_line, good_due}
+use Rattle.link_unpack.proofs.Events.{told_then, told_push}
+use Rattle.link_unpack.specs.declared.wanted.Wanted.{Wanted}
+use Rattle.link_laws.specs.Cuts.{entries_of}
+use Rattle.link_laws.proofs.Accepted.{accepted_read, accepted_in_order, all_in_order}
+use Rattle.link_laws.proofs.Due.{latest_open, all_good, goods_due, abandoned_due, settled_all, goods_are}
+use Rattle.link_laws.proofs.InOrder.{not_stray, taken_more, unpacked_in_order, made_in_order}
+use Rattle.link_laws.proofs.OneHead.{KnowsWhole, added, through, heads_whole}
+use Rattle.link_laws.proofs.Telling.{told_as}
+use Rattle.link_laws.proofs.Whole.{FitsData, AreRead, ReadingReads, reading_read}
+
+-- ---- heads that are taken, whether or not they are in order
+
+abbrev manner : Bool → Manner
+manner goes_on = record { goes_on = goes_on; all_heads = false }
+
+abbrev started : List Message → List WalkEvent → Walked
+started taken events = record { taken = taken; events = events; refused = None }
+
+abbrev events_at : List Message → Entry → List WalkEvent
+events_at taken head =
+    let at = head_at taken head.offset head.message in
+    head_events false at ++ content_events at.turn (data_length head.message) head.content
+
+abbrev walk_from : Bool → Walked → List Entry → Walked
+walk_from goes_on from heads = fold (with_next (manner goes_on)) from heads
+
+-- a run that goes on takes any head
+judged_taken : (refused : Option OrderFault) (from : Walked) (head : Entry)
+    → with_judged refused (manner true) from head ≡ taken_with (manner true) from head
+judged_taken None from head = refl
+judged_taken (Some fault) from head = refl
+
+good_parts : (before in_order ordered more : Bool)
+    → (((before && in_order) && ordered) && more) ≡ ((before && more) && (in_order && ordered))
+good_parts before in_order ordered true = simp (and-true, and_assoc)
+good_parts before in_order ordered false = simp and-false
+
+module _ (wanted : Wanted) where
+  abbrev settled_good : Unpacked → Bool
+  settled_good u = all_good (entries_of wanted (settled u.transfers))
+
+  -- what is said of the heads that have made this
+  abbrev pub said : Unpacked → Told
+  said u =
+      record { transfers = u.transfers; report = u.report; good = settled_good u && u.in_order }
+
+  -- The walk has come to this, and then the other heads follow.
+  record TellsAll (all : Walked) (u : Unpacked) (more : List Entry) : Type 0 where
+    pub events : List WalkEvent
+    pub told : told_after wanted events ≡ said u
+    pub walked : walk_from true (started u.taken events) more ≡ all
+
+  tells_step : (all : Walked) (u : Unpacked) (head : Entry) (more : List Entry) → KnowsWhole u
+      → FitsData head → TellsAll all u (head ∷ more) → TellsAll all (with_head wanted u head) more
+  tells_step all u head more whole fits so =
+      let new = added wanted u head whole fits in
+      let refused = refusal u.taken (event_of head.message) in
+      let before = u.report ++ order_line head.offset refused in
+      record {
+        events = so.events ++ events_at u.taken head;
+        told = told_push wanted so.events (events_at u.taken head)
+            ∙ ap (λ t. told_then wanted t (events_at u.taken head)) so.told
+            ∙ new.told u.report (settled_good u && u.in_order)
+            ∙ told_as _ _ _ _ _ (ap (λ (xs : List ℕ). before ++ xs) (sym new.lines))
+            (good_parts (settled_good u) u.in_order (not (is_some refused)) (all_good new.entries)
+            ∙ ap (λ b. b && (u.in_order && not (is_some refused)))
+            (sym (ap all_good new.settles
+            ∙ list_all-append _ (entries_of wanted (settled u.transfers)) new.entries)));
+        walked = ap (λ w. walk_from true w more)
+            (sym (judged_taken refused (started u.taken so.events) head))
+            ∙ so.walked;
+      }
+
+  none_told : (contact : Option Contact)
+      → told_after wanted (contact_events contact) ≡ said none_unpacked
+  unfolding told_after entries_of
+  none_told None = refl
+  none_told (Some contact) = refl
+
+  heads_tell : (contact : Option Contact) (heads : List Entry) → AreRead heads
+      → TellsAll (walked_of (manner true) contact heads) (unpacked_of wanted heads) []
+  unfolding walked_of
+  heads_tell contact heads read =
+      let all = walk_from true (started [] (contact_events contact)) heads in
+      through wanted (TellsAll all) (tells_step all) heads read
+      (record { events = contact_events contact; told = none_told contact; walked = refl })
+
+-- ---- a run that ends at a fault of the order
+
+-- the walk ends at this fault, if there is one
+abbrev ended_at : Option (ℕ × OrderFault) → Walked → Walked
+ended_at refused walked = record walked { refused = refused }
+
+ended_stays : (more : List Entry) (from : Walked) (fault : ℕ × OrderFault)
+    → walk_from false (ended_at (Some fault) from) more ≡ ended_at (Some fault) from
+ended_stays [] from fault = refl
+ended_stays (head ∷ more) from fault = ended_stays more from fault
+
+-- the walk over the heads that are in order, which ends at the first that is not
+abbrev walk_order : Ordered → Walked → Walked
+walk_order order from = ended_at order.refused (walk_from true from order.heads)
+
+ordered_walk : (heads : List Entry) (taken : List Message) (events : List WalkEvent)
+    → walk_from false (started taken events) heads
+    ≡ walk_order (ordered_after taken heads) (started taken events)
+unfolding ordered_after
+ordered_walk [] taken events = refl
+ordered_walk (head ∷ more) taken events =
+    by_refusal (refusal taken (event_of head.message)) refl
+    (ordered_walk more (with_taken taken head.message) (events ++ events_at taken head))
+  where
+    from : Walked
+    from = started taken events
+
+    next : Walked
+    next = started (with_taken taken head.message) (events ++ events_at taken head)
+
+    by_refusal : (refused : Option OrderFault) → refusal taken (event_of head.message) ≡ refused
+        → walk_from false next more ≡ walk_order (ordered_after next.taken more) next
+        → walk_from false
+        (with_judged (refusal taken (event_of head.message)) (manner false) from head) more
+        ≡ walk_order (ordered_by (refusal taken (event_of head.message)) head
+        (ordered_after (taken ++ head.message ∷ []) more)) from
+    by_refusal (Some fault) is later = rw is (ended_stays more from (head.offset, fault))
+    by_refusal None is later =
+        let order = ordered_after (taken ++ head.message ∷ []) more in
+        rw is (later
+        ∙ ap (λ ms. walk_order (ordered_after ms more) next)
+        (taken_more taken head.message (not_stray taken (event_of head.message) is))
+        ∙ ap (λ w. ended_at order.refused (walk_from true w order.heads))
+        (sym (judged_taken (refusal taken (event_of head.message)) from head)))
+
+-- ---- what is made of a stream
+
+-- The tools of these two are the same: after a fault, the end of the stream is of no account.
+record SameMade (one other : Made) : Type 0 where
+  pub stop : one.stop ≡ other.stop
+  pub texts : one.texts ≡ other.texts
+  pub clean : one.stop ≡ None → (one.ended ≡ other.ended) × (one.good ≡ other.good)
+
+-- what the tool has of what is made
+abbrev tool_parts : Made → Outcome × Texts × Bool
+tool_parts made =
+    (whole_by made.stop made, so_far_by made.stop made.texts, shows_fault made.stop)
+
+same_parts : (one other : Made) → SameMade one other → (stop : Option StreamStop) → one.stop ≡ stop
+    → tool_parts one ≡ tool_parts other
+same_parts one other same None is =
+    let clean = same.clean is in
+    rw (← same.stop, is, same.texts, clean.0, clean.1) refl
+same_parts one other same (Some stop) is = rw (← same.stop, is, same.texts) refl
+
+clean_end : (end : End) → stop_of end ≡ None → cut_heads end ≡ []
+clean_end Clean none = refl
+clean_end (Cut offset sent content) none = absurd (cc)
+clean_end (Fault offset fault) none = refl
+
+module _ (wanted : Wanted) where
+  abbrev walk_made : Bool → Reading → Made
+  walk_made goes_on reading =
+      told_by (unpack_telling wanted) reading.end
+      (walked_of (manner goes_on) reading.contact (heads_of reading))
+
+  abbrev text_of : Told → Texts
+  text_of told = record { output = parts_of wanted told.transfers; report = told.report }
+
+  -- ---- the end of a stream
+
+  abbrev at_end : Unpacked → Told
+  at_end unpacked = record {
+    transfers = unpacked.transfers;
+    report = unpacked.report ++ abandoned_line wanted unpacked.transfers;
+    good = are_good unpacked.transfers && unpacked.in_order;
+  }
+
+  end_by : (opened : Bool) (transfers : List Transfer) (report : List ℕ) (good : Bool)
+      → (let told : Told = record { transfers = transfers; report = report; good = good } in
+      told_then wanted told (if opened then LeftOpen ∷ [] else []) ≡ with_line wanted opened told)
+  end_by true transfers report good = refl
+  end_by false transfers report good =
+      told_as transfers _ _ _ _ (sym (append-nil report)) (sym (and-true good))
+
+  good_end : (before in_order due : Bool)
+      → ((before && in_order) && due) ≡ ((before && due) && in_order)
+  good_end before in_order true = simp and-true
+  good_end before in_order false = simp and-false
+
+  end_said : (u : Unpacked) → KnowsWhole u
+      → told_then wanted (said wanted u) (end_events u.taken) ≡ at_end u
+  end_said u whole =
+      let open_last = latest_open u.transfers in
+      ap (λ b. told_then wanted (said wanted u) (if b then LeftOpen ∷ [] else [])) (sym whole)
+      ∙ end_by open_last u.transfers u.report (settled_good wanted u && u.in_order)
+      ∙ told_as u.transfers _ _ _ _
+      (ap (λ (xs : List ℕ). u.report ++ xs) (sym (abandoned_due wanted u.transfers)))
+      (good_end (settled_good wanted u) u.in_order (good_due open_last u.transfers)
+      ∙ ap (λ b. b && u.in_order)
+      (ap (λ b. settled_good wanted u && b) (goods_due wanted open_last u.transfers)
+      ∙ sym (goods_are wanted u.transfers ∙ ap all_good (sym (settled_all wanted u.transfers))
+      ∙ list_all-append _ (entries_of wanted (settled u.transfers)) _)))
+
+  module _ (walked : Walked) (u : Unpacked) (tells : TellsAll wanted walked u []) where
+    unrefused : walked.refused ≡ None
+    unrefused = ap (λ (w : Walked). w.refused) (sym tells.walked)
+
+    walked_told : told_after wanted walked.events ≡ said wanted u
+    walked_told = ap (λ (w : Walked). told_after wanted w.events) (sym tells.walked) ∙ tells.told
+
+    end_told : KnowsWhole u
+        → told_after wanted (walked.events ++ end_events walked.taken) ≡ at_end u
+    end_told whole =
+        told_push wanted walked.events (end_events walked.taken)
+        ∙ ap (λ told. told_then wanted told (end_events walked.taken)) walked_told
+        ∙ ap (λ (w : Walked). told_then wanted (said wanted u) (end_events w.taken))
+        (sym tells.walked)
+        ∙ end_said u whole
+
+  -- ---- both kinds of runs
+
+  module _ (reading : Reading) (reads : ReadingReads reading) where
+    abbrev heads : List Entry
+    heads = heads_of reading
+
+    whole_heads : stop_of reading.end ≡ None → KnowsWhole (unpacked_of wanted heads)
+    whole_heads none =
+        rw (clean_end reading.end none, append-nil) (heads_whole wanted reading.entries reads.whole)
+
+    going_same : SameMade (walk_made true reading)
+        (going_on_by wanted reading.end (unpacked_of wanted heads))
+    going_same =
+        let tells = heads_tell wanted reading.contact heads reads.heads in
+        let stop = ap (λ r. stop_by r reading.end) (unrefused _ _ tells) in
+        record {
+          stop = stop;
+          texts = ap text_of (walked_told _ _ tells);
+          clean = λ none.
+              let told = end_told _ _ tells (whole_heads (sym stop ∙ none)) in
+              (ap text_of told, ap (λ (t : Told). t.good) told);
+        }
+
+    abbrev order : Ordered
+    order = ordered heads
+
+    kept_heads : AreRead order.heads
+    kept_heads = accepted_read heads reads.heads
+
+    walked_ordered : walked_of (manner false) reading.contact heads
+        ≡ ended_at order.refused (walked_of (manner true) reading.contact order.heads)
+    unfolding walked_of ordered
+    walked_ordered = ordered_walk heads [] (contact_events reading.contact)
+
+    -- no head is refused, so it makes no difference whether that would end the run
+    pub walked_same : order.refused ≡ None
+        → walked_of (manner false) reading.contact heads
+        ≡ walked_of (manner true) reading.contact heads
+    walked_same none =
+        let tells = heads_tell wanted reading.contact heads reads.heads in
+        walked_ordered
+        ∙ ap (λ (o : Ordered). ended_at o.refused (walked_of (manner true) reading.contact o.heads))
+        (all_in_order heads none)
+        ∙ ap (λ r. ended_at r (walked_of (manner true) reading.contact heads))
+        (sym (unrefused _ _ tells))
+
+    abbrev made_at : Option (ℕ × OrderFault) → List Entry → Made
+    made_at refused taken =
+        told_by (unpack_telling wanted) reading.end
+        (ended_at refused (walked_of (manner true) reading.contact taken))
+
+    ending_same : (refused : Option (ℕ × OrderFault)) → order.refused ≡ refused
+        → SameMade (walk_made false reading) (unpacking_by wanted reading.end order)
+    ending_same None is =
+        let one : walk_made false reading ≡ walk_made true reading =
+        ap (told_by (unpack_telling wanted) reading.end) (walked_same is) in
+        rw (one, made_in_order wanted reading.end heads reads.heads (all_in_order heads is))
+        going_same
+    ending_same (Some fault) is =
+        let made : walk_made false reading ≡ made_at order.refused order.heads =
+        ap (told_by (unpack_telling wanted) reading.end) walked_ordered in
+        let tells = heads_tell wanted reading.contact order.heads kept_heads in
+        let so = unpacked_in_order wanted order.heads kept_heads (accepted_in_order heads) in
+        rw made (record {
+          stop = rw is refl;
+          texts = ap text_of (walked_told _ _ tells) ∙ rw (so.report, so.made) refl;
+          clean = λ none.
+              absurd (never fault (ap (λ r. stop_by r reading.end) (sym is) ∙ none));
+        })
+      where
+        never : (fault : ℕ × OrderFault) → stop_by (Some fault) reading.end ≡ None → ⊥
+        never (offset, fault) none = absurd (cc)
+
+    same_by : (goes_on : Bool)
+        → SameMade (walk_made goes_on reading) (made_of goes_on wanted reading)
+    same_by true = going_same
+    same_by false = ending_same order.refused refl
+
+  same_made : (bytes : List ℕ)
+      → SameMade (unpacking_of wanted bytes) (by_transfers wanted bytes)
+  unfolding told_of by_transfers
+  same_made bytes = same_by (reading_of bytes) (reading_read bytes) wanted.keep_going
+
+  -- what `unpack` says of the events of a stream is what the transfers of the stream make
+  pub same_tool : unpack_tool wanted ≡ tool_of (by_transfers wanted)
+  same_tool =
+      let tool : (List ℕ → Outcome × Texts × Bool) → Tool = λ parts. record {
+        whole = λ bytes. (parts bytes).0;
+        so_far = λ bytes. (parts bytes).1;
+        shows = λ bytes. (parts bytes).2;
+      } in
+      ap tool (fun_ext (λ bytes.
+      same_parts (unpacking_of wanted bytes) (by_transfers wanted bytes) (same_made bytes)
+      (unpacking_of wanted bytes).stop refl))
+
+  pub whole_is : (bytes : List ℕ) → (unpack_tool wanted).whole bytes
+      ≡ whole_by (by_transfers wanted bytes).stop (by_transfers wanted bytes)
+  whole_is bytes = ap (λ (t : Tool). t.whole bytes) same_tool

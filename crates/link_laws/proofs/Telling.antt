@@ -1,0 +1,141 @@
+-- What `unpack` says of the events of a head and of its data.
+use Rattle.std.proofs.Common.{◌≡◌, ℕ, zero, suc, Bool, true, false, not, ◌&&◌, ◌==◌, List, [], ◌∷◌, ◌++◌, length, Option, Some, None, if◌then◌else◌, refl, ap, sym, ◌∙◌, append-nil, arith}
+use Rattle.std.proofs.Math.Bool.{and-true, and-false}
+use Rattle.std.proofs.lemmas.Bool.{ne_eqb}
+use Rattle.link_wire.specs.Message.{data_length}
+use Rattle.link_wire.specs.declared.message.Message.{Message}
+use Rattle.link_wire.specs.declared.message.SegmentHead.{SegmentHead}
+use Rattle.link_transfer.specs.declared.fault.OrderFault.{OrderFault}
+use Rattle.link_transfer.specs.declared.joiner.Turn.{Turn}
+use Rattle.link_transfer.specs.declared.joiner.Turn.TheVariants as turn
+use Rattle.link_walk.specs.Walk.{Head, WalkEvent, MessageHead, Whole, is_plain, content_events, data_events, head_events}
+use Rattle.link_unpack.specs.Transfers.{Transfer}
+use Rattle.link_unpack.specs.Unpacking.{Told, transfers_at, with_line, told_head}
+use Rattle.link_unpack.specs.declared.wanted.Wanted.{Wanted}
+use Rattle.link_unpack.proofs.Events.{told_then, told_both, data_told}
+
+pub closed_not : (closed : Bool) → not closed ≡ true → closed ≡ false
+closed_not true is = absurd (cc)
+closed_not false is = refl
+
+pub told_as : (transfers : List Transfer) (report lines : List ℕ) (good all : Bool)
+    → report ≡ lines → good ≡ all
+    → ◌≡◌ {A = Told}
+    (record { transfers = transfers; report = report; good = good })
+    (record { transfers = transfers; report = lines; good = all })
+told_as transfers report lines good all same is = cc
+
+module _ (wanted : Wanted) where
+  -- ---- the data of a segment
+
+  module _ (first : SegmentHead) (earlier : List Transfer) (lines : List ℕ) (good : Bool) where
+    -- the segment's transfer has this content, and its line if it is closed
+    abbrev pub segment_told : List ℕ → Bool → Told
+    segment_told content closed = with_line wanted closed (record {
+      transfers = record { first = first; content = content; closed = closed } ∷ earlier;
+      report = lines;
+      good = good;
+    })
+
+    whole_told : (content : List ℕ) (whole : Bool)
+        → told_then wanted (record {
+          transfers = record { first = first; content = content; closed = false } ∷ earlier;
+          report = lines;
+          good = good;
+        }) (if whole then Whole ∷ [] else [])
+        ≡ segment_told content whole
+    whole_told content true =
+        ap (λ xs. segment_told xs true) (append-nil content)
+    whole_told content false = told_as _ _ _ _ _ (sym (append-nil lines)) (sym (and-true good))
+
+    no_line : (content : List ℕ) → segment_told content false ≡ record {
+      transfers = record { first = first; content = content; closed = false } ∷ earlier;
+      report = lines;
+      good = good;
+    }
+    no_line content = told_as _ _ _ _ _ (append-nil lines) (and-true good)
+
+    none : (content : List ℕ) (last : Bool)
+        → told_then wanted (segment_told content (last && true))
+        (if last && false then Whole ∷ [] else [])
+        ≡ segment_told content (last && true)
+    none content true = refl
+    none content false = refl
+
+    -- once the head is told, its data comes
+    pub content_told : (before : List ℕ) (last : Bool) (size : ℕ) (content : List ℕ)
+        → (size ≡ 0 → content ≡ [])
+        → told_then wanted (segment_told before (last && (size == 0))) (data_events content
+        ++ (if last && (not (size == 0) && (length content == size)) then Whole ∷ [] else []))
+        ≡ segment_told (before ++ content) (last && (length content == size))
+    content_told before last zero content fits = rw (fits refl, append-nil) (none before last)
+    content_told before last (suc more) content fits =
+        let some = ne_eqb (suc more) 0 (λ none. absurd (omega arith)) in
+        let ends : List WalkEvent =
+        if last && (length content == suc more) then Whole ∷ [] else [] in
+        rw (some, and-false)
+        (ap (λ told. told_then wanted told (data_events content ++ ends)) (no_line before)
+        ∙ told_both wanted _ (data_events content) _
+        ∙ ap (λ told. told_then wanted told ends) (data_told wanted content _ lines good refl)
+        ∙ whole_told (before ++ content) (last && (length content == suc more)))
+
+  -- ---- a head
+
+  abbrev pub head_of : ℕ → Message → Option OrderFault → Option Turn → Head
+  head_of offset sent fault effect =
+      record { offset = offset; message = sent; fault = fault; turn = effect }
+
+  -- what is said of a head and of its data
+  abbrev pub said_of : ℕ → Option OrderFault → Option Turn → Message → (content : List ℕ) → Told
+      → Told
+  said_of offset fault effect sent content told =
+      told_then wanted told (head_events false (head_of offset sent fault effect)
+      ++ content_events effect (data_length sent) content)
+
+  -- a head that is plain says nothing
+  module _ (offset : ℕ) (sent : Message) (transfers : List Transfer) (report : List ℕ)
+      (good : Bool) where
+    abbrev told : Told
+    told = record { transfers = transfers; report = report; good = good }
+
+    plain_none : (after : List Transfer) (closing : Bool) → after ≡ transfers → closing ≡ false
+        → with_line wanted closing (record {
+          transfers = after;
+          report = (report ++ []) ++ [];
+          good = (good && true) && true;
+        }) ≡ told
+    plain_none after closing same is =
+        rw is (simp (append-nil, and-true)
+        (ap (λ ts. record { transfers = ts; report = report; good = good }) same))
+
+    plain_told : (fault : Option OrderFault) (effect : Option Turn)
+        → is_plain (head_of offset sent fault effect) ≡ true
+        → transfers_at effect transfers sent ≡ transfers
+        → told_head wanted told (head_of offset sent fault effect) ≡ told
+    plain_told (Some fault) effect is same = absurd (cc)
+    plain_told None None is same = plain_none transfers false refl refl
+    plain_told None (Some turn.Other) is same = plain_none _ false same refl
+    plain_told None (Some (turn.Begin abandoned last)) is same = absurd (cc)
+    plain_told None (Some (turn.Continue last)) is same =
+        plain_none _ _ same (closed_not (last && (data_length sent == 0)) is)
+
+    head_by : (head : Head) (plain : Bool) → is_plain head ≡ plain
+        → (is_plain head ≡ true → told_head wanted told head ≡ told)
+        → told_then wanted told (if not plain then MessageHead head ∷ [] else [])
+        ≡ told_head wanted told head
+    head_by head true is same = sym (same is)
+    head_by head false is same = refl
+
+    -- the head is told, and then its data
+    pub head_told : (fault : Option OrderFault) (effect : Option Turn) (content : List ℕ)
+        → (is_plain (head_of offset sent fault effect) ≡ true
+        → transfers_at effect transfers sent ≡ transfers)
+        → said_of offset fault effect sent content told
+        ≡ told_then wanted (told_head wanted told (head_of offset sent fault effect))
+        (content_events effect (data_length sent) content)
+    head_told fault effect content same =
+        let head = head_of offset sent fault effect in
+        let later = content_events effect (data_length sent) content in
+        told_both wanted told (head_events false head) later
+        ∙ ap (λ t. told_then wanted t later)
+        (head_by head (is_plain head) refl (λ plain. plain_told fault effect plain (same plain)))
